@@ -1,0 +1,9 @@
+pub mod Graph
+pub mod Weight
+pub mod Cuts
+pub mod Scan
+pub mod Chain
+pub mod Contraction
+pub mod Components
+pub mod Safe
+pub mod Laws

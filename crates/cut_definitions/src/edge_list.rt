@@ -1,0 +1,124 @@
+//! The list of edges that a graph is given by.
+
+ghost use Rattle.std.specs.Prelude.{◌≡◌, ◌↔◌, ◌<◌, ◌≤◌, [], length, IsTrue, OnOk, OnErr, slice_get, slice_index_or};
+ghost use Rattle.cut_definitions.specs.Graph.{IsEdgeList, with_edge};
+
+use crate::NoMemory;
+use std::alloc::Global;
+use std::marker::Model;
+
+/// An edge between the vertices `u` and `v`, which are counted from 1, of the whole weight `w`.
+#[derive(Clone, Copy, Debug, PartialEq, Eq)]
+pub struct Edge {
+    pub u: u32,
+    pub v: u32,
+    pub w: u64,
+}
+
+/// A graph on the vertices 1 to n, as the ascending list of its edges.
+///
+/// Each edge has `1 <= u < v <= n` and `w >= 1`, the edges ascend by (u, v), and no pair stands twice. There are
+/// at most 4,194,304 vertices and 16,777,216 edges, and the weights add up to at most 2^61.
+#[derive(Drop)]
+pub struct EdgeList {
+    n: u32,
+    edges: Vec<Edge>,
+}
+
+impl Model for EdgeList {
+    ghost use Rattle.cut_definitions.specs.Graph.{Graph, IsEdgeList};
+
+    ghost Value = { Graph };
+
+    ghost view = { λ l. record { vertices = l.n; edges = l.edges.items } };
+
+    ghost invariant = { λ l. IsEdgeList (record { vertices = l.n; edges = l.edges.items }) };
+}
+
+impl EdgeList {
+    /// A graph with no edges. It takes no memory.
+    pub fn new(alloc: Global, n: u32) -> EdgeList
+        requires { n ≤ 4194304 }
+        ensures { result ≡ record { vertices = n; edges = [] } }
+    {
+        EdgeList {
+            n,
+            edges: Vec::new(alloc),
+        }
+    }
+
+    /// The graph of a finished list of edges, which is taken over. It takes no memory.
+    pub fn from_edges(n: u32, edges: Vec<Edge>) -> EdgeList
+        requires { IsEdgeList (record { vertices = n; edges = edges.items }) }
+        ensures { result ≡ record { vertices = n; edges = edges.items } }
+    {
+        EdgeList { n, edges }
+    }
+
+    /// Appends an edge, which comes after all others. Where memory is wanting the list stays as it was.
+    pub fn push(&mut self, edge: Edge) -> Result<(), NoMemory>
+        requires { IsEdgeList (with_edge self.old edge) }
+        ensures ok { OnOk result (self.new ≡ with_edge self.old edge) }
+        ensures err { OnErr result (self.new ≡ self.old) }
+    {
+        self.edges.push(edge)?;
+        Ok(())
+    }
+
+    /// The number of vertices.
+    pub fn n(&self) -> u32
+        ensures value { result ≡ self.now.vertices }
+        ensures edge_list { IsEdgeList self.now }
+    {
+        self.n
+    }
+
+    /// The number of edges.
+    pub fn len(&self) -> usize
+        ensures { result ≡ length self.now.edges }
+    {
+        self.edges.len()
+    }
+
+    /// Whether there is no edge.
+    pub fn is_empty(&self) -> bool
+        ensures { IsTrue result ↔ (self.now.edges ≡ []) }
+    {
+        self.edges.is_empty()
+    }
+
+    /// The edge at a place of the list, counted from 0.
+    pub fn edge(&self, i: usize) -> Edge
+        requires { i < length self.now.edges }
+        ensures value { slice_get self.now.edges i ≡ Some result }
+        ensures by_index { result ≡ slice_index_or self.now.edges i result }
+    {
+        self.edges[i]
+    }
+
+    /// All edges, lent without a copy.
+    pub fn edges(&self) -> &[Edge]
+        ensures value { result.now ≡ self.now.edges }
+        ensures edge_list { IsEdgeList self.now }
+    {
+        &self.edges
+    }
+}
+
+#[cfg(test)]
+mod tests {
+    use super::*;
+    use std::test::Fail;
+
+    #[test]
+    fn an_edge_is_appended(rt: HostRuntime) -> Result<(), Fail> {
+        let mut list = EdgeList::new(rt.alloc(), 3);
+        assert!(rt; list.is_empty());
+        list.push(Edge { u: 1, v: 2, w: 5 })?;
+        assert_eq!(rt; list.n(), 3);
+        assert_eq!(rt; list.len(), 1);
+        assert_eq!(rt; list.edge(0), Edge { u: 1, v: 2, w: 5 });
+        assert_eq!(rt; list.edges().len(), 1);
+        Ok(())
+    }
+}

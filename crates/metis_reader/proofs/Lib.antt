@@ -1,0 +1,4 @@
+pub mod Filling
+pub mod Parsing
+pub mod Checking
+pub mod Unique

@@ -1,0 +1,52 @@
+-- When the program gives each of its answers.
+use Rattle.std.specs.Prelude.{◌≡◌, ◌⊎◌, ℕ, List, Option, IfSome}
+use Rattle.std.specs.Io.KnownBytes.{Appends}
+use Rattle.outside.specs.Faults.{Rose, AppendsPrefix}
+use Rattle.mincut_program.specs.declared.status.Status.{Status}
+use Rattle.mincut_program.specs.declared.status.Status.TheVariants.{Ok, Refused, BadWords, ReadFault, WriteFault, OutOfMemory, ListTooLarge, BadVertex}
+use Rattle.mincut_program.specs.declared.stop.Stop.{Stop}
+use Rattle.mincut_program.specs.Stops.{line_of}
+use Rattle.mincut_program.specs.Intake.{IsAnswer, IsCause}
+
+abbrev pub code_of : Status → ℕ
+code_of Ok = 0
+code_of Refused = 1
+code_of BadWords = 2
+code_of ReadFault = 3
+code_of WriteFault = 4
+code_of OutOfMemory = 5
+code_of ListTooLarge = 6
+code_of BadVertex = 7
+
+-- the whole text was taken, and no write failed
+pub record Wrote (text : List ℕ) (taken_before taken_after : Option (List ℕ)) (before now : ℕ) : Type 0 where
+  pub text_taken : Appends taken_before taken_after text
+  pub same_count : now ≡ before
+
+-- a write failed, and a first part of the text was taken
+pub record Failed (text : List ℕ) (taken_before taken_after : Option (List ℕ)) (before now : ℕ) : Type 0 where
+  pub part_taken : AppendsPrefix taken_before taken_after text
+  pub rose : Rose before now
+
+-- the text was written and the status is the wanted one, or a write failed
+abbrev pub Writes : Status → List ℕ → Option (List ℕ) → Option (List ℕ) → ℕ → ℕ → Status → Type 0
+Writes status text taken_before taken_after before now result =
+    ((result ≡ status) × Wrote text taken_before taken_after before now)
+    ⊎ ((result ≡ WriteFault) × Failed text taken_before taken_after before now)
+
+-- the text of the answer was taken whole
+abbrev pub TakesAnswer : Option (List ℕ) → Option (List ℕ) → Option (List ℕ) → Type 0
+TakesAnswer left taken_before taken_after = IfSome left (λ bytes. (text : List ℕ) × IsAnswer bytes text × Appends taken_before taken_after text)
+
+-- a write of the answer failed: a first part of its text was taken
+pub record AnswerFailed (left taken_before taken_after : Option (List ℕ)) (before now : ℕ) : Type 0 where
+  pub rose : Rose before now
+  pub part_taken : IfSome left (λ bytes. (text : List ℕ) × IsAnswer bytes text × AppendsPrefix taken_before taken_after text)
+
+-- a write failed of the line that tells why there is no answer: a first part of it was taken
+pub record TellingFailed (words : List (List ℕ)) (left : Option (List ℕ)) (faults_before faults_now : ℕ)
+    (taken_before taken_after : Option (List ℕ)) (before now : ℕ) : Type 0 where
+  pub rose : Rose before now
+  pub stop : Stop
+  pub cause : IsCause words left faults_before faults_now stop
+  pub part_taken : AppendsPrefix taken_before taken_after (line_of stop)

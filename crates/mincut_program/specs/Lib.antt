@@ -1,0 +1,5 @@
+pub mod Words
+pub mod Texts
+pub mod Stops
+pub mod Intake
+pub mod Answers

@@ -1,0 +1,159 @@
+ghost use Rattle.std.specs.Prelude.{◌≡◌, ◌≢◌, ◌⊎◌, ℕ, List, IfOk, IfErr, IfSome, OnOk, IsErrOf, string_bytes};
+ghost use Rattle.std.specs.Io.KnownBytes.{Appends};
+ghost use Rattle.outside.specs.Faults.{Rose};
+ghost use Rattle.cut_definitions.specs.Graph.{Graph};
+ghost use Rattle.metis_reader.specs.FirstForm.{IsFirstForm, IsOtherForm};
+ghost use Rattle.mincut_program.specs.Words.{texts, HasCommand};
+ghost use Rattle.mincut_program.specs.Texts.{usage_line, read_failed_line, out_of_memory_line, not_yet_line, value_line};
+ghost use Rattle.mincut_program.specs.Intake.{IsCause, IsAnswer};
+ghost use Rattle.mincut_program.specs.Stops.{status_of, line_of};
+ghost use Rattle.mincut_program.specs.Answers.{Writes, TakesAnswer, AnswerFailed, TellingFailed};
+
+use crate::command::{Job, WordsRefusal, read_words};
+use crate::intake::take_in;
+use crate::status::Status;
+use crate::stop::{Stop, refused_line};
+use cut_definitions::EdgeList;
+use outside::{Gate, NoMemory, Sink, Source, write_whole};
+use scan_forest::plain_value;
+use std::alloc::Global;
+
+const USAGE_LINE: &str = "usage: mincut JOB [U V] [--workers N]\n";
+
+const READ_FAILED_LINE: &str = "read failed\n";
+
+const OUT_OF_MEMORY_LINE: &str = "out of memory\n";
+
+// Writes a text, and answers the status where all of it was taken.
+fn write_text<K: Sink>(sink: &mut K, text: &str, status: Status) -> Status
+    ensures { Writes status text.now (K.taken sink.old) (K.taken sink.new) (K.faults sink.old) (K.faults sink.new) result }
+{
+    match write_whole(sink, text.as_bytes()) {
+        Ok(()) => status,
+        Err(_) => Status::WriteFault,
+    }
+}
+
+// Tells why there is nothing to write to `out`. Memory is wanted for the line that names a fault alone.
+fn tell<E: Sink>(alloc: Global, err: &mut E, stop: Stop) -> Status
+    ensures { Writes (status_of stop) (line_of stop) (E.taken err.old) (E.taken err.new) (E.faults err.old) (E.faults err.new) result
+        ⊎ ((stop ≢ Stop.BadWords) × (stop ≢ Stop.ReadFailed)
+        × Writes Status.OutOfMemory out_of_memory_line (E.taken err.old) (E.taken err.new) (E.faults err.old) (E.faults err.new) result) }
+{
+    match stop {
+        Stop::BadWords => write_text(err, USAGE_LINE, Status::BadWords),
+        Stop::Refused(fault) => match refused_line(alloc, fault) {
+            Ok(line) => write_text(err, line.as_str(), Status::Refused),
+            Err(_) => write_text(err, OUT_OF_MEMORY_LINE, Status::OutOfMemory),
+        },
+        Stop::ReadFailed => write_text(err, READ_FAILED_LINE, Status::ReadFault),
+        Stop::NoMemory => write_text(err, OUT_OF_MEMORY_LINE, Status::OutOfMemory),
+    }
+}
+
+// The line for the job `value`.
+fn value_line(alloc: Global, list: &EdgeList) -> Result<String, NoMemory>
+    ensures { IfOk result (λ text. string_bytes text ≡ value_line list.now) }
+{
+    if list.n() < 2 {
+        return String::from_str(alloc, "no cut\n");
+    }
+    let value = plain_value(alloc, list)?;
+    format!(in alloc; "value {value}\n")
+}
+
+// The text for the job `value`.
+fn value_text<S: Source>(alloc: Global, source: &mut S) -> Result<String, Stop>
+    ensures text { IfOk result (λ text. IfSome (S.left source.old) (λ bytes. IsAnswer bytes (string_bytes text))) }
+    ensures same { IfOk result (λ text. S.faults source.new ≡ S.faults source.old) }
+    ensures cause { IfErr result (λ stop. (words : List (List ℕ)) → HasCommand words
+        → IsCause words (S.left source.old) (S.faults source.old) (S.faults source.new) stop) }
+    ensures words { result ≢ Err Stop.BadWords }
+{
+    let graph = take_in(alloc, source)?;
+    Ok(value_line(alloc, &graph.edges)?)
+}
+
+// The text of the answer. Nothing is written yet.
+fn answer_text<S: Source>(alloc: Global, words: &[String], source: &mut S) -> Result<String, Stop>
+    ensures text { IfOk result (λ text. IfSome (S.left source.old) (λ bytes. IsAnswer bytes (string_bytes text))) }
+    ensures same { IfOk result (λ text. S.faults source.new ≡ S.faults source.old) }
+    ensures words { OnOk result (HasCommand (texts words.now)) }
+    ensures cause { IfErr result (IsCause (texts words.now) (S.left source.old) (S.faults source.old) (S.faults source.new)) }
+    ensures no_command { ¬ HasCommand (texts words.now) → IsErrOf result Stop.BadWords ⊎ IsErrOf result Stop.NoMemory }
+    ensures unread { ¬ HasCommand (texts words.now) → source.new ≡ source.old }
+{
+    match read_words(alloc, words) {
+        Ok(command) => match command.job {
+            Job::Value => value_text(alloc, source),
+        },
+        Err(WordsRefusal::BadWords) => Err(Stop::BadWords),
+        Err(WordsRefusal::NoMemory) => Err(Stop::NoMemory),
+    }
+}
+
+/// All that the program does, over whatever source and sinks: it reads the words, reads the source to its end, writes
+/// the text of the answer to `out` or the line that tells why there is none to `err`, and answers how it ended.
+///
+/// The job `value` takes O(n^3 + m) steps and a table of n^2 weights.
+pub fn run<S: Source, K: Sink, E: Sink, G: Gate>(
+    alloc: Global,
+    words: &[String],
+    source: &mut S,
+    out: &mut K,
+    err: &mut E,
+    _gate: &G,
+) -> Status
+    // Words that are no command are told as such, and nothing is read.
+    ensures bad_words { result ≡ Status.BadWords → ¬ HasCommand (texts words.now) }
+    ensures no_command { ¬ HasCommand (texts words.now) →
+        (result ≡ Status.BadWords) ⊎ (result ≡ Status.OutOfMemory)
+        ⊎ ((result ≡ Status.WriteFault) × Rose (E.faults err.old) (E.faults err.new)) }
+    ensures unread { ¬ HasCommand (texts words.now) → source.new ≡ source.old }
+
+    // A fault of reading comes only where a count rose. A fault of writing does too, and a first part of the text was taken.
+    ensures read_fault { result ≡ Status.ReadFault → Rose (S.faults source.old) (S.faults source.new) }
+    ensures write_fault { result ≡ Status.WriteFault →
+        (AnswerFailed (S.left source.old) (K.taken out.old) (K.taken out.new) (K.faults out.old) (K.faults out.new) × (err.new ≡ err.old))
+        ⊎ (TellingFailed (texts words.now) (S.left source.old) (S.faults source.old) (S.faults source.new)
+        (E.taken err.old) (E.taken err.new) (E.faults err.old) (E.faults err.new) × (out.new ≡ out.old)) }
+
+    // A count that changed is told.
+    ensures source_changed { S.faults source.new ≢ S.faults source.old →
+        (result ≡ Status.ReadFault) ⊎ ((result ≡ Status.WriteFault) × Rose (E.faults err.old) (E.faults err.new)) }
+    ensures out_changed { K.faults out.new ≢ K.faults out.old → result ≡ Status.WriteFault }
+    ensures err_changed { E.faults err.new ≢ E.faults err.old → result ≡ Status.WriteFault }
+
+    // At `Ok` no count changed, the whole answer was taken, and nothing was told.
+    ensures ok_source { result ≡ Status.Ok → S.faults source.new ≡ S.faults source.old }
+    ensures ok_out { result ≡ Status.Ok → K.faults out.new ≡ K.faults out.old }
+    ensures ok_text { result ≡ Status.Ok → TakesAnswer (S.left source.old) (K.taken out.old) (K.taken out.new) }
+    ensures ok_err { result ≡ Status.Ok → err.new ≡ err.old }
+
+    // With another status nothing was answered, unless a write failed, and its line was told.
+    ensures out_kept { result ≢ Status.Ok → result ≢ Status.WriteFault → out.new ≡ out.old }
+    ensures told_words { result ≡ Status.BadWords → Appends (E.taken err.old) (E.taken err.new) usage_line }
+    ensures told_refused { result ≡ Status.Refused → Appends (E.taken err.old) (E.taken err.new) not_yet_line }
+    ensures told_read { result ≡ Status.ReadFault → Appends (E.taken err.old) (E.taken err.new) read_failed_line }
+    ensures told_memory { result ≡ Status.OutOfMemory → Appends (E.taken err.old) (E.taken err.new) out_of_memory_line }
+
+    // Bytes are refused only where they are not of the first form. Where memory suffices and no count rose they are
+    // answered where they are of the first form, and refused where they are not.
+    ensures refused { result ≡ Status.Refused → IfSome (S.left source.old) IsOtherForm }
+    ensures first_form { (bytes : List ℕ) (graph : Graph) → HasCommand (texts words.now)
+        → S.left source.old ≡ Some bytes → IsFirstForm bytes graph → ¬ Rose (S.faults source.old) (S.faults source.new)
+        → ¬ Rose (K.faults out.old) (K.faults out.new) → ¬ Rose (E.faults err.old) (E.faults err.new)
+        → (result ≡ Status.Ok) ⊎ (result ≡ Status.OutOfMemory) }
+    ensures other_form { (bytes : List ℕ) → HasCommand (texts words.now)
+        → S.left source.old ≡ Some bytes → IsOtherForm bytes → ¬ Rose (S.faults source.old) (S.faults source.new)
+        → ¬ Rose (K.faults out.old) (K.faults out.new) → ¬ Rose (E.faults err.old) (E.faults err.new)
+        → (result ≡ Status.Refused) ⊎ (result ≡ Status.OutOfMemory) }
+
+    ensures no_listing { result ≢ Status.ListTooLarge }
+    ensures no_vertex { result ≢ Status.BadVertex }
+{
+    match answer_text(alloc, words, source) {
+        Ok(text) => write_text(out, text.as_str(), Status::Ok),
+        Err(stop) => tell(alloc, err, stop),
+    }
+}

@@ -1,0 +1,170 @@
+use crate::program::run;
+use crate::status::Status;
+use outside::{MemorySink, MemorySource, OpenGate};
+use std::alloc::Global;
+use std::test::Fail;
+
+const TRIANGLE: &[u8] = b"3 3\n2 3\n1 3\n1 2\n";
+
+const USAGE: &[u8] = b"usage: mincut JOB [U V] [--workers N]\n";
+
+// What a run answers, and what it wrote.
+#[derive(Drop)]
+struct Outcome {
+    status: Status,
+    out: MemorySink,
+    err: MemorySink,
+}
+
+// Which calls fail, and how many bytes each read gives.
+#[derive(Clone, Copy)]
+struct Script<'a> {
+    cuts: &'a [usize],
+    reads: &'a [u64],
+    writes: &'a [u64],
+    tells: &'a [u64],
+}
+
+const HONEST: Script = Script {
+    cuts: &[],
+    reads: &[],
+    writes: &[],
+    tells: &[],
+};
+
+fn run_on(alloc: Global, words: &[&str], text: &[u8], script: &Script) -> Result<Outcome, Fail> {
+    let mut strings = Vec::new(alloc);
+    for word in words {
+        strings.push(String::from_str(alloc, word)?)?;
+    }
+    let mut source = MemorySource::new(
+        text.to_vec(alloc)?,
+        script.cuts.to_vec(alloc)?,
+        script.reads.to_vec(alloc)?,
+    );
+    let mut out = MemorySink::new(alloc, 100, script.writes.to_vec(alloc)?)?;
+    let mut err = MemorySink::new(alloc, 100, script.tells.to_vec(alloc)?)?;
+    let status = run(alloc, &strings, &mut source, &mut out, &mut err, &OpenGate);
+    Ok(Outcome { status, out, err })
+}
+
+#[test]
+fn values_are_printed(rt: HostRuntime) -> Result<(), Fail> {
+    for (text, line) in [
+        (TRIANGLE, "value 2\n"),
+        (b"4 2\n2\n1\n4\n3\n", "value 0\n"),
+        (b"1 0\n\n", "no cut\n"),
+        (b"0 0\n", "no cut\n"),
+    ] {
+        let outcome = run_on(rt.alloc(), &["value"], text, &HONEST)?;
+        assert_eq!(rt; outcome.status, Status::Ok, "{line}");
+        assert_eq!(rt; outcome.out.taken(), line.as_bytes());
+        assert_eq!(rt; outcome.err.taken(), b"".as_slice());
+    }
+    Ok(())
+}
+
+#[test]
+fn reads_may_be_cut_anywhere(rt: HostRuntime) -> Result<(), Fail> {
+    for first in 1..TRIANGLE.len() {
+        let cut = [first];
+        let script = Script {
+            cuts: &cut,
+            ..HONEST
+        };
+        let outcome = run_on(rt.alloc(), &["value"], TRIANGLE, &script)?;
+        assert_eq!(rt; outcome.status, Status::Ok, "at {first}");
+        assert_eq!(rt; outcome.out.taken(), b"value 2\n".as_slice());
+    }
+    let single = [1; 20];
+    let script = Script {
+        cuts: &single,
+        ..HONEST
+    };
+    let outcome = run_on(rt.alloc(), &["value"], TRIANGLE, &script)?;
+    assert_eq!(rt; outcome.out.taken(), b"value 2\n".as_slice());
+    Ok(())
+}
+
+#[test]
+fn other_forms_are_refused(rt: HostRuntime) -> Result<(), Fail> {
+    for text in [
+        b"% c\n2 1\n2\n1\n".as_slice(),
+        b"2 1 1\n2 7\n1 7\n",
+        b"3 2 1\n2 3\n1 4 3 1\n2 1\n",
+        b"",
+        b"1001 0\n",
+    ] {
+        let outcome = run_on(rt.alloc(), &["value"], text, &HONEST)?;
+        assert_eq!(rt; outcome.status, Status::Refused);
+        assert_eq!(rt; outcome.out.taken(), b"".as_slice());
+        assert_eq!(rt;
+            outcome.err.taken(),
+            b"refused: NotYet at line 0\n".as_slice()
+        );
+    }
+    Ok(())
+}
+
+#[test]
+fn a_long_text_is_read_no_further(rt: HostRuntime) -> Result<(), Fail> {
+    let text = vec![in rt.alloc(); b' '; 1_300_000]?;
+    let script = Script {
+        reads: &[17],
+        ..HONEST
+    };
+    let outcome = run_on(rt.alloc(), &["value"], &text, &script)?;
+    assert_eq!(rt; outcome.status, Status::Refused);
+    Ok(())
+}
+
+#[test]
+fn other_words_are_refused(rt: HostRuntime) -> Result<(), Fail> {
+    for words in [
+        ["cuts"].as_slice(),
+        &["Value"],
+        &["value", "3"],
+        &["value", "value"],
+        &[""],
+        &[],
+    ] {
+        let outcome = run_on(rt.alloc(), words, TRIANGLE, &HONEST)?;
+        assert_eq!(rt; outcome.status, Status::BadWords);
+        assert_eq!(rt; outcome.status.code(), 2);
+        assert_eq!(rt; outcome.out.taken(), b"".as_slice());
+        assert_eq!(rt; outcome.err.taken(), USAGE);
+    }
+    Ok(())
+}
+
+#[test]
+fn faults_are_told(rt: HostRuntime) -> Result<(), Fail> {
+    let alloc = rt.alloc();
+    let read = Script {
+        cuts: &[4],
+        reads: &[1],
+        ..HONEST
+    };
+    let outcome = run_on(alloc, &["value"], TRIANGLE, &read)?;
+    assert_eq!(rt; outcome.status, Status::ReadFault);
+    assert_eq!(rt; outcome.out.taken(), b"".as_slice());
+    assert_eq!(rt; outcome.err.taken(), b"read failed\n".as_slice());
+
+    let write = Script {
+        writes: &[0],
+        ..HONEST
+    };
+    let outcome = run_on(alloc, &["value"], TRIANGLE, &write)?;
+    assert_eq!(rt; outcome.status, Status::WriteFault);
+    assert_eq!(rt; outcome.out.taken(), b"".as_slice());
+    assert_eq!(rt; outcome.err.taken(), b"".as_slice());
+
+    let tell = Script {
+        tells: &[0],
+        ..HONEST
+    };
+    let outcome = run_on(alloc, &["value"], b"3 x3\n", &tell)?;
+    assert_eq!(rt; outcome.status, Status::WriteFault);
+    assert_eq!(rt; outcome.err.taken(), b"".as_slice());
+    Ok(())
+}
