@@ -1,6 +1,6 @@
 -- What was told, where there is no answer.
-use Rattle.std.proofs.Common.{◌≡◌, ℕ, ◌⊎◌, inl, inr, ⊎_elim, List, [], ◌∷◌, Option, Some, refl, sym, ◌∙◌, subst}
-use Rattle.std.specs.Prelude.{◌≢◌, IfSome}
+use Rattle.std.proofs.Common.{◌≡◌, ℕ, ◌⊎◌, inl, inr, ⊎_elim, List, [], ◌∷◌, Option, Some, None, refl, sym, ◌∙◌, subst}
+use Rattle.std.specs.Prelude.{◌≢◌, IfSome, MatchOption}
 use Rattle.std.specs.Fmt.{decimal, digits}
 use Rattle.std.specs.Io.KnownBytes.{Appends}
 use Rattle.outside.specs.Faults.{Rose}
@@ -10,10 +10,13 @@ use Rattle.mincut_program.specs.declared.stop.Stop.{Stop}
 use Rattle.mincut_program.specs.declared.stop.Stop.TheVariants as stop
 use Rattle.mincut_program.specs.declared.status.Status.{Status}
 use Rattle.mincut_program.specs.declared.status.Status.TheVariants as status
-use Rattle.mincut_program.specs.Words.{HasCommand}
+use Rattle.mincut_program.specs.declared.notice.Notice.{Notice}
+use Rattle.mincut_program.specs.Notices.{notice_of, text_of}
+use Rattle.mincut_program.specs.Words.{HasCommand, command_of}
 use Rattle.mincut_program.specs.Texts.{out_of_memory_line, not_yet_line}
 use Rattle.mincut_program.specs.Stops.{status_of, line_of}
-use Rattle.mincut_program.specs.Intake.{IsAnswer, IsCause}
+use Rattle.mincut_program.specs.Intake.{IsAnswer, IsReply, IsCause}
+use Rattle.mincut_program.proofs.NoticeWords.{notice_is_no_command}
 use Rattle.mincut_program.specs.Answers.{Writes, TellingFailed}
 
 -- the line of the stop was written, or that of want of memory
@@ -21,6 +24,9 @@ abbrev pub Tells : Stop → Option (List ℕ) → Option (List ℕ) → ℕ → 
 Tells s before after n m result =
     Writes (status_of s) (line_of s) before after n m result
     ⊎ ((s ≢ stop.BadWords) × (s ≢ stop.ReadFailed) × Writes status.OutOfMemory out_of_memory_line before after n m result)
+
+none_command : (words : List (List ℕ)) → command_of words ≡ None → HasCommand words → ⊥
+none_command words none command = cc
 
 decimal_zero : decimal 0 ≡ 48 ∷ []
 unfolding digits
@@ -61,7 +67,7 @@ calm_told s before after p q result told calm =
 pub form_told : (s : Stop) (words : List (List ℕ)) (left : Option (List ℕ)) (m n : ℕ) → IsCause words left m n s →
     (before after : Option (List ℕ)) (p q : ℕ) (result : Status) → Tells s before after p q result → HasCommand words → ¬ Rose m n → ¬ Rose p q →
     (bytes : List ℕ) (graph : Graph) → left ≡ Some bytes → IsFirstForm bytes graph → (result ≡ status.Ok) ⊎ (result ≡ status.OutOfMemory)
-form_told stop.BadWords words left m n cause before after p q result told command read calm bytes graph is form = absurd (cause command)
+form_told stop.BadWords words left m n cause before after p q result told command read calm bytes graph is form = absurd (none_command words cause.0 command)
 form_told (stop.Refused fault) words left m n cause before after p q result told command read calm bytes graph is form =
     let other : IsOtherForm bytes = subst (λ (o : Option (List ℕ)). IfSome o IsOtherForm) is cause.3 in
     absurd (other graph form)
@@ -100,8 +106,19 @@ telling_failed s words left m n cause before after p q result told is =
     memory.2)
     told
 
--- no answer stands where the bytes are of another form
-pub no_other_form : (left : Option (List ℕ)) (bytes text : List ℕ) → left ≡ Some bytes → IsOtherForm bytes → IfSome left (λ bytes. IsAnswer bytes text) → ⊥
-no_other_form left bytes text is other answer =
+-- words that are a command ask for no notice
+no_notice : (words : List (List ℕ)) → HasCommand words → notice_of words ≡ None
+no_notice words command = none_of (notice_of words) refl
+  where
+    none_of : (o : Option Notice) → notice_of words ≡ o → o ≡ None
+    none_of None e = refl
+    none_of (Some n) e = absurd (none_command words (notice_is_no_command words (rw e refl)) command)
+
+-- no reply stands where the bytes are of another form
+pub no_other_form : (words : List (List ℕ)) (left : Option (List ℕ)) (bytes text : List ℕ) → HasCommand words → left ≡ Some bytes → IsOtherForm bytes →
+    IsReply words left text → ⊥
+no_other_form words left bytes text command is other reply =
+    let answer : IfSome left (λ bytes. IsAnswer bytes text) = subst
+    (λ (o : Option Notice). MatchOption o (IfSome left (λ bytes. IsAnswer bytes text)) (λ notice. text ≡ text_of notice)) (no_notice words command) reply in
     let a : IsAnswer bytes text = subst (λ (o : Option (List ℕ)). IfSome o (λ bytes. IsAnswer bytes text)) is answer in
     other a.graph a.form

@@ -1,12 +1,12 @@
 -- When the program gives each of its answers.
-use Rattle.std.specs.Prelude.{◌≡◌, ◌⊎◌, ℕ, List, Option, IfSome}
+use Rattle.std.specs.Prelude.{◌≡◌, ◌⊎◌, ℕ, List, Option}
 use Rattle.std.specs.Io.KnownBytes.{Appends}
 use Rattle.outside.specs.Faults.{Rose, AppendsPrefix}
 use Rattle.mincut_program.specs.declared.status.Status.{Status}
 use Rattle.mincut_program.specs.declared.status.Status.TheVariants.{Ok, Refused, BadWords, ReadFault, WriteFault, OutOfMemory, ListTooLarge, BadVertex}
 use Rattle.mincut_program.specs.declared.stop.Stop.{Stop}
 use Rattle.mincut_program.specs.Stops.{line_of}
-use Rattle.mincut_program.specs.Intake.{IsAnswer, IsCause}
+use Rattle.mincut_program.specs.Intake.{IsReply, IsCause}
 
 abbrev pub code_of : Status → ℕ
 code_of Ok = 0
@@ -34,14 +34,18 @@ Writes status text taken_before taken_after before now result =
     ((result ≡ status) × Wrote text taken_before taken_after before now)
     ⊎ ((result ≡ WriteFault) × Failed text taken_before taken_after before now)
 
--- the text of the answer was taken whole
-abbrev pub TakesAnswer : Option (List ℕ) → Option (List ℕ) → Option (List ℕ) → Type 0
-TakesAnswer left taken_before taken_after = IfSome left (λ bytes. (text : List ℕ) × IsAnswer bytes text × Appends taken_before taken_after text)
+-- the text of the reply was taken whole
+pub record TakesReply (words : List (List ℕ)) (left taken_before taken_after : Option (List ℕ)) : Type 0 where
+  pub text : List ℕ
+  pub reply : IsReply words left text
+  pub text_taken : Appends taken_before taken_after text
 
--- a write of the answer failed: a first part of its text was taken
-pub record AnswerFailed (left taken_before taken_after : Option (List ℕ)) (before now : ℕ) : Type 0 where
+-- a write of the reply failed: a first part of its text was taken
+pub record ReplyFailed (words : List (List ℕ)) (left taken_before taken_after : Option (List ℕ)) (before now : ℕ) : Type 0 where
   pub rose : Rose before now
-  pub part_taken : IfSome left (λ bytes. (text : List ℕ) × IsAnswer bytes text × AppendsPrefix taken_before taken_after text)
+  pub text : List ℕ
+  pub reply : IsReply words left text
+  pub part_taken : AppendsPrefix taken_before taken_after text
 
 -- a write failed of the line that tells why there is no answer: a first part of it was taken
 pub record TellingFailed (words : List (List ℕ)) (left : Option (List ℕ)) (faults_before faults_now : ℕ)

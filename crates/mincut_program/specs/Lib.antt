@@ -1,5 +1,8 @@
-pub mod Words
 pub mod Texts
+pub mod Notices
+pub mod Numbers
+pub mod Line
+pub mod Words
 pub mod Stops
 pub mod Intake
 pub mod Answers

@@ -3,14 +3,16 @@ ghost use Rattle.std.specs.Io.KnownBytes.{Appends};
 ghost use Rattle.outside.specs.Faults.{Rose};
 ghost use Rattle.cut_definitions.specs.Graph.{Graph};
 ghost use Rattle.metis_reader.specs.FirstForm.{IsFirstForm, IsOtherForm};
-ghost use Rattle.mincut_program.specs.Words.{texts, HasCommand};
+ghost use Rattle.mincut_program.specs.Words.{texts, AsksNothing, HasCommand};
 ghost use Rattle.mincut_program.specs.Texts.{usage_line, read_failed_line, out_of_memory_line, not_yet_line, value_line};
-ghost use Rattle.mincut_program.specs.Intake.{IsCause, IsAnswer};
+ghost use Rattle.mincut_program.specs.Intake.{IsCause, IsAnswer, IsReply};
 ghost use Rattle.mincut_program.specs.Stops.{status_of, line_of};
-ghost use Rattle.mincut_program.specs.Answers.{Writes, TakesAnswer, AnswerFailed, TellingFailed};
+ghost use Rattle.mincut_program.specs.Notices.{text_of};
+ghost use Rattle.mincut_program.specs.Answers.{Writes, TakesReply, ReplyFailed, TellingFailed};
 
 use crate::command::{Job, WordsRefusal, read_words};
 use crate::intake::take_in;
+use crate::notice::{Notice, notice_of};
 use crate::status::Status;
 use crate::stop::{Stop, refused_line};
 use cut_definitions::EdgeList;
@@ -51,6 +53,17 @@ fn tell<E: Sink>(alloc: Global, err: &mut E, stop: Stop) -> Status
     }
 }
 
+// The text of a notice.
+fn notice_text(alloc: Global, notice: Notice) -> Result<String, Stop>
+    ensures text { IfOk result (λ text. string_bytes text ≡ text_of notice) }
+    ensures memory { IfErr result (λ stop. stop ≡ Stop.NoMemory) }
+{
+    match String::from_str(alloc, notice.text()) {
+        Ok(text) => Ok(text),
+        Err(_) => Err(Stop::NoMemory),
+    }
+}
+
 // The line for the job `value`.
 fn value_line(alloc: Global, list: &EdgeList) -> Result<String, NoMemory>
     ensures { IfOk result (λ text. string_bytes text ≡ value_line list.now) }
@@ -74,15 +87,18 @@ fn value_text<S: Source>(alloc: Global, source: &mut S) -> Result<String, Stop>
     Ok(value_line(alloc, &graph.edges)?)
 }
 
-// The text of the answer. Nothing is written yet.
-fn answer_text<S: Source>(alloc: Global, words: &[String], source: &mut S) -> Result<String, Stop>
-    ensures text { IfOk result (λ text. IfSome (S.left source.old) (λ bytes. IsAnswer bytes (string_bytes text))) }
+// The text of the reply. Nothing is written yet.
+fn reply_text<S: Source>(alloc: Global, words: &[String], source: &mut S) -> Result<String, Stop>
+    ensures text { IfOk result (λ text. IsReply (texts words.now) (S.left source.old) (string_bytes text)) }
     ensures same { IfOk result (λ text. S.faults source.new ≡ S.faults source.old) }
-    ensures words { OnOk result (HasCommand (texts words.now)) }
+    ensures asked { OnOk result (AsksNothing (texts words.now) → ⊥) }
     ensures cause { IfErr result (IsCause (texts words.now) (S.left source.old) (S.faults source.old) (S.faults source.new)) }
-    ensures no_command { ¬ HasCommand (texts words.now) → IsErrOf result Stop.BadWords ⊎ IsErrOf result Stop.NoMemory }
+    ensures asks_nothing { AsksNothing (texts words.now) → IsErrOf result Stop.BadWords ⊎ IsErrOf result Stop.NoMemory }
     ensures unread { ¬ HasCommand (texts words.now) → source.new ≡ source.old }
 {
+    if let Some(notice) = notice_of(words) {
+        return notice_text(alloc, notice);
+    }
     match read_words(alloc, words) {
         Ok(command) => match command.job {
             Job::Value => value_text(alloc, source),
@@ -104,9 +120,9 @@ pub fn run<S: Source, K: Sink, E: Sink, G: Gate>(
     err: &mut E,
     _gate: &G,
 ) -> Status
-    // Words that are no command are told as such, and nothing is read.
-    ensures bad_words { result ≡ Status.BadWords → ¬ HasCommand (texts words.now) }
-    ensures no_command { ¬ HasCommand (texts words.now) →
+    // Words that are no command and ask for no notice are told as such. Nothing is read where there is no command.
+    ensures bad_words { result ≡ Status.BadWords → AsksNothing (texts words.now) }
+    ensures asks_nothing { AsksNothing (texts words.now) →
         (result ≡ Status.BadWords) ⊎ (result ≡ Status.OutOfMemory)
         ⊎ ((result ≡ Status.WriteFault) × Rose (E.faults err.old) (E.faults err.new)) }
     ensures unread { ¬ HasCommand (texts words.now) → source.new ≡ source.old }
@@ -114,7 +130,7 @@ pub fn run<S: Source, K: Sink, E: Sink, G: Gate>(
     // A fault of reading comes only where a count rose. A fault of writing does too, and a first part of the text was taken.
     ensures read_fault { result ≡ Status.ReadFault → Rose (S.faults source.old) (S.faults source.new) }
     ensures write_fault { result ≡ Status.WriteFault →
-        (AnswerFailed (S.left source.old) (K.taken out.old) (K.taken out.new) (K.faults out.old) (K.faults out.new) × (err.new ≡ err.old))
+        (ReplyFailed (texts words.now) (S.left source.old) (K.taken out.old) (K.taken out.new) (K.faults out.old) (K.faults out.new) × (err.new ≡ err.old))
         ⊎ (TellingFailed (texts words.now) (S.left source.old) (S.faults source.old) (S.faults source.new)
         (E.taken err.old) (E.taken err.new) (E.faults err.old) (E.faults err.new) × (out.new ≡ out.old)) }
 
@@ -124,13 +140,13 @@ pub fn run<S: Source, K: Sink, E: Sink, G: Gate>(
     ensures out_changed { K.faults out.new ≢ K.faults out.old → result ≡ Status.WriteFault }
     ensures err_changed { E.faults err.new ≢ E.faults err.old → result ≡ Status.WriteFault }
 
-    // At `Ok` no count changed, the whole answer was taken, and nothing was told.
+    // At `Ok` no count changed, the whole reply was taken, and nothing was told.
     ensures ok_source { result ≡ Status.Ok → S.faults source.new ≡ S.faults source.old }
     ensures ok_out { result ≡ Status.Ok → K.faults out.new ≡ K.faults out.old }
-    ensures ok_text { result ≡ Status.Ok → TakesAnswer (S.left source.old) (K.taken out.old) (K.taken out.new) }
+    ensures ok_text { result ≡ Status.Ok → TakesReply (texts words.now) (S.left source.old) (K.taken out.old) (K.taken out.new) }
     ensures ok_err { result ≡ Status.Ok → err.new ≡ err.old }
 
-    // With another status nothing was answered, unless a write failed, and its line was told.
+    // With another status nothing was replied, unless a write failed, and its line was told.
     ensures out_kept { result ≢ Status.Ok → result ≢ Status.WriteFault → out.new ≡ out.old }
     ensures told_words { result ≡ Status.BadWords → Appends (E.taken err.old) (E.taken err.new) usage_line }
     ensures told_refused { result ≡ Status.Refused → Appends (E.taken err.old) (E.taken err.new) not_yet_line }
@@ -152,7 +168,7 @@ pub fn run<S: Source, K: Sink, E: Sink, G: Gate>(
     ensures no_listing { result ≢ Status.ListTooLarge }
     ensures no_vertex { result ≢ Status.BadVertex }
 {
-    match answer_text(alloc, words, source) {
+    match reply_text(alloc, words, source) {
         Ok(text) => write_text(out, text.as_str(), Status::Ok),
         Err(stop) => tell(alloc, err, stop),
     }

@@ -42,7 +42,7 @@ fn run_on(alloc: Global, words: &[&str], text: &[u8], script: &Script) -> Result
         script.cuts.to_vec(alloc)?,
         script.reads.to_vec(alloc)?,
     );
-    let mut out = MemorySink::new(alloc, 100, script.writes.to_vec(alloc)?)?;
+    let mut out = MemorySink::new(alloc, 1_000, script.writes.to_vec(alloc)?)?;
     let mut err = MemorySink::new(alloc, 100, script.tells.to_vec(alloc)?)?;
     let status = run(alloc, &strings, &mut source, &mut out, &mut err, &OpenGate);
     Ok(Outcome { status, out, err })
@@ -119,20 +119,69 @@ fn a_long_text_is_read_no_further(rt: HostRuntime) -> Result<(), Fail> {
 }
 
 #[test]
-fn other_words_are_refused(rt: HostRuntime) -> Result<(), Fail> {
-    for words in [
-        ["cuts"].as_slice(),
-        &["Value"],
-        &["value", "3"],
-        &["value", "value"],
-        &[""],
-        &[],
+fn the_option_stands_anywhere(rt: HostRuntime) -> Result<(), Fail> {
+    for line in [
+        "value|--workers|8",
+        "--workers=8|value",
+        "value|--workers=064",
+        "--workers|1|value",
     ] {
-        let outcome = run_on(rt.alloc(), words, TRIANGLE, &HONEST)?;
-        assert_eq!(rt; outcome.status, Status::BadWords);
+        let words: Vec<&str> = line.split('|').collect(rt.alloc())?;
+        let outcome = run_on(rt.alloc(), &words, TRIANGLE, &HONEST)?;
+        assert_eq!(rt; outcome.status, Status::Ok, "{line}");
+        assert_eq!(rt; outcome.out.taken(), b"value 2\n".as_slice());
+    }
+    Ok(())
+}
+
+#[test]
+fn other_words_are_refused_unread(rt: HostRuntime) -> Result<(), Fail> {
+    let unread = Script {
+        reads: &[0],
+        ..HONEST
+    };
+    for line in [
+        "cuts",
+        "Value",
+        "value|3",
+        "part|1",
+        "value|value",
+        "value|--workers|0",
+        "value|--workers|65",
+        "value|--workers",
+        "value|--workers|8|--workers|9",
+        "value|--threads|8",
+        "value|--help",
+        "",
+    ] {
+        let words: Vec<&str> = line.split('|').collect(rt.alloc())?;
+        let outcome = run_on(rt.alloc(), &words, TRIANGLE, &unread)?;
+        assert_eq!(rt; outcome.status, Status::BadWords, "{line}");
         assert_eq!(rt; outcome.status.code(), 2);
         assert_eq!(rt; outcome.out.taken(), b"".as_slice());
         assert_eq!(rt; outcome.err.taken(), USAGE);
+    }
+    let outcome = run_on(rt.alloc(), &[], TRIANGLE, &unread)?;
+    assert_eq!(rt; outcome.status, Status::BadWords);
+    Ok(())
+}
+
+#[test]
+fn notices_are_printed_unread(rt: HostRuntime) -> Result<(), Fail> {
+    let unread = Script {
+        reads: &[0],
+        ..HONEST
+    };
+    for (word, line) in [
+        ("--help", USAGE),
+        ("-h", USAGE),
+        ("--version", b"mincut 0.1.0\n".as_slice()),
+        ("-V", b"mincut 0.1.0\n"),
+    ] {
+        let outcome = run_on(rt.alloc(), &[word], TRIANGLE, &unread)?;
+        assert_eq!(rt; outcome.status, Status::Ok, "{word}");
+        assert!(rt; outcome.out.taken().starts_with(line));
+        assert_eq!(rt; outcome.err.taken(), b"".as_slice());
     }
     Ok(())
 }

@@ -1,0 +1,49 @@
+-- The command of words that are written out.
+use Rattle.std.proofs.Common.{◌≡◌, refl, [], ◌∷◌, Some, None, codes}
+use Rattle.clap.proofs.OnLiterals.{clap_on_literals}
+use Rattle.mincut_program.specs.Words.{command_of}
+use Rattle.mincut_program.specs.declared.command.Job.TheVariants as job
+
+job_alone : command_of (codes "value" ∷ []) ≡ Some (record { job = job.Value; workers = 4 })
+unfolding clap_on_literals command_of
+job_alone = refl
+
+option_first : command_of (codes "--workers=8" ∷ codes "value" ∷ []) ≡ Some (record { job = job.Value; workers = 8 })
+unfolding clap_on_literals command_of
+option_first = refl
+
+option_last : command_of (codes "value" ∷ codes "--workers" ∷ codes "064" ∷ []) ≡ Some (record { job = job.Value; workers = 64 })
+unfolding clap_on_literals command_of
+option_last = refl
+
+no_help : command_of (codes "--help" ∷ []) ≡ None
+unfolding clap_on_literals command_of
+no_help = refl
+
+no_word : command_of [] ≡ None
+unfolding clap_on_literals command_of
+no_word = refl
+
+another_job : command_of (codes "Value" ∷ []) ≡ None
+unfolding clap_on_literals command_of
+another_job = refl
+
+a_job_not_built : command_of (codes "cuts" ∷ []) ≡ None
+unfolding clap_on_literals command_of
+a_job_not_built = refl
+
+a_value_too_many : command_of (codes "value" ∷ codes "3" ∷ []) ≡ None
+unfolding clap_on_literals command_of
+a_value_too_many = refl
+
+no_workers : command_of (codes "value" ∷ codes "--workers" ∷ codes "0" ∷ []) ≡ None
+unfolding clap_on_literals command_of
+no_workers = refl
+
+too_many_workers : command_of (codes "value" ∷ codes "--workers" ∷ codes "65" ∷ []) ≡ None
+unfolding clap_on_literals command_of
+too_many_workers = refl
+
+an_option_twice : command_of (codes "value" ∷ codes "--workers" ∷ codes "8" ∷ codes "--workers" ∷ codes "9" ∷ []) ≡ None
+unfolding clap_on_literals command_of
+an_option_twice = refl

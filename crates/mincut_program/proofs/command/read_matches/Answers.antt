@@ -1,0 +1,11 @@
+use Rattle.std.proofs.Common.{◌∙◌, refl}
+use Rattle.clap.specs.Words.{found_of}
+use Rattle.mincut_program.proofs.Reading.{read_by_rows}
+use Rattle.mincut_program.proofs.command.read_matches.Goals as goal
+
+pub returns : goal.returns
+returns c =
+    let values_are = c.unwrap_or-values.ensures in
+    let ruled = read_by_rows (found_of c.args.matches.now) c.get_str.result c.get_str-2.result c.get_strs.result _ refl
+    c.get_str.ensures c.get_strs.ensures c.get_str-2.ensures in
+    c.read_command.ensures ∙ (rw values_are ruled)

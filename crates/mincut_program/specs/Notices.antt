@@ -1,0 +1,27 @@
+-- What the program tells of itself.
+use Rattle.std.specs.Prelude.{◌||◌, ◌++◌, ◌∷◌, ℕ, List, [], Option, Some, None, codes, if◌then◌else◌}
+use Rattle.std.specs.Str.{bytes_eq}
+use Rattle.mincut_program.specs.Texts.{line}
+use Rattle.mincut_program.specs.declared.notice.Notice.{Notice}
+use Rattle.mincut_program.specs.declared.notice.Notice.TheVariants.{Help, Version}
+
+abbrev pub text_of : Notice → List ℕ
+text_of Help =
+    line (codes "usage: mincut JOB [U V] [--workers N]")
+    ++ line (codes "reads a graph in METIS text from standard input")
+    ++ line (codes "JOB is one of")
+    ++ line (codes "value: prints the least weight of a cut")
+    ++ line (codes "N, the number of workers, is 1 to 64, and 4 where it is not named")
+text_of Version = line (codes "mincut 0.1.0")
+
+-- the notice of this name
+abbrev pub notice_named : List ℕ → Option Notice
+notice_named word =
+    if bytes_eq word (codes "--help") || bytes_eq word (codes "-h") then Some Help
+    else (if bytes_eq word (codes "--version") || bytes_eq word (codes "-V") then Some Version else None)
+
+-- the notice that the words ask for: they are the one word that names it
+abbrev pub notice_of : List (List ℕ) → Option Notice
+notice_of [] = None
+notice_of (word ∷ []) = notice_named word
+notice_of (word ∷ next ∷ more) = None

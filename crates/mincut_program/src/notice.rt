@@ -1,0 +1,55 @@
+//! What the program tells of itself.
+
+ghost use Rattle.std.specs.Prelude.{◌≡◌};
+ghost use Rattle.mincut_program.specs.Notices.{notice_named, notice_of};
+ghost use Rattle.mincut_program.specs.Words.{texts};
+
+const HELP: &str = "usage: mincut JOB [U V] [--workers N]\n\
+    reads a graph in METIS text from standard input\n\
+    JOB is one of\n\
+    value: prints the least weight of a cut\n\
+    N, the number of workers, is 1 to 64, and 4 where it is not named\n";
+
+const VERSION: &str = "mincut 0.1.0\n";
+
+/// A text about the program, for which no graph is read.
+#[derive(Clone, Copy, Debug, PartialEq, Eq)]
+pub enum Notice {
+    Help,
+    Version,
+}
+
+impl Notice {
+    ghost use Rattle.std.specs.Prelude.{◌≡◌};
+    ghost use Rattle.mincut_program.specs.Notices.{text_of};
+
+    /// The whole text.
+    pub fn text(&self) -> &'static str
+        ensures { result.now ≡ text_of self.now }
+    {
+        match self {
+            Notice::Help => HELP,
+            Notice::Version => VERSION,
+        }
+    }
+}
+
+fn notice_named(word: &str) -> Option<Notice>
+    ensures { result ≡ notice_named word.now }
+{
+    match word {
+        "--help" | "-h" => Some(Notice::Help),
+        "--version" | "-V" => Some(Notice::Version),
+        _ => None,
+    }
+}
+
+/// The notice that the words ask for, where they are the one word that names it.
+pub fn notice_of(words: &[String]) -> Option<Notice>
+    ensures { result ≡ notice_of (texts words.now) }
+{
+    match words {
+        [word] => notice_named(word.as_str()),
+        _ => None,
+    }
+}
