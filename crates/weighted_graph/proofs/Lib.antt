@@ -1,0 +1,15 @@
+pub mod Rows
+pub mod Filled
+pub mod RowLaws
+pub mod RowSearch
+pub mod Contraction
+pub mod Labelling
+pub mod Unique
+pub mod Merged
+pub mod Sorted
+pub mod Relabelled
+pub mod Contracting
+pub mod OneComponent
+pub mod Searched
+pub mod Counting
+pub mod SafeContraction

@@ -1,0 +1,199 @@
+//! A graph with the edges at each vertex in one row.
+//!
+//! The vertices are 1 to n, edges are counted from 0 in the order of the list, and weights add up to at most 2^61.
+
+ghost use Rattle.std.specs.Prelude.{◌≡◌, ◌↔◌, ◌+◌, ◌<◌, ◌≤◌, IfOk, if◌then◌else◌, length, slice_get, slice_index_or};
+ghost use Rattle.std.specs.List.{AllPairs, sum_by};
+ghost use Rattle.cut_definitions.specs.Graph.{IsEdgeList};
+ghost use Rattle.cut_definitions.specs.Weight.{weight, between};
+ghost use Rattle.cut_definitions.specs.Cuts.{has};
+ghost use Rattle.cut_definitions.specs.Components.{HasComponents};
+ghost use Rattle.cut_definitions.specs.Contraction.{relabel};
+ghost use Rattle.cut_definitions.specs.Scan.{single};
+ghost use Rattle.weighted_graph.specs.declared.graph.Arc.{Arc};
+ghost use Rattle.weighted_graph.specs.Rows.{row_of};
+
+use crate::components::count_components;
+use crate::labels::Labels;
+use crate::relabel::{class_edges, merge, sort_by_ends};
+use crate::row_index::{degrees, row_starts, rows};
+use cut_definitions::{Edge, EdgeList};
+use std::alloc::{AllocError, Global};
+use std::marker::Model;
+use vertex_set::Side;
+
+/// One direction of an edge: its other end, its place in the list of edges, and its weight.
+#[derive(Clone, Copy, Debug, PartialEq, Eq)]
+pub struct Arc {
+    pub to: u32,
+    pub edge: u32,
+    pub weight: u64,
+}
+
+/// The weight of the arc to a vertex, or 0 where the row has none, by binary search.
+fn weight_to(row: &[Arc], v: u32) -> u64
+    requires { AllPairs (λ (a b : Arc). a.to < b.to) row.now }
+    ensures { result ≡ sum_by (λ (a : Arc). if single v a.to then a.weight else 0) row.now }
+{
+    match row.binary_search_by_key(&v, |arc| arc.to) {
+        Ok(place) => row[place].weight,
+        Err(_) => 0,
+    }
+}
+
+/// A graph: its edges, and the edges at each vertex in one row. Contracts see the number of vertices and the list.
+///
+/// An edge takes 48 bytes of memory, a vertex 16.
+#[derive(Drop)]
+pub struct Graph {
+    n: u32,
+    edges: Vec<Edge>,
+    starts: Vec<usize>,
+    arcs: Vec<Arc>,
+    degrees: Vec<u64>,
+}
+
+impl Model for Graph {
+    ghost use Rattle.cut_definitions.specs.Graph.{Graph as EdgeGraph};
+    ghost use Rattle.weighted_graph.specs.Rows.{IsIndexed};
+
+    ghost Value = { EdgeGraph };
+
+    ghost view = { λ g. record { vertices = g.n; edges = g.edges.items } };
+
+    ghost invariant = { λ g.
+        IsIndexed (record { vertices = g.n; edges = g.edges.items }) g.starts.items g.arcs.items g.degrees.items };
+}
+
+impl Graph {
+    /// The graph of a list of edges, in O(n + m). It is refused only where memory is wanting.
+    pub fn build(alloc: Global, list: &EdgeList) -> Result<Graph, AllocError>
+        ensures { IfOk result (λ g. g ≡ list.now) }
+    {
+        let n = list.n();
+        let edges = list.edges();
+        let starts = row_starts(alloc, n, edges)?;
+        let arcs = rows(alloc, edges, &starts)?;
+        let degrees = degrees(alloc, n, edges)?;
+        let edges = Vec::from_slice(alloc, edges)?;
+        Ok(Graph {
+            n,
+            edges,
+            starts,
+            arcs,
+            degrees,
+        })
+    }
+
+    /// The number of vertices.
+    pub fn n(&self) -> u32
+        ensures value { result ≡ self.now.vertices }
+        ensures edge_list { IsEdgeList self.now }
+    {
+        self.n
+    }
+
+    /// The number of edges.
+    pub fn edges(&self) -> usize
+        ensures { result ≡ length self.now.edges }
+    {
+        self.edges.len()
+    }
+
+    /// The edge at a place of the list, 0 to m - 1.
+    pub fn edge(&self, i: usize) -> Edge
+        requires { i < length self.now.edges }
+        ensures value { slice_get self.now.edges i ≡ Some result }
+        ensures by_index { result ≡ slice_index_or self.now.edges i result }
+    {
+        self.edges[i]
+    }
+
+    /// All edges, ascending by their ends, lent without a copy.
+    pub fn edge_list(&self) -> &[Edge]
+        ensures value { result.now ≡ self.now.edges }
+        ensures edge_list { IsEdgeList self.now }
+    {
+        &self.edges
+    }
+
+    /// The edges at a vertex, ascending by the other end, lent without a copy. The row of 0 is empty.
+    pub fn row(&self, v: u32) -> &[Arc]
+        requires { v ≤ self.now.vertices }
+        ensures value { result.now ≡ row_of self.now v }
+        ensures edge_list { IsEdgeList self.now }
+    {
+        let start = self.starts[v as usize];
+        let end = self.starts[v as usize + 1];
+        let arcs = self.arcs.as_slice();
+        &arcs[start..end]
+    }
+
+    /// The sum of the weights of the edges at a vertex, which is kept.
+    pub fn degree(&self, v: u32) -> u64
+        requires { v ≤ self.now.vertices }
+        ensures { result ≡ weight self.now (single v) }
+    {
+        self.degrees[v as usize]
+    }
+
+    /// The weight of the edge between two vertices, or 0 where there is none. It is searched for in the shorter row,
+    /// in the logarithm of its length.
+    pub fn weight(&self, u: u32, v: u32) -> u64
+        requires { u ≤ self.now.vertices }
+        ensures { result ≡ between self.now (single u) (single v) }
+    {
+        let row = self.row(u);
+        if v <= self.n {
+            let other = self.row(v);
+            if other.len() < row.len() {
+                return weight_to(other, u);
+            }
+        }
+        weight_to(row, v)
+    }
+
+    /// The weight of a set of vertices of the same n: the sum of the weights of the edges with exactly one end in it.
+    /// It goes over all edges.
+    pub fn weight_of(&self, side: &Side) -> u64
+        requires { side.now.vertices ≡ self.now.vertices }
+        ensures { result ≡ weight self.now (has side.now.members) }
+    {
+        let mut total = 0;
+        for edge in self.edge_list() {
+            let u_in = side.has(edge.u);
+            let v_in = side.has(edge.v);
+            if u_in != v_in {
+                total += edge.w;
+            }
+        }
+        total
+    }
+
+    /// The number of components; 0 exactly where there is no vertex. Breadth-first search (Moore, 1959) from each
+    /// vertex that no earlier search saw, in O(n + m). It is refused only where memory is wanting.
+    pub fn components(&self, alloc: Global) -> Result<u32, AllocError>
+        ensures counted { IfOk result (λ count. HasComponents self.now count) }
+        ensures none { IfOk result (λ count. (count ≡ 0) ↔ (self.now.vertices ≡ 0)) }
+    {
+        let places = self.n as usize + 1;
+        let mut seen = vec![in alloc; false; places]?;
+        let mut queue = vec![in alloc; 0u32; places]?;
+        Ok(count_components(self, &mut seen, &mut queue))
+    }
+
+    /// The graph on the classes of labels, one for each vertex: the weight between two classes is the sum over the
+    /// edges between their vertices, and edges inside a class are gone. The edges between classes are sorted once, in
+    /// O(m log m). It is refused only where memory is wanting.
+    pub fn relabel(&self, alloc: Global, labels: &Labels) -> Result<Graph, AllocError>
+        requires { length labels.now ≡ self.now.vertices }
+        ensures { IfOk result (λ g. g ≡ relabel self.now labels.now) }
+    {
+        let classes = labels.classes();
+        let mut between = class_edges(alloc, self.edge_list(), labels)?;
+        let sorted = between.as_mut_slice();
+        sort_by_ends(sorted);
+        let merged = merge(alloc, classes, sorted)?;
+        Graph::build(alloc, &merged)
+    }
+}

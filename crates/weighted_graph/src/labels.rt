@@ -1,0 +1,103 @@
+//! Labels, which give each vertex a class: what a contraction makes one vertex of.
+
+ghost use Rattle.std.specs.Prelude.{◌≡◌, ℕ, ◌+◌, ◌≤◌, IfOk, length, map};
+ghost use Rattle.cut_definitions.specs.Contraction.{label, classes, lift, IsLabels};
+ghost use Rattle.weighted_graph.specs.Labels.{AreKept};
+
+use std::alloc::{AllocError, Global};
+use std::marker::Model;
+use vertex_set::Side;
+
+/// A class of 1 to k for each of the vertices 1 to n, each class used, with vertex 1 in class 1. There are at most
+/// 4,194,304 vertices. Contracts see the list of the classes in the order of the vertices.
+#[derive(Drop)]
+pub struct Labels {
+    class_of: Vec<u32>,
+    count: u32,
+}
+
+impl Model for Labels {
+    ghost use Rattle.std.specs.Prelude.{ℕ, List};
+    ghost use Rattle.weighted_graph.specs.Labels.{AreKept};
+
+    ghost Value = { List ℕ };
+
+    ghost view = { λ l. l.class_of.items };
+
+    ghost invariant = { λ l. AreKept l.class_of.items l.count };
+}
+
+impl Labels {
+    /// The labels of a list, which has one for each vertex and is taken over. It takes no memory, and O(n) steps.
+    pub fn from_list(list: Vec<u32>) -> Labels
+        requires labels { IsLabels list.items }
+        requires few { length list.items ≤ 4194304 }
+        ensures { result ≡ list.items }
+    {
+        let mut count = 0;
+        for class in &list {
+            count = count.max(*class);
+        }
+        Labels {
+            class_of: list,
+            count,
+        }
+    }
+
+    /// The class of a vertex of 1 to n.
+    pub fn label(&self, v: u32) -> u32
+        requires from_one { 1 ≤ v }
+        requires to_n { v ≤ length self.now }
+        ensures value { result ≡ label self.now v }
+        ensures from_one { 1 ≤ result }
+        ensures to_classes { result ≤ classes self.now }
+    {
+        self.class_of[v as usize - 1]
+    }
+
+    /// The number k of classes.
+    pub fn classes(&self) -> u32
+        ensures value { result ≡ classes self.now }
+        ensures labels { IsLabels self.now }
+        ensures few { length self.now ≤ 4194304 }
+    {
+        self.count
+    }
+
+    /// The number n of vertices.
+    pub fn n(&self) -> u32
+        ensures { result ≡ length self.now }
+    {
+        self.class_of.len() as u32
+    }
+
+    /// First these labels, then `next` on their classes, of which it labels each, in O(n). It is refused only where
+    /// memory is wanting.
+    pub fn compose(&self, alloc: Global, next: &Labels) -> Result<Labels, AllocError>
+        requires { length next.now ≡ classes self.now }
+        ensures { IfOk result (λ l. l ≡ map (label next.now) self.now) }
+    {
+        // known by this call: the labels of `next` are labels, which makes the composed ones labels
+        let _next = next.classes();
+        let mut composed = Vec::new(alloc);
+        for class in &self.class_of {
+            composed.push(next.label(*class))?;
+        }
+        Ok(Labels::from_list(composed))
+    }
+
+    /// All vertices whose class is in a set of classes, in O(n). It is refused only where memory is wanting.
+    pub fn lift(&self, alloc: Global, side: &Side) -> Result<Side, AllocError>
+        requires { side.now.vertices ≡ classes self.now }
+        ensures { IfOk result (λ s. s ≡ record { vertices = length self.now; members = lift self.now side.now.members }) }
+    {
+        let n = self.n();
+        let mut lifted = Side::empty(alloc, n)?;
+        for v in 0..n {
+            if side.has(self.label(v + 1)) {
+                lifted.insert(v + 1);
+            }
+        }
+        Ok(lifted)
+    }
+}
