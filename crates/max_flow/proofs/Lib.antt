@@ -1,0 +1,9 @@
+pub mod Balance
+pub mod Closed
+pub mod Trees
+pub mod Reaching
+pub mod Pushing
+pub mod Augmenting
+pub mod RowStarts
+pub mod Showing
+pub mod Members

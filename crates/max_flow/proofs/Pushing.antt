@@ -1,0 +1,146 @@
+-- A push along the path to a vertex, one arc at a time.
+use Rattle.std.proofs.Common.{◌≡◌, ℕ, ◌+◌, ◌-◌, ◌*◌, ◌<◌, ◌≤◌, ◌⊎◌, inl, inr, ⊎_elim, Bool, true, false, eqb, List, set, length, get_or, refl, sym, ◌∙◌, ap, arith}
+use Rattle.std.specs.Prelude.{◌≢◌, if◌then◌else◌}
+use Rattle.std.proofs.lemmas.Bool.{cases_eq, eq-eqb, ne_eqb}
+use Rattle.std.proofs.lemmas.List.{get_or-set_same, get_or-set_other, length-set}
+use Rattle.cut_definitions.specs.declared.edge_list.Edge.{Edge}
+use Rattle.cut_definitions.specs.Graph.{Graph, IsGraph}
+use Rattle.cut_definitions.specs.Weight.{VertexSet}
+use Rattle.max_flow.specs.declared.search.Step.{Step}
+use Rattle.max_flow.specs.Residual.{out, counted, edge_of, IsResidual}
+use Rattle.max_flow.specs.Tree.{step_at, mark_of, IsMarking, IsListed, IsAlong, IsTree, IsPath}
+use Rattle.max_flow.proofs.Balance.{out-push_up, out-push_down}
+use Rattle.max_flow.proofs.Closed.{edge_within}
+
+-- what is left of an edge toward its greater end, after an amount is carried there or back
+abbrev pub carried : Bool → ℕ → ℕ → ℕ
+carried upward x amount = if upward then x - amount else x + amount
+
+-- ---- the path to a vertex of the tree
+
+-- the marks of a tree are those of its steps
+pub IsListed-from_marking : (n : ℕ) (marks : List ℕ) (steps : List Step) (count : ℕ) → IsMarking n marks steps count → 1 ≤ count → IsListed marks steps count
+IsListed-from_marking n marks steps count h some = record {
+  few = omega (arith, h.steps_length, h.rest);
+  within = λ j l. omega (arith, h.marks_length, h.to_n j l);
+  at_most = h.at_most;
+  stands = h.stands;
+}
+
+-- the steps of a tree up to a place are a path
+pub IsPath-from_tree : (g : Graph) (toward marks : List ℕ) (steps : List Step) (count place : ℕ) → IsTree g toward marks steps count → place < count → IsPath g toward steps place
+IsPath-from_tree g toward marks steps count place h l = record {
+  inside = omega (arith, h.marking.steps_length, h.marking.rest);
+  reached = λ j a b. h.reached j a (omega arith);
+  distinct = λ i j a b e. (let p = h.marking.placed i (omega arith) in let q = h.marking.placed j (omega arith) in let f = ap (mark_of marks) e in omega arith);
+}
+
+-- ---- one arc
+
+-- the ends of an edge along which a vertex was reached
+ends_of : (e : Edge) (x a b bottleneck v : ℕ) → IsAlong e x a b bottleneck → (e.u ≡ v) ⊎ (e.v ≡ v) → (a ≡ v) ⊎ (b ≡ v)
+ends_of e x a b bottleneck v h k =
+    ⊎_elim
+    (λ (p : (e.u ≡ a) × (e.v ≡ b) × (bottleneck ≤ x)). ⊎_elim (λ (q : e.u ≡ v). inl (sym p.0 ∙ q)) (λ (q : e.v ≡ v). inr (sym p.1 ∙ q)) k)
+    (λ (p : (e.u ≡ b) × (e.v ≡ a) × (bottleneck ≤ 2 * e.w - x)). ⊎_elim (λ (q : e.u ≡ v). inr (sym p.0 ∙ q)) (λ (q : e.v ≡ v). inl (sym p.1 ∙ q)) k)
+    h
+
+-- an edge along which a vertex was reached has that vertex as an end
+has_head : (e : Edge) (x a b bottleneck : ℕ) → IsAlong e x a b bottleneck → (e.u ≡ b) ⊎ (e.v ≡ b)
+has_head e x a b bottleneck h =
+    ⊎_elim
+    (λ (p : (e.u ≡ a) × (e.v ≡ b) × (bottleneck ≤ x)). inr p.1)
+    (λ (p : (e.u ≡ b) × (e.v ≡ a) × (bottleneck ≤ 2 * e.w - x)). inl p.0)
+    h
+
+-- the arcs of a path go along different edges
+pub edges_apart : (g : Graph) (toward : List ℕ) (steps : List Step) (place i j : ℕ) → IsPath g toward steps place → 1 ≤ i → i < j → j ≤ place →
+    (step_at steps i).edge ≢ (step_at steps j).edge
+edges_apart g toward steps place i j h one l in' same =
+    let p = h.reached i one (omega arith) in
+    let q = h.reached j (omega arith) in' in
+    let ends = has_head _ _ _ _ _ q.along in
+    let moved : ((edge_of g.edges (step_at steps i).edge).u ≡ (step_at steps j).vertex) ⊎ ((edge_of g.edges (step_at steps i).edge).v ≡ (step_at steps j).vertex) = rw same ends in
+    ⊎_elim
+    (λ (e : (step_at steps (step_at steps i).parent).vertex ≡ (step_at steps j).vertex).
+    omega (arith, h.distinct (step_at steps i).parent j (omega (arith, p.earlier)) in' e, p.earlier))
+    (λ (e : (step_at steps i).vertex ≡ (step_at steps j).vertex). omega (arith, h.distinct i j (omega arith) in' e))
+    (ends_of _ _ _ _ _ _ p.along moved)
+
+-- the push so far: the arcs from `at` back to the first are as they were
+pub record Pushed (g : Graph) (toward0 toward : List ℕ) (steps : List Step) (place at amount : ℕ) : Type 0 where
+  pub inside : at ≤ place
+  pub residual : IsResidual g toward
+  pub bottleneck : amount ≤ (step_at steps at).bottleneck
+  pub same : (j : ℕ) → 1 ≤ j → j ≤ at → get_or toward (step_at steps j).edge 0 ≡ get_or toward0 (step_at steps j).edge 0
+  pub balance : (side : VertexSet) → out g.edges toward side + counted side (step_at steps at).vertex amount
+      ≡ out g.edges toward0 side + counted side (step_at steps place).vertex amount
+
+-- before the first arc nothing is pushed
+pub pushed_none : (g : Graph) (toward : List ℕ) (steps : List Step) (place amount : ℕ) → IsResidual g toward → amount ≤ (step_at steps place).bottleneck →
+    Pushed g toward toward steps place place amount
+pushed_none g toward steps place amount h l = record { inside = omega arith; residual = h; bottleneck = l; same = λ j a b. refl; balance = λ side. refl }
+
+-- what one push changes
+record PushedOnce (g : Graph) (toward toward' : List ℕ) (a b amount : ℕ) : Type 0 where
+  residual : IsResidual g toward'
+  balance : (side : VertexSet) → out g.edges toward' side + counted side a amount ≡ out g.edges toward side + counted side b amount
+
+-- one arc
+pushed_once : (g : Graph) → IsGraph g → (toward : List ℕ) (i a b amount : ℕ) → IsResidual g toward → i < length g.edges →
+    IsAlong (edge_of g.edges i) (get_or toward i 0) a b amount →
+    PushedOnce g toward (set toward i (carried (eqb (edge_of g.edges i).v b) (get_or toward i 0) amount)) a b amount
+pushed_once g ok toward i a b amount h l along =
+    let e = edge_of g.edges i in
+    let x = get_or toward i 0 in
+    let w = edge_within g ok i l in
+    let top = h.bounded i l in
+    let bounded = λ (y : ℕ) (fits : y ≤ 2 * e.w). (let f : (k : ℕ) → k < length g.edges → get_or (set toward i y) k 0 ≤ 2 * (edge_of g.edges k).w = λ k m. ⊎_elim
+    (λ (s : k ≡ i). rw (s, get_or-set_same toward i y 0 (omega (arith, h.each))) fits)
+    (λ (s : k ≢ i). rw (get_or-set_other toward i k y 0 s) (h.bounded k m)) (cases_eq k i) in f) in
+    ⊎_elim
+    (λ (p : (e.u ≡ a) × (e.v ≡ b) × (amount ≤ x)).
+    let up : eqb e.v b ≡ true = eq-eqb e.v b p.1 in
+    rw up (record {
+      residual = record { each = omega (arith, h.each, length-set toward i (x - amount)); bounded = bounded (x - amount) (omega arith) };
+      balance = λ side. rw (← p.0, ← p.1) (out-push_up g.edges toward i amount side l h.each p.2 top);
+    }))
+    (λ (p : (e.u ≡ b) × (e.v ≡ a) × (amount ≤ 2 * e.w - x)).
+    let down : eqb e.v b ≡ false = ne_eqb e.v b (λ q. omega (arith, p.0, w.1)) in
+    rw down (record {
+      residual = record { each = omega (arith, h.each, length-set toward i (x + amount)); bounded = bounded (x + amount) (omega (arith, p.2)) };
+      balance = λ side. rw (← p.0, ← p.1) (out-push_down g.edges toward i amount side l h.each p.2 top);
+    }))
+    along
+
+-- less can be carried along where more can
+narrower_path : (e : Edge) (x y a b bottleneck amount : ℕ) → amount ≤ bottleneck → x ≡ y → IsAlong e x a b bottleneck → IsAlong e y a b amount
+narrower_path e x y a b bottleneck amount h is along =
+    ⊎_elim
+    (λ (p : (e.u ≡ a) × (e.v ≡ b) × (bottleneck ≤ x)). inl (p.0, p.1, omega (arith, p.2)))
+    (λ (p : (e.u ≡ b) × (e.v ≡ a) × (bottleneck ≤ 2 * e.w - x)). inr (p.0, p.1, omega (arith, p.2)))
+    along
+
+-- the arc at hand can still carry the amount
+pub path_here : (g : Graph) (toward0 toward : List ℕ) (steps : List Step) (place at amount : ℕ) → IsPath g toward0 steps place → 1 ≤ at →
+    Pushed g toward0 toward steps place at amount →
+    IsAlong (edge_of g.edges (step_at steps at).edge) (get_or toward (step_at steps at).edge 0) (step_at steps (step_at steps at).parent).vertex (step_at steps at).vertex amount
+path_here g toward0 toward steps place at amount path one h =
+    narrower_path _ _ _ _ _ _ _ h.bottleneck (sym (h.same at one (omega arith))) (path.reached at one h.inside).along
+
+-- one arc more
+pub push_more : (g : Graph) → IsGraph g → (toward0 toward : List ℕ) (steps : List Step) (place at amount : ℕ) → IsPath g toward0 steps place → 1 ≤ at →
+    Pushed g toward0 toward steps place at amount → (toward' : List ℕ) →
+    toward' ≡ set toward (step_at steps at).edge (carried (eqb (edge_of g.edges (step_at steps at).edge).v (step_at steps at).vertex) (get_or toward (step_at steps at).edge 0) amount) →
+    Pushed g toward0 toward' steps place (step_at steps at).parent amount
+push_more g ok toward0 toward steps place at amount path one h toward' is =
+    let r = path.reached at one h.inside in
+    let st = step_at steps at in
+    let once = pushed_once g ok toward st.edge (step_at steps st.parent).vertex st.vertex amount h.residual r.edge (path_here g toward0 toward steps place at amount path one h) in
+    rw is (record {
+      inside = omega (arith, h.inside, r.earlier);
+      residual = once.residual;
+      bottleneck = omega (arith, h.bottleneck, r.narrows);
+      same = λ j a b. get_or-set_other toward st.edge (step_at steps j).edge _ 0 (edges_apart g toward0 steps place j at path a (omega (arith, r.earlier)) h.inside) ∙ h.same j a (omega (arith, r.earlier));
+      balance = λ side. once.balance side ∙ h.balance side;
+    })

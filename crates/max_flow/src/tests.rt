@@ -1,0 +1,142 @@
+ghost use Rattle.std.specs.Prelude.{◌↔◌, ◌≡◌, ◌≢◌, ◌<◌, ◌≤◌, ◌^◌, IsTrue, IfOk};
+ghost use Rattle.std.specs.List.{All};
+ghost use Rattle.cut_definitions.specs.Graph.{IsBefore};
+ghost use Rattle.max_flow.specs.Flow.{StandsFor};
+
+use crate::{Flow, Outcome};
+use cut_definitions::{Edge, EdgeList};
+use std::alloc::Global;
+use std::test::Fail;
+use vertex_set::Side;
+use weighted_graph::Graph;
+
+const GREATEST_TOTAL: u64 = 2_305_843_009_213_693_952;
+
+// Whether the edge comes after all that are there.
+fn comes_last(list: &EdgeList, edge: Edge) -> bool
+    ensures { IsTrue result ↔ All (λ d. IsBefore d edge) list.now.edges }
+{
+    list.edges()
+        .iter()
+        .all(|d| d.u < edge.u || d.u == edge.u && d.v < edge.v)
+}
+
+// The graph of the edges, which are few and ascend.
+fn graph_of(alloc: Global, n: u32, edges: &[(u32, u32, u64)]) -> Result<Graph, Fail>
+    ensures { IfOk result (λ g. g.vertices ≡ n) }
+{
+    if n > 1000 {
+        return Err(Fail::from("too many vertices"));
+    }
+    let mut list = EdgeList::new(alloc, n);
+    let mut total = 0;
+    for &(u, v, w) in edges {
+        let edge = Edge { u, v, w };
+        let count = list.len();
+        let _n = list.n();
+        if u == 0
+            || v <= u
+            || v > n
+            || w == 0
+            || w > GREATEST_TOTAL - total
+            || count > 1000
+            || !comes_last(&list, edge)
+        {
+            return Err(Fail::from("no edge list"));
+        }
+        total += w;
+        list.push(edge)?;
+    }
+    Ok(Graph::build(alloc, &list)?)
+}
+
+// The members of a set, as digits.
+fn digits(side: &Side) -> u32
+    requires { side.now.vertices ≤ 9 }
+{
+    let mut digits = 0u32;
+    for v in 0..side.n() {
+        if side.has(v + 1) {
+            digits = digits.wrapping_mul(10).wrapping_add(v + 1);
+        }
+    }
+    digits
+}
+
+// Whether a run that stops past the amount finds it with this source side, and one that stops there is stopped.
+fn agrees(flow: &mut Flow, graph: &Graph, s: u32, t: u32, amount: u64, source: u32) -> bool
+    requires stands { StandsFor flow.old graph.now }
+    requires few { graph.now.vertices ≤ 9 }
+    requires s_from_one { 1 ≤ s }
+    requires s_to_n { s ≤ graph.now.vertices }
+    requires t_from_one { 1 ≤ t }
+    requires t_to_n { t ≤ graph.now.vertices }
+    requires apart { s ≢ t }
+    requires amount { amount < 2 ^ 63 }
+    ensures stands { StandsFor flow.new graph.now }
+{
+    match flow.run(graph, s, t, amount + 1) {
+        Outcome::AtLeast => return false,
+        Outcome::Best(found) => {
+            if found != amount || digits(flow.source_side()) != source {
+                return false;
+            }
+        }
+    }
+    amount == 0 || flow.run(graph, s, t, amount) == Outcome::AtLeast
+}
+
+#[test]
+fn a_triangle(rt: HostRuntime) -> Result<(), Fail> {
+    let graph = graph_of(rt.alloc(), 3, &[(1, 2, 5), (1, 3, 1), (2, 3, 4)])?;
+    let mut flow = Flow::new(rt.alloc(), &graph)?;
+    match flow.run(&graph, 1, 3, 6) {
+        Outcome::AtLeast => return Err(Fail::from("the stop was reached")),
+        Outcome::Best(amount) => {
+            assert_eq!(rt; amount, 5);
+            assert_eq!(rt; digits(flow.source_side()), 12);
+            assert_eq!(rt; flow.residual_row(1), [1, 0].as_slice());
+            assert_eq!(rt; flow.residual_row(3), [2, 8].as_slice());
+        }
+    }
+    assert_eq!(rt; flow.run(&graph, 1, 3, 5), Outcome::AtLeast);
+    assert_eq!(rt; flow.run(&graph, 1, 2, 6), Outcome::AtLeast);
+    Ok(())
+}
+
+// Two triangles that one edge joins, and a vertex with no edge.
+#[test]
+fn one_flow_for_several_runs(rt: HostRuntime) -> Result<(), Fail> {
+    let edges = [
+        (1, 2, 3),
+        (1, 3, 3),
+        (2, 3, 3),
+        (3, 4, 2),
+        (4, 5, 7),
+        (4, 6, 7),
+        (5, 6, 7),
+    ];
+    let graph = graph_of(rt.alloc(), 7, &edges)?;
+    let mut flow = Flow::new(rt.alloc(), &graph)?;
+    assert!(rt; agrees(&mut flow, &graph, 6, 1, 2, 456));
+    assert!(rt; agrees(&mut flow, &graph, 1, 6, 2, 123));
+    assert!(rt; agrees(&mut flow, &graph, 1, 7, 0, 123456));
+    assert!(rt; agrees(&mut flow, &graph, 7, 1, 0, 7));
+    assert!(rt; agrees(&mut flow, &graph, 5, 6, 14, 5));
+    assert!(rt; agrees(&mut flow, &graph, 2, 1, 6, 2));
+    Ok(())
+}
+
+// A ring whose weights add up to the greatest total, and a vertex with no edge.
+#[test]
+fn a_heavy_ring(rt: HostRuntime) -> Result<(), Fail> {
+    let half = GREATEST_TOTAL / 2;
+    let edges = [(1, 2, half), (1, 4, 1), (2, 3, half - 2), (3, 4, 1)];
+    let graph = graph_of(rt.alloc(), 5, &edges)?;
+    let mut flow = Flow::new(rt.alloc(), &graph)?;
+    assert!(rt; agrees(&mut flow, &graph, 1, 3, half - 1, 12));
+    assert!(rt; agrees(&mut flow, &graph, 2, 4, 2, 123));
+    assert!(rt; agrees(&mut flow, &graph, 4, 2, 2, 4));
+    assert!(rt; agrees(&mut flow, &graph, 3, 5, 0, 1234));
+    Ok(())
+}
