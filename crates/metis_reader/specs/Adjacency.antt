@@ -1,6 +1,6 @@
 -- Lists of neighbours, one for each vertex, and the graph that they give.
-use Rattle.std.specs.Prelude.{ℕ, ◌≡◌, ◌≢◌, IsTrue, ◌+◌, ◌-◌, ◌*◌, ◌<◌, ◌≤◌, List, [], map, length, slice_index_or}
-use Rattle.std.specs.List.{All, AllPairs, filter, flat_map, range_with_len, sum_by}
+use Rattle.std.specs.Prelude.{ℕ, ◌≢◌, IsTrue, ◌+◌, ◌-◌, ◌≤◌, List, [], map, length, slice_index_or}
+use Rattle.std.specs.List.{All, AllPairs, filter, flat_map, range_with_len}
 use Rattle.cut_definitions.specs.declared.edge_list.Edge.{Edge}
 use Rattle.cut_definitions.specs.Graph.{Graph}
 use Rattle.cut_definitions.specs.Cuts.{has}
@@ -17,14 +17,8 @@ abbrev pub edges_to : List ℕ → ℕ → ℕ → List Edge
 edges_to names from count = filter (λ (e : Edge). has names e.v) (map (edge_from from) (range_with_len (from + 1) count))
 
 -- the graph on the vertices 1 to n: each vertex in turn, with the greater ones that it names, all of weight 1
-abbrev pub graph_of : ℕ → List (List ℕ) → Graph
-graph_of n rows = record { vertices = n; edges = flat_map (λ from. edges_to (row rows from) from (n - from)) (range_with_len 1 n) }
-
--- the edges from vertices below this one, each of weight 1
-pub record IsFilled (edges : List Edge) (from : ℕ) : Type 0 where
-  pub below : All (λ (e : Edge). e.u < from) edges
-  pub light : sum_by (λ (e : Edge). e.w) edges ≡ length edges
-  pub few : length edges + 1000 ≤ 1000 * from
+abbrev pub graph_of_rows : ℕ → List (List ℕ) → Graph
+graph_of_rows n rows = record { vertices = n; edges = flat_map (λ from. edges_to (row rows from) from (n - from)) (range_with_len 1 n) }
 
 -- a vertex may stand in the row of another that stands in its row
 pub record IsNeighbour (rows : List (List ℕ)) (u v : ℕ) : Type 0 where

@@ -1,13 +1,26 @@
-//! Reads a graph from the text of a METIS file.
+//! Reads a weighted graph from the text of a METIS file, piece by piece, and names the first fault of a file that has one.
+//!
+//! The format is that of the METIS 5.1 manual (Karypis, 2013): a header line `n m [fmt [ncon]]`, then one line for each
+//! vertex with its size, its weights, and its neighbours, each followed by the weight of the edge, as far as `fmt` says.
+//!
+//! Contracts speak of the bytes that a `Reader` was fed: `graph_of` is the first fault of some bytes, or their edge list,
+//! and `fixed` the fault that they fix, whatever follows. Both are defined over the whole list of lines and words; the code
+//! is a machine over single bytes that keeps none of them. All memory is taken at the end of the header's line: 32 bytes
+//! for each edge and 8 for each vertex. Reading costs time linear in the bytes, the end of the input that of two sorts.
 #![tactic(auto)]
 
-mod adjacency;
-mod edges;
+mod body;
+mod due;
 mod fault;
-mod form;
+mod header;
 pub mod laws;
-mod lines;
+mod line_part;
+mod mates;
+mod parser;
 mod reader;
+#[cfg(test)]
+mod tests;
+mod word;
 
 pub use fault::{Fault, FaultKind, ReadRefusal};
 pub use reader::{MetisGraph, Reader};

@@ -1,141 +1,286 @@
-ghost use Rattle.std.specs.Prelude.{◌≡◌, ◌⊎◌, ◌≤◌, ◌<◌, ◌++◌, [], length, None, IfOk, IfErr, OnOk, IfSome};
-ghost use Rattle.metis_reader.specs.FirstForm.{IsFirstForm, IsOtherForm};
+ghost use Rattle.std.specs.Prelude.{◌≡◌, ◌<◌, true};
+ghost use Rattle.metis_reader.specs.Text.{is_blank as is_blank_byte};
 
-use crate::ReadRefusal;
-use crate::form::graph_of_text;
+use crate::line_part::LinePart;
+use crate::parser::{Parser, refusal_at};
+use crate::word::Word;
+use crate::{FaultKind, ReadRefusal};
 use cut_definitions::EdgeList;
 use std::alloc::Global;
-use std::marker::Model;
 
-const MAX_BYTES: usize = 1_048_576;
+const MAX_BYTES: u64 = 8_589_934_592;
 
-/// What a METIS file says.
+const LINE_FEED: u8 = 10;
+
+const SPACE: u8 = 32;
+
+const PERCENT: u8 = 37;
+
+/// What a METIS file says: its graph, as the list of its edges.
 #[derive(Drop)]
 pub struct MetisGraph {
     pub edges: EdgeList,
 }
 
-/// A reader that is fed a text in pieces.
+/// A reader that is fed a file in pieces.
+///
+/// It keeps no bytes. It stands for the list of the bytes that it was fed, and what its calls say of these bytes holds for
+/// every list that it stands for. How the file was cut into pieces makes no difference.
 #[derive(Drop)]
 pub struct Reader {
-    alloc: Global,
-    bytes: Vec<u8>,
+    parser: Parser,
+    // the number of the present line
+    line: u64,
+    part: LinePart,
+    word: Word,
+    // how many bytes may still come
+    left: u64,
     refusal: Option<ReadRefusal>,
 }
 
-impl Model for Reader {
-    ghost use Rattle.std.specs.Prelude.{◌≤◌, length, IfSome};
-    ghost use Rattle.metis_reader.specs.Reading.{Reading, IsOfReader};
+fn is_blank(byte: u8) -> bool
+    ensures { result ≡ is_blank_byte byte }
+{
+    byte == 32 || byte == 9 || byte == 13
+}
 
-    ghost Value = { Reading };
-
-    ghost view = { λ r. record { fed = r.bytes.items; refusal = r.refusal } };
-
-    ghost invariant = { λ r. (length r.bytes.items ≤ 1048576) × IfSome r.refusal IsOfReader };
+// Whether the byte only makes a word longer: most bytes do, and are seen here at once.
+fn lengthens_word(part: LinePart, byte: u8) -> bool
+    ensures { result ≡ true → (part ≡ LinePart.Words) × (32 < byte) }
+{
+    byte > SPACE && part == LinePart::Words
 }
 
 impl Reader {
-    /// Nothing was fed yet.
+    ghost use Rattle.std.specs.Prelude.{◌≡◌, ◌≢◌, ◌<◌, ◌+◌, ◌++◌, ◌-◌, ◌^◌, ℕ, suc, length, List, [], MatchResult, OnOk, None, Some, Ok, Err, IfErr, IfOk, ◌≤◌, ◌⊎◌};
+    ghost use Rattle.metis_reader.specs.declared.fault.Fault as told;
+    ghost use Rattle.metis_reader.specs.declared.fault.ReadRefusal as refusals;
+    ghost use Rattle.metis_reader.specs.declared.fault.ReadRefusal.TheVariants.{NoMemory, Fault};
+    ghost use Rattle.metis_reader.specs.Machine.{State};
+    ghost use Rattle.metis_reader.specs.Words.{IsWord};
+    ghost use Rattle.metis_reader.specs.File.{graph_of, fixed};
+    ghost use Rattle.metis_reader.specs.Reading.{Reading, start, bytes_findings, reading_from, byte_findings, after_byte, word_end, word_end_state, line_end, line_end_state, input_end};
+    ghost use Rattle.metis_reader.specs.Holding.{ParserShows, Holds, RefusedFirst, ByteEndsHeader, BytesEndHeader};
+    ghost use Rattle.metis_reader.specs.Shown.{EndsHeader};
+    ghost use Rattle.metis_reader.specs.Ending.{last_line, end_state, line_count};
+    ghost use Rattle.metis_reader.specs.Fed.{StandsFor, IsOpen, answered, HasHeader, HeaderEndsIn, FedRefusal};
+
+    /// A reader that was fed nothing. It takes no memory.
     pub fn new(alloc: Global) -> Reader
-        ensures { result ≡ record { fed = []; refusal = None } }
+        ensures stands { StandsFor result [] }
+        ensures answered { answered result ≡ None }
     {
         Reader {
-            alloc,
-            bytes: Vec::new(alloc),
+            parser: Parser::new(alloc),
+            line: 1,
+            part: LinePart::Start,
+            word: Word::NONE,
+            left: MAX_BYTES,
             refusal: None,
         }
     }
 
-    /// Takes the next piece of the text. After a refusal each later call answers the same.
-    pub fn feed(&mut self, piece: &[u8]) -> Result<(), ReadRefusal>
-        ensures fed { OnOk result ((self.old.refusal ≡ None) × (self.new ≡ record { fed = self.old.fed ++ piece.now; refusal = None })
-            × (length (self.old.fed ++ piece.now) ≤ 1048576)) }
-        ensures refused { IfErr result (λ refusal. self.new.refusal ≡ Some refusal) }
-        ensures refused_before { IfSome self.old.refusal (λ refusal. result ≡ Err refusal) }
-        ensures cause { IfErr result (λ refusal. (self.old.refusal ≡ Some refusal) ⊎ ((refusal ≡ ReadRefusal.NoMemory)
-            ⊎ ((refusal ≡ ReadRefusal.NOT_YET) × (1048576 < length (self.old.fed ++ piece.now))))) }
-        ensures too_long { self.old.refusal ≡ None → 1048576 < length (self.old.fed ++ piece.now) → result ≡ Err ReadRefusal.NOT_YET }
+    // Takes the end of a word, if there is one.
+    fn end_word(&mut self, word: Word) -> Result<(), ReadRefusal>
+        ensures same_line { self.new.line ≡ self.old.line }
+        ensures same_refusal { self.new.refusal ≡ self.old.refusal }
+        ensures exact { (s : State) (bytes : List ℕ) (place : ℕ) → ParserShows self.old.parser s → IsWord word bytes
+            → MatchResult result (λ _. (word_end s bytes place self.old.line ≡ []) × ParserShows self.new.parser (word_end_state s bytes place)) (λ refusal. RefusedFirst refusal (word_end s bytes place self.old.line) ⊥) }
     {
-        if let Some(refusal) = self.refusal {
-            return Err(refusal);
+        if word.is_empty() {
+            return Ok(());
         }
-        if piece.len() > MAX_BYTES - self.bytes.len() {
-            self.refusal = Some(ReadRefusal::NOT_YET);
-            return Err(ReadRefusal::NOT_YET);
+        match self.parser.word(word) {
+            Ok(()) => Ok(()),
+            Err(kind) => Err(refusal_at(kind, self.line)),
         }
-        if self.bytes.extend_from_slice(piece).is_err() {
-            self.refusal = Some(ReadRefusal::NoMemory);
-            return Err(ReadRefusal::NoMemory);
+    }
+
+    // Takes the end of a line that is no comment.
+    fn end_line(&mut self, word: Word) -> Result<(), ReadRefusal>
+        ensures line { OnOk result (self.old.line < 2 ^ 64 - 1 → self.new.line ≡ suc self.old.line) }
+        ensures same_refusal { self.new.refusal ≡ self.old.refusal }
+        ensures exact { (s : State) (bytes : List ℕ) (place : ℕ) → ParserShows self.old.parser s → IsWord word bytes
+            → MatchResult result (λ _. (line_end s bytes place self.old.line ≡ []) × ParserShows self.new.parser (line_end_state s bytes place self.old.line)) (λ refusal. RefusedFirst refusal (line_end s bytes place self.old.line) (EndsHeader (word_end_state s bytes place))) }
+    {
+        match self.end_word(word) {
+            Ok(()) => {}
+            Err(refusal) => return Err(refusal),
         }
+        match self.parser.end_line(self.line) {
+            Ok(()) => {}
+            Err(refusal) => return Err(refusal),
+        }
+        self.line = self.line.saturating_add(1);
         Ok(())
     }
 
-    /// The graph of the text, or why there is none.
-    pub fn finish(self) -> Result<MetisGraph, ReadRefusal>
-        ensures graph { IfOk result (λ graph. (self.refusal ≡ None) × IsFirstForm self.fed graph.edges) }
-        ensures refused { IfErr result (λ refusal. (self.refusal ≡ Some refusal) ⊎ ((refusal ≡ ReadRefusal.NoMemory)
-            ⊎ ((refusal ≡ ReadRefusal.NOT_YET) × IsOtherForm self.fed))) }
+    // Takes a byte, where the present line was read so far and a word so far.
+    fn byte(
+        &mut self,
+        part: LinePart,
+        word: Word,
+        byte: u8,
+    ) -> Result<(LinePart, Word), ReadRefusal>
+        ensures same_refusal { self.new.refusal ≡ self.old.refusal }
+        ensures exact { (r : Reading) → Holds self.old.parser self.old.line part word r → suc r.ended < 2 ^ 64 - 1
+            → MatchResult result (λ next. (byte_findings r byte ≡ []) × Holds self.new.parser self.new.line next.0 next.1 (after_byte r byte)) (λ refusal. RefusedFirst refusal (byte_findings r byte) (ByteEndsHeader r byte)) }
     {
-        if let Some(refusal) = self.refusal {
-            return Err(refusal);
+        match part {
+            LinePart::Comment => {
+                if byte != LINE_FEED {
+                    return Ok((LinePart::Comment, word));
+                }
+                self.line = self.line.saturating_add(1);
+                Ok((LinePart::Start, Word::NONE))
+            }
+            LinePart::Start => {
+                if byte == PERCENT {
+                    return Ok((LinePart::Comment, word));
+                }
+                self.word_byte(part, word, byte)
+            }
+            LinePart::Words => self.word_byte(part, word, byte),
         }
-        match graph_of_text(self.alloc, &self.bytes) {
-            Ok(edges) => Ok(MetisGraph { edges }),
+    }
+
+    // Takes a byte of a line that is no comment.
+    fn word_byte(
+        &mut self,
+        part: LinePart,
+        word: Word,
+        byte: u8,
+    ) -> Result<(LinePart, Word), ReadRefusal>
+        requires no_comment { part ≢ LinePart.Comment }
+        requires no_percent { part ≡ LinePart.Start → byte ≢ 37 }
+        ensures same_refusal { self.new.refusal ≡ self.old.refusal }
+        ensures exact { (r : Reading) → Holds self.old.parser self.old.line part word r → suc r.ended < 2 ^ 64 - 1
+            → MatchResult result (λ next. (byte_findings r byte ≡ []) × Holds self.new.parser self.new.line next.0 next.1 (after_byte r byte)) (λ refusal. RefusedFirst refusal (byte_findings r byte) (ByteEndsHeader r byte)) }
+    {
+        if byte == LINE_FEED {
+            return match self.end_line(word) {
+                Ok(()) => Ok((LinePart::Start, Word::NONE)),
+                Err(refusal) => Err(refusal),
+            };
+        }
+        if is_blank(byte) {
+            return match self.end_word(word) {
+                Ok(()) => Ok((LinePart::Words, Word::NONE)),
+                Err(refusal) => Err(refusal),
+            };
+        }
+        Ok((LinePart::Words, word.with(byte)))
+    }
+
+    // Takes bytes of which there may still be so many.
+    fn take(&mut self, piece: &[u8]) -> Result<(), ReadRefusal>
+        ensures same_refusal { self.new.refusal ≡ self.old.refusal }
+        ensures exact { (r : Reading) → Holds self.old.parser self.old.line self.old.part self.old.word r → suc r.ended + length piece.now < 2 ^ 64 - 1
+            → MatchResult result (λ _. (bytes_findings r piece.now ≡ []) × Holds self.new.parser self.new.line self.new.part self.new.word (reading_from r piece.now)) (λ refusal. RefusedFirst refusal (bytes_findings r piece.now) (BytesEndHeader r piece.now)) }
+    {
+        let mut part = self.part;
+        let mut word = self.word;
+        for byte in piece {
+            if lengthens_word(part, *byte) {
+                word = word.with(*byte);
+                continue;
+            }
+            match self.byte(part, word, *byte) {
+                Ok(next) => {
+                    part = next.0;
+                    word = next.1;
+                }
+                Err(refusal) => return Err(refusal),
+            }
+        }
+        self.part = part;
+        self.word = word;
+        Ok(())
+    }
+
+    // Takes the bytes, of which those past the limit are a fault.
+    fn take_within(&mut self, piece: &[u8]) -> Result<(), ReadRefusal>
+        ensures same_refusal { self.new.refusal ≡ self.old.refusal }
+        ensures exact { (bytes : List ℕ) → IsOpen self.old bytes
+            → MatchResult result (λ _. IsOpen self.new (bytes ++ piece.now)) (λ refusal. FedRefusal refusal bytes piece.now) }
+    {
+        if piece.len() as u64 <= self.left {
+            let left = self.left - piece.len() as u64;
+            match self.take(piece) {
+                Ok(()) => {}
+                Err(refusal) => return Err(refusal),
+            }
+            self.left = left;
+            return Ok(());
+        }
+        match self.take(&piece[..self.left as usize]) {
+            Ok(()) => Err(refusal_at(FaultKind::InputTooLong, self.line)),
             Err(refusal) => Err(refusal),
         }
     }
-}
 
-#[cfg(test)]
-mod tests {
-    use super::*;
-    use cut_definitions::Edge;
-    use std::test::Fail;
-
-    fn read(alloc: Global, text: &[u8]) -> Result<MetisGraph, ReadRefusal> {
-        let mut reader = Reader::new(alloc);
-        for byte in text {
-            reader.feed(&[*byte])?;
+    // Takes the end of the last line, where no line feed ended it.
+    fn end_input(&mut self) -> Result<(), ReadRefusal>
+        ensures { (r : Reading) → Holds self.old.parser self.old.line self.old.part self.old.word r → suc r.ended < 2 ^ 64 - 1
+            → MatchResult result (λ _. (last_line r ≡ []) × ParserShows self.new.parser (end_state r) × (self.new.line ≡ suc (line_count r))) (λ refusal. RefusedFirst refusal (last_line r) (EndsHeader (word_end_state r.state r.word r.next))) }
+    {
+        match self.part {
+            LinePart::Start => Ok(()),
+            LinePart::Words => self.end_line(self.word),
+            LinePart::Comment => {
+                self.line = self.line.saturating_add(1);
+                Ok(())
+            }
         }
-        reader.finish()
     }
 
-    #[test]
-    fn a_triangle_is_read(rt: HostRuntime) -> Result<(), Fail> {
-        let graph = read(rt.alloc(), b"3 3\n2 3\n1 3\n1 2\n")?;
-        assert_eq!(rt; graph.edges.n(), 3);
-        assert_eq!(rt; graph.edges.len(), 3);
-        for (i, (u, v)) in [(1, 2), (1, 3), (2, 3)].iter().enumerate() {
-            assert!(rt; i < graph.edges.len());
-            assert_eq!(rt; graph.edges.edge(i), Edge { u: *u, v: *v, w: 1 });
+    /// Takes the next piece of the file.
+    ///
+    /// It answers a fault exactly where the bytes fed so far fix one, and then the first one. It answers `NoMemory` only
+    /// where the piece has the end of the header's line: all memory is taken there, and none after it. After a refusal
+    /// each later call answers the same one. Its cost is linear in the piece, and at the header's end in the vertices and
+    /// edges that the header names.
+    pub fn feed(&mut self, piece: &[u8]) -> Result<(), ReadRefusal>
+        ensures stands { (bytes : List ℕ) → StandsFor self.old bytes → StandsFor self.new (bytes ++ piece.now) }
+        ensures ok { OnOk result ((bytes : List ℕ) → StandsFor self.old bytes → fixed (bytes ++ piece.now) ≡ None) }
+        ensures fault { (f : told.Fault) → result ≡ Err (Fault f) → (bytes : List ℕ) → StandsFor self.old bytes → fixed (bytes ++ piece.now) ≡ Some f }
+        ensures no_memory { result ≡ Err NoMemory → answered self.old ≡ None → (bytes : List ℕ) → StandsFor self.old bytes → HeaderEndsIn bytes piece.now }
+        ensures again { (refusal : refusals.ReadRefusal) → answered self.old ≡ Some refusal → result ≡ Err refusal }
+        ensures no_refusal { OnOk result (answered self.new ≡ None) }
+        ensures refused { IfErr result (λ refusal. answered self.new ≡ Some refusal) }
+    {
+        if let Some(refusal) = self.refusal {
+            return Err(refusal);
         }
-        Ok(())
+        match self.take_within(piece) {
+            Ok(()) => Ok(()),
+            Err(refusal) => {
+                self.refusal = Some(refusal);
+                Err(refusal)
+            }
+        }
     }
 
-    #[test]
-    fn a_refusal_is_remembered(rt: HostRuntime) -> Result<(), Fail> {
-        let mut reader = Reader::new(rt.alloc());
-        let most = vec![in rt.alloc(); b' '; MAX_BYTES]?;
-        assert_eq!(rt; reader.feed(&most).err(), None);
-        for piece in [b" ".as_slice(), b""] {
-            assert_eq!(rt; reader.feed(piece).err(), Some(ReadRefusal::NOT_YET));
+    /// The graph of the file, where the bytes fed are one without a fault, else its first fault.
+    ///
+    /// It answers `NoMemory` only where it was answered before, or where the input's end ends the header's line. Its cost
+    /// for n vertices and m edges is that of sorting the edges, O(n + m log m).
+    pub fn finish(mut self) -> Result<MetisGraph, ReadRefusal>
+        ensures graph { IfOk result (λ g. (bytes : List ℕ) → StandsFor self bytes → graph_of bytes ≡ Ok g.edges) }
+        ensures fault { (f : told.Fault) → result ≡ Err (Fault f) → (bytes : List ℕ) → StandsFor self bytes → graph_of bytes ≡ Err f }
+        ensures no_memory { result ≡ Err NoMemory → answered self ≡ None → (bytes : List ℕ) → StandsFor self bytes → HasHeader bytes → ⊥ }
+    {
+        if let Some(refusal) = self.refusal {
+            return Err(refusal);
         }
-        assert_eq!(rt; reader.finish().err(), Some(ReadRefusal::NOT_YET));
-        Ok(())
-    }
-
-    #[test]
-    fn other_texts_are_refused(rt: HostRuntime) {
-        for text in [
-            b"% c\n2 1\n2\n1\n".as_slice(),
-            b"2 1 1\n2 7\n1 7\n",
-            b"3 2 1\n2 3\n1 4 3 1\n2 1\n",
-            b"2 1\n2\n\n",
-            b"2 1\n2\n1",
-            b"2 2\n2 2\n1 1\n",
-            b"2 1\n 2\n1\n",
-        ] {
-            assert_eq!(rt; read(rt.alloc(), text).err(), Some(ReadRefusal::NOT_YET));
+        match self.end_input() {
+            Ok(()) => {}
+            Err(refusal) => return Err(refusal),
+        }
+        let Reader { parser, line, .. } = self;
+        match parser.finish(line.saturating_sub(1)) {
+            Ok(edges) => Ok(MetisGraph { edges }),
+            Err(fault) => Err(ReadRefusal::Fault(fault)),
         }
     }
 }

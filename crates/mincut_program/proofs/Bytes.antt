@@ -1,15 +1,17 @@
--- What was read and what is left, piece by piece.
-use Rattle.std.proofs.Common.{◌≡◌, ℕ, ◌+◌, ◌<◌, List, [], ◌++◌, length, take, ◌⊎◌, inl, inr, ⊎_elim, Result, Ok, Err, Option, None, Some, refl, sym, ◌∙◌, ap, subst, arith, length-append, append_assoc}
+-- What was read and what is left, piece by piece, and why there may be no graph.
+use Rattle.std.proofs.Common.{◌≡◌, ℕ, ◌+◌, ◌<◌, ◌≤◌, List, [], ◌++◌, length, take, arith, length-append, length-take-le, inl, inr, Result, Ok, Err, Option, None, Some, refl, sym, ◌∙◌, ap, subst, append_assoc}
 use Rattle.std.specs.Prelude.{IfSome, IfErr}
 use Rattle.std.specs.Result.{IsErrAnd}
-use Rattle.std.specs.Io.KnownBytes.{Consumes, IsAtEnd}
+use Rattle.std.specs.Io.KnownBytes.{Consumes, IsAtEnd, Keeps}
 use Rattle.std.proofs.lemmas.List.{append-nil}
-use Rattle.cut_definitions.specs.Graph.{Graph}
-use Rattle.metis_reader.specs.FirstForm.{IsFirstForm, IsOtherForm}
-use Rattle.metis_reader.specs.declared.fault.FaultKind.TheVariants.{NotYet}
+use Rattle.metis_reader.specs.declared.fault.Fault.{Fault as TheFault}
 use Rattle.metis_reader.specs.declared.fault.ReadRefusal.{ReadRefusal}
-use Rattle.metis_reader.specs.declared.fault.ReadRefusal.TheVariants as reader
+use Rattle.metis_reader.specs.declared.fault.ReadRefusal.TheVariants.{Fault, NoMemory}
+use Rattle.metis_reader.specs.File.{graph_of, fixed}
+use Rattle.metis_reader.specs.Fed.{HeaderEndsIn}
+use Rattle.outside.specs.Faults.{Rose}
 use Rattle.mincut_program.specs.declared.stop.Stop.{Stop}
+use Rattle.mincut_program.specs.declared.stop.Stop.TheVariants.{ReadFailed}
 use Rattle.mincut_program.specs.Stops.{stop_of}
 use Rattle.mincut_program.specs.Words.{HasCommand}
 use Rattle.mincut_program.specs.Intake.{IsRead, IsCause}
@@ -36,49 +38,48 @@ read_all (Some all) (Some left) bytes r e =
     let same : left ≡ r.0 = cc (r.1) in
     r.2 ∙ (ap (λ xs. bytes ++ xs) (sym same ∙ e) ∙ append-nil bytes)
 
-pub form_of_all : (before : Option (List ℕ)) (bytes : List ℕ) (graph : Graph) → IfSome before (λ all. all ≡ bytes) → IsFirstForm bytes graph →
-    IfSome before (λ all. IsFirstForm all graph)
-form_of_all None bytes graph e f = tt
-form_of_all (Some all) bytes graph e f = subst (λ (xs : List ℕ). IsFirstForm xs graph) (sym e) f
-
-pub other_of_all : (before : Option (List ℕ)) (bytes : List ℕ) → IfSome before (λ all. all ≡ bytes) → IsOtherForm bytes → IfSome before IsOtherForm
-other_of_all None bytes e f = tt
-other_of_all (Some all) bytes e f = subst IsOtherForm (sym e) f
-
--- more bytes than the first form has
-pub too_long : (before now : Option (List ℕ)) (bytes : List ℕ) → IsRead before now bytes → 1048576 < length bytes → IfSome before IsOtherForm
-too_long None now bytes r l = tt
-too_long (Some all) now bytes r l = λ graph form.
-    let short = form.short in
-    let long : length all ≡ length bytes + length r.0 = ap length r.2 ∙ length-append bytes r.0 in
-    absurd (omega arith)
-
 -- the last read gave nothing
-pub read_end : (before now next : Option (List ℕ)) (bytes room : List ℕ) (n : ℕ) → IsRead before now bytes → n ≡ 0 → Consumes now next (take n room) → IsAtEnd next →
-    IfSome before (λ all. all ≡ bytes)
-read_end before now next bytes room n r none c e =
+pub read_nothing : (before now next : Option (List ℕ)) (bytes room : List ℕ) (n : ℕ) → IsRead before now bytes → n ≡ 0 → Consumes now next (take n room) →
+    IsRead before next bytes
+read_nothing before now next bytes room n r none c =
     let consumed : Consumes now next [] = subst (λ (k : ℕ). Consumes now next (take k room)) none c in
-    subst (λ (xs : List ℕ). IfSome before (λ all. all ≡ xs)) (append-nil bytes) (read_all before next (bytes ++ []) (read_more before now next bytes [] r consumed) e)
+    subst (IsRead before next) (append-nil bytes) (read_more before now next bytes [] r consumed)
 
--- why a reader refused
-abbrev pub Refuses : Option ReadRefusal → ReadRefusal → Type 0 → Type 0
-Refuses state refusal why =
-    (state ≡ Some refusal) ⊎ ((refusal ≡ reader.NoMemory) ⊎ ((refusal ≡ reader.Fault (record { kind = NotYet; line = 0 })) × why))
+-- a failed read took nothing
+pub read_kept : (before now next : Option (List ℕ)) (bytes : List ℕ) → IsRead before now bytes → Keeps now next → IsRead before next bytes
+read_kept None now next bytes r k = tt
+read_kept (Some all) None next bytes r k = cc (r.1)
+read_kept (Some all) (Some left) None bytes r k = absurd k
+read_kept (Some all) (Some left) (Some rest) bytes r k =
+    let same : left ≡ r.0 = cc (r.1) in (rest, refl, r.2 ∙ ap (λ xs. bytes ++ xs) (sym same ∙ sym k))
 
-pub cause_of : (words : List (List ℕ)) → HasCommand words → (left : Option (List ℕ)) (before now : ℕ) → now ≡ before →
-    (state : Option ReadRefusal) (refusal : ReadRefusal) → state ≡ None →
-    Refuses state refusal (IfSome left IsOtherForm) → IsCause words left before now (stop_of refusal)
-cause_of words command left before now same state (reader.Fault fault) none why =
-    ⊎_elim (λ (e : state ≡ Some (reader.Fault fault)). cc)
-    (λ rest. ⊎_elim (λ (e : reader.Fault fault ≡ reader.NoMemory). cc)
-    (λ (e : (reader.Fault fault ≡ reader.Fault (record { kind = NotYet; line = 0 })) × IfSome left IsOtherForm).
-    let is : fault ≡ record { kind = NotYet; line = 0 } = cc (e.0) in (command, same, is, e.1)) rest)
-    why
-cause_of words command left before now same state reader.NoMemory none why = same
+-- the cause where a read failed
+pub read_cause : (words : List (List ℕ)) → HasCommand words → (before now next : Option (List ℕ)) (m n k : ℕ) → n ≡ m → Rose n k → (bytes : List ℕ) →
+    IsRead before now bytes → Keeps now next → fixed bytes ≡ None → IsCause words before next m k ReadFailed
+read_cause words command before now next m n k same rose bytes read kept none =
+    (command, subst (λ (x : ℕ). Rose x k) same rose, record { bytes = bytes; read = read_kept before now next bytes read kept; none = none })
 
-pub refuses_more : (state : Option ReadRefusal) (refusal : ReadRefusal) (P Q : Type 0) → (P → Q) → Refuses state refusal P → Refuses state refusal Q
-refuses_more state refusal P Q f why =
-    ⊎_elim (λ e. inl e) (λ rest. ⊎_elim (λ e. inr (inl e)) (λ e. inr (inr (e.0, f e.1))) rest) why
+-- the cause of a refusal once all was read
+pub finish_cause : (words : List (List ℕ)) → HasCommand words → (before now : Option (List ℕ)) (m n : ℕ) → n ≡ m → (bytes : List ℕ) → IsRead before now bytes → IsAtEnd now →
+    (refusal : ReadRefusal) → ((f : TheFault) → refusal ≡ Fault f → graph_of bytes ≡ Err f) → IsCause words before now m n (stop_of refusal)
+finish_cause words command before now m n same bytes read end (Fault f) why = (command, same, record { bytes = bytes; read = read; why = inr (end, why f refl) })
+finish_cause words command before now m n same bytes read end NoMemory why = (same, inr (inr (inl end)))
+
+-- the cause of a refusal of a piece
+pub feed_cause : (words : List (List ℕ)) → HasCommand words → (before now : Option (List ℕ)) (m n : ℕ) → n ≡ m → (bytes piece : List ℕ) → IsRead before now (bytes ++ piece) →
+    (refusal : ReadRefusal) → ((f : TheFault) → refusal ≡ Fault f → fixed (bytes ++ piece) ≡ Some f) → (refusal ≡ NoMemory → HeaderEndsIn bytes piece) →
+    IsCause words before now m n (stop_of refusal)
+feed_cause words command before now m n same bytes piece read (Fault f) why header = (command, same, record { bytes = bytes ++ piece; read = read; why = inl (why f refl) })
+feed_cause words command before now m n same bytes piece read NoMemory why header =
+    (same, inr (inl (record { bytes = bytes; piece = piece; read = read; header = header refl })))
+
+-- a reader takes fewer bytes after each piece
+pub fewer : (before now total : ℕ) (bytes room : List ℕ) (n : ℕ) → before + length bytes ≡ total → now + length (bytes ++ take n room) ≡ total → 0 < n → n ≤ length room →
+    now < before
+fewer before now total bytes room n b e some fits =
+    let long = length-append bytes (take n room) in
+    let all = length-take-le n room fits in
+    omega arith
 
 -- what holds of the stop of a refusal holds of an answer that hands the refusal on
 pub handed_on : {T : Type 0} (P : Stop → Type 0) (answer : Result T Stop) (refusal : ReadRefusal) →

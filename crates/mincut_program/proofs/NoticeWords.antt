@@ -1,5 +1,5 @@
 -- Words that ask for a notice are no command.
-use Rattle.std.proofs.Common.{◌≡◌, ◌||◌, ◌∷◌, Bool, true, false, refl, sym, List, [], Option, Some, None, codes, ⊎_elim, subst}
+use Rattle.std.proofs.Common.{◌≡◌, ◌∷◌, true, false, refl, sym, List, [], None, codes, ⊎_elim, subst}
 use Rattle.std.specs.Prelude.{IsSome}
 use Rattle.std.specs.Str.{bytes_eq}
 use Rattle.std.proofs.lemmas.Bool.{cases_Bool, false≢true}

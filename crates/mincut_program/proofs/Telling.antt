@@ -1,11 +1,12 @@
--- What was told, where there is no answer.
-use Rattle.std.proofs.Common.{◌≡◌, ℕ, ◌⊎◌, inl, inr, ⊎_elim, List, [], ◌∷◌, Option, Some, None, refl, sym, ◌∙◌, subst}
-use Rattle.std.specs.Prelude.{◌≢◌, IfSome, MatchOption}
-use Rattle.std.specs.Fmt.{decimal, digits}
+-- What was replied, and what was told where there is no reply.
+use Rattle.std.proofs.Common.{◌++◌, ◌≡◌, ℕ, ◌⊎◌, inl, inr, ⊎_elim, List, Option, Some, None, Result, Ok, Err, refl, sym, ◌∙◌, subst, ap}
+use Rattle.std.specs.Prelude.{◌≢◌, IfSome, IfOk, MatchOption}
 use Rattle.std.specs.Io.KnownBytes.{Appends}
 use Rattle.outside.specs.Faults.{Rose}
 use Rattle.cut_definitions.specs.Graph.{Graph}
-use Rattle.metis_reader.specs.FirstForm.{IsFirstForm, IsOtherForm}
+use Rattle.metis_reader.specs.declared.fault.Fault.{Fault}
+use Rattle.metis_reader.specs.File.{graph_of, fixed}
+use Rattle.metis_reader.proofs.FixedFaults.{graph_of_fixed, fixed_stays}
 use Rattle.mincut_program.specs.declared.stop.Stop.{Stop}
 use Rattle.mincut_program.specs.declared.stop.Stop.TheVariants as stop
 use Rattle.mincut_program.specs.declared.status.Status.{Status}
@@ -13,98 +14,17 @@ use Rattle.mincut_program.specs.declared.status.Status.TheVariants as status
 use Rattle.mincut_program.specs.declared.notice.Notice.{Notice}
 use Rattle.mincut_program.specs.Notices.{notice_of, text_of}
 use Rattle.mincut_program.specs.Words.{HasCommand, command_of}
-use Rattle.mincut_program.specs.Texts.{out_of_memory_line, not_yet_line}
+use Rattle.mincut_program.specs.Texts.{out_of_memory_line}
 use Rattle.mincut_program.specs.Stops.{status_of, line_of}
-use Rattle.mincut_program.specs.Intake.{IsAnswer, IsReply, IsCause}
+use Rattle.mincut_program.specs.Intake.{IsRefused, IsAnswer, IsReply, IsCause}
+use Rattle.mincut_program.specs.Answers.{Writes, Tells, TellsFault, TellingFailed}
 use Rattle.mincut_program.proofs.NoticeWords.{notice_is_no_command}
-use Rattle.mincut_program.specs.Answers.{Writes, TellingFailed}
+use Rattle.mincut_program.proofs.Bytes.{read_all}
 
--- the line of the stop was written, or that of want of memory
-abbrev pub Tells : Stop → Option (List ℕ) → Option (List ℕ) → ℕ → ℕ → Status → Type 0
-Tells s before after n m result =
-    Writes (status_of s) (line_of s) before after n m result
-    ⊎ ((s ≢ stop.BadWords) × (s ≢ stop.ReadFailed) × Writes status.OutOfMemory out_of_memory_line before after n m result)
+-- ---- words
 
 none_command : (words : List (List ℕ)) → command_of words ≡ None → HasCommand words → ⊥
 none_command words none command = cc
-
-decimal_zero : decimal 0 ≡ 48 ∷ []
-unfolding digits
-decimal_zero = refl
-
-not_yet : (s : Stop) (words : List (List ℕ)) (left : Option (List ℕ)) (m n : ℕ) → IsCause words left m n s → status_of s ≡ status.Refused → line_of s ≡ not_yet_line
-not_yet stop.BadWords words left m n cause is = cc
-not_yet (stop.Refused fault) words left m n cause is = rw (cause.2, decimal_zero) refl
-not_yet stop.ReadFailed words left m n cause is = cc
-not_yet stop.NoMemory words left m n cause is = cc
-
-module _ (s : Stop) (words : List (List ℕ)) (left : Option (List ℕ)) (m n : ℕ) (cause : IsCause words left m n s)
-    (before after : Option (List ℕ)) (p q : ℕ) (result : Status) (told : Tells s before after p q result) where
-  pub refusal_told : result ≡ status.Refused → Appends before after not_yet_line
-  refusal_told is =
-      ⊎_elim
-      (λ line. ⊎_elim
-      (λ w. let same : status_of s ≡ status.Refused = sym w.0 ∙ is in
-      subst (Appends before after) (not_yet s words left m n cause same) w.1.text_taken)
-      (λ w. let off : result ≡ status.WriteFault = w.0 in cc)
-      line)
-      (λ memory. ⊎_elim
-      (λ w. let off : result ≡ status.OutOfMemory = w.0 in cc)
-      (λ w. let off : result ≡ status.WriteFault = w.0 in cc)
-      memory.2)
-      told
-
--- where only a write can fail, the answer is the stop's status or want of memory
-calm_told : (s : Stop) (before after : Option (List ℕ)) (p q : ℕ) (result : Status) → Tells s before after p q result → ¬ Rose p q →
-    (result ≡ status_of s) ⊎ (result ≡ status.OutOfMemory)
-calm_told s before after p q result told calm =
-    ⊎_elim
-    (λ line. ⊎_elim (λ w. inl w.0) (λ w. absurd (calm w.1.rose)) line)
-    (λ memory. ⊎_elim (λ w. inr w.0) (λ w. absurd (calm w.1.rose)) memory.2)
-    told
-
--- for a text of the first form only memory can be wanting
-pub form_told : (s : Stop) (words : List (List ℕ)) (left : Option (List ℕ)) (m n : ℕ) → IsCause words left m n s →
-    (before after : Option (List ℕ)) (p q : ℕ) (result : Status) → Tells s before after p q result → HasCommand words → ¬ Rose m n → ¬ Rose p q →
-    (bytes : List ℕ) (graph : Graph) → left ≡ Some bytes → IsFirstForm bytes graph → (result ≡ status.Ok) ⊎ (result ≡ status.OutOfMemory)
-form_told stop.BadWords words left m n cause before after p q result told command read calm bytes graph is form = absurd (none_command words cause.0 command)
-form_told (stop.Refused fault) words left m n cause before after p q result told command read calm bytes graph is form =
-    let other : IsOtherForm bytes = subst (λ (o : Option (List ℕ)). IfSome o IsOtherForm) is cause.3 in
-    absurd (other graph form)
-form_told stop.ReadFailed words left m n cause before after p q result told command read calm bytes graph is form = absurd (read cause.1)
-form_told stop.NoMemory words left m n cause before after p q result told command read calm bytes graph is form =
-    ⊎_elim (λ e. inr e) (λ e. inr e) (calm_told stop.NoMemory before after p q result told calm)
-
-memory_is_no_fault : status.OutOfMemory ≡ status.WriteFault → ⊥
-memory_is_no_fault e = cc
-
-no_write_fault : (s : Stop) → status_of s ≡ status.WriteFault → ⊥
-no_write_fault stop.BadWords e = cc
-no_write_fault (stop.Refused fault) e = cc
-no_write_fault stop.ReadFailed e = cc
-no_write_fault stop.NoMemory e = cc
-
--- all other stops leave the count of the source
-same_count : (s : Stop) (words : List (List ℕ)) (left : Option (List ℕ)) (m n : ℕ) → IsCause words left m n s → s ≢ stop.BadWords → s ≢ stop.ReadFailed → n ≡ m
-same_count stop.BadWords words left m n cause words_ok read_ok = absurd (words_ok refl)
-same_count (stop.Refused fault) words left m n cause words_ok read_ok = cause.1
-same_count stop.ReadFailed words left m n cause words_ok read_ok = absurd (read_ok refl)
-same_count stop.NoMemory words left m n cause words_ok read_ok = cause
-
--- a first part of the line of a stop was taken, where the write of it failed
-pub telling_failed : (s : Stop) (words : List (List ℕ)) (left : Option (List ℕ)) (m n : ℕ) → IsCause words left m n s →
-    (before after : Option (List ℕ)) (p q : ℕ) (result : Status) → Tells s before after p q result → result ≡ status.WriteFault →
-    TellingFailed words left m n before after p q
-telling_failed s words left m n cause before after p q result told is =
-    ⊎_elim
-    (λ line. ⊎_elim
-    (λ w. let off : result ≡ status_of s = w.0 in absurd (no_write_fault s (sym off ∙ is)))
-    (λ w. record { rose = w.1.rose; stop = s; cause = cause; part_taken = w.1.part_taken }) line)
-    (λ memory. ⊎_elim
-    (λ w. let off : result ≡ status.OutOfMemory = w.0 in absurd (memory_is_no_fault (sym off ∙ is)))
-    (λ w. record { rose = w.1.rose; stop = stop.NoMemory; cause = same_count s words left m n cause memory.0 memory.1; part_taken = w.1.part_taken })
-    memory.2)
-    told
 
 -- words that are a command ask for no notice
 no_notice : (words : List (List ℕ)) → HasCommand words → notice_of words ≡ None
@@ -114,11 +34,147 @@ no_notice words command = none_of (notice_of words) refl
     none_of None e = refl
     none_of (Some n) e = absurd (none_command words (notice_is_no_command words (rw e refl)) command)
 
--- no reply stands where the bytes are of another form
-pub no_other_form : (words : List (List ℕ)) (left : Option (List ℕ)) (bytes text : List ℕ) → HasCommand words → left ≡ Some bytes → IsOtherForm bytes →
+-- nothing is said of a command where the words ask for a notice
+pub only_notice : {T E : Type 0} (words : List (List ℕ)) (notice : Notice) → notice_of words ≡ Some notice → (answer : Result T E) (P : Type 0) →
+    IfOk answer (λ _. HasCommand words → P)
+only_notice words notice is (Ok x) P = λ command. absurd (off (no_notice words command))
+  where
+    off : notice_of words ≡ None → ⊥
+    off none = cc (is, none)
+only_notice words notice is (Err e) P = tt
+
+-- ---- the first fault of all bytes
+
+-- a fault for which bytes were refused is the first fault of all that the source had left
+pub refused_all : (before now : Option (List ℕ)) (fault : Fault) → IsRefused before now fault → IfSome before (λ all. graph_of all ≡ Err fault)
+refused_all None now fault r = tt
+refused_all (Some all) now fault r =
+    ⊎_elim
+    (λ (f : fixed r.bytes ≡ Some fault). ap graph_of r.read.2 ∙ graph_of_fixed (r.bytes ++ r.read.0) fault (fixed_stays r.bytes r.read.0 fault f))
+    (λ e. let same : all ≡ r.bytes = read_all (Some all) now r.bytes r.read e.0 in ap graph_of same ∙ e.1)
+    r.why
+
+one_result : {T E : Type 0} (r : Result T E) (x : T) (e : E) → r ≡ Ok x → r ≡ Err e → ⊥
+one_result r x e p q = cc (p, q)
+
+-- no reply stands where the bytes have a fault
+pub no_reply : (words : List (List ℕ)) (left : Option (List ℕ)) (bytes text : List ℕ) (fault : Fault) → HasCommand words → left ≡ Some bytes → graph_of bytes ≡ Err fault →
     IsReply words left text → ⊥
-no_other_form words left bytes text command is other reply =
+no_reply words left bytes text fault command is wrong reply =
     let answer : IfSome left (λ bytes. IsAnswer bytes text) = subst
     (λ (o : Option Notice). MatchOption o (IfSome left (λ bytes. IsAnswer bytes text)) (λ notice. text ≡ text_of notice)) (no_notice words command) reply in
     let a : IsAnswer bytes text = subst (λ (o : Option (List ℕ)). IfSome o (λ bytes. IsAnswer bytes text)) is answer in
-    other a.graph a.form
+    one_result (graph_of bytes) a.graph fault a.accepted wrong
+
+-- ---- what was told
+
+-- the line of the stop was written, or that of want of memory
+abbrev pub Told : Stop → Option (List ℕ) → Option (List ℕ) → ℕ → ℕ → Status → Type 0
+Told s before after p q result =
+    Writes (status_of s) (line_of s) before after p q result
+    ⊎ ((s ≢ stop.BadWords) × (s ≢ stop.ReadFailed) × Writes status.OutOfMemory out_of_memory_line before after p q result)
+
+-- memory may be wanting for the line of a fault: nothing more is read then
+memory_cause : (s : Stop) (words : List (List ℕ)) (left now : Option (List ℕ)) (m n : ℕ) → IsCause words left now m n s → s ≢ stop.BadWords → s ≢ stop.ReadFailed →
+    IsCause words left now m n stop.NoMemory
+memory_cause stop.BadWords words left now m n cause words_ok read_ok = absurd (words_ok refl)
+memory_cause (stop.Refused fault) words left now m n cause words_ok read_ok = (cause.1, inr (inr (inr (fault, cause.2))))
+memory_cause stop.ReadFailed words left now m n cause words_ok read_ok = absurd (read_ok refl)
+memory_cause stop.NoMemory words left now m n cause words_ok read_ok = cause
+
+-- a stop with its cause that was told, whole or in part
+pub record Telling (words : List (List ℕ)) (left now : Option (List ℕ)) (m n : ℕ) (before after : Option (List ℕ)) (p q : ℕ) (result : Status) : Type 0 where
+  pub stop : Stop
+  pub cause : IsCause words left now m n stop
+  pub writes : Writes (status_of stop) (line_of stop) before after p q result
+
+pub telling : (s : Stop) (words : List (List ℕ)) (left now : Option (List ℕ)) (m n : ℕ) → IsCause words left now m n s →
+    (before after : Option (List ℕ)) (p q : ℕ) (result : Status) → Told s before after p q result → Telling words left now m n before after p q result
+telling s words left now m n cause before after p q result told =
+    ⊎_elim
+    (λ line. record { stop = s; cause = cause; writes = line })
+    (λ memory. record { stop = stop.NoMemory; cause = memory_cause s words left now m n cause memory.0 memory.1; writes = memory.2 })
+    told
+
+no_write_fault : (s : Stop) → status_of s ≡ status.WriteFault → ⊥
+no_write_fault stop.BadWords e = cc
+no_write_fault (stop.Refused fault) e = cc
+no_write_fault stop.ReadFailed e = cc
+no_write_fault stop.NoMemory e = cc
+
+module _ (words : List (List ℕ)) (left now : Option (List ℕ)) (m n : ℕ) (before after : Option (List ℕ)) (p q : ℕ) (result : Status) where
+  -- what was taken where no write failed
+  whole : (s : Stop) → Writes (status_of s) (line_of s) before after p q result → result ≢ status.WriteFault →
+      (result ≡ status_of s) × Appends before after (line_of s)
+  whole s w fine = ⊎_elim (λ t. (t.0, t.1.text_taken)) (λ t. absurd (fine t.0)) w
+
+  pub fault_told : Telling words left now m n before after p q result → result ≡ status.Refused → TellsFault words left now m n before after
+  fault_told t is = of t.stop t.cause (whole t.stop t.writes (λ e. off (sym is ∙ e)))
+    where
+      off : status.Refused ≡ status.WriteFault → ⊥
+      off e = cc
+
+      of : (s : Stop) → IsCause words left now m n s → (result ≡ status_of s) × Appends before after (line_of s) → TellsFault words left now m n before after
+      of stop.BadWords cause w = let e : result ≡ status.BadWords = w.0 in absurd (cc (e, is))
+      of (stop.Refused fault) cause w = record { fault = fault; told = record { cause = cause; line_taken = w.1 } }
+      of stop.ReadFailed cause w = let e : result ≡ status.ReadFault = w.0 in absurd (cc (e, is))
+      of stop.NoMemory cause w = let e : result ≡ status.OutOfMemory = w.0 in absurd (cc (e, is))
+
+  pub read_told : Telling words left now m n before after p q result → result ≡ status.ReadFault → Tells words left now m n before after stop.ReadFailed
+  read_told t is = of t.stop t.cause (whole t.stop t.writes (λ e. off (sym is ∙ e)))
+    where
+      off : status.ReadFault ≡ status.WriteFault → ⊥
+      off e = cc
+
+      of : (s : Stop) → IsCause words left now m n s → (result ≡ status_of s) × Appends before after (line_of s) → Tells words left now m n before after stop.ReadFailed
+      of stop.BadWords cause w = let e : result ≡ status.BadWords = w.0 in absurd (cc (e, is))
+      of (stop.Refused fault) cause w = let e : result ≡ status.Refused = w.0 in absurd (cc (e, is))
+      of stop.ReadFailed cause w = record { cause = cause; line_taken = w.1 }
+      of stop.NoMemory cause w = let e : result ≡ status.OutOfMemory = w.0 in absurd (cc (e, is))
+
+  pub memory_told : Telling words left now m n before after p q result → result ≡ status.OutOfMemory → Tells words left now m n before after stop.NoMemory
+  memory_told t is = of t.stop t.cause (whole t.stop t.writes (λ e. off (sym is ∙ e)))
+    where
+      off : status.OutOfMemory ≡ status.WriteFault → ⊥
+      off e = cc
+
+      of : (s : Stop) → IsCause words left now m n s → (result ≡ status_of s) × Appends before after (line_of s) → Tells words left now m n before after stop.NoMemory
+      of stop.BadWords cause w = let e : result ≡ status.BadWords = w.0 in absurd (cc (e, is))
+      of (stop.Refused fault) cause w = let e : result ≡ status.Refused = w.0 in absurd (cc (e, is))
+      of stop.ReadFailed cause w = let e : result ≡ status.ReadFault = w.0 in absurd (cc (e, is))
+      of stop.NoMemory cause w = record { cause = cause; line_taken = w.1 }
+
+  pub telling_failed : Telling words left now m n before after p q result → result ≡ status.WriteFault → TellingFailed words left now m n before after p q
+  telling_failed t is =
+      ⊎_elim
+      (λ w. absurd (no_write_fault t.stop (sym w.0 ∙ is)))
+      (λ w. record { rose = w.1.rose; stop = t.stop; cause = t.cause; part_taken = w.1.part_taken })
+      t.writes
+
+  -- where no write failed the status is that of the stop
+  calm : (t : Telling words left now m n before after p q result) → ¬ Rose p q → result ≡ status_of t.stop
+  calm t no_fault = ⊎_elim (λ w. w.0) (λ w. absurd (no_fault w.1.rose)) t.writes
+
+  module _ (command : HasCommand words) (reads : ¬ Rose m n) (tells : ¬ Rose p q) (bytes : List ℕ) (is : left ≡ Some bytes)
+      (t : Telling words left now m n before after p q result) where
+    -- for a graph only memory can be wanting
+    pub graph_told : (graph : Graph) → graph_of bytes ≡ Ok graph → (result ≡ status.Ok) ⊎ (result ≡ status.OutOfMemory)
+    graph_told graph accepted = of t.stop t.cause (calm t tells)
+      where
+        of : (s : Stop) → IsCause words left now m n s → result ≡ status_of s → (result ≡ status.Ok) ⊎ (result ≡ status.OutOfMemory)
+        of stop.BadWords cause e = absurd (none_command words cause.0 command)
+        of (stop.Refused fault) cause e =
+            let wrong : graph_of bytes ≡ Err fault = subst (λ (o : Option (List ℕ)). IfSome o (λ all. graph_of all ≡ Err fault)) is (refused_all left now fault cause.2) in
+            absurd (one_result (graph_of bytes) graph fault accepted wrong)
+        of stop.ReadFailed cause e = absurd (reads cause.1)
+        of stop.NoMemory cause e = inr e
+
+    -- for a fault the bytes are refused, or memory is wanting
+    pub fault_is_told : (result ≡ status.Refused) ⊎ (result ≡ status.OutOfMemory)
+    fault_is_told = of t.stop t.cause (calm t tells)
+      where
+        of : (s : Stop) → IsCause words left now m n s → result ≡ status_of s → (result ≡ status.Refused) ⊎ (result ≡ status.OutOfMemory)
+        of stop.BadWords cause e = absurd (none_command words cause.0 command)
+        of (stop.Refused fault) cause e = inl e
+        of stop.ReadFailed cause e = absurd (reads cause.1)
+        of stop.NoMemory cause e = inr e

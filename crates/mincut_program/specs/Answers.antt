@@ -4,7 +4,9 @@ use Rattle.std.specs.Io.KnownBytes.{Appends}
 use Rattle.outside.specs.Faults.{Rose, AppendsPrefix}
 use Rattle.mincut_program.specs.declared.status.Status.{Status}
 use Rattle.mincut_program.specs.declared.status.Status.TheVariants.{Ok, Refused, BadWords, ReadFault, WriteFault, OutOfMemory, ListTooLarge, BadVertex}
+use Rattle.metis_reader.specs.declared.fault.Fault.{Fault}
 use Rattle.mincut_program.specs.declared.stop.Stop.{Stop}
+use Rattle.mincut_program.specs.declared.stop.Stop.TheVariants as stop
 use Rattle.mincut_program.specs.Stops.{line_of}
 use Rattle.mincut_program.specs.Intake.{IsReply, IsCause}
 
@@ -47,10 +49,20 @@ pub record ReplyFailed (words : List (List ℕ)) (left taken_before taken_after 
   pub reply : IsReply words left text
   pub part_taken : AppendsPrefix taken_before taken_after text
 
+-- the line that tells of this stop was taken whole
+pub record Tells (words : List (List ℕ)) (left_before left_now : Option (List ℕ)) (m n : ℕ) (taken_before taken_after : Option (List ℕ)) (stop : Stop) : Type 0 where
+  pub cause : IsCause words left_before left_now m n stop
+  pub line_taken : Appends taken_before taken_after (line_of stop)
+
+-- the line that names the fault of the bytes was taken whole
+pub record TellsFault (words : List (List ℕ)) (left_before left_now : Option (List ℕ)) (m n : ℕ) (taken_before taken_after : Option (List ℕ)) : Type 0 where
+  pub fault : Fault
+  pub told : Tells words left_before left_now m n taken_before taken_after (stop.Refused fault)
+
 -- a write failed of the line that tells why there is no answer: a first part of it was taken
-pub record TellingFailed (words : List (List ℕ)) (left : Option (List ℕ)) (faults_before faults_now : ℕ)
+pub record TellingFailed (words : List (List ℕ)) (left_before left_now : Option (List ℕ)) (m n : ℕ)
     (taken_before taken_after : Option (List ℕ)) (before now : ℕ) : Type 0 where
   pub rose : Rose before now
   pub stop : Stop
-  pub cause : IsCause words left faults_before faults_now stop
+  pub cause : IsCause words left_before left_now m n stop
   pub part_taken : AppendsPrefix taken_before taken_after (line_of stop)

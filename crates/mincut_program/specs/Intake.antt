@@ -1,9 +1,11 @@
 -- What was read of the bytes that the source had left, and what it gives.
-use Rattle.std.specs.Prelude.{◌≡◌, ℕ, List, ◌++◌, Option, Some, IfSome, MatchOption}
+use Rattle.std.specs.Prelude.{◌≡◌, ◌⊎◌, ℕ, List, [], ◌++◌, Option, None, Some, Ok, Err, IfSome, MatchOption}
+use Rattle.std.specs.Io.KnownBytes.{IsAtEnd}
 use Rattle.outside.specs.Faults.{Rose}
 use Rattle.cut_definitions.specs.Graph.{Graph}
-use Rattle.metis_reader.specs.declared.fault.FaultKind.TheVariants.{NotYet}
-use Rattle.metis_reader.specs.FirstForm.{IsFirstForm, IsOtherForm}
+use Rattle.metis_reader.specs.declared.fault.Fault.{Fault}
+use Rattle.metis_reader.specs.File.{graph_of, fixed}
+use Rattle.metis_reader.specs.Fed.{HeaderEndsIn}
 use Rattle.mincut_program.specs.declared.stop.Stop.{Stop}
 use Rattle.mincut_program.specs.declared.stop.Stop.TheVariants.{BadWords, Refused, ReadFailed, NoMemory}
 use Rattle.mincut_program.specs.Words.{HasCommand, AsksNothing}
@@ -14,17 +16,40 @@ use Rattle.mincut_program.specs.Notices.{notice_of, text_of}
 abbrev pub IsRead : Option (List ℕ) → Option (List ℕ) → List ℕ → Type 0
 IsRead before now bytes = IfSome before (λ all. (rest : List ℕ) × (now ≡ Some rest) × (all ≡ bytes ++ rest))
 
--- why there is no answer: by the words, the bytes that the source had left, and its count of faults before and after
-abbrev pub IsCause : List (List ℕ) → Option (List ℕ) → ℕ → ℕ → Stop → Type 0
-IsCause words left before now BadWords = AsksNothing words
-IsCause words left before now (Refused fault) = HasCommand words × (now ≡ before) × (fault ≡ record { kind = NotYet; line = 0 }) × IfSome left IsOtherForm
-IsCause words left before now ReadFailed = HasCommand words × Rose before now
-IsCause words left before now NoMemory = now ≡ before
+-- what was read fixes the fault, or it is all there was, and this is its first fault
+pub record IsRefused (before now : Option (List ℕ)) (fault : Fault) : Type 0 where
+  pub bytes : List ℕ
+  pub read : IsRead before now bytes
+  pub why : (fixed bytes ≡ Some fault) ⊎ (IsAtEnd now × (graph_of bytes ≡ Err fault))
+
+-- what was read fixes no fault
+pub record IsUnrefused (before now : Option (List ℕ)) : Type 0 where
+  pub bytes : List ℕ
+  pub read : IsRead before now bytes
+  pub none : fixed bytes ≡ None
+
+-- the last piece that was read has the end of the header
+pub record IsAtHeader (before now : Option (List ℕ)) : Type 0 where
+  pub bytes : List ℕ
+  pub piece : List ℕ
+  pub read : IsRead before now (bytes ++ piece)
+  pub header : HeaderEndsIn bytes piece
+
+-- where memory may be wanting: before anything is read, at the end of the header, and once nothing more is read
+abbrev pub IsMemoryPlace : Option (List ℕ) → Option (List ℕ) → Type 0
+IsMemoryPlace before now = IsRead before now [] ⊎ (IsAtHeader before now ⊎ (IsAtEnd now ⊎ ((fault : Fault) × IsRefused before now fault)))
+
+-- why there is no answer: by the words, the bytes that the source had left before and has now, and its count of faults before and now
+abbrev pub IsCause : List (List ℕ) → Option (List ℕ) → Option (List ℕ) → ℕ → ℕ → Stop → Type 0
+IsCause words before now m n BadWords = AsksNothing words
+IsCause words before now m n (Refused fault) = HasCommand words × (n ≡ m) × IsRefused before now fault
+IsCause words before now m n ReadFailed = HasCommand words × Rose m n × IsUnrefused before now
+IsCause words before now m n NoMemory = (n ≡ m) × IsMemoryPlace before now
 
 -- the text is that of the job `value` for the graph of the bytes
 pub record IsAnswer (bytes text : List ℕ) : Type 0 where
   pub graph : Graph
-  pub form : IsFirstForm bytes graph
+  pub accepted : graph_of bytes ≡ Ok graph
   pub text_is : text ≡ value_line graph
 
 -- the text is that of the notice that the words ask for, or else that of the job for the graph of the bytes that the source had left

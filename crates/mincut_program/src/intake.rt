@@ -1,7 +1,8 @@
 //! From the source to the graph.
 
-ghost use Rattle.std.specs.Prelude.{◌≡◌, ◌≢◌, ℕ, List, IfOk, IfErr, IfSome};
-ghost use Rattle.metis_reader.specs.FirstForm.{IsFirstForm};
+ghost use Rattle.std.specs.Prelude.{◌≡◌, ◌≢◌, ℕ, List, Ok, IfOk, IfErr, IfSome};
+ghost use Rattle.std.specs.Io.KnownBytes.{IsAtEnd};
+ghost use Rattle.metis_reader.specs.File.{graph_of};
 ghost use Rattle.mincut_program.specs.Words.{HasCommand};
 ghost use Rattle.mincut_program.specs.Intake.{IsCause};
 
@@ -11,16 +12,19 @@ use outside::Source;
 use std::alloc::Global;
 
 /// Reads the source to its end, and the graph that its bytes give.
+///
+/// It stops at the first fault and at the first read that fails; nothing is read after that.
 pub fn take_in<S: Source>(alloc: Global, source: &mut S) -> Result<MetisGraph, Stop>
-    ensures graph { IfOk result (λ graph. IfSome (S.left source.old) (λ bytes. IsFirstForm bytes graph.edges)) }
+    ensures graph { IfOk result (λ graph. IfSome (S.left source.old) (λ bytes. graph_of bytes ≡ Ok graph.edges)) }
+    ensures ended { IfOk result (λ graph. IsAtEnd (S.left source.new)) }
     ensures same { IfOk result (λ graph. S.faults source.new ≡ S.faults source.old) }
     ensures cause { IfErr result (λ stop. (words : List (List ℕ)) → HasCommand words
-        → IsCause words (S.left source.old) (S.faults source.old) (S.faults source.new) stop) }
+        → IsCause words (S.left source.old) (S.left source.new) (S.faults source.old) (S.faults source.new) stop) }
     ensures words { result ≢ Err Stop.BadWords }
 {
     let mut reader = Reader::new(alloc);
     let mut room = [0u8; 65_536];
-    loop {
+    'reading: loop {
         match source.read(&mut room) {
             Ok(0) => return Ok(reader.finish()?),
             Ok(count) => reader.feed(&room[..count])?,

@@ -1,14 +1,15 @@
 ghost use Rattle.std.specs.Prelude.{◌≡◌, ◌≢◌, ◌⊎◌, ℕ, List, IfOk, IfErr, IfSome, OnOk, IsErrOf, string_bytes};
-ghost use Rattle.std.specs.Io.KnownBytes.{Appends};
+ghost use Rattle.std.specs.Io.KnownBytes.{Appends, IsAtEnd};
 ghost use Rattle.outside.specs.Faults.{Rose};
 ghost use Rattle.cut_definitions.specs.Graph.{Graph};
-ghost use Rattle.metis_reader.specs.FirstForm.{IsFirstForm, IsOtherForm};
+ghost use Rattle.metis_reader.specs.declared.fault.Fault.{Fault};
+ghost use Rattle.metis_reader.specs.File.{graph_of};
 ghost use Rattle.mincut_program.specs.Words.{texts, AsksNothing, HasCommand};
-ghost use Rattle.mincut_program.specs.Texts.{usage_line, read_failed_line, out_of_memory_line, not_yet_line, value_line};
+ghost use Rattle.mincut_program.specs.Texts.{usage_line, read_failed_line, out_of_memory_line, value_line};
 ghost use Rattle.mincut_program.specs.Intake.{IsCause, IsAnswer, IsReply};
 ghost use Rattle.mincut_program.specs.Stops.{status_of, line_of};
 ghost use Rattle.mincut_program.specs.Notices.{text_of};
-ghost use Rattle.mincut_program.specs.Answers.{Writes, TakesReply, ReplyFailed, TellingFailed};
+ghost use Rattle.mincut_program.specs.Answers.{Writes, TakesReply, ReplyFailed, Tells, TellsFault, TellingFailed};
 
 use crate::command::{Job, WordsRefusal, read_words};
 use crate::intake::take_in;
@@ -78,21 +79,26 @@ fn value_line(alloc: Global, list: &EdgeList) -> Result<String, NoMemory>
 // The text for the job `value`.
 fn value_text<S: Source>(alloc: Global, source: &mut S) -> Result<String, Stop>
     ensures text { IfOk result (λ text. IfSome (S.left source.old) (λ bytes. IsAnswer bytes (string_bytes text))) }
+    ensures ended { IfOk result (λ text. IsAtEnd (S.left source.new)) }
     ensures same { IfOk result (λ text. S.faults source.new ≡ S.faults source.old) }
     ensures cause { IfErr result (λ stop. (words : List (List ℕ)) → HasCommand words
-        → IsCause words (S.left source.old) (S.faults source.old) (S.faults source.new) stop) }
+        → IsCause words (S.left source.old) (S.left source.new) (S.faults source.old) (S.faults source.new) stop) }
     ensures words { result ≢ Err Stop.BadWords }
 {
     let graph = take_in(alloc, source)?;
-    Ok(value_line(alloc, &graph.edges)?)
+    match value_line(alloc, &graph.edges) {
+        Ok(text) => Ok(text),
+        Err(_) => Err(Stop::NoMemory),
+    }
 }
 
 // The text of the reply. Nothing is written yet.
 fn reply_text<S: Source>(alloc: Global, words: &[String], source: &mut S) -> Result<String, Stop>
     ensures text { IfOk result (λ text. IsReply (texts words.now) (S.left source.old) (string_bytes text)) }
+    ensures ended { IfOk result (λ text. HasCommand (texts words.now) → IsAtEnd (S.left source.new)) }
     ensures same { IfOk result (λ text. S.faults source.new ≡ S.faults source.old) }
     ensures asked { OnOk result (AsksNothing (texts words.now) → ⊥) }
-    ensures cause { IfErr result (IsCause (texts words.now) (S.left source.old) (S.faults source.old) (S.faults source.new)) }
+    ensures cause { IfErr result (IsCause (texts words.now) (S.left source.old) (S.left source.new) (S.faults source.old) (S.faults source.new)) }
     ensures asks_nothing { AsksNothing (texts words.now) → IsErrOf result Stop.BadWords ⊎ IsErrOf result Stop.NoMemory }
     ensures unread { ¬ HasCommand (texts words.now) → source.new ≡ source.old }
 {
@@ -109,7 +115,7 @@ fn reply_text<S: Source>(alloc: Global, words: &[String], source: &mut S) -> Res
 }
 
 /// All that the program does, over whatever source and sinks: it reads the words, reads the source to its end, writes
-/// the text of the answer to `out` or the line that tells why there is none to `err`, and answers how it ended.
+/// the text of the reply to `out` or the line that tells why there is none to `err`, and answers how it ended.
 ///
 /// The job `value` takes O(n^3 + m) steps and a table of n^2 weights.
 pub fn run<S: Source, K: Sink, E: Sink, G: Gate>(
@@ -127,11 +133,20 @@ pub fn run<S: Source, K: Sink, E: Sink, G: Gate>(
         ⊎ ((result ≡ Status.WriteFault) × Rose (E.faults err.old) (E.faults err.new)) }
     ensures unread { ¬ HasCommand (texts words.now) → source.new ≡ source.old }
 
-    // A fault of reading comes only where a count rose. A fault of writing does too, and a first part of the text was taken.
-    ensures read_fault { result ≡ Status.ReadFault → Rose (S.faults source.old) (S.faults source.new) }
+    // The line of a fault names the first fault of the bytes, and nothing is read once they fix it.
+    ensures refused { result ≡ Status.Refused → TellsFault (texts words.now) (S.left source.old) (S.left source.new)
+        (S.faults source.old) (S.faults source.new) (E.taken err.old) (E.taken err.new) }
+
+    // A failed read is told where no fault was fixed before it, and memory is wanting at three places alone.
+    ensures read_fault { result ≡ Status.ReadFault → Tells (texts words.now) (S.left source.old) (S.left source.new)
+        (S.faults source.old) (S.faults source.new) (E.taken err.old) (E.taken err.new) Stop.ReadFailed }
+    ensures memory { result ≡ Status.OutOfMemory → Tells (texts words.now) (S.left source.old) (S.left source.new)
+        (S.faults source.old) (S.faults source.new) (E.taken err.old) (E.taken err.new) Stop.NoMemory }
+
+    // A fault of writing comes only where a count rose, and a first part of the text was taken.
     ensures write_fault { result ≡ Status.WriteFault →
         (ReplyFailed (texts words.now) (S.left source.old) (K.taken out.old) (K.taken out.new) (K.faults out.old) (K.faults out.new) × (err.new ≡ err.old))
-        ⊎ (TellingFailed (texts words.now) (S.left source.old) (S.faults source.old) (S.faults source.new)
+        ⊎ (TellingFailed (texts words.now) (S.left source.old) (S.left source.new) (S.faults source.old) (S.faults source.new)
         (E.taken err.old) (E.taken err.new) (E.faults err.old) (E.faults err.new) × (out.new ≡ out.old)) }
 
     // A count that changed is told.
@@ -140,28 +155,24 @@ pub fn run<S: Source, K: Sink, E: Sink, G: Gate>(
     ensures out_changed { K.faults out.new ≢ K.faults out.old → result ≡ Status.WriteFault }
     ensures err_changed { E.faults err.new ≢ E.faults err.old → result ≡ Status.WriteFault }
 
-    // At `Ok` no count changed, the whole reply was taken, and nothing was told.
+    // At `Ok` the source was read to its end, no count changed, the whole reply was taken, and nothing was told.
+    ensures ok_end { result ≡ Status.Ok → HasCommand (texts words.now) → IsAtEnd (S.left source.new) }
     ensures ok_source { result ≡ Status.Ok → S.faults source.new ≡ S.faults source.old }
     ensures ok_out { result ≡ Status.Ok → K.faults out.new ≡ K.faults out.old }
     ensures ok_text { result ≡ Status.Ok → TakesReply (texts words.now) (S.left source.old) (K.taken out.old) (K.taken out.new) }
     ensures ok_err { result ≡ Status.Ok → err.new ≡ err.old }
 
-    // With another status nothing was replied, unless a write failed, and its line was told.
+    // With another status nothing was replied, unless a write failed.
     ensures out_kept { result ≢ Status.Ok → result ≢ Status.WriteFault → out.new ≡ out.old }
     ensures told_words { result ≡ Status.BadWords → Appends (E.taken err.old) (E.taken err.new) usage_line }
-    ensures told_refused { result ≡ Status.Refused → Appends (E.taken err.old) (E.taken err.new) not_yet_line }
-    ensures told_read { result ≡ Status.ReadFault → Appends (E.taken err.old) (E.taken err.new) read_failed_line }
-    ensures told_memory { result ≡ Status.OutOfMemory → Appends (E.taken err.old) (E.taken err.new) out_of_memory_line }
 
-    // Bytes are refused only where they are not of the first form. Where memory suffices and no count rose they are
-    // answered where they are of the first form, and refused where they are not.
-    ensures refused { result ≡ Status.Refused → IfSome (S.left source.old) IsOtherForm }
-    ensures first_form { (bytes : List ℕ) (graph : Graph) → HasCommand (texts words.now)
-        → S.left source.old ≡ Some bytes → IsFirstForm bytes graph → ¬ Rose (S.faults source.old) (S.faults source.new)
+    // Where memory suffices and no count rose, a graph is answered, and a fault is refused.
+    ensures accepted { (bytes : List ℕ) (graph : Graph) → HasCommand (texts words.now)
+        → S.left source.old ≡ Some bytes → graph_of bytes ≡ Ok graph → ¬ Rose (S.faults source.old) (S.faults source.new)
         → ¬ Rose (K.faults out.old) (K.faults out.new) → ¬ Rose (E.faults err.old) (E.faults err.new)
         → (result ≡ Status.Ok) ⊎ (result ≡ Status.OutOfMemory) }
-    ensures other_form { (bytes : List ℕ) → HasCommand (texts words.now)
-        → S.left source.old ≡ Some bytes → IsOtherForm bytes → ¬ Rose (S.faults source.old) (S.faults source.new)
+    ensures faulty { (bytes : List ℕ) (fault : Fault) → HasCommand (texts words.now)
+        → S.left source.old ≡ Some bytes → graph_of bytes ≡ Err fault → ¬ Rose (S.faults source.old) (S.faults source.new)
         → ¬ Rose (K.faults out.old) (K.faults out.new) → ¬ Rose (E.faults err.old) (E.faults err.new)
         → (result ≡ Status.Refused) ⊎ (result ≡ Status.OutOfMemory) }
 

@@ -52,7 +52,18 @@ fn run_on(alloc: Global, words: &[&str], text: &[u8], script: &Script) -> Result
 fn values_are_printed(rt: HostRuntime) -> Result<(), Fail> {
     for (text, line) in [
         (TRIANGLE, "value 2\n"),
+        (b"3 2 1\n2 5\n1 5 3 5\n2 5\n", "value 5\n"),
         (b"4 2\n2\n1\n4\n3\n", "value 0\n"),
+        (b"2 1 1\n2 7\n1 7\n", "value 7\n"),
+        (b"3 3 1\n2 5 3 1\n1 5 3 4\n1 1 2 4\n", "value 5\n"),
+        (
+            b"% made by hand\r\n2\t1 011\r\n% first vertex\r\n7 2 3\r\n4 1 3",
+            "value 3\n",
+        ),
+        (
+            b"2 1 1\n2 2305843009213693952\n1 2305843009213693952\n",
+            "value 2305843009213693952\n",
+        ),
         (b"1 0\n\n", "no cut\n"),
         (b"0 0\n", "no cut\n"),
     ] {
@@ -87,34 +98,27 @@ fn reads_may_be_cut_anywhere(rt: HostRuntime) -> Result<(), Fail> {
 }
 
 #[test]
-fn other_forms_are_refused(rt: HostRuntime) -> Result<(), Fail> {
-    for text in [
-        b"% c\n2 1\n2\n1\n".as_slice(),
-        b"2 1 1\n2 7\n1 7\n",
-        b"3 2 1\n2 3\n1 4 3 1\n2 1\n",
-        b"",
-        b"1001 0\n",
+fn first_faults_are_named(rt: HostRuntime) -> Result<(), Fail> {
+    for (text, line) in [
+        (b"".as_slice(), "refused: NoHeader at line 0\n"),
+        (b"3 x3\n", "refused: BadNumber at line 1\n"),
+        (
+            b"3 2 1\n2 3\n1 4 3 1\n2 1\n",
+            "refused: Unsymmetric at line 2\n",
+        ),
+        (
+            b"2 1 1\n2 2305843009213693953\n1 2305843009213693953\n",
+            "refused: WeightSum at line 3\n",
+        ),
+        (b"2 1 1\n2 7\n1", "refused: WordMissing at line 3\n"),
+        (b"2 1 1\n2 7\n", "refused: MissingLines at line 2\n"),
+        (b"2 1\n2\n1\n1\n", "refused: ExtraLine at line 4\n"),
     ] {
         let outcome = run_on(rt.alloc(), &["value"], text, &HONEST)?;
-        assert_eq!(rt; outcome.status, Status::Refused);
+        assert_eq!(rt; outcome.status, Status::Refused, "{line}");
         assert_eq!(rt; outcome.out.taken(), b"".as_slice());
-        assert_eq!(rt;
-            outcome.err.taken(),
-            b"refused: NotYet at line 0\n".as_slice()
-        );
+        assert_eq!(rt; outcome.err.taken(), line.as_bytes());
     }
-    Ok(())
-}
-
-#[test]
-fn a_long_text_is_read_no_further(rt: HostRuntime) -> Result<(), Fail> {
-    let text = vec![in rt.alloc(); b' '; 1_300_000]?;
-    let script = Script {
-        reads: &[17],
-        ..HONEST
-    };
-    let outcome = run_on(rt.alloc(), &["value"], &text, &script)?;
-    assert_eq!(rt; outcome.status, Status::Refused);
     Ok(())
 }
 
@@ -187,23 +191,39 @@ fn notices_are_printed_unread(rt: HostRuntime) -> Result<(), Fail> {
 }
 
 #[test]
-fn faults_are_told(rt: HostRuntime) -> Result<(), Fail> {
-    let alloc = rt.alloc();
-    let read = Script {
+fn failed_reads_are_told(rt: HostRuntime) -> Result<(), Fail> {
+    let second = Script {
         cuts: &[4],
         reads: &[1],
         ..HONEST
     };
-    let outcome = run_on(alloc, &["value"], TRIANGLE, &read)?;
+    let outcome = run_on(rt.alloc(), &["value"], TRIANGLE, &second)?;
     assert_eq!(rt; outcome.status, Status::ReadFault);
     assert_eq!(rt; outcome.out.taken(), b"".as_slice());
     assert_eq!(rt; outcome.err.taken(), b"read failed\n".as_slice());
 
+    let outcome = run_on(rt.alloc(), &["value"], b"3 x3\n2 3\n", &second)?;
+    assert_eq!(rt; outcome.status, Status::ReadFault);
+    let behind = Script {
+        cuts: &[5],
+        ..second
+    };
+    let outcome = run_on(rt.alloc(), &["value"], b"3 x3\n2 3\n", &behind)?;
+    assert_eq!(rt; outcome.status, Status::Refused);
+    assert_eq!(rt;
+        outcome.err.taken(),
+        b"refused: BadNumber at line 1\n".as_slice()
+    );
+    Ok(())
+}
+
+#[test]
+fn failed_writes_are_told(rt: HostRuntime) -> Result<(), Fail> {
     let write = Script {
         writes: &[0],
         ..HONEST
     };
-    let outcome = run_on(alloc, &["value"], TRIANGLE, &write)?;
+    let outcome = run_on(rt.alloc(), &["value"], TRIANGLE, &write)?;
     assert_eq!(rt; outcome.status, Status::WriteFault);
     assert_eq!(rt; outcome.out.taken(), b"".as_slice());
     assert_eq!(rt; outcome.err.taken(), b"".as_slice());
@@ -212,8 +232,9 @@ fn faults_are_told(rt: HostRuntime) -> Result<(), Fail> {
         tells: &[0],
         ..HONEST
     };
-    let outcome = run_on(alloc, &["value"], b"3 x3\n", &tell)?;
+    let outcome = run_on(rt.alloc(), &["value"], b"3 x3\n", &tell)?;
     assert_eq!(rt; outcome.status, Status::WriteFault);
+    assert_eq!(rt; outcome.out.taken(), b"".as_slice());
     assert_eq!(rt; outcome.err.taken(), b"".as_slice());
     Ok(())
 }

@@ -1,0 +1,77 @@
+-- Which fault of a neighbour is the first.
+use Rattle.std.proofs.Common.{◌≡◌, ◌≢◌, ◌<◌, ◌≤◌, ◌⊎◌, ℕ, suc, Bool, true, false, ◌||◌, List, [], ◌∷◌, ◌++◌, length, map, reverse, ◌-◌, not, refl, ap, sym, ◌∙◌, arith, length-drop}
+use Rattle.std.specs.Prelude.{◌==◌, nat_lt, nat_le}
+use Rattle.std.proofs.lemmas.List.{length-reverse, length-take-le}
+use Rattle.std.specs.List.{filter}
+use Rattle.std.proofs.lemmas.Bool.Decides.{nat_tests}
+use Rattle.metis_reader.specs.declared.fault.FaultKind.{FaultKind}
+use Rattle.metis_reader.specs.declared.fault.FaultKind.TheVariants.{TooManyEntries, NeighbourRange, SelfLoop}
+use Rattle.metis_reader.specs.declared.body.Body.{Body}
+use Rattle.metis_reader.specs.Profile.{Header, Entry, where_true}
+use Rattle.metis_reader.specs.File.{VertexLine, edge_of}
+use Rattle.metis_reader.specs.Machine.{vertex}
+use Rattle.metis_reader.specs.Bodies.{vertex_of, entry_count, greater_of, lesser_of}
+use Rattle.metis_reader.specs.Shown.{BodyShows, BeginsWith, is_upward, mirrored}
+use Rattle.metis_reader.proofs.Counts.{entry_counts}
+
+abbrev pub faults_of : List FaultKind → Bool → Bool → Bool → List FaultKind
+faults_of w a b c = w ++ where_true a TooManyEntries ++ where_true b NeighbourRange ++ where_true c SelfLoop
+
+pub too_many : (w : List FaultKind) (a b c : Bool) → w ≡ [] → a ≡ true → BeginsWith TooManyEntries (faults_of w a b c)
+too_many w a b c e t = rw (e, t) (where_true b NeighbourRange ++ where_true c SelfLoop, refl)
+
+pub out_of_range : (w : List FaultKind) (a b c : Bool) → w ≡ [] → a ≡ false → b ≡ true → BeginsWith NeighbourRange (faults_of w a b c)
+out_of_range w a b c e f t = rw (e, f, t) (where_true c SelfLoop, refl)
+
+pub self_loop : (w : List FaultKind) (a b c : Bool) → w ≡ [] → a ≡ false → b ≡ false → c ≡ true → BeginsWith SelfLoop (faults_of w a b c)
+self_loop w a b c e f g t = rw (e, f, g, t) ([], refl)
+
+pub no_fault : (w : List FaultKind) (a b c : Bool) → w ≡ [] → a ≡ false → b ≡ false → c ≡ false → faults_of w a b c ≡ []
+no_fault w a b c e f g h = rw (e, f, g, h) refl
+
+pub le_true : (a b : ℕ) → a ≤ b → nat_le a b ≡ true
+le_true a b h = grind (arith, nat_tests)
+
+pub le_false : (a b : ℕ) → b < a → nat_le a b ≡ false
+le_false a b h = grind (arith, nat_tests)
+
+pub outside : (v n : ℕ) → (v ≡ 0) ⊎ (n < v) → (v == 0 || nat_lt n v) ≡ true
+outside v n h = grind (arith, nat_tests)
+
+pub inside : (v n : ℕ) → v ≢ 0 → v ≤ n → (v == 0 || nat_lt n v) ≡ false
+inside v n h k = grind (arith, nat_tests)
+
+pub eq_true : (a b : ℕ) → a ≡ b → (a == b) ≡ true
+eq_true a b h = grind (arith, nat_tests)
+
+pub eq_false : (a b : ℕ) → a ≢ b → (a == b) ≡ false
+eq_false a b h = grind (arith, nat_tests)
+
+pub record Sizes (b : Body) (header : Header) (done : List VertexLine) (all : List Entry) : Type 0 where
+  pub vertices : header.vertices ≡ b.header.vertices
+  pub edges : header.edges ≡ b.header.edges
+  pub entries : length all ≡ entry_count b
+  pub vertex : vertex done ≡ vertex_of b
+
+length_map : {A B : Type 0} (f : A → B) (xs : List A) → length (map f xs) ≡ length xs
+length_map f [] = refl
+length_map f (x ∷ xs) = ap (λ n. suc n) (length_map f xs)
+
+-- the body has as many entries as were read
+kept_entries : (b : Body) (all : List Entry) → greater_of b ≡ map edge_of (filter is_upward all)
+    → lesser_of b ≡ reverse (map mirrored (filter (λ e. not (is_upward e)) all)) → length all ≡ entry_count b
+kept_entries b all greater lesser =
+    let front : length (greater_of b) ≡ b.front = length-take-le b.front b.table.items (omega (arith, b.in_order, b.in_table)) in
+    let back : length (lesser_of b) ≡ length b.table.items - b.back = length-drop b.back b.table.items in
+    let up : length (greater_of b) ≡ length (map edge_of (filter is_upward all)) = ap length greater in
+    let down : length (lesser_of b) ≡ length (map mirrored (filter (λ e. not (is_upward e)) all)) = ap length lesser ∙ length-reverse (map mirrored (filter (λ e. not (is_upward e)) all)) in
+    let counts = entry_counts all in
+    omega arith
+
+pub sizes : (b : Body) (header : Header) (done : List VertexLine) (all : List Entry) → BodyShows b header done all → Sizes b header done all
+sizes b header done all shows = record {
+  vertices = sym (ap (λ (h : Header). h.vertices) shows.same_header);
+  edges = sym (ap (λ (h : Header). h.edges) shows.same_header);
+  entries = kept_entries b all shows.greater shows.lesser;
+  vertex = ap (λ n. suc n) (sym (ap length shows.numbers ∙ length_map _ done));
+}

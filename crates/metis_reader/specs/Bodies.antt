@@ -1,0 +1,45 @@
+-- What the body keeps, without where it lies in memory.
+use Rattle.std.specs.Prelude.{◌≢◌, ℕ, List, take, drop, suc, ◌+◌, ◌-◌, ◌*◌, ◌<◌, ◌≤◌, length, nat_le, if◌then◌else◌}
+use Rattle.cut_definitions.specs.declared.edge_list.Edge.{Edge}
+use Rattle.metis_reader.specs.declared.header.Header.{Header}
+use Rattle.metis_reader.specs.declared.body.Body.{Body}
+use Rattle.metis_reader.specs.declared.due.Due.{Due}
+use Rattle.metis_reader.specs.declared.due.Due.TheVariants.{NoWord}
+use Rattle.metis_reader.specs.Dues.{after_leading_of}
+use Rattle.metis_reader.specs.Profile as profile
+
+abbrev pub leading_of : Header → ℕ
+leading_of h = (if h.format.has_sizes then 1 else 0) + (if h.format.has_vertex_weights then h.weights else 0)
+
+-- the header as the definition of a file has it
+abbrev pub header_view : Header → profile.Header
+header_view h = record {
+  vertices = h.vertices;
+  edges = h.edges;
+  leading = leading_of h;
+  has_edge_weights = h.format.has_edge_weights;
+}
+
+abbrev pub vertex_of : Body → ℕ
+vertex_of b = suc (length b.numbers.items)
+
+-- the entries to greater neighbours, and those to lesser ones, the last one first
+abbrev pub greater_of : Body → List Edge
+greater_of b = take b.front b.table.items
+
+abbrev pub lesser_of : Body → List Edge
+lesser_of b = drop b.back b.table.items
+
+abbrev pub entry_count : Body → ℕ
+entry_count b = b.front + (length b.table.items - b.back)
+
+-- in the present vertex line an entry with this neighbour may stand
+pub record CanEnter (b : Body) (v : ℕ) : Type 0 where
+  pub from_one : 1 ≤ v
+  pub to_n : v ≤ b.header.vertices
+  pub is_other : v ≢ vertex_of b
+  pub room : entry_count b < 2 * b.header.edges
+
+-- what is due at the start of the next line
+abbrev pub first_due_of : Body → Due
+first_due_of b = if nat_le b.header.vertices (length b.numbers.items) then NoWord else after_leading_of (leading_of b.header)
