@@ -1,0 +1,9 @@
+pub mod Marking
+pub mod Spreading
+pub mod Reaching
+pub mod Sweeping
+pub mod Growing
+pub mod Longest
+pub mod Light
+pub mod Shape
+pub mod Shown

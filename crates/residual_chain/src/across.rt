@@ -1,0 +1,49 @@
+//! The chain of the minimum cuts across an edge.
+
+ghost use Rattle.std.specs.Prelude.{◌≡◌, ℕ, ◌≤◌, Some, length, IfOk};
+ghost use Rattle.cut_definitions.specs.Chain.{IsJoined};
+ghost use Rattle.cut_definitions.specs.Cuts.{value};
+ghost use Rattle.max_flow.specs.declared.outcome.BestRun.{BestRun};
+ghost use Rattle.max_flow.specs.Flow.{StandsFor};
+ghost use Rattle.residual_chain.specs.Chain.{IsChainAcross};
+
+use crate::chain_of_cuts::Chain;
+use crate::parts::{find_parts, source_part};
+use crate::runs::runs_of;
+use cut_definitions::NoMemory;
+use max_flow::Flow;
+use std::alloc::Global;
+use weighted_graph::Graph;
+
+/// The chain of the minimum cuts that part `s` from `t`, with its runs.
+///
+/// An edge joins the two vertices, in either order, and the last run of the flow went from `s` to `t` and answered `Best`
+/// with the value of the graph. The first i parts, for i from 1 to one less than the number of parts, are then exactly the
+/// minimum cuts that part `s` from `t`, as sets with `s`. The runs are exactly the longest intervals of parts, between the
+/// first and the last of all, that are a minimum cut; an interval may be one part.
+///
+/// The first part is the source side. Each further one takes O(n + m): searches against the residual arcs, each through
+/// what the earlier ones have left, and one along them from the start of the last. The runs take one pass over the edges.
+/// It takes memory for five numbers a vertex, once, and for the runs; want of it is the only refusal. The chain across an
+/// edge is that of Karzanov and Timofeev (1986), and of Nagamochi, Nakao and Ibaraki (2000).
+pub fn chain(alloc: Global, graph: &Graph, flow: &Flow, s: u32, t: u32) -> Result<Chain, NoMemory>
+    requires joined { IsJoined graph.now s t }
+    requires stands { StandsFor flow.now graph.now }
+    requires last { flow.now.best ≡ Some (record { s = s; t = t; amount = value graph.now }) }
+    ensures { IfOk result (λ c. IsChainAcross graph.now s t c) }
+{
+    let n = graph.n();
+    let mut part_of = source_part(alloc, flow.source_side())?;
+    let mut marks = vec![in alloc; 0; n as usize]?;
+    let mut queue = vec![in alloc; 0; n as usize + 1]?;
+    let parts = find_parts(graph, flow, t, &mut part_of, &mut marks, &mut queue);
+    let runs = runs_of(alloc, graph, &part_of, parts)?;
+    Ok(Chain {
+        n,
+        s,
+        t,
+        parts,
+        part_of,
+        runs,
+    })
+}

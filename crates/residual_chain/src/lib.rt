@@ -1,0 +1,30 @@
+//! The chain of the minimum cuts that part the ends of an edge.
+//!
+//! As sets with the one end and without the other, these cuts are nested, so they divide the vertices into parts: the
+//! first part, the first two and so on are just the cuts. `chain` finds the parts and the runs, which are the longest
+//! intervals of inner parts that are themselves minimum cuts; every other minimum cut is within a part or is an interval
+//! of parts in a run. Contracts see a `Chain` as its two ends, the number of its parts, the number of each vertex's part
+//! and the runs.
+//!
+//! The cuts are the sets that no residual arc of a greatest flow leaves (Picard and Queyranne, 1980); the chain across an
+//! edge is a step of the recursion over all minimum cuts (Karzanov and Timofeev, 1986; Nagamochi, Nakao and Ibaraki,
+//! 2000). The parts are found here by searches that follow each arc at most twice for each part, so in O(k (n + m)) for k
+//! parts, with five numbers a vertex, and the runs in one pass over the edges.
+#![tactic(auto)]
+
+mod across;
+mod chain_of_cuts;
+mod direction;
+mod parts;
+mod run;
+mod runs;
+mod search;
+mod sweep;
+mod weights;
+
+pub use across::chain;
+pub use chain_of_cuts::Chain;
+pub use run::Run;
+
+#[cfg(test)]
+mod tests;
