@@ -26,6 +26,7 @@ pub mod EndLaw
 pub mod BodyEnd
 pub mod GraphLaw
 pub mod Finishing
+pub mod Runs
 pub mod StillFed
 pub mod PlainText
 pub mod PlainRows

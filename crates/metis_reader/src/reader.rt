@@ -1,4 +1,7 @@
-ghost use Rattle.std.specs.Prelude.{◌≡◌, ◌<◌, true};
+ghost use Rattle.std.specs.Prelude.{◌≡◌, ◌<◌, ◌≤◌, ◌-◌, ℕ, length, take, drop, [], true};
+ghost use Rattle.metis_reader.specs.declared.parser.Parser.{Parser};
+ghost use Rattle.metis_reader.specs.Reading.{Reading, bytes_findings, reading_from};
+ghost use Rattle.metis_reader.specs.Holding.{Holds};
 ghost use Rattle.metis_reader.specs.Text.{is_blank as is_blank_byte};
 
 use crate::line_part::LinePart;
@@ -44,11 +47,22 @@ fn is_blank(byte: u8) -> bool
     byte == 32 || byte == 9 || byte == 13
 }
 
-// Whether the byte only makes a word longer: most bytes do, and are seen here at once.
-fn lengthens_word(part: LinePart, byte: u8) -> bool
-    ensures { result ≡ true → (part ≡ LinePart.Words) × (32 < byte) }
+// The word with all bytes from a place on that only make it longer, as most bytes do, and where they end.
+fn lengthened(part: LinePart, word: Word, bytes: &[u8], from: usize) -> (Word, usize)
+    requires { from < length bytes.now }
+    ensures within { (from ≤ result.1) × (result.1 ≤ length bytes.now) }
+    ensures holds { (parser : Parser) (line : ℕ) (r : Reading) → Holds parser line part word r
+        → (bytes_findings r (take (result.1 - from) (drop from bytes.now)) ≡ []) × Holds parser line part result.0 (reading_from r (take (result.1 - from) (drop from bytes.now))) }
 {
-    byte > SPACE && part == LinePart::Words
+    let mut longer = word;
+    let mut end = from;
+    if let LinePart::Words = part {
+        while end < bytes.len() && bytes[end] > SPACE {
+            longer = longer.with(bytes[end]);
+            end += 1;
+        }
+    }
+    (longer, end)
 }
 
 impl Reader {
@@ -180,17 +194,21 @@ impl Reader {
     {
         let mut part = self.part;
         let mut word = self.word;
-        for byte in piece {
-            if lengthens_word(part, *byte) {
-                word = word.with(*byte);
-                continue;
-            }
-            match self.byte(part, word, *byte) {
-                Ok(next) => {
-                    part = next.0;
-                    word = next.1;
+        let mut i = 0;
+        while i < piece.len() {
+            let (longer, end) = lengthened(part, word, piece, i);
+            if end >= piece.len() {
+                word = longer;
+                i = end;
+            } else {
+                match self.byte(part, longer, piece[end]) {
+                    Ok(next) => {
+                        part = next.0;
+                        word = next.1;
+                        i = end + 1;
+                    }
+                    Err(refusal) => return Err(refusal),
                 }
-                Err(refusal) => return Err(refusal),
             }
         }
         self.part = part;
