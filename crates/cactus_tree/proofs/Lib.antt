@@ -1,0 +1,14 @@
+pub mod Parts
+pub mod Weights
+pub mod Depths
+pub mod Orders
+pub mod Renames
+pub mod Lifts
+pub mod Segments
+pub mod Layouts
+pub mod Shapes
+pub mod Ranges
+pub mod Widths
+pub mod Singles
+pub mod Groups
+pub mod Spreads

@@ -1,0 +1,31 @@
+use Rattle.std.proofs.Common.{◌≡◌, ℕ, ◌<◌, length, get_or, map, List}
+use Rattle.cut_definitions.specs.Weight.{VertexSet}
+use Rattle.cut_definitions.specs.Contraction.{lift}
+use Rattle.cactus_tree.specs.Sides.{part_by, block_part_by}
+use Rattle.cactus_tree.specs.Spread.{AreGathered}
+use Rattle.cactus_tree.specs.Trees.{nodes_in, blocks_in}
+use Rattle.cactus_tree.specs.Entered.{entered, entered_block}
+use Rattle.cactus_tree.specs.Widths.{widths, block_widths}
+use Rattle.cactus_tree.specs.declared.tree.Node.{Node}
+use Rattle.cactus_tree.specs.declared.tree.Block.{Block}
+use Rattle.cactus_tree.proofs.tree.spread.+spread.Given as goal
+
+abbrev pub invariant-spread_blocks-each_block : goal.invariant-spread_blocks-each_block
+invariant-spread_blocks-each_block l = record {
+  same : length (blocks_in l.blocks) ≡ length (blocks_in l.initial.blocks);
+  end : l.i-end ≡ length (blocks_in l.initial.blocks);
+  done : (classes : List ℕ) → AreGathered classes l.groups → (k : ℕ) (d : Block) → k < l.i → entered_block (get_or (blocks_in l.blocks) k d) ≡ map (lift classes) (entered_block (get_or (blocks_in l.initial.blocks) k d));
+  sides : (classes : List ℕ) → AreGathered classes l.groups → (sets : List ℕ → VertexSet) (k : ℕ) (d : Block) → k < l.i → block_part_by sets (get_or (blocks_in l.blocks) k d) ≡ block_part_by (λ v. sets (lift classes v)) (get_or (blocks_in l.initial.blocks) k d);
+  wide : (k : ℕ) (d : Block) → k < l.i → block_widths (get_or (blocks_in l.blocks) k d) ≡ block_widths (get_or (blocks_in l.initial.blocks) k d);
+  rest : goal.unvisited-spread_blocks-each_block l;
+}
+
+abbrev pub invariant-spread_nodes-each_node : goal.invariant-spread_nodes-each_node
+invariant-spread_nodes-each_node l = record {
+  same : length (nodes_in l.nodes) ≡ length (nodes_in l.initial.nodes);
+  end : l.i-end ≡ length (nodes_in l.initial.nodes);
+  done : (classes : List ℕ) → AreGathered classes l.groups → (k : ℕ) (d : Node) → k < l.i → entered (get_or (nodes_in l.nodes) k d) ≡ map (lift classes) (entered (get_or (nodes_in l.initial.nodes) k d));
+  sides : (classes : List ℕ) → AreGathered classes l.groups → (sets : List ℕ → VertexSet) (k : ℕ) (d : Node) → k < l.i → part_by sets (get_or (nodes_in l.nodes) k d) ≡ part_by (λ v. sets (lift classes v)) (get_or (nodes_in l.initial.nodes) k d);
+  wide : (k : ℕ) (d : Node) → k < l.i → widths (get_or (nodes_in l.nodes) k d) ≡ widths (get_or (nodes_in l.initial.nodes) k d);
+  rest : goal.unvisited-spread_nodes-each_node l;
+}

@@ -1,0 +1,136 @@
+//! The rooted cactus over the vertices 1 to n.
+
+ghost use Rattle.std.specs.Prelude.{◌≡◌, ◌≤◌, ◌-◌, ◌^◌, [], IfOk, length, map, min};
+ghost use Rattle.std.specs.List.{range_with_len};
+ghost use Rattle.cactus_tree.specs.Trees.{blocks, vertices};
+ghost use Rattle.cactus_tree.specs.Entered.{entered};
+ghost use Rattle.cactus_tree.specs.Rooted.{Rooted, IsCactus, sides_of};
+ghost use Rattle.cactus_tree.specs.Sides.{cuts};
+ghost use Rattle.cactus_tree.specs.Spread.{AreClasses, spread_set};
+ghost use Rattle.cactus_tree.specs.Widths.{widths};
+ghost use Rattle.cut_definitions.specs.Contraction.{lift};
+ghost use Rattle.cactus_tree.specs.Normal.{is_normal};
+
+use crate::tree::{Blocks, Node, blocks_are_normal, count_node, gather, spread_node};
+use crate::vertex_list::VertexList;
+use std::alloc::{AllocError, Global};
+use std::marker::Model;
+
+/// A tree of nodes, joined by bridges and cycles, in which each of the vertices 1 to n is in exactly one node.
+///
+/// Vertex 1 is in the root, the vertices of each node ascend, and each cycle has two or more nodes below its upper one.
+#[derive(Drop)]
+pub struct Cactus {
+    n: u32,
+    root: Node,
+}
+
+impl Model for Cactus {
+    ghost use Rattle.cactus_tree.specs.Rooted.{Rooted, IsCactus};
+    ghost use Rattle.cactus_tree.specs.contracts.tree.Node as node;
+    ghost use Rattle.std.specs.Coded.{codes};
+
+    ghost Value = { Rooted };
+
+    ghost coded = { Prim.hlevel (codes, node.the_row.coded) };
+
+    ghost view = { λ c. record { vertices = c.n; root = c.root } };
+
+    ghost invariant = { λ c. IsCactus c.n c.root };
+}
+
+/// The ascending list of the vertices 1 to n.
+fn all_vertices(alloc: Global, n: u32) -> Result<VertexList, AllocError>
+    ensures { IfOk result (λ l. l ≡ range_with_len 1 n) }
+{
+    let mut list = VertexList::new(alloc);
+    'vertices: for v in 0..n {
+        list.push(v + 1)?;
+    }
+    Ok(list)
+}
+
+impl Cactus {
+    /// The cactus of one node with all vertices, which has no cut. It takes 4n bytes, and is refused only where these
+    /// are wanting.
+    pub fn single(alloc: Global, n: u32) -> Result<Cactus, AllocError>
+        requires { 1 ≤ n }
+        ensures n { IfOk result (λ c. c.vertices ≡ n) }
+        ensures vertices { IfOk result (λ c. vertices c.root ≡ range_with_len 1 n) }
+        ensures blocks { IfOk result (λ c. blocks c.root ≡ []) }
+    {
+        let vertices = all_vertices(alloc, n)?;
+        let root = Node {
+            vertices,
+            blocks: Blocks::new(alloc),
+        };
+        Ok(Cactus { n, root })
+    }
+
+    /// The cactus of a finished tree, which is taken over. It takes no memory.
+    pub fn from_root(n: u32, root: Node) -> Cactus
+        requires { IsCactus n root }
+        ensures { result ≡ record { vertices = n; root = root } }
+    {
+        Cactus { n, root }
+    }
+
+    /// The tree, given back. It takes no memory.
+    pub fn into_root(self) -> Node
+        ensures value { result ≡ self.root }
+        ensures cactus { IsCactus self.vertices result }
+    {
+        self.root
+    }
+
+    /// The root, which has vertex 1.
+    pub fn root(&self) -> &Node
+        ensures value { result.now ≡ self.now.root }
+        ensures cactus { IsCactus self.now.vertices self.now.root }
+    {
+        &self.root
+    }
+
+    /// The number of vertices.
+    pub fn n(&self) -> u32
+        ensures value { result ≡ self.now.vertices }
+        ensures cactus { IsCactus self.now.vertices self.now.root }
+    {
+        self.n
+    }
+
+    /// The number of nodes, or 2^64 - 1 where there are more. One step for each node; it takes no memory, and calls
+    /// itself once for each level of the tree.
+    pub fn nodes(&self) -> u64
+        ensures { result ≡ min (length (entered self.now.root)) (2 ^ 64 - 1) }
+    {
+        count_node(&self.root)
+    }
+
+    /// Whether every cycle has three or more nodes, and every empty node lies in two or more blocks, and in two cycles
+    /// where it lies in exactly two blocks. One step for each node; it takes no memory, and calls itself once for each
+    /// level of the tree.
+    pub fn is_normal(&self) -> bool
+        ensures { result ≡ is_normal self.now.root }
+    {
+        blocks_are_normal(&self.root.blocks)
+    }
+    /// Puts in place of each vertex of the cactus the vertices of 1 to n that have it as their class.
+    ///
+    /// Each side becomes the set of the vertices whose class is in it, and the tree keeps its form. It takes memory in
+    /// proportion to n, and is refused only where that is wanting; the cactus is dropped then. Time O(n log n) for
+    /// gathering and sorting, and one step for each node; it calls itself once for each level of the tree.
+    pub fn spread(self, alloc: Global, n: u32, classes: &[u32]) -> Result<Cactus, AllocError>
+        requires { AreClasses n self.vertices classes.now }
+        ensures n { IfOk result (λ c. c.vertices ≡ n) }
+        ensures lists { IfOk result (λ c. entered c.root ≡ map (lift classes.now) (entered self.root)) }
+        ensures cuts { IfOk result (λ c. cuts c.root ≡ map (spread_set n classes.now) (cuts self.root)) }
+        ensures sides { IfOk result (λ c. sides_of c ≡ map (lift classes.now) (sides_of self)) }
+        ensures widths { IfOk result (λ c. widths c.root ≡ widths self.root) }
+    {
+        let groups = gather(alloc, classes, self.n)?;
+        let mut root = self.root;
+        spread_node(alloc, &mut root, &groups)?;
+        Ok(Cactus { n, root })
+    }
+}

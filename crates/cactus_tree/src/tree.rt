@@ -1,0 +1,165 @@
+//! The tree of a cactus: nodes, and the bridges and cycles that join them.
+
+ghost use Rattle.std.specs.Prelude.{List, ◌≡◌, ℕ, [], ◌∷◌, ◌++◌, ◌<◌, length, option_to_list, IsSome, ◌↔◌, OnOk, OnErr, IfOk, map, slice_get, take, drop, ◌≤◌};
+ghost use Rattle.cactus_tree.specs.Trees.{blocks_in, nodes_in};
+
+use crate::vertex_list::VertexList;
+use std::alloc::{AllocError, Global};
+
+mod count;
+mod normal;
+mod order;
+mod rename;
+mod spread;
+
+pub use count::count_node;
+pub use normal::blocks_are_normal;
+pub use order::vertices_in_order;
+pub use rename::rename_node;
+pub use spread::{gather, spread_node};
+
+/// A node: its vertices, and the blocks below it.
+#[cycle(tree)]
+#[derive(Drop)]
+pub struct Node {
+    pub vertices: VertexList,
+    pub blocks: Blocks,
+}
+
+/// A bridge to one node, or a cycle through two or more nodes and the node above.
+#[cycle(tree)]
+#[derive(Drop)]
+pub enum Block {
+    Bridge(Box<Node>),
+    Cycle(Children),
+}
+
+/// The blocks below a node, in order.
+#[cycle(tree)]
+pub struct Blocks {
+    items: Vec<Block>,
+}
+
+/// The nodes of a cycle below its upper node, in order.
+#[cycle(tree)]
+#[derive(Drop)]
+pub struct Children {
+    items: Vec<Node>,
+}
+
+impl Drop for Blocks {
+    /// Takes the tree apart in a loop, so that a deep one does not run out of stack.
+    #[cycle(drop)]
+    fn drop(self) {
+        let Blocks { mut items } = self;
+        while let Some(block) = items.pop() {
+            match block {
+                Block::Bridge(node) => {
+                    let mut node = Box::into_inner(node);
+                    let _moved = items.append(&mut node.blocks.items);
+                }
+                Block::Cycle(mut nodes) => {
+                    while let Some(mut node) = nodes.items.pop() {
+                        let _moved = items.append(&mut node.blocks.items);
+                    }
+                }
+            }
+        }
+    }
+}
+
+impl Blocks {
+    /// The empty list. It takes no memory.
+    pub fn new(alloc: Global) -> Blocks
+        ensures { blocks_in result ≡ [] }
+    {
+        Blocks {
+            items: Vec::new(alloc),
+        }
+    }
+
+    /// Appends a block. Where memory is wanting the list stays as it was, and the block is dropped.
+    pub fn push(&mut self, item: Block) -> Result<(), AllocError>
+        ensures ok { OnOk result (blocks_in self.new ≡ blocks_in self.old ++ item ∷ []) }
+        ensures err { OnErr result (blocks_in self.new ≡ blocks_in self.old) }
+    {
+        self.items.push(item)?;
+        Ok(())
+    }
+
+    /// Takes the last block out; none exactly where the list is empty.
+    pub fn pop(&mut self) -> Option<Block>
+        ensures items { blocks_in self.old ≡ blocks_in self.new ++ option_to_list result }
+        ensures some { IsSome result ↔ (0 < length (blocks_in self.old)) }
+    {
+        self.items.pop()
+    }
+
+    /// The number of blocks.
+    pub fn len(&self) -> usize
+        ensures { result ≡ length (blocks_in self.now) }
+    {
+        self.items.len()
+    }
+
+    /// The block at a place, counted from 0.
+    pub fn at(&self, i: usize) -> &Block
+        requires { i < length (blocks_in self.now) }
+        ensures { slice_get (blocks_in self.now) i ≡ Some result.now }
+    {
+        &self.items[i]
+    }
+}
+
+impl Children {
+    /// The empty list. It takes no memory.
+    pub fn new(alloc: Global) -> Children
+        ensures { nodes_in result ≡ [] }
+    {
+        Children {
+            items: Vec::new(alloc),
+        }
+    }
+
+    /// Appends a node. Where memory is wanting the list stays as it was, and the node is dropped.
+    pub fn push(&mut self, item: Node) -> Result<(), AllocError>
+        ensures ok { OnOk result (nodes_in self.new ≡ nodes_in self.old ++ item ∷ []) }
+        ensures err { OnErr result (nodes_in self.new ≡ nodes_in self.old) }
+    {
+        self.items.push(item)?;
+        Ok(())
+    }
+
+    /// Takes the last node out; none exactly where the list is empty.
+    pub fn pop(&mut self) -> Option<Node>
+        ensures items { nodes_in self.old ≡ nodes_in self.new ++ option_to_list result }
+        ensures some { IsSome result ↔ (0 < length (nodes_in self.old)) }
+    {
+        self.items.pop()
+    }
+
+    /// Takes the nodes from the place `at` on out of the list, in order, and gives them as a list of their own.
+    pub fn split_off(&mut self, at: usize) -> Result<Children, AllocError>
+        requires { at ≤ length (nodes_in self.old) }
+        ensures front { OnOk result (nodes_in self.new ≡ take at (nodes_in self.old)) }
+        ensures back { IfOk result (λ c. nodes_in c ≡ drop at (nodes_in self.old)) }
+    {
+        let items = self.items.split_off(at)?;
+        Ok(Children { items })
+    }
+
+    /// The number of nodes.
+    pub fn len(&self) -> usize
+        ensures { result ≡ length (nodes_in self.now) }
+    {
+        self.items.len()
+    }
+
+    /// The node at a place, counted from 0.
+    pub fn at(&self, i: usize) -> &Node
+        requires { i < length (nodes_in self.now) }
+        ensures { slice_get (nodes_in self.now) i ≡ Some result.now }
+    {
+        &self.items[i]
+    }
+}

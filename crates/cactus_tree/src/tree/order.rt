@@ -1,0 +1,66 @@
+//! The order in which a tree is entered: a node, then its blocks in order.
+
+ghost use Rattle.std.specs.Prelude.{List, ◌≡◌, ℕ, [], ◌∷◌, ◌++◌, ◌<◌, length, option_to_list, IsSome, ◌↔◌, OnOk, OnErr, IfOk, map, slice_get, take, drop, ◌≤◌};
+ghost use Rattle.std.specs.List.{flat_map, concat};
+ghost use Rattle.cactus_tree.specs.Trees.{blocks_in, nodes_in};
+ghost use Rattle.cactus_tree.specs.Entered.{entered, entered_block, waiting};
+
+use super::{Block, Blocks, Children, Node};
+use std::alloc::{AllocError, Global};
+
+/// Puts the nodes on the stack, the first on top.
+fn stack_nodes<'a>(stack: &mut Vec<&'a Node>, nodes: &'a Children) -> Result<(), AllocError>
+    ensures { OnOk result (waiting stack.new.items ≡ flat_map entered (nodes_in nodes.now) ++ waiting stack.old.items) }
+{
+    let mut i = nodes.items.len();
+    'back: while i > 0 {
+        i -= 1;
+        stack.push(&nodes.items[i])?;
+    }
+    Ok(())
+}
+
+/// Puts the nodes of the block on the stack, the first on top.
+fn stack_block<'a>(stack: &mut Vec<&'a Node>, block: &'a Block) -> Result<(), AllocError>
+    ensures { OnOk result (waiting stack.new.items ≡ entered_block block.now ++ waiting stack.old.items) }
+{
+    match block {
+        Block::Bridge(node) => {
+            stack.push(node)?;
+            Ok(())
+        }
+        Block::Cycle(nodes) => {
+            stack_nodes(stack, nodes)?;
+            Ok(())
+        }
+    }
+}
+
+/// Puts the nodes of the blocks on the stack, the first on top.
+fn stack_blocks<'a>(stack: &mut Vec<&'a Node>, blocks: &'a Blocks) -> Result<(), AllocError>
+    ensures { OnOk result (waiting stack.new.items ≡ flat_map entered_block (blocks_in blocks.now) ++ waiting stack.old.items) }
+{
+    let mut i = blocks.items.len();
+    'back: while i > 0 {
+        i -= 1;
+        stack_block(stack, &blocks.items[i])?;
+    }
+    Ok(())
+}
+
+/// The vertices of all nodes, in the order in which the tree is entered: a node, then its blocks in order.
+///
+/// One step for each vertex and node, in a loop with a stack, so that a deep tree does not run out of stack. It takes 4
+/// bytes a vertex and 8 a node, and is refused only where these are wanting.
+pub fn vertices_in_order(alloc: Global, root: &Node) -> Result<Vec<u32>, AllocError>
+    ensures { IfOk result (λ v. v.items ≡ concat (entered root.now)) }
+{
+    let mut order = Vec::new(alloc);
+    let mut stack = Vec::new(alloc);
+    stack.push(root)?;
+    'walk: while let Some(node) = stack.pop() {
+        order.extend_from_slice(node.vertices.as_slice())?;
+        stack_blocks(&mut stack, &node.blocks)?;
+    }
+    Ok(order)
+}
