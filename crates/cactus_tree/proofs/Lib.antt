@@ -12,3 +12,6 @@ pub mod Widths
 pub mod Singles
 pub mod Groups
 pub mod Spreads
+pub mod Walks
+pub mod Waiting
+pub mod Steps

@@ -5,3 +5,5 @@ pub mod Widths
 pub mod Rooted
 pub mod Normal
 pub mod Spread
+pub mod Walks
+pub mod Starts

@@ -9,15 +9,18 @@
 //! The representation of all minimum cuts by such a tree is due to Dinitz, Karzanov and Lomonosov (1976). Each call takes
 //! time in proportion to the nodes and vertices that it reads, and `spread` sorts what it writes. A tree is dropped, and
 //! its vertices are listed, by loops; `nodes`, `is_normal`, `spread` and `rename_node` call themselves once for each level.
+//! A `Walk` gives the sides one after another: `Walk::new` is a loop, and `Walk::next` calls itself once for each level.
 #![tactic(auto)]
 
 mod cactus;
 mod tree;
 mod vertex_list;
+mod walk;
 
 pub use cactus::Cactus;
 pub use tree::{Block, Blocks, Children, Node, rename_node, vertices_in_order};
 pub use vertex_list::VertexList;
+pub use walk::Walk;
 
 #[cfg(test)]
 mod tests;

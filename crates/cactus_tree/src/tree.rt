@@ -10,12 +10,14 @@ mod count;
 mod normal;
 mod order;
 mod rename;
+mod side;
 mod spread;
 
 pub use count::count_node;
 pub use normal::blocks_are_normal;
 pub use order::vertices_in_order;
 pub use rename::rename_node;
+pub use side::put_node;
 pub use spread::{gather, spread_node};
 
 /// A node: its vertices, and the blocks below it.
@@ -153,6 +155,13 @@ impl Children {
         ensures { result ≡ length (nodes_in self.now) }
     {
         self.items.len()
+    }
+
+    /// All nodes, lent without a copy.
+    pub fn as_slice(&self) -> &[Node]
+        ensures { result.now ≡ nodes_in self.now }
+    {
+        &self.items
     }
 
     /// The node at a place, counted from 0.
