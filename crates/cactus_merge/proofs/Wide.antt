@@ -1,0 +1,58 @@
+-- The number of children of the cycles that are joined.
+use Rattle.std.proofs.Common.{◌≡◌, ℕ, ◌≤◌, ◌<◌, List, [], ◌∷◌, ◌++◌, length, map, drop, sym, ◌∙◌, ap, subst, arith}
+use Rattle.std.specs.List.{All}
+use Rattle.std.proofs.lemmas.List.{length-append, length-map, length-drop}
+use Rattle.std.proofs.lemmas.List.Elements.{All-append, All-cons, All-nil, All-drop, All-take}
+use Rattle.std.proofs.Math.Seq.{take-append_seam, drop-append_seam}
+use Rattle.cactus_tree.specs.Trees.{blocks, nodes_in}
+use Rattle.cactus_tree.specs.Widths.{widths, block_widths, joined}
+use Rattle.cactus_tree.specs.declared.tree.Node.{Node}
+use Rattle.cactus_tree.specs.declared.tree.Block.{Block}
+use Rattle.cactus_tree.specs.declared.tree.Block.TheVariants.{Cycle}
+use Rattle.cactus_tree.specs.declared.tree.Children.{Children}
+use Rattle.cactus_tree.proofs.Widths.{widths_out, widths_cycle}
+use Rattle.cactus_merge.specs.Joined.{IsWide, IsWideBlock}
+
+abbrev Two : ℕ → Type 0
+Two k = 2 ≤ k
+
+pub front_all : {X : Type 0} (P : X → Type 0) (xs ys : List X) → All P (xs ++ ys) → All P xs
+front_all P xs ys h = subst (All P) (take-append_seam xs ys) (All-take P (length xs) (xs ++ ys) h)
+
+pub back_all : {X : Type 0} (P : X → Type 0) (xs ys : List X) → All P (xs ++ ys) → All P ys
+back_all P xs ys h = subst (All P) (drop-append_seam xs ys) (All-drop P (length xs) (xs ++ ys) h)
+
+pub head_of : {X : Type 0} (P : X → Type 0) (x : X) (xs : List X) → All P (x ∷ xs) → P x
+head_of P x xs h = h 0 x (omega arith)
+
+pub all_joined : {X : Type 0} (f : X → List ℕ) (xs : List X) → All (λ x. All Two (f x)) xs → All Two (joined (map f xs))
+all_joined f [] h = All-nil Two
+all_joined f (x ∷ xs) h = All-append Two (f x) (joined (map f xs)) (head_of (λ y. All Two (f y)) x xs h) (all_joined f xs (back_all (λ y. All Two (f y)) (x ∷ []) xs h))
+
+-- the last element of a list, and those before it
+pub popped_wide : {X : Type 0} (P : X → Type 0) (cur new : List X) (x : X) → cur ≡ new ++ x ∷ [] → All P cur → All P new × P x
+popped_wide P cur new x e h =
+    let a = subst (All P) e h in
+    (front_all P new (x ∷ []) a, head_of P x [] (back_all P new (x ∷ []) a))
+
+joined_push : {X : Type 0} (f : X → List ℕ) (xs : List X) (y : X) → All Two (joined (map f xs)) → All Two (f y) → All Two (joined (map f (xs ++ y ∷ [])))
+joined_push f [] y h k = All-append Two (f y) [] k (All-nil Two)
+joined_push f (x ∷ xs) y h k = All-append Two (f x) (joined (map f (xs ++ y ∷ []))) (front_all Two (f x) (joined (map f xs)) h) (joined_push f xs y (back_all Two (f x) (joined (map f xs)) h) k)
+
+pub hung_wide : (x y : Node) (b : Block) → blocks y ≡ blocks x ++ b ∷ [] → IsWide x → IsWideBlock b → IsWide y
+hung_wide x y b f h k =
+    subst (All Two) (sym (widths_out y ∙ ap (λ bs. joined (map block_widths bs)) f)) (joined_push block_widths (blocks x) b (subst (All Two) (widths_out x) h) k)
+
+pub empty_wide : (x : Node) → blocks x ≡ [] → IsWide x
+empty_wide x e = subst (All Two) (sym (widths_out x ∙ ap (λ bs. joined (map block_widths bs)) e)) (All-nil Two)
+
+pub cycle_wide : (nodes : Children) → 2 ≤ length (nodes_in nodes) → All IsWide (nodes_in nodes) → IsWideBlock (Cycle nodes)
+cycle_wide nodes n h =
+    subst (All Two) (sym (widths_cycle nodes))
+    (All-cons Two (length (map widths (nodes_in nodes))) (joined (map widths (nodes_in nodes))) (omega (arith, n, length-map (nodes_in nodes) widths)) (all_joined widths (nodes_in nodes) h))
+
+-- the nodes of a run and the node at its far end
+pub run_wide : (nodes : Children) (all : List Node) (first : ℕ) (end : Node) → nodes_in nodes ≡ drop first all ++ end ∷ [] → first < length all → All IsWide all → IsWide end → IsWideBlock (Cycle nodes)
+run_wide nodes all first end e some h k =
+    cycle_wide nodes (omega (arith, ap length e, length-append (drop first all) (end ∷ []), length-drop first all))
+    (subst (All IsWide) (sym e) (All-append IsWide (drop first all) (end ∷ []) (All-drop IsWide first all h) (All-cons IsWide end [] k (All-nil IsWide))))

@@ -1,0 +1,92 @@
+-- What the cuts of a cactus can have.
+use Rattle.std.proofs.Common.{◌≡◌, ℕ, Bool, true, false, cond, ◌+◌, ◌≤◌, ◌<◌, ◌==◌, ◌||◌, List, [], ◌∷◌, ◌++◌, length, map, refl, sym, ◌∙◌, ap, subst, arith, ⊎_elim}
+use Rattle.std.specs.List.{All, Contains, concat, filter, flat_map}
+use Rattle.std.proofs.lemmas.Bool.{cases_Bool}
+use Rattle.std.proofs.lemmas.List.Elements.{All-cons, All-nil, All-weaker}
+use Rattle.cut_definitions.specs.Weight.{VertexSet}
+use Rattle.cut_definitions.specs.Cuts.{has, IsAscendingWithin}
+use Rattle.cut_definitions.proofs.Bridge.{has_low}
+use Rattle.cactus_tree.specs.Sides.{Part, cuts, together, block_part}
+use Rattle.cactus_tree.specs.Trees.{vertices, blocks}
+use Rattle.cactus_tree.specs.Entered.{entered, entered_block}
+use Rattle.cactus_tree.specs.Rooted.{IsCactus}
+use Rattle.cactus_tree.specs.declared.tree.Node.{Node, roll-Node, out-Node}
+use Rattle.cactus_tree.proofs.Parts.{part_out}
+use Rattle.cactus_tree.proofs.Orders.{entered_out}
+use Rattle.cactus_tree.proofs.Segments.{IsSegment}
+use Rattle.cactus_tree.proofs.Layouts.{cut_is_segment}
+use Rattle.cactus_tree.proofs.Groups.{contains_has}
+use Rattle.cactus_merge.proofs.Wide.{front_all, back_all, head_of}
+
+-- the vertices of the nodes below a node
+abbrev pub under : Node → List (List ℕ)
+under x = flat_map entered_block (blocks x)
+
+abbrev pub Lacks : ℕ → List ℕ → Type 0
+Lacks v l = has l v ≡ false
+
+neither_of : (a b : Bool) → a ≡ false → b ≡ false → (a || b) ≡ false
+neither_of a b h k = grind arith
+
+pub lacks_append : (v : ℕ) (xs ys : List ℕ) → Lacks v xs → Lacks v ys → Lacks v (xs ++ ys)
+lacks_append v [] ys h k = k
+lacks_append v (x ∷ xs) ys h k =
+    neither_of (x == v) (has (xs ++ ys) v) (left_no (x == v) (has xs v) h) (lacks_append v xs ys (right_no (x == v) (has xs v) h) k)
+  where
+    left_no : (a b : Bool) → (a || b) ≡ false → a ≡ false
+    left_no a b e = grind arith
+
+    right_no : (a b : Bool) → (a || b) ≡ false → b ≡ false
+    right_no a b e = grind arith
+
+pub all_lack : (v : ℕ) (ls : List (List ℕ)) → All (Lacks v) ls → Lacks v (concat ls)
+all_lack v [] h = refl
+all_lack v (l ∷ ls) h = lacks_append v l (concat ls) (head_of (Lacks v) l ls h) (all_lack v ls (back_all (Lacks v) (l ∷ []) ls h))
+
+pub same_cuts : (x y : Node) → blocks x ≡ blocks y → cuts x ≡ cuts y
+same_cuts x y e = ap (λ (p : Part). p.cuts) (part_out x) ∙ ap (λ bs. (together (map block_part bs)).cuts) e ∙ ap (λ (p : Part). p.cuts) (sym (part_out y))
+
+-- a cut lacks what all nodes below the root lack
+pub cut_lacks : (x : Node) (s : VertexSet) (v : ℕ) → Contains (cuts x) s → All (Lacks v) (under x) → s v ≡ false
+cut_lacks x s v m h =
+    let y : Node = roll-Node record { vertices = []; blocks = (out-Node x).blocks } in
+    let g : IsSegment (entered y) s = cut_is_segment y s (subst (λ l. Contains l s) (same_cuts x y refl) m) in
+    let whole : All (Lacks v) (g.before ++ (g.inside ++ g.behind)) = subst (All (Lacks v)) (sym (entered_out y) ∙ g.whole) (All-cons (Lacks v) [] (under x) refl h) in
+    let inside : All (Lacks v) g.inside = front_all (Lacks v) g.inside g.behind (back_all (Lacks v) g.before (g.inside ++ g.behind) whole) in
+    ap (λ (t : VertexSet). t v) g.set ∙ all_lack v g.inside inside
+
+has_high : (low high v : ℕ) (l : List ℕ) → IsAscendingWithin low high l → high < v → has l v ≡ false
+has_high low high v [] a h = refl
+has_high low high v (x ∷ l) a h = neither_of (x == v) (has l v) (differs x v (omega (arith, a.1, h))) (has_high (x + 1) high v l a.2 h)
+  where
+    differs : (y w : ℕ) → y < w → (y == w) ≡ false
+    differs y w p = grind arith
+
+pub none_counted : (v : ℕ) (ls : List (List ℕ)) → length (filter (λ l. has l v) ls) ≡ 0 → All (Lacks v) ls
+none_counted v [] e = All-nil (Lacks v)
+none_counted v (l ∷ ls) e = ⊎_elim
+    (λ yes. absurd (omega (arith, sym (ap (λ (b : Bool). length (cond b (l ∷ filter (λ l. has l v) ls) (filter (λ l. has l v) ls))) yes) ∙ e)))
+    (λ no. All-cons (Lacks v) l ls no (none_counted v ls (sym (ap (λ (b : Bool). length (cond b (l ∷ filter (λ l. has l v) ls) (filter (λ l. has l v) ls))) no) ∙ e)))
+    (cases_Bool (has l v))
+
+module _ (k : ℕ) (root : Node) (is : IsCactus k root) (some : 1 ≤ k) where
+  pub under_ascend : All (IsAscendingWithin 1 k) (under root)
+  under_ascend = back_all (IsAscendingWithin 1 k) (vertices root ∷ []) (under root) (subst (All (IsAscendingWithin 1 k)) (entered_out root) is.ascending)
+
+  -- vertex 1 is in the root alone
+  pub under_lack_one : All (Lacks 1) (under root)
+  under_lack_one =
+      let here : has (vertices root) 1 ≡ true = contains_has (vertices root) 1 is.root_has_one in
+      let count : length (filter (λ l. has l 1) (vertices root ∷ under root)) ≡ 1 = ap (λ ls. length (filter (λ l. has l 1) ls)) (sym (entered_out root)) ∙ is.in_one_node 1 (omega arith) some in
+      let split : length (filter (λ l. has l 1) (vertices root ∷ under root)) ≡ length (filter (λ l. has l 1) (under root)) + 1 =
+      ap (λ (b : Bool). length (cond b (vertices root ∷ filter (λ l. has l 1) (under root)) (filter (λ l. has l 1) (under root)))) here ∙ omega arith in
+      none_counted 1 (under root) (omega (arith, count, split))
+
+  pub cut_lacks_one : (s : VertexSet) → Contains (cuts root) s → s 1 ≡ false
+  cut_lacks_one s m = cut_lacks root s 1 m under_lack_one
+
+  pub cut_lacks_zero : (s : VertexSet) → Contains (cuts root) s → s 0 ≡ false
+  cut_lacks_zero s m = cut_lacks root s 0 m (All-weaker (IsAscendingWithin 1 k) (Lacks 0) (λ l a. has_low 1 k 0 l a (omega arith)) (under root) under_ascend)
+
+  pub cut_lacks_high : (s : VertexSet) (v : ℕ) → Contains (cuts root) s → k < v → s v ≡ false
+  cut_lacks_high s v m h = cut_lacks root s v m (All-weaker (IsAscendingWithin 1 k) (Lacks v) (λ l a. has_high 1 k v l a h) (under root) under_ascend)

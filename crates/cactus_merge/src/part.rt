@@ -1,0 +1,58 @@
+//! The parts of a chain with their cactuses, and the cactus of the whole.
+
+ghost use Rattle.std.specs.Prelude.{◌≡◌, ℕ, ◌≤◌, ◌<◌, [], ◌∷◌, ◌++◌, length, map, IfOk};
+ghost use Rattle.cactus_tree.specs.Rooted.{sides_of};
+ghost use Rattle.cactus_merge.specs.Assembled.{ArePartsOf, AreNodesOf, SameMembers, assembled_sides};
+ghost use Rattle.residual_chain.specs.Chain.{IsChainShape};
+ghost use Rattle.cactus_tree.specs.Trees.{nodes_in};
+
+use crate::assembly::join;
+use crate::node::part_node;
+use cactus_tree::{Cactus, Children, VertexList};
+use residual_chain::Chain;
+use std::alloc::{AllocError, Global};
+
+/// The cactus of a part of a chain, in which vertex 1 stands for all vertices that are not in the list, and vertex j + 1
+/// for the j-th vertex of the list.
+#[derive(Drop)]
+pub struct PartCactus {
+    pub cactus: Cactus,
+    pub own: VertexList,
+}
+
+/// The nodes of the parts of a chain, in order.
+fn part_nodes(alloc: Global, chain: &Chain, parts: Vec<PartCactus>) -> Result<Children, AllocError>
+    requires shape { IsChainShape chain.now }
+    requires parts { ArePartsOf chain.now parts.items }
+    ensures { IfOk result (λ x. AreNodesOf chain.now parts.items (nodes_in x)) }
+{
+    let mut nodes = Children::new(alloc);
+    let count = chain.parts();
+    let mut left = count;
+    'each: for part in parts {
+        left -= 1;
+        let node = part_node(alloc, chain, part, count - left)?;
+        nodes.push(node)?;
+    }
+    Ok(nodes)
+}
+
+/// The cactus of a chain from the cactuses of its parts, which are taken over.
+///
+/// The chain goes from vertex 1, and there is one entry for each part, in order: its list has, ascending, the vertices of
+/// the part other than the chain's ends, and its cactus is over one vertex more. The sides of the answer are those of the
+/// cuts of the chain, the unions of the intervals of parts inside a run, and the sides of the cactuses of the parts, each
+/// lifted to the vertices for which its members stand. It takes memory for a table of names of each part, the vertices of
+/// its root, and each bridge, cycle and empty node that joins the parts; it is refused only where this is wanting, and
+/// the parts are dropped then. One step for each vertex, node and run; it calls itself once for each level of a part's
+/// cactus.
+pub fn assemble(alloc: Global, chain: &Chain, parts: Vec<PartCactus>) -> Result<Cactus, AllocError>
+    requires { ArePartsOf chain.now parts.items }
+    ensures n { IfOk result (λ c. c.vertices ≡ length chain.now.numbers) }
+    ensures sides { IfOk result (λ c. SameMembers (sides_of c) (assembled_sides chain.now parts.items)) }
+{
+    let n = chain.n();
+    let nodes = part_nodes(alloc, chain, parts)?;
+    let root = join(alloc, nodes, chain.runs())?;
+    Ok(Cactus::from_root(n, root))
+}
