@@ -66,11 +66,19 @@ finish_cause words command before now m n same bytes read end (Fault f) why = (c
 finish_cause words command before now m n same bytes read end NoMemory why = (same, inr (inr (inl end)))
 
 -- the cause of a refusal of a piece
-pub feed_cause : (words : List (List ℕ)) → HasCommand words → (before now : Option (List ℕ)) (m n : ℕ) → n ≡ m → (bytes piece : List ℕ) → IsRead before now (bytes ++ piece) →
+pub feed_cause : (words : List (List ℕ)) → HasCommand words → (before now : Option (List ℕ)) (m n : ℕ) → n ≡ m → (bytes piece : List ℕ) → fixed bytes ≡ None → IsRead before now (bytes ++ piece) →
     (refusal : ReadRefusal) → ((f : TheFault) → refusal ≡ Fault f → fixed (bytes ++ piece) ≡ Some f) → (refusal ≡ NoMemory → HeaderEndsIn bytes piece) →
     IsCause words before now m n (stop_of refusal)
-feed_cause words command before now m n same bytes piece read (Fault f) why header = (command, same, record { bytes = bytes ++ piece; read = read; why = inl (why f refl) })
-feed_cause words command before now m n same bytes piece read NoMemory why header =
+feed_cause words command before now m n same bytes piece none read (Fault f) why header = (
+  command,
+  same,
+  record {
+    bytes = bytes ++ piece;
+    read = read;
+    why = inl (record { earlier = bytes; piece = piece; parts = refl; none = none; fault_fixed = why f refl });
+  },
+)
+feed_cause words command before now m n same bytes piece none read NoMemory why header =
     (same, inr (inl (record { bytes = bytes; piece = piece; read = read; header = header refl })))
 
 -- a reader takes fewer bytes after each piece

@@ -5,7 +5,7 @@ use Rattle.std.specs.Io.KnownBytes.{Appends}
 use Rattle.outside.specs.Faults.{Rose}
 use Rattle.cut_definitions.specs.Graph.{Graph}
 use Rattle.metis_reader.specs.declared.fault.Fault.{Fault}
-use Rattle.metis_reader.specs.File.{graph_of, fixed}
+use Rattle.metis_reader.specs.File.{graph_of}
 use Rattle.metis_reader.proofs.FixedFaults.{graph_of_fixed, fixed_stays}
 use Rattle.mincut_program.specs.declared.stop.Stop.{Stop}
 use Rattle.mincut_program.specs.declared.stop.Stop.TheVariants as stop
@@ -50,7 +50,7 @@ pub refused_all : (before now : Option (List ℕ)) (fault : Fault) → IsRefused
 refused_all None now fault r = tt
 refused_all (Some all) now fault r =
     ⊎_elim
-    (λ (f : fixed r.bytes ≡ Some fault). ap graph_of r.read.2 ∙ graph_of_fixed (r.bytes ++ r.read.0) fault (fixed_stays r.bytes r.read.0 fault f))
+    (λ f. ap graph_of r.read.2 ∙ graph_of_fixed (r.bytes ++ r.read.0) fault (fixed_stays r.bytes r.read.0 fault f.fault_fixed))
     (λ e. let same : all ≡ r.bytes = read_all (Some all) now r.bytes r.read e.0 in ap graph_of same ∙ e.1)
     r.why
 

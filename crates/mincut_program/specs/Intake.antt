@@ -16,11 +16,19 @@ use Rattle.mincut_program.specs.Notices.{notice_of, text_of}
 abbrev pub IsRead : Option (List ℕ) → Option (List ℕ) → List ℕ → Type 0
 IsRead before now bytes = IfSome before (λ all. (rest : List ℕ) × (now ≡ Some rest) × (all ≡ bytes ++ rest))
 
--- what was read fixes the fault, or it is all there was, and this is its first fault
+-- the last piece that was read fixes the fault: what was read before it fixes none
+pub record IsFixedLast (bytes : List ℕ) (fault : Fault) : Type 0 where
+  pub earlier : List ℕ
+  pub piece : List ℕ
+  pub parts : bytes ≡ earlier ++ piece
+  pub none : fixed earlier ≡ None
+  pub fault_fixed : fixed bytes ≡ Some fault
+
+-- what was read fixes the fault with its last piece, or it is all there was, and this is its first fault
 pub record IsRefused (before now : Option (List ℕ)) (fault : Fault) : Type 0 where
   pub bytes : List ℕ
   pub read : IsRead before now bytes
-  pub why : (fixed bytes ≡ Some fault) ⊎ (IsAtEnd now × (graph_of bytes ≡ Err fault))
+  pub why : IsFixedLast bytes fault ⊎ (IsAtEnd now × (graph_of bytes ≡ Err fault))
 
 -- what was read fixes no fault
 pub record IsUnrefused (before now : Option (List ℕ)) : Type 0 where

@@ -42,6 +42,7 @@ returns-in_err-feed-in-Ok-clause-cause g c =
     let why : Stop → Type 0 = λ stop. (words : List (List ℕ)) → HasCommand words → IsCause words left now m n stop in
     handed_on why c.from_residual-in_err-feed-in-Ok.result c.in_err-feed-in-Ok.field-0.0 c.from_residual-in_err-feed-in-Ok.ensures.1
     (λ words command. feed_cause words command left now m n (c.in-Ok.ensures.cause.ok ∙ fed.1.faults) fed.0 _
+    (still_fed c.reading.reader fed.0 fed.1.stands fed.1.accepted).none
     (read_more left (g.S.Source.left c.reading.source) now fed.0 _ fed.1.read c.in-Ok.ensures.bytes.0)
     c.in_err-feed-in-Ok.field-0.0
     (λ f e. c.in_err-feed-in-Ok.ensures.fault f (ap Err e) fed.0 fed.1.stands)
