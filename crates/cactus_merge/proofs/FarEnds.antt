@@ -5,10 +5,11 @@ use Rattle.cactus_tree.specs.Trees.{vertices, blocks}
 use Rattle.cactus_tree.specs.declared.tree.Node.{Node}
 use Rattle.cactus_tree.proofs.Parts.{part_out}
 use Rattle.cactus_merge.specs.Joined.{IsFarEnd}
-use Rattle.cactus_merge.proofs.Members.{head_or_tail, in_tail}
+use Rattle.cut_definitions.proofs.Lists.{Contains-there}
+use Rattle.cactus_merge.proofs.Members.{head_or_tail}
 
 below_bridge : (p : Part) → IsFarEnd (bridge_of p) p
-below_bridge p = record { below = refl; cuts = λ s h. head_or_tail p.below p.cuts s h; only = λ s h. in_tail p.below p.cuts s h }
+below_bridge p = record { below = refl; cuts = λ s h. head_or_tail p.below p.cuts s h; only = λ s h. Contains-there p.below p.cuts s h }
 
 pub far_bridge : (hanging end : Part) → hanging ≡ bridge_of end → IsFarEnd hanging end
 far_bridge hanging end e = subst (λ h. IsFarEnd h end) (sym e) (below_bridge end)

@@ -4,7 +4,7 @@ use Rattle.std.specs.Prelude.{if◌then◌else◌, not}
 use Rattle.std.specs.List.{All, Contains, concat, filter, flat_map, range_with_len}
 use Rattle.std.proofs.lemmas.Bool.{cases_Bool, cases_eq, eq-eqb}
 use Rattle.std.proofs.lemmas.List.{length-append, length-map, length-drop, map-append, get_or-drop, get_or-take, length-take-le}
-use Rattle.std.proofs.lemmas.List.Elements.{All-cons, All-nil, All-append, All-filter, filter-append}
+use Rattle.std.proofs.lemmas.List.Elements.{All-cons, All-nil, All-append, All-filter, filter-append, All-head}
 use Rattle.cut_definitions.specs.Cuts.{has, IsAscendingWithin}
 use Rattle.cut_definitions.specs.Weight.{VertexSet}
 use Rattle.cut_definitions.specs.Chain.{parts_between}
@@ -17,13 +17,14 @@ use Rattle.cactus_tree.specs.Sides.{Part, part, cuts, belows, all_cuts, interval
 use Rattle.cactus_tree.specs.Rooted.{IsCactus, places, sides_of}
 use Rattle.cactus_tree.specs.Trees.{vertices}
 use Rattle.cactus_tree.specs.declared.tree.Node.{Node}
+use Rattle.cactus_tree.proofs.Segments.{has_append_at}
 use Rattle.cactus_tree.proofs.Layouts.{laid_out}
 use Rattle.cactus_merge.specs.declared.part.PartCactus.{PartCactus}
 use Rattle.cactus_merge.specs.Joined.{IsRuns, IsWide, SameSets, joined_cuts, run_cuts, run_parts, tails, held, has_some}
 use Rattle.cactus_merge.specs.Assembled.{ArePartsOf, AreNodesOf, IsNodeOf, SameMembers, assembled_sides, chain_sides, run_sides, part_sides, set_list}
 use Rattle.cactus_merge.proofs.Names.{count_of, count_yes, count_no}
 use Rattle.cactus_merge.proofs.Numbered.{AreNumbered, rest_numbered, tails_sides, interval_list}
-use Rattle.cactus_merge.proofs.Wide.{back_all, head_of}
+use Rattle.cactus_merge.proofs.Wide.{back_all}
 use Rattle.cactus_merge.proofs.Within.{all_lack, none_counted}
 
 -- ---- the runs of a chain
@@ -42,7 +43,7 @@ all_from_some P e [] h = All-nil P
 all_from_some P e ([] ∷ ls) h = All-cons P [] ls e (all_from_some P e ls h)
 all_from_some P e ((x ∷ l) ∷ ls) h =
     let k : All P ((x ∷ l) ∷ filter has_some ls) = subst (All P) (kept_some x l ls) h in
-    All-cons P (x ∷ l) ls (head_of P (x ∷ l) (filter has_some ls) k) (all_from_some P e ls (back_all P ((x ∷ l) ∷ []) (filter has_some ls) k))
+    All-cons P (x ∷ l) ls (All-head P (x ∷ l) (filter has_some ls) k) (all_from_some P e ls (back_all P ((x ∷ l) ∷ []) (filter has_some ls) k))
 
 count_some : (ls : List (List ℕ)) (v : ℕ) → count_of (filter has_some ls) v ≡ count_of ls v
 count_some [] v = refl
@@ -54,7 +55,7 @@ count_some ((x ∷ l) ∷ ls) v = ap (λ ms. count_of ms v) (kept_some x l ls) �
 
 all_held : (P : List ℕ → Type 0) (nodes : List Node) → All (λ x. All P (entered x)) nodes → All P (flat_map held nodes)
 all_held P [] h = All-nil P
-all_held P (x ∷ xs) h = All-append P (held x) (flat_map held xs) (All-filter has_some P (entered x) (head_of (λ y. All P (entered y)) x xs h)) (all_held P xs (back_all (λ y. All P (entered y)) (x ∷ []) xs h))
+all_held P (x ∷ xs) h = All-append P (held x) (flat_map held xs) (All-filter has_some P (entered x) (All-head (λ y. All P (entered y)) x xs h)) (all_held P xs (back_all (λ y. All P (entered y)) (x ∷ []) xs h))
 
 -- ---- each vertex in one node
 count_append : (ls ms : List (List ℕ)) (v : ℕ) → count_of (ls ++ ms) v ≡ count_of ls v + count_of ms v
@@ -100,17 +101,10 @@ left_no a b e = grind arith
 right_no : (a b : Bool) → (a || b) ≡ false → b ≡ false
 right_no a b e = grind arith
 
-has_append : (xs ys : List ℕ) (v : ℕ) → has (xs ++ ys) v ≡ (has xs v || has ys v)
-has_append [] ys v = refl
-has_append (x ∷ xs) ys v = ap (λ (b : Bool). (x == v) || b) (has_append xs ys v) ∙ assoc (x == v) (has xs v) (has ys v)
-  where
-    assoc : (a b c : Bool) → (a || (b || c)) ≡ ((a || b) || c)
-    assoc a b c = grind arith
-
 lack_none : (ls : List (List ℕ)) (v : ℕ) → has (concat ls) v ≡ false → count_of ls v ≡ 0
 lack_none [] v h = refl
 lack_none (l ∷ ls) v h =
-    let e = sym (has_append l (concat ls) v) ∙ h in
+    let e = sym (has_append_at l (concat ls) v) ∙ h in
     count_no l ls v (left_no (has l v) (has (concat ls) v) e) ∙ lack_none ls v (right_no (has l v) (has (concat ls) v) e)
 
 abbrev count_if : Bool → ℕ
@@ -197,7 +191,7 @@ module _ (c : ChainView) (parts : List PartCactus) (nodes : List Node) (x : Node
   runs_list [] h = refl
   runs_list (r ∷ runs) h =
       map-append (set_list (length c.numbers)) (intervals (belows (run_parts (map part nodes) r))) (run_cuts (map part nodes) runs)
-      ∙ ap (λ l. l ++ map (set_list (length c.numbers)) (run_cuts (map part nodes) runs)) (run_list r (head_of (IsInnerRun c.parts) r runs h))
+      ∙ ap (λ l. l ++ map (set_list (length c.numbers)) (run_cuts (map part nodes) runs)) (run_list r (All-head (IsInnerRun c.parts) r runs h))
       ∙ ap (λ l. run_sides c r ++ l) (runs_list runs (back_all (IsInnerRun c.parts) (r ∷ []) runs h))
 
   cuts_list : (ps : List PartCactus) (xs : List Node) → length ps ≡ length xs → ((i : ℕ) (p : PartCactus) (y : Node) → i < length xs → map (set_list (length c.numbers)) (cuts (get_or xs i y)) ≡ part_sides (length c.numbers) (get_or ps i p)) → map (set_list (length c.numbers)) (all_cuts (map part xs)) ≡ flat_map (part_sides (length c.numbers)) ps

@@ -11,7 +11,7 @@ use Rattle.cactus_tree.specs.declared.tree.Node.{Node}
 use Rattle.cactus_tree.specs.declared.tree.Block.{Block}
 use Rattle.cactus_tree.specs.declared.tree.Block.TheVariants.{Cycle}
 use Rattle.cactus_tree.specs.declared.tree.Children.{Children}
-use Rattle.cactus_tree.proofs.Orders.{entered_out, entered_cycle}
+use Rattle.cactus_tree.proofs.Orders.{entered_out, entered_cycle, hung_entered}
 use Rattle.cactus_merge.specs.Joined.{has_some, held, block_held}
 
 filter_each : {X Y : Type 0} (p : Y → Bool) (f : X → List Y) (xs : List X) → filter p (flat_map f xs) ≡ flat_map (λ x. filter p (f x)) xs
@@ -19,16 +19,6 @@ filter_each p f [] = refl
 filter_each p f (x ∷ xs) = filter-append p (f x) (flat_map f xs) ∙ ap (λ l. filter p (f x) ++ l) (filter_each p f xs)
 
 -- one more block at the end of a node's list
-hung_entered : (x y : Node) (b : Block) → vertices y ≡ vertices x → blocks y ≡ blocks x ++ b ∷ [] → entered y ≡ entered x ++ entered_block b
-hung_entered x y b e f =
-    let below : flat_map entered_block (blocks x ++ b ∷ []) ≡ flat_map entered_block (blocks x) ++ entered_block b =
-    flat_map-append entered_block (blocks x) (b ∷ []) ∙ ap (λ l. flat_map entered_block (blocks x) ++ l) (append-nil (entered_block b)) in
-    entered_out y
-    ∙ ap (λ l. l ∷ flat_map entered_block (blocks y)) e
-    ∙ ap (λ bs. vertices x ∷ flat_map entered_block bs) f
-    ∙ ap (λ l. vertices x ∷ l) below
-    ∙ ap (λ l. l ++ entered_block b) (sym (entered_out x))
-
 pub hung_held : (x y : Node) (b : Block) → vertices y ≡ vertices x → blocks y ≡ blocks x ++ b ∷ [] → held y ≡ held x ++ block_held b
 hung_held x y b e f = ap (filter has_some) (hung_entered x y b e f) ∙ filter-append has_some (entered x) (entered_block b)
 

@@ -7,10 +7,10 @@ use Rattle.std.proofs.Common.{ne_eqb}
 use Rattle.std.proofs.lemmas.Bool.Decides.{nat_tests}
 use Rattle.cut_definitions.specs.Weight.{VertexSet}
 use Rattle.cut_definitions.specs.Cuts.{has}
-use Rattle.cactus_tree.specs.Sides.{Part, part, part_by, cuts}
+use Rattle.cactus_tree.specs.Sides.{Part, part_by, cuts}
 use Rattle.cactus_tree.specs.Entered.{name_of, renamed}
 use Rattle.cactus_tree.specs.declared.tree.Node.{Node}
-use Rattle.cactus_tree.proofs.Lifts.{KeepsUnions, lifted}
+use Rattle.cactus_tree.proofs.Lifts.{KeepsUnions, lifted, own_lists}
 
 any_none : (c : ℕ → Bool) (xs : List ℕ) → list_any (λ u. false && c u) xs ≡ false
 any_none c [] = refl
@@ -117,10 +117,6 @@ image_list names (x ∷ l) v =
     ap (λ (b : Bool). (name_of names x == v) || b) (image_list names l v)
     ∙ ap (λ (b : Bool). b || image names (has l) v) (sym (single_image names x v))
     ∙ (λ i. (sym ((keeps names).union (λ w. x == w) (has l))) i v)
-
-own_lists : (x : Node) → part x ≡ part_by has x
-unfolding part part_by
-own_lists x = refl
 
 pub renamed_cuts : (names : List ℕ) (old new : Node) → ((sets : List ℕ → VertexSet) → part_by sets new ≡ part_by (λ l. sets (renamed names l)) old) → cuts new ≡ map (image names) (cuts old)
 renamed_cuts names old new by =

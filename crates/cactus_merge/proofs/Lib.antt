@@ -17,3 +17,4 @@ pub mod Tops
 pub mod Finals
 pub mod Parts
 pub mod Pushed
+pub mod Tested

@@ -3,13 +3,14 @@ use Rattle.std.proofs.Common.{◌≡◌, ℕ, Bool, true, false, cond, ◌+◌, 
 use Rattle.std.specs.Prelude.{if◌then◌else◌, nat_lt}
 use Rattle.std.specs.List.{All, filter}
 use Rattle.std.proofs.lemmas.Bool.{cases_Bool, cases_eq, cases_lt, eq-eqb, lt-ltb, le-ltb}
+use Rattle.std.proofs.lemmas.List.Elements.{All-head}
 use Rattle.cut_definitions.specs.Cuts.{has, IsAscendingWithin}
 use Rattle.cut_definitions.proofs.Bridge.{has_low}
 use Rattle.cactus_tree.specs.Entered.{name_of, renamed}
 use Rattle.cactus_merge.specs.Assembled.{names_by, inserted}
 use Rattle.cactus_merge.proofs.Lifted.{name_at}
 use Rattle.cactus_merge.proofs.Within.{Lacks}
-use Rattle.cactus_merge.proofs.Wide.{back_all, head_of}
+use Rattle.cactus_merge.proofs.Wide.{back_all}
 
 -- ---- ascending lists
 pub ascends_at : (low high : ℕ) (l : List ℕ) (i : ℕ) → IsAscendingWithin low high l → i < length l → (low ≤ get_or l i 0) × (get_or l i 0 ≤ high)
@@ -157,8 +158,8 @@ count_head l m ls ms v w h e = ⊎_elim
 
 pub count_none : (ls : List (List ℕ)) (v : ℕ) → All (Lacks v) ls → count_of ls v ≡ 0
 count_none [] v h = refl
-count_none (l ∷ ls) v h = count_no l ls v (head_of (Lacks v) l ls h) ∙ count_none ls v (back_all (Lacks v) (l ∷ []) ls h)
+count_none (l ∷ ls) v h = count_no l ls v (All-head (Lacks v) l ls h) ∙ count_none ls v (back_all (Lacks v) (l ∷ []) ls h)
 
 pub count_renamed : (r : List ℕ → List ℕ) (ls : List (List ℕ)) (v w : ℕ) → All (λ l. has (r l) v ≡ has l w) ls → count_of (map r ls) v ≡ count_of ls w
 count_renamed r [] v w h = refl
-count_renamed r (l ∷ ls) v w h = count_head (r l) l (map r ls) ls v w (head_of (λ m. has (r m) v ≡ has m w) l ls h) (count_renamed r ls v w (back_all (λ m. has (r m) v ≡ has m w) (l ∷ []) ls h))
+count_renamed r (l ∷ ls) v w h = count_head (r l) l (map r ls) ls v w (All-head (λ m. has (r m) v ≡ has m w) l ls h) (count_renamed r ls v w (back_all (λ m. has (r m) v ≡ has m w) (l ∷ []) ls h))

@@ -7,12 +7,12 @@ use Rattle.cactus_tree.specs.declared.tree.Node.{Node}
 use Rattle.cactus_merge.specs.declared.part.PartCactus.{PartCactus}
 use Rattle.cactus_merge.specs.Assembled.{IsNodeOf}
 
-at_front : {X : Type 0} (xs ys : List X) (i : ℕ) (d : X) → i < length xs → get_or (xs ++ ys) i d ≡ get_or xs i d
+pub at_front : {X : Type 0} (xs ys : List X) (i : ℕ) (d : X) → i < length xs → get_or (xs ++ ys) i d ≡ get_or xs i d
 at_front [] ys i d h = absurd (omega (arith, h))
 at_front (x ∷ xs) ys zero d h = refl
 at_front (x ∷ xs) ys (suc i) d h = at_front xs ys i d (omega (arith, h))
 
-at_seam : {X : Type 0} (xs : List X) (y : X) (ys : List X) (i : ℕ) (d : X) → i ≡ length xs → get_or (xs ++ y ∷ ys) i d ≡ y
+pub at_seam : {X : Type 0} (xs : List X) (y : X) (ys : List X) (i : ℕ) (d : X) → i ≡ length xs → get_or (xs ++ y ∷ ys) i d ≡ y
 at_seam [] y ys zero d h = refl
 at_seam [] y ys (suc i) d h = absurd (omega (arith, h))
 at_seam (x ∷ xs) y ys zero d h = absurd (omega (arith, h))

@@ -7,7 +7,8 @@ use Rattle.cactus_tree.specs.Sides.{Part, all_of, intervals, belows, all_cuts, w
 use Rattle.cactus_tree.proofs.Parts.{either_assoc, either_nothing, all_of_push, all_cuts_append, all_cuts_push}
 use Rattle.residual_chain.specs.declared.run.Run.{Run}
 use Rattle.cactus_merge.specs.Joined.{tails, run_parts, run_cuts, SameSets, IsFarEnd, bridges}
-use Rattle.cactus_merge.proofs.Members.{nowhere, at_head, in_tail, head_or_tail}
+use Rattle.cut_definitions.proofs.Lists.{Contains-nil, Contains-here, Contains-there}
+use Rattle.cactus_merge.proofs.Members.{head_or_tail}
 use Rattle.cactus_merge.proofs.Intervals.{tails_with, interval_cases, interval_of_list, interval_to_end, interval_of_end}
 
 -- the cuts of the last parts of a chain and of the runs among them
@@ -44,19 +45,19 @@ tails_append (p ∷ ps) qs = ap (λ s. s ∷ tails (ps ++ qs)) (all_of_append (p
 -- ---- the last part
 last_forth : (ps : List Part) (p : Part) (s : VertexSet) → Contains (bridge_of p).cuts s → Contains (tail_cuts ps [] (p ∷ [])) s
 last_forth ps p s h = elim (head_or_tail p.below p.cuts s h) [
-  | inl q ↦ in_first (tails (p ∷ [])) [] (all_cuts (p ∷ [])) s (subst (λ t. Contains (tails (p ∷ [])) t) (either_nothing p.below ∙ sym q) (at_head (either p.below (all_of [])) []))
+  | inl q ↦ in_first (tails (p ∷ [])) [] (all_cuts (p ∷ [])) s (subst (λ t. Contains (tails (p ∷ [])) t) (either_nothing p.below ∙ sym q) (Contains-here (either p.below (all_of [])) []))
   | inr c ↦ in_third (tails (p ∷ [])) [] (all_cuts (p ∷ [])) s (Contains-append_left p.cuts [] s c)
 ]
 
 last_back : (ps : List Part) (p : Part) (s : VertexSet) → Contains (tail_cuts ps [] (p ∷ [])) s → Contains (bridge_of p).cuts s
 last_back ps p s h = elim (three_cases (tails (p ∷ [])) [] (all_cuts (p ∷ [])) s h) [
   | inl a ↦ elim (head_or_tail (either p.below (all_of [])) [] s a) [
-    | inl q ↦ subst (Contains (bridge_of p).cuts) (sym (q ∙ either_nothing p.below)) (at_head p.below p.cuts)
-    | inr z ↦ absurd (nowhere s z)
+    | inl q ↦ subst (Contains (bridge_of p).cuts) (sym (q ∙ either_nothing p.below)) (Contains-here p.below p.cuts)
+    | inr z ↦ absurd (Contains-nil s z)
   ]
   | inr b ↦ elim b [
-    | inl z ↦ absurd (nowhere s z)
-    | inr c ↦ elim (Contains-append_cases p.cuts [] s c) [ inl d ↦ in_tail p.below p.cuts s d | inr z ↦ absurd (nowhere s z) ]
+    | inl z ↦ absurd (Contains-nil s z)
+    | inr c ↦ elim (Contains-append_cases p.cuts [] s c) [ inl d ↦ Contains-there p.below p.cuts s d | inr z ↦ absurd (Contains-nil s z) ]
   ]
 ]
 
@@ -66,11 +67,11 @@ tail_last ps p = record { below = sym (either_nothing p.below); cuts = record { 
 -- ---- one more bridge
 bridge_forth : (ps : List Part) (runs : List Run) (rest : List Part) (h p : Part) → IsTail ps runs rest h → (s : VertexSet) → Contains (bridge_of (with_below p h)).cuts s → Contains (tail_cuts ps runs (p ∷ rest)) s
 bridge_forth ps runs rest h p t s m = elim (head_or_tail (either p.below h.below) (p.cuts ++ h.cuts) s m) [
-  | inl q ↦ in_first (tails (p ∷ rest)) (run_cuts ps runs) (all_cuts (p ∷ rest)) s (subst (Contains (tails (p ∷ rest))) (ap (either p.below) (sym t.below) ∙ sym q) (at_head _ (tails rest)))
+  | inl q ↦ in_first (tails (p ∷ rest)) (run_cuts ps runs) (all_cuts (p ∷ rest)) s (subst (Contains (tails (p ∷ rest))) (ap (either p.below) (sym t.below) ∙ sym q) (Contains-here _ (tails rest)))
   | inr c ↦ elim (Contains-append_cases p.cuts h.cuts s c) [
     | inl a ↦ in_third (tails (p ∷ rest)) (run_cuts ps runs) (all_cuts (p ∷ rest)) s (Contains-append_left p.cuts (all_cuts rest) s a)
     | inr b ↦ elim (three_cases (tails rest) (run_cuts ps runs) (all_cuts rest) s (t.cuts.forth s b)) [
-      | inl x ↦ in_first (tails (p ∷ rest)) (run_cuts ps runs) (all_cuts (p ∷ rest)) s (in_tail _ (tails rest) s x)
+      | inl x ↦ in_first (tails (p ∷ rest)) (run_cuts ps runs) (all_cuts (p ∷ rest)) s (Contains-there _ (tails rest) s x)
       | inr y ↦ elim y [
         | inl x ↦ in_second (tails (p ∷ rest)) (run_cuts ps runs) (all_cuts (p ∷ rest)) s x
         | inr x ↦ in_third (tails (p ∷ rest)) (run_cuts ps runs) (all_cuts (p ∷ rest)) s (Contains-append_right p.cuts (all_cuts rest) s x)
@@ -94,8 +95,8 @@ under_part ps runs rest h p t s m = elim (three_cases (tails rest) (run_cuts ps 
 
 bridge_back : (ps : List Part) (runs : List Run) (rest : List Part) (h p : Part) → IsTail ps runs rest h → (s : VertexSet) → Contains (tail_cuts ps runs (p ∷ rest)) s → Contains (bridge_of (with_below p h)).cuts s
 bridge_back ps runs rest h p t s m = elim (head_or_tail _ (tails rest ++ (run_cuts ps runs ++ all_cuts (p ∷ rest))) s m) [
-  | inl q ↦ subst (Contains (bridge_of (with_below p h)).cuts) (ap (either p.below) t.below ∙ sym q) (at_head (either p.below h.below) (p.cuts ++ h.cuts))
-  | inr c ↦ in_tail (either p.below h.below) (p.cuts ++ h.cuts) s (under_part ps runs rest h p t s c)
+  | inl q ↦ subst (Contains (bridge_of (with_below p h)).cuts) (ap (either p.below) t.below ∙ sym q) (Contains-here (either p.below h.below) (p.cuts ++ h.cuts))
+  | inr c ↦ Contains-there (either p.below h.below) (p.cuts ++ h.cuts) s (under_part ps runs rest h p t s c)
 ]
 
 pub tail_bridge : (ps : List Part) (runs : List Run) (rest : List Part) (h p : Part) → IsTail ps runs rest h → IsTail ps runs (p ∷ rest) (bridge_of (with_below p h))
@@ -130,7 +131,7 @@ run_forth ps r runs xs q qs h end e t far s m =
         | inr b ↦ elim b [
           | inl c ↦ in_first (tails (xs ++ q ∷ qs)) (run_cuts ps (r ∷ runs)) (all_cuts (xs ++ q ∷ qs)) s
               (subst (λ l. Contains l s) (sym (tails_append xs (q ∷ qs))) (Contains-append_left (tails_with xs (all_of (belows (q ∷ qs)))) (tails (q ∷ qs)) s (subst (λ u. Contains (tails_with xs u) s) same c)))
-          | inr d ↦ tail_kept ps r runs xs (q ∷ qs) s (in_first (tails (q ∷ qs)) (run_cuts ps runs) (all_cuts (q ∷ qs)) s (subst (Contains (tails (q ∷ qs))) (sym (d ∙ same)) (at_head _ (tails qs))))
+          | inr d ↦ tail_kept ps r runs xs (q ∷ qs) s (in_first (tails (q ∷ qs)) (run_cuts ps runs) (all_cuts (q ∷ qs)) s (subst (Contains (tails (q ∷ qs))) (sym (d ∙ same)) (Contains-here _ (tails qs))))
         ]
       ]
       | inr a ↦ elim (Contains-append_cases (all_cuts xs) end.cuts s (subst (λ l. Contains l s) (all_cuts_push xs end) a)) [

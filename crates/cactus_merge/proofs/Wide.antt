@@ -2,7 +2,7 @@
 use Rattle.std.proofs.Common.{◌≡◌, ℕ, ◌≤◌, ◌<◌, List, [], ◌∷◌, ◌++◌, length, map, drop, sym, ◌∙◌, ap, subst, arith}
 use Rattle.std.specs.List.{All}
 use Rattle.std.proofs.lemmas.List.{length-append, length-map, length-drop}
-use Rattle.std.proofs.lemmas.List.Elements.{All-append, All-cons, All-nil, All-drop, All-take}
+use Rattle.std.proofs.lemmas.List.Elements.{All-append, All-cons, All-head, All-nil, All-drop, All-take}
 use Rattle.std.proofs.Math.Seq.{take-append_seam, drop-append_seam}
 use Rattle.cactus_tree.specs.Trees.{blocks, nodes_in}
 use Rattle.cactus_tree.specs.Widths.{widths, block_widths, joined}
@@ -22,18 +22,15 @@ front_all P xs ys h = subst (All P) (take-append_seam xs ys) (All-take P (length
 pub back_all : {X : Type 0} (P : X → Type 0) (xs ys : List X) → All P (xs ++ ys) → All P ys
 back_all P xs ys h = subst (All P) (drop-append_seam xs ys) (All-drop P (length xs) (xs ++ ys) h)
 
-pub head_of : {X : Type 0} (P : X → Type 0) (x : X) (xs : List X) → All P (x ∷ xs) → P x
-head_of P x xs h = h 0 x (omega arith)
-
 pub all_joined : {X : Type 0} (f : X → List ℕ) (xs : List X) → All (λ x. All Two (f x)) xs → All Two (joined (map f xs))
 all_joined f [] h = All-nil Two
-all_joined f (x ∷ xs) h = All-append Two (f x) (joined (map f xs)) (head_of (λ y. All Two (f y)) x xs h) (all_joined f xs (back_all (λ y. All Two (f y)) (x ∷ []) xs h))
+all_joined f (x ∷ xs) h = All-append Two (f x) (joined (map f xs)) (All-head (λ y. All Two (f y)) x xs h) (all_joined f xs (back_all (λ y. All Two (f y)) (x ∷ []) xs h))
 
 -- the last element of a list, and those before it
 pub popped_wide : {X : Type 0} (P : X → Type 0) (cur new : List X) (x : X) → cur ≡ new ++ x ∷ [] → All P cur → All P new × P x
 popped_wide P cur new x e h =
     let a = subst (All P) e h in
-    (front_all P new (x ∷ []) a, head_of P x [] (back_all P new (x ∷ []) a))
+    (front_all P new (x ∷ []) a, All-head P x [] (back_all P new (x ∷ []) a))
 
 joined_push : {X : Type 0} (f : X → List ℕ) (xs : List X) (y : X) → All Two (joined (map f xs)) → All Two (f y) → All Two (joined (map f (xs ++ y ∷ [])))
 joined_push f [] y h k = All-append Two (f y) [] k (All-nil Two)

@@ -2,7 +2,7 @@
 use Rattle.std.proofs.Common.{◌≡◌, ℕ, Bool, true, false, cond, ◌+◌, ◌≤◌, ◌<◌, ◌==◌, ◌||◌, List, [], ◌∷◌, ◌++◌, length, map, refl, sym, ◌∙◌, ap, subst, arith, ⊎_elim}
 use Rattle.std.specs.List.{All, Contains, concat, filter, flat_map}
 use Rattle.std.proofs.lemmas.Bool.{cases_Bool}
-use Rattle.std.proofs.lemmas.List.Elements.{All-cons, All-nil, All-weaker}
+use Rattle.std.proofs.lemmas.List.Elements.{All-cons, All-nil, All-weaker, All-head}
 use Rattle.cut_definitions.specs.Weight.{VertexSet}
 use Rattle.cut_definitions.specs.Cuts.{has, IsAscendingWithin}
 use Rattle.cut_definitions.proofs.Bridge.{has_low}
@@ -16,7 +16,7 @@ use Rattle.cactus_tree.proofs.Orders.{entered_out}
 use Rattle.cactus_tree.proofs.Segments.{IsSegment}
 use Rattle.cactus_tree.proofs.Layouts.{cut_is_segment}
 use Rattle.cactus_tree.proofs.Groups.{contains_has}
-use Rattle.cactus_merge.proofs.Wide.{front_all, back_all, head_of}
+use Rattle.cactus_merge.proofs.Wide.{front_all, back_all}
 
 -- the vertices of the nodes below a node
 abbrev pub under : Node → List (List ℕ)
@@ -41,7 +41,7 @@ lacks_append v (x ∷ xs) ys h k =
 
 pub all_lack : (v : ℕ) (ls : List (List ℕ)) → All (Lacks v) ls → Lacks v (concat ls)
 all_lack v [] h = refl
-all_lack v (l ∷ ls) h = lacks_append v l (concat ls) (head_of (Lacks v) l ls h) (all_lack v ls (back_all (Lacks v) (l ∷ []) ls h))
+all_lack v (l ∷ ls) h = lacks_append v l (concat ls) (All-head (Lacks v) l ls h) (all_lack v ls (back_all (Lacks v) (l ∷ []) ls h))
 
 pub same_cuts : (x y : Node) → blocks x ≡ blocks y → cuts x ≡ cuts y
 same_cuts x y e = ap (λ (p : Part). p.cuts) (part_out x) ∙ ap (λ bs. (together (map block_part bs)).cuts) e ∙ ap (λ (p : Part). p.cuts) (sym (part_out y))

@@ -55,10 +55,14 @@ assembled_sides c parts = chain_sides c ++ (flat_map (run_sides c) c.runs ++ fla
 abbrev pub SameMembers : List (List ℕ) → List (List ℕ) → Type 0
 SameMembers k l = (x : List ℕ) → Contains k x ↔ Contains l x
 
+-- whether a vertex is in a part, and is no end of the chain
+abbrev pub is_own : ChainView → ℕ → VertexSet
+is_own c number v = mark_of c.numbers v == number && not (v == c.s || v == c.t)
+
 -- the list has, ascending, the vertices of the part other than the ends of the chain, and the cactus is over one more
 pub record IsPartOf (c : ChainView) (number : ℕ) (p : PartCactus) : Type 0 where
   pub ascending : IsAscendingWithin 1 (length c.numbers) p.own
-  pub exact : (v : ℕ) → 1 ≤ v → v ≤ length c.numbers → has p.own v ≡ (mark_of c.numbers v == number && not (v == c.s || v == c.t))
+  pub exact : (v : ℕ) → 1 ≤ v → v ≤ length c.numbers → has p.own v ≡ is_own c number v
   pub one_more : p.cactus.vertices ≡ length p.own + 1
 
 -- one entry for each part of a chain from vertex 1, in order

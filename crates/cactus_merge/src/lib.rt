@@ -13,3 +13,6 @@ mod part;
 
 pub use assembly::join;
 pub use part::{PartCactus, assemble};
+
+#[cfg(test)]
+mod tests;

@@ -78,8 +78,7 @@ fn renamed_root(alloc: Global, part: PartCactus) -> Result<Node, AllocError>
 {
     let PartCactus { cactus, own } = part;
     let names = names_of(alloc, &own)?;
-    let mut node = cactus.into_root();
-    rename_node(&mut node, names.as_slice());
+    let node = rename_node(alloc, cactus.into_root(), names.as_slice())?;
     Ok(node)
 }
 

@@ -19,6 +19,7 @@ use Rattle.cut_definitions.proofs.Bridge.{has_within, IsAscendingWithin-filter, 
 use Rattle.cut_definitions.proofs.Contracted.{has-lift}
 use Rattle.cactus_tree.specs.Spread.{group_at, class_of_first, AreGathered}
 use Rattle.cactus_tree.proofs.Ranges.{range_push, or_right, range_within, IsWithin}
+use Rattle.cactus_tree.proofs.Segments.{has_append_at}
 
 -- ---- one more vertex
 pub grown_at : (groups : List (Vec ℕ)) (i : ℕ) (old new : Vec ℕ) (v : ℕ) → i < length groups → old ≡ get_or groups i old → new.items ≡ old.items ++ v ∷ [] → group_at (set groups i new) i ≡ group_at groups i ++ v ∷ []
@@ -108,14 +109,6 @@ All_of : {P : ℕ → Type 0} (xs : List ℕ) → ((v : ℕ) → Contains xs v �
 All_of {P} xs f = All-weaker (Contains xs) P f xs (All-contains_itself xs)
 
 -- ---- several classes together
-or_assoc : (a b c : Bool) → a || (b || c) ≡ (a || b) || c
-or_assoc true b c = refl
-or_assoc false b c = refl
-
-has_append : (xs ys : List ℕ) (v : ℕ) → has (xs ++ ys) v ≡ has xs v || has ys v
-has_append [] ys v = refl
-has_append (x ∷ xs) ys v = ap (λ b. (x == v) || b) (has_append xs ys v) ∙ or_assoc (x == v) (has xs v) (has ys v)
-
 eqb_sym : (a b : ℕ) → eqb a b ≡ eqb b a
 eqb_sym a b = ⊎_elim (λ e. eq-eqb a b e ∙ sym (eq-eqb b a (sym e))) (λ ne. ne_eqb a b ne ∙ sym (ne_eqb b a (λ q. ne (sym q)))) (cases_eq a b)
 
@@ -126,7 +119,7 @@ module _ (classes : List ℕ) (groups : List (Vec ℕ)) (gathered : AreGathered 
   has_groups : (cs : List ℕ) (v : ℕ) → 1 ≤ v → v ≤ length classes → has (flat_map (group_at groups) cs) v ≡ has cs (label classes v)
   has_groups [] v l h = refl
   has_groups (c ∷ cs) v l h =
-      has_append (group_at groups c) (flat_map (group_at groups) cs) v
+      has_append_at (group_at groups c) (flat_map (group_at groups) cs) v
       ∙ ap (λ b. b || has (flat_map (group_at groups) cs) v) (has_group c v l h)
       ∙ ap (λ b. (c == label classes v) || b) (has_groups cs v l h)
 

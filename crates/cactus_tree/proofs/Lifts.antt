@@ -127,3 +127,8 @@ module _ (h : VertexSet → VertexSet) (keeps : KeepsUnions h) (sets : List ℕ 
       (λ y z is. children_case y z.items.items (ap (λ w. w.items.items) is))
       (λ y z is. node_case y (subst (λ w. IsLiftedBlocks w.blocks) is z.blocks.1))
       x
+
+-- the vertices of a node are their own set
+pub own_lists : (x : Node) → part x ≡ part_by has x
+unfolding part part_by
+own_lists x = refl

@@ -5,11 +5,13 @@ use Rattle.std.specs.List.{flat_map, concat}
 use Rattle.std.proofs.Math.Seq.{drop-cons}
 use Rattle.std.specs.Borrow.{Bor}
 use Rattle.std.proofs.lemmas.List.{append-nil, append_assoc}
+use Rattle.std.proofs.lemmas.List.Concat.{flat_map-append}
 use Rattle.std.specs.declared.boxed.Box.{Box}
 use Rattle.std.specs.declared.alloc.Global.{Global}
 use Rattle.cactus_tree.specs.Entered.{entered, entered_block, in_order, waiting, entered_block_step, entered_blocks_step, entered_children_step, entered_node_step}
 use Rattle.cactus_tree.specs.Trees.{vertices, blocks, nodes_in}
 use Rattle.cactus_tree.specs.declared.tree.Node.{Node, out-Node}
+use Rattle.cactus_tree.specs.declared.tree.Block.{Block}
 use Rattle.cactus_tree.specs.declared.tree.Children.{Children}
 use Rattle.cactus_tree.specs.declared.tree.Block.TheVariants.{Bridge, Cycle, rolls-Bridge, rolls-Cycle}
 use Rattle.cactus_tree.specs.declared.tree.Block.TheOpen as Open
@@ -62,3 +64,14 @@ walked node order more before after rest b a m =
 
 pub popped_is : {X : Type 0} (before left : List X) (r : Option X) (x : X) → before ≡ left ++ option_to_list r → r ≡ Some x → before ≡ left ++ x ∷ []
 popped_is before left r x p q = p ∙ ap (λ o. left ++ option_to_list o) q
+
+-- one more block at the end of a node's list
+pub hung_entered : (x y : Node) (b : Block) → vertices y ≡ vertices x → blocks y ≡ blocks x ++ b ∷ [] → entered y ≡ entered x ++ entered_block b
+hung_entered x y b e f =
+    let below : flat_map entered_block (blocks x ++ b ∷ []) ≡ flat_map entered_block (blocks x) ++ entered_block b =
+    flat_map-append entered_block (blocks x) (b ∷ []) ∙ ap (λ l. flat_map entered_block (blocks x) ++ l) (append-nil (entered_block b)) in
+    entered_out y
+    ∙ ap (λ l. l ∷ flat_map entered_block (blocks y)) e
+    ∙ ap (λ bs. vertices x ∷ flat_map entered_block bs) f
+    ∙ ap (λ l. vertices x ∷ l) below
+    ∙ ap (λ l. l ++ entered_block b) (sym (entered_out x))

@@ -11,7 +11,7 @@ use Rattle.cut_definitions.specs.Contraction.{label, lift}
 use Rattle.cut_definitions.proofs.Bridge.{has_within, IsAscendingWithin-filter, same_ascending}
 use Rattle.cut_definitions.proofs.ChainLaws.{leb_yes, leb_no}
 use Rattle.cut_definitions.proofs.Contracted.{has-lift}
-use Rattle.cactus_tree.specs.Sides.{Part, part, part_by, cuts}
+use Rattle.cactus_tree.specs.Sides.{Part, part_by, cuts}
 use Rattle.cactus_tree.specs.Entered.{entered}
 use Rattle.cactus_tree.specs.Rooted.{IsCactus, places, sides_of}
 use Rattle.cactus_tree.specs.Spread.{AreClasses, spread_set}
@@ -19,13 +19,9 @@ use Rattle.cactus_tree.specs.Widths.{widths}
 use Rattle.cactus_tree.specs.Trees.{vertices}
 use Rattle.cactus_tree.specs.declared.tree.Node.{Node}
 use Rattle.cactus_tree.proofs.Groups.{contains_has, has_contains}
-use Rattle.cactus_tree.proofs.Lifts.{KeepsUnions, lifted}
+use Rattle.cactus_tree.proofs.Lifts.{KeepsUnions, lifted, own_lists}
 use Rattle.cactus_tree.proofs.Orders.{entered_out}
 use Rattle.cactus_tree.proofs.Ranges.{IsWithin, range_within}
-
-own_lists : (x : Node) → part x ≡ part_by has x
-unfolding part part_by
-own_lists x = refl
 
 -- ---- the lift keeps unions
 none_kept : (a b : Bool) → (a && (b && false)) ≡ false

@@ -11,7 +11,7 @@ ghost use Rattle.cactus_tree.specs.Widths.{widths};
 ghost use Rattle.cut_definitions.specs.Contraction.{lift};
 ghost use Rattle.cactus_tree.specs.Normal.{is_normal};
 
-use crate::tree::{Blocks, Node, blocks_are_normal, count_node, gather, spread_node};
+use crate::tree::{Blocks, Node, blocks_are_normal, count_node, spread_node};
 use crate::vertex_list::VertexList;
 use std::alloc::{AllocError, Global};
 use std::marker::Model;
@@ -118,8 +118,8 @@ impl Cactus {
     /// Puts in place of each vertex of the cactus the vertices of 1 to n that have it as their class.
     ///
     /// Each side becomes the set of the vertices whose class is in it, and the tree keeps its form. It takes memory in
-    /// proportion to n, and is refused only where that is wanting; the cactus is dropped then. Time O(n log n) for
-    /// gathering and sorting, and one step for each node; it calls itself once for each level of the tree.
+    /// proportion to n and the nodes, and is refused only where that is wanting; the cactus is dropped then. Time O(n log n) for
+    /// gathering and sorting, and one step for each node, in loops, so that a deep tree does not run out of stack.
     pub fn spread(self, alloc: Global, n: u32, classes: &[u32]) -> Result<Cactus, AllocError>
         requires { AreClasses n self.vertices classes.now }
         ensures n { IfOk result (λ c. c.vertices ≡ n) }
@@ -128,9 +128,7 @@ impl Cactus {
         ensures sides { IfOk result (λ c. sides_of c ≡ map (lift classes.now) (sides_of self)) }
         ensures widths { IfOk result (λ c. widths c.root ≡ widths self.root) }
     {
-        let groups = gather(alloc, classes, self.n)?;
-        let mut root = self.root;
-        spread_node(alloc, &mut root, &groups)?;
+        let root = spread_node(alloc, self.root, classes, self.n)?;
         Ok(Cactus { n, root })
     }
 }

@@ -7,18 +7,30 @@
 //! set), `sides_of` (the same as ascending lists), `widths` (the number of children of each cycle).
 //!
 //! The representation of all minimum cuts by such a tree is due to Dinitz, Karzanov and Lomonosov (1976). Each call takes
-//! time in proportion to the nodes and vertices that it reads, and `spread` sorts what it writes. A tree is dropped, and
-//! its vertices are listed, by loops; `nodes`, `is_normal`, `spread` and `rename_node` call themselves once for each level.
-//! A `Walk` gives the sides one after another: `Walk::new` is a loop, and `Walk::next` calls itself once for each level.
+//! time in proportion to the nodes and vertices that it reads, and `spread` sorts what it writes. A tree is dropped, its
+//! vertices are listed, its subtrees are measured, and `spread` and `rename_node` put other vertices in their place, by loops;
+//! `nodes` and `is_normal` take no memory and call themselves once for each level. A `Walk` gives the sides one after
+//! another, by loops and without a borrow: in the order of entering each side is one range of the vertices, so each step
+//! changes only what two sides do not share.
+//! `flatten` numbers the nodes and gives the bridges and cycles by these numbers, as a `FlatCactus`, in loops. The cuts
+//! of that, told by what node 0 still reaches once one bridge or two edges of a cycle are taken away, have the sides of
+//! the tree: `laws::flat_sides`.
 #![tactic(auto)]
 
 mod cactus;
+mod flat;
+mod flattening;
+pub mod laws;
 mod tree;
 mod vertex_list;
 mod walk;
 
 pub use cactus::Cactus;
-pub use tree::{Block, Blocks, Children, Node, rename_node, vertices_in_order};
+pub use flat::FlatCactus;
+pub use flattening::flatten;
+pub use tree::{
+    Block, Blocks, Children, Node, gather, rename_node, subtree_sizes, vertices_in_order,
+};
 pub use vertex_list::VertexList;
 pub use walk::Walk;
 

@@ -7,17 +7,18 @@ use crate::vertex_list::VertexList;
 use std::alloc::{AllocError, Global};
 
 mod count;
+mod entries;
 mod normal;
 mod order;
+mod outline;
 mod rename;
-mod side;
 mod spread;
 
 pub use count::count_node;
 pub use normal::blocks_are_normal;
-pub use order::vertices_in_order;
+pub use order::{in_order, vertices_in_order};
+pub use outline::{Entry, outline_of, sizes_along, subtree_sizes};
 pub use rename::rename_node;
-pub use side::put_node;
 pub use spread::{gather, spread_node};
 
 /// A node: its vertices, and the blocks below it.

@@ -4,6 +4,7 @@ ghost use Rattle.std.specs.Prelude.{List, ◌≡◌, ℕ, [], ◌∷◌, ◌++�
 ghost use Rattle.std.specs.List.{flat_map, concat};
 ghost use Rattle.cactus_tree.specs.Trees.{blocks_in, nodes_in};
 ghost use Rattle.cactus_tree.specs.Entered.{entered, entered_block, waiting};
+ghost use Rattle.cactus_tree.specs.Places.{places_from};
 
 use super::{Block, Blocks, Children, Node};
 use std::alloc::{AllocError, Global};
@@ -63,4 +64,33 @@ pub fn vertices_in_order(alloc: Global, root: &Node) -> Result<Vec<u32>, AllocEr
         stack_blocks(&mut stack, &node.blocks)?;
     }
     Ok(order)
+}
+
+/// All vertices of a tree, and where those of each node begin.
+#[derive(Drop)]
+pub struct InOrder {
+    /// The vertices of all nodes, in the order of entering.
+    pub vertices: Vec<u32>,
+    /// For each node, in this order, the place of its first vertex; and last the number of all vertices.
+    pub places: Vec<usize>,
+}
+
+/// The vertices of all nodes in the order of entering, with the place at which each node begins.
+///
+/// As `vertices_in_order`, with 8 bytes more for each node.
+pub fn in_order(alloc: Global, root: &Node) -> Result<InOrder, AllocError>
+    ensures vertices { IfOk result (λ r. r.vertices.items ≡ concat (entered root.now)) }
+    ensures places { IfOk result (λ r. r.places.items ≡ places_from 0 (entered root.now)) }
+{
+    let mut vertices = Vec::new(alloc);
+    let mut places = Vec::new(alloc);
+    let mut stack = Vec::new(alloc);
+    stack.push(root)?;
+    'walk: while let Some(node) = stack.pop() {
+        places.push(vertices.len())?;
+        vertices.extend_from_slice(node.vertices.as_slice())?;
+        stack_blocks(&mut stack, &node.blocks)?;
+    }
+    places.push(vertices.len())?;
+    Ok(InOrder { vertices, places })
 }

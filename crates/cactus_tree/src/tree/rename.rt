@@ -1,58 +1,45 @@
 //! Other names for the vertices of a tree.
 
-ghost use Rattle.std.specs.Prelude.{List, ◌≡◌, ℕ, [], ◌∷◌, ◌++◌, ◌<◌, length, option_to_list, IsSome, ◌↔◌, OnOk, OnErr, IfOk, map, slice_get, take, drop, ◌≤◌};
-ghost use Rattle.std.specs.List.{flat_map};
-ghost use Rattle.cactus_tree.specs.Trees.{blocks_in, nodes_in};
+ghost use Rattle.std.specs.Prelude.{List, ◌≡◌, ℕ, [], map, IfOk};
 ghost use Rattle.cut_definitions.specs.Weight.{VertexSet};
-ghost use Rattle.cactus_tree.specs.Sides.{part_by, block_part_by};
-ghost use Rattle.cactus_tree.specs.Entered.{entered, entered_block, renamed};
-ghost use Rattle.cactus_tree.specs.Widths.{widths, block_widths};
+ghost use Rattle.cactus_tree.specs.Sides.{part_by};
+ghost use Rattle.cactus_tree.specs.Entered.{entered, renamed};
+ghost use Rattle.cactus_tree.specs.Entries.{Shows};
+ghost use Rattle.cactus_tree.specs.Widths.{widths};
 
-use super::{Block, Blocks, Children, Node};
+use super::Node;
+use super::entries::{Entry, put_together, shed_blocks};
+use std::alloc::{AllocError, Global};
 
-/// Puts in place of each vertex of a node, and of all nodes below it, the entry of a table at that place, counted from 0;
-/// a number past the table's end stays. It takes no memory, one step for each vertex and node, and calls itself once for
-/// each level of the tree.
-#[cycle(rename)]
-pub fn rename_node(node: &mut Node, names: &[u32])
-    ensures names { entered node.new ≡ map (renamed names.now) (entered node.old) }
-    ensures sides { (sets : List ℕ → VertexSet) → part_by sets node.new ≡ part_by (λ l. sets (renamed names.now l)) node.old }
-    ensures widths { widths node.new ≡ widths node.old }
+/// The entries of a tree, with other names.
+fn renamed_entries(alloc: Global, root: Node, names: &[u32]) -> Result<Vec<Entry>, AllocError>
+    ensures { IfOk result (λ e. Shows (renamed names.now) root e.items []) }
 {
-    node.vertices.rename(names);
-    rename_blocks(&mut node.blocks, names);
+    let mut entries = Vec::new(alloc);
+    let mut stack = Vec::new(alloc);
+    stack.push(root)?;
+    'walk: while let Some(node) = stack.pop() {
+        let Node { vertices, blocks } = node;
+        let mut vertices = vertices;
+        vertices.rename(names);
+        let joints = shed_blocks(alloc, &mut stack, blocks)?;
+        entries.push(Entry { vertices, joints })?;
+    }
+    Ok(entries)
 }
 
-#[cycle(rename)]
-fn rename_blocks(blocks: &mut Blocks, names: &[u32])
-    ensures names { flat_map entered_block (blocks_in blocks.new) ≡ map (renamed names.now) (flat_map entered_block (blocks_in blocks.old)) }
-    ensures sides { (sets : List ℕ → VertexSet) → map (block_part_by sets) (blocks_in blocks.new) ≡ map (block_part_by (λ l. sets (renamed names.now l))) (blocks_in blocks.old) }
-    ensures widths { map block_widths (blocks_in blocks.new) ≡ map block_widths (blocks_in blocks.old) }
+/// The tree with the entry of a table in place of each vertex: the entry at that place, counted from 0; a number past the
+/// table's end stays.
+///
+/// The tree is taken over and its nodes are moved. One step for each vertex and node, in loops, so that a deep tree does
+/// not run out of stack. It takes memory in proportion to the nodes, and is refused only where that is wanting; the tree
+/// is dropped then.
+pub fn rename_node(alloc: Global, node: Node, names: &[u32]) -> Result<Node, AllocError>
+    ensures names { IfOk result (λ x. entered x ≡ map (renamed names.now) (entered node)) }
+    ensures sides { IfOk result (λ x. (sets : List ℕ → VertexSet) → part_by sets x ≡ part_by (λ l. sets (renamed names.now l)) node) }
+    ensures widths { IfOk result (λ x. widths x ≡ widths node) }
 {
-    'each_block: for i in 0..blocks.items.len() {
-        rename_block(&mut blocks.items[i], names);
-    }
-}
-
-#[cycle(rename)]
-fn rename_block(block: &mut Block, names: &[u32])
-    ensures names { entered_block block.new ≡ map (renamed names.now) (entered_block block.old) }
-    ensures sides { (sets : List ℕ → VertexSet) → block_part_by sets block.new ≡ block_part_by (λ l. sets (renamed names.now l)) block.old }
-    ensures widths { block_widths block.new ≡ block_widths block.old }
-{
-    match block {
-        Block::Bridge(node) => rename_node(node, names),
-        Block::Cycle(nodes) => rename_nodes(nodes, names),
-    }
-}
-
-#[cycle(rename)]
-fn rename_nodes(nodes: &mut Children, names: &[u32])
-    ensures names { flat_map entered (nodes_in nodes.new) ≡ map (renamed names.now) (flat_map entered (nodes_in nodes.old)) }
-    ensures sides { (sets : List ℕ → VertexSet) → map (part_by sets) (nodes_in nodes.new) ≡ map (part_by (λ l. sets (renamed names.now l))) (nodes_in nodes.old) }
-    ensures widths { map widths (nodes_in nodes.new) ≡ map widths (nodes_in nodes.old) }
-{
-    'each_node: for i in 0..nodes.items.len() {
-        rename_node(&mut nodes.items[i], names);
-    }
+    let entries = renamed_entries(alloc, node, names)?;
+    let tree = put_together(alloc, entries)?;
+    Ok(tree)
 }

@@ -4,13 +4,14 @@ ghost use Rattle.std.specs.Prelude.{List, ◌≡◌, ◌≢◌, ℕ, [], ◌∷�
 ghost use Rattle.std.specs.List.{All, flat_map};
 ghost use Rattle.cut_definitions.specs.Weight.{VertexSet};
 ghost use Rattle.cut_definitions.specs.Contraction.{lift};
-ghost use Rattle.cactus_tree.specs.Trees.{blocks_in, nodes_in};
-ghost use Rattle.cactus_tree.specs.Entered.{entered, entered_block};
-ghost use Rattle.cactus_tree.specs.Sides.{part_by, block_part_by};
+ghost use Rattle.cactus_tree.specs.Entered.{entered};
+ghost use Rattle.cactus_tree.specs.Entries.{Shows};
+ghost use Rattle.cactus_tree.specs.Sides.{part_by};
 ghost use Rattle.cactus_tree.specs.Spread.{group_at, AreGathered};
-ghost use Rattle.cactus_tree.specs.Widths.{widths, block_widths};
+ghost use Rattle.cactus_tree.specs.Widths.{widths};
 
-use super::{Block, Blocks, Children, Node};
+use super::Node;
+use super::entries::{Entry, put_together, shed_blocks};
 use crate::vertex_list::VertexList;
 use std::alloc::{AllocError, Global};
 
@@ -90,51 +91,37 @@ fn spread_list(
     Ok(VertexList::from_vec(vertices))
 }
 
-/// Puts in place of each class in a node, and in all nodes below it, the vertices of the class.
-#[cycle(spread)]
-pub fn spread_node(alloc: Global, node: &mut Node, groups: &[Vec<u32>]) -> Result<(), AllocError>
-    ensures lists { OnOk result ((classes : List ℕ) → AreGathered classes groups.now → entered node.new ≡ map (lift classes) (entered node.old)) }
-    ensures sides { OnOk result ((classes : List ℕ) → AreGathered classes groups.now → (sets : List ℕ → VertexSet) → part_by sets node.new ≡ part_by (λ l. sets (lift classes l)) node.old) }
-    ensures widths { OnOk result (widths node.new ≡ widths node.old) }
+/// The entries of a tree, with the vertices of each class in place of the class.
+fn spread_entries(alloc: Global, root: Node, groups: &[Vec<u32>]) -> Result<Vec<Entry>, AllocError>
+    ensures { IfOk result (λ e. (classes : List ℕ) → AreGathered classes groups.now → Shows (lift classes) root e.items []) }
 {
-    node.vertices = spread_list(alloc, &node.vertices, groups)?;
-    spread_blocks(alloc, &mut node.blocks, groups)?;
-    Ok(())
+    let mut entries = Vec::new(alloc);
+    let mut stack = Vec::new(alloc);
+    stack.push(root)?;
+    'walk: while let Some(node) = stack.pop() {
+        let Node { vertices, blocks } = node;
+        let vertices = spread_list(alloc, &vertices, groups)?;
+        let joints = shed_blocks(alloc, &mut stack, blocks)?;
+        entries.push(Entry { vertices, joints })?;
+    }
+    Ok(entries)
 }
 
-#[cycle(spread)]
-fn spread_blocks(alloc: Global, blocks: &mut Blocks, groups: &[Vec<u32>]) -> Result<(), AllocError>
-    ensures lists { OnOk result ((classes : List ℕ) → AreGathered classes groups.now → flat_map entered_block (blocks_in blocks.new) ≡ map (lift classes) (flat_map entered_block (blocks_in blocks.old))) }
-    ensures sides { OnOk result ((classes : List ℕ) → AreGathered classes groups.now → (sets : List ℕ → VertexSet) → map (block_part_by sets) (blocks_in blocks.new) ≡ map (block_part_by (λ l. sets (lift classes l))) (blocks_in blocks.old)) }
-    ensures widths { OnOk result (map block_widths (blocks_in blocks.new) ≡ map block_widths (blocks_in blocks.old)) }
+/// The tree with the vertices of each class, ascending, in place of the class. The classes are 1 to `last`.
+pub fn spread_node(
+    alloc: Global,
+    node: Node,
+    classes: &[u32],
+    last: u32,
+) -> Result<Node, AllocError>
+    requires few { length classes.now < 2 ^ 32 }
+    requires in_range { All (λ c. c ≤ last) classes.now }
+    ensures lists { IfOk result (λ x. entered x ≡ map (lift classes.now) (entered node)) }
+    ensures sides { IfOk result (λ x. (sets : List ℕ → VertexSet) → part_by sets x ≡ part_by (λ l. sets (lift classes.now l)) node) }
+    ensures widths { IfOk result (λ x. widths x ≡ widths node) }
 {
-    'each_block: for i in 0..blocks.items.len() {
-        spread_block(alloc, &mut blocks.items[i], groups)?;
-    }
-    Ok(())
-}
-
-#[cycle(spread)]
-fn spread_block(alloc: Global, block: &mut Block, groups: &[Vec<u32>]) -> Result<(), AllocError>
-    ensures lists { OnOk result ((classes : List ℕ) → AreGathered classes groups.now → entered_block block.new ≡ map (lift classes) (entered_block block.old)) }
-    ensures sides { OnOk result ((classes : List ℕ) → AreGathered classes groups.now → (sets : List ℕ → VertexSet) → block_part_by sets block.new ≡ block_part_by (λ l. sets (lift classes l)) block.old) }
-    ensures widths { OnOk result (block_widths block.new ≡ block_widths block.old) }
-{
-    match block {
-        Block::Bridge(node) => spread_node(alloc, node, groups)?,
-        Block::Cycle(nodes) => spread_nodes(alloc, nodes, groups)?,
-    }
-    Ok(())
-}
-
-#[cycle(spread)]
-fn spread_nodes(alloc: Global, nodes: &mut Children, groups: &[Vec<u32>]) -> Result<(), AllocError>
-    ensures lists { OnOk result ((classes : List ℕ) → AreGathered classes groups.now → flat_map entered (nodes_in nodes.new) ≡ map (lift classes) (flat_map entered (nodes_in nodes.old))) }
-    ensures sides { OnOk result ((classes : List ℕ) → AreGathered classes groups.now → (sets : List ℕ → VertexSet) → map (part_by sets) (nodes_in nodes.new) ≡ map (part_by (λ l. sets (lift classes l))) (nodes_in nodes.old)) }
-    ensures widths { OnOk result (map widths (nodes_in nodes.new) ≡ map widths (nodes_in nodes.old)) }
-{
-    'each_node: for i in 0..nodes.items.len() {
-        spread_node(alloc, &mut nodes.items[i], groups)?;
-    }
-    Ok(())
+    let groups = gather(alloc, classes, last)?;
+    let entries = spread_entries(alloc, node, &groups)?;
+    let tree = put_together(alloc, entries)?;
+    Ok(tree)
 }

@@ -1,5 +1,5 @@
 use Rattle.std.proofs.Common.{refl}
-use Rattle.cactus_tree.specs.declared.tree.Node.{roll-Node}
+use Rattle.cactus_tree.specs.declared.tree.Node.{out-Node, roll-Node}
 use Rattle.cactus_merge.specs.Assembled.{names_by}
 use Rattle.cactus_merge.proofs.Images.{renamed_cuts}
 use Rattle.cactus_merge.proofs.NodeOf.{IsRenamed}
@@ -18,5 +18,5 @@ returns c =
     let p = c.args.part in
     let y = c.in_ok-node.node in
     let r : IsRenamed p y = record { names = c.in_ok-node.ensures.names; cuts = renamed_cuts (names_by p.own) p.cactus.root y c.in_ok-node.ensures.sides; cactus = c.in_ok-node.ensures.cactus; widths = c.in_ok-node.ensures.widths } in
-    let x = roll-Node record { vertices = c.in_ok-vertices.vertices; blocks = c.in_ok-node.node.blocks } in
+    let x = roll-Node record { vertices = c.in_ok-vertices.vertices; blocks = (out-Node y).blocks } in
     node_by_number c.args.chain.now c.args.number p y x c.requires.shape c.requires.source c.requires.from_one c.requires.to_parts c.requires.part r c.in_ok-vertices.ensures refl

@@ -1,23 +1,164 @@
-use Rattle.std.proofs.Common.{◌≡◌, ◌<◌, ◌∷◌, length, ap, ◌∙◌, arith}
-use Rattle.cactus_tree.proofs.Steps.{stepped, same_place, next_place, place_holds}
+use Rattle.std.proofs.Common.{◌≡◌, ◌+◌, ◌<◌, ◌≤◌, ◌∷◌, length, drop, ap, sym, refl, subst, ◌∙◌, arith}
+use Rattle.cut_definitions.specs.Cuts.{has}
+use Rattle.vertex_set.specs.Side.{VertexList}
+use Rattle.cactus_tree.specs.Walks.{SidesToCome}
+use Rattle.cactus_tree.specs.CutRanges.{Range, elements_at}
+use Rattle.cactus_tree.specs.Borders.{border_at, ranges_between}
+use Rattle.cactus_tree.specs.Places.{AreOnce, side_at}
+use Rattle.cactus_tree.specs.Walking.{sides_left}
+use Rattle.cactus_tree.specs.declared.walk.borders.Border.{Border}
+use Rattle.cactus_tree.proofs.Stepping.{next_side, next_border, filled, end_there, place_within, border_is, lent_shown}
 use Rattle.cactus_tree.proofs.walk.Walk.next.Goals as goal
+
+pub overflow_add-self-inside : goal.overflow_add-self-inside
+overflow_add-self-inside c =
+    let w = c.self.inside in
+    let inv = c.self.invariant in
+    let bs = w.borders.items in
+    let at = w.first + w.given + 1 in
+    let within : w.first < length bs = omega (arith, c.if-self-len.false, c.len.ensures) in
+    let there : at < length bs = end_there (length w.order.items) bs w.first w.given at inv.borders within (inv.start within) refl in
+    omega (arith, there, c.len.ensures, c.len.type_inv)
+
+pub overflow_add-self-inside-2 : goal.overflow_add-self-inside-2
+overflow_add-self-inside-2 c =
+    let w = c.self.inside in
+    let inv = c.self.invariant in
+    let bs = w.borders.items in
+    let at = w.first + w.given + 1 in
+    let within : w.first < length bs = omega (arith, c.if-self-len.false, c.len.ensures) in
+    let there : at < length bs = end_there (length w.order.items) bs w.first w.given at inv.borders within (inv.start within) refl in
+    omega (arith, there, c.len.ensures, c.len.type_inv)
+
+pub index-end-requires : goal.index-end-requires
+index-end-requires c =
+    let w = c.self.inside in
+    let inv = c.self.invariant in
+    let bs = w.borders.items in
+    let at = w.first + w.given + 1 in
+    let within : w.first < length bs = omega (arith, c.if-self-len.false, c.len.ensures) in
+    let there : at < length bs = end_there (length w.order.items) bs w.first w.given at inv.borders within (inv.start within) refl in
+    omega (arith, there)
+
+pub change_side-requires-clause-once : goal.change_side-requires-clause-once
+change_side-requires-clause-once c =
+    let w = c.self.inside in
+    let inv = c.self.invariant in
+    let n : w.side.vertices ≡ w.n = ap (λ (s : VertexList). s.vertices) inv.shown in
+    subst (AreOnce w.side.vertices) (sym c.deref.ensures.value) (subst (λ k. AreOnce k w.order.items) (sym n) inv.once)
+
+pub change_side-requires-clause-new : goal.change_side-requires-clause-new
+change_side-requires-clause-new c =
+    let w = c.self.inside in
+    let inv = c.self.invariant in
+    let bs = w.borders.items in
+    let at = w.first + w.given + 1 in
+    let within : w.first < length bs = omega (arith, c.if-self-len.false, c.len.ensures) in
+    let there : at < length bs = end_there (length w.order.items) bs w.first w.given at inv.borders within (inv.start within) refl in
+    let first = border_is bs w.first c.index-start.result.now c.index-start.ensures within in
+    let end = border_is bs at c.index-end.result.now c.index-end.ensures there in
+    let le : c.index-end.result.now.place ≤ length w.order.items = subst (λ (b : Border). b.place ≤ length w.order.items) (sym end) (place_within (length w.order.items) bs at inv.borders there) in
+    omega (arith, le, ap length c.deref.ensures.value)
+
+pub overflow_add-self : goal.overflow_add-self
+overflow_add-self c =
+    let w = c.self.inside in
+    let inv = c.self.invariant in
+    let bs = w.borders.items in
+    let at = w.first + w.given + 1 in
+    let within : w.first < length bs = omega (arith, c.if-self-len.false, c.len.ensures) in
+    let there : at < length bs = end_there (length w.order.items) bs w.first w.given at inv.borders within (inv.start within) refl in
+    omega (arith, there, c.len.ensures, c.len.type_inv)
+
+pub invariant_of-self : goal.invariant_of-self
+invariant_of-self c =
+    let w = c.self.inside in
+    let inv = c.self.invariant in
+    let bs = w.borders.items in
+    let at = w.first + w.given + 1 in
+    let within : w.first < length bs = omega (arith, c.if-self-len.false, c.len.ensures) in
+    let there : at < length bs = end_there (length w.order.items) bs w.first w.given at inv.borders within (inv.start within) refl in
+    let first = border_is bs w.first c.index-start.result.now c.index-start.ensures within in
+    let end = border_is bs at c.index-end.result.now c.index-end.ensures there in
+    let n : w.side.vertices ≡ w.n = ap (λ (s : VertexList). s.vertices) inv.shown in
+    let shown = lent_shown w.n w.order.items c.deref.result.now w.side c.change_side.new.side record { from = c.index-start.result.now.place; to = c.index-end.result.now.place } n c.deref.ensures.value c.change_side.ensures in
+    record {
+      all = inv.all;
+      shown = shown;
+      span = subst (λ (b : Border). b.place ≤ length w.order.items) (sym end) (place_within (length w.order.items) bs at inv.borders there);
+      once = inv.once;
+      vertices = inv.vertices;
+      borders = inv.borders;
+      start = subst (λ b. c.next_start-self-inside.result < length b → 0 < (border_at b c.next_start-self-inside.result).following) c.deref-then-self-start.ensures.value c.next_start-self-inside.ensures.start;
+    }
+
+pub invariant_of-self-else-self-start : goal.invariant_of-self-else-self-start
+invariant_of-self-else-self-start c =
+    let w = c.self.inside in
+    let inv = c.self.invariant in
+    let bs = w.borders.items in
+    let at = w.first + w.given + 1 in
+    let within : w.first < length bs = omega (arith, c.if-self-len.false, c.len.ensures) in
+    let there : at < length bs = end_there (length w.order.items) bs w.first w.given at inv.borders within (inv.start within) refl in
+    let first = border_is bs w.first c.index-start.result.now c.index-start.ensures within in
+    let end = border_is bs at c.index-end.result.now c.index-end.ensures there in
+    let n : w.side.vertices ≡ w.n = ap (λ (s : VertexList). s.vertices) inv.shown in
+    let shown = lent_shown w.n w.order.items c.deref.result.now w.side c.change_side.new.side record { from = c.index-start.result.now.place; to = c.index-end.result.now.place } n c.deref.ensures.value c.change_side.ensures in
+    record {
+      all = inv.all;
+      shown = shown;
+      span = subst (λ (b : Border). b.place ≤ length w.order.items) (sym end) (place_within (length w.order.items) bs at inv.borders there);
+      once = inv.once;
+      vertices = inv.vertices;
+      borders = inv.borders;
+      start = λ h. subst (λ (b : Border). w.given + 1 < b.following) first c.if-self-start.false;
+    }
 
 pub returns-then-self-start-clause-some : goal.returns-then-self-start-clause-some
 returns-then-self-start-clause-some c = λ e.
     let w = c.self.inside in
-    let s = c.index-start.result.now in
-    let within : w.place < length w.starts.items = omega (arith, c.if-self-len.false, c.len.ensures) in
-    stepped w.n w.place w.taken w.starts.items s c.args.self.now c.args.room.now w.all c.take_out.new.self c.put_node.new.room c.put_first.new.room
-    c.self.view_is c.requires c.self.invariant.0 c.self.invariant.1 c.index-start.ensures within c.take_out.ensures c.put_node.ensures.set c.put_first.ensures.set
-    ∙ ap (λ l. c.put_first.new.room.members ∷ l) (same_place w.n w.place w.taken w.starts.items)
+    let inv = c.self.invariant in
+    let bs = w.borders.items in
+    let at = w.first + w.given + 1 in
+    let within : w.first < length bs = omega (arith, c.if-self-len.false, c.len.ensures) in
+    let there : at < length bs = end_there (length w.order.items) bs w.first w.given at inv.borders within (inv.start within) refl in
+    let first = border_is bs w.first c.index-start.result.now c.index-start.ensures within in
+    let end = border_is bs at c.index-end.result.now c.index-end.ensures there in
+    let n : w.side.vertices ≡ w.n = ap (λ (s : VertexList). s.vertices) inv.shown in
+    let shown = lent_shown w.n w.order.items c.deref.result.now w.side c.change_side.new.side record { from = c.index-start.result.now.place; to = c.index-end.result.now.place } n c.deref.ensures.value c.change_side.ensures in
+    let last : (border_at bs w.first).following ≡ w.given + 1 =
+    let few : w.given < (border_at bs w.first).following = inv.start within in
+    let done : (border_at bs w.first).following ≤ w.given + 1 = subst (λ (b : Border). b.following ≤ w.given + 1) first c.if-self-start.true in
+    omega (arith, few, done) in
+    let ranges : ranges_between (drop c.next_start-self-inside.result bs) ≡ ranges_between (drop (w.first + 1) bs) =
+    subst (λ b. ranges_between (drop c.next_start-self-inside.result b) ≡ ranges_between (drop (w.first + 1) b)) c.deref-then-self-start.ensures.value c.next_start-self-inside.ensures.ranges in
+    let r : Range = record { from = c.index-start.result.now.place; to = c.index-end.result.now.place } in
+    let room : c.args.room.now.vertices ≡ w.n = c.requires ∙ sym (ap (λ (x : SidesToCome). x.vertices) c.self.view_is) in
+    let full = filled w.n (has (elements_at w.order.items r)) c.args.room.now w.all c.change_side.new.side c.take_out.new.self c.join_in.new.self room inv.all shown c.take_out.ensures c.join_in.ensures in
+    sym (ap (λ (x : SidesToCome). x.to_come) c.self.view_is)
+    ∙ next_side w.n (length w.order.items) w.order.items bs w.first w.given at inv.borders within (inv.start within) refl
+    ∙ ap (λ (b : Border). side_at w.n w.order.items record { from = b.place; to = (border_at bs at).place } ∷ sides_left w.n w.order.items bs w.first (w.given + 1)) (sym first)
+    ∙ ap (λ (b : Border). side_at w.n w.order.items record { from = c.index-start.result.now.place; to = b.place } ∷ sides_left w.n w.order.items bs w.first (w.given + 1)) (sym end)
+    ∙ ap (λ l. l ∷ sides_left w.n w.order.items bs w.first (w.given + 1)) (sym (ap (λ (s : VertexList). s.members) full))
+    ∙ ap (λ l. c.join_in.new.self.members ∷ l) (next_border w.n (length w.order.items) w.order.items bs w.first (w.given + 1) c.next_start-self-inside.result inv.borders within last ranges)
 
 pub returns-else-self-start-clause-some : goal.returns-else-self-start-clause-some
 returns-else-self-start-clause-some c = λ e.
     let w = c.self.inside in
-    let s = c.index-start.result.now in
-    let within : w.place < length w.starts.items = omega (arith, c.if-self-len.false, c.len.ensures) in
-    let few = place_holds w.starts.items w.place w.taken s c.self.invariant.1 c.index-start.ensures within in
-    let done : w.taken ≡ length s.following.now = omega (arith, few, c.if-self-start.false) in
-    stepped w.n w.place w.taken w.starts.items s c.args.self.now c.args.room.now w.all c.take_out.new.self c.put_node.new.room c.put_first.new.room
-    c.self.view_is c.requires c.self.invariant.0 c.self.invariant.1 c.index-start.ensures within c.take_out.ensures c.put_node.ensures.set c.put_first.ensures.set
-    ∙ ap (λ l. c.put_first.new.room.members ∷ l) (next_place w.n w.place w.taken w.starts.items s c.index-start.ensures within done)
+    let inv = c.self.invariant in
+    let bs = w.borders.items in
+    let at = w.first + w.given + 1 in
+    let within : w.first < length bs = omega (arith, c.if-self-len.false, c.len.ensures) in
+    let there : at < length bs = end_there (length w.order.items) bs w.first w.given at inv.borders within (inv.start within) refl in
+    let first = border_is bs w.first c.index-start.result.now c.index-start.ensures within in
+    let end = border_is bs at c.index-end.result.now c.index-end.ensures there in
+    let n : w.side.vertices ≡ w.n = ap (λ (s : VertexList). s.vertices) inv.shown in
+    let shown = lent_shown w.n w.order.items c.deref.result.now w.side c.change_side.new.side record { from = c.index-start.result.now.place; to = c.index-end.result.now.place } n c.deref.ensures.value c.change_side.ensures in
+    let r : Range = record { from = c.index-start.result.now.place; to = c.index-end.result.now.place } in
+    let room : c.args.room.now.vertices ≡ w.n = c.requires ∙ sym (ap (λ (x : SidesToCome). x.vertices) c.self.view_is) in
+    let full = filled w.n (has (elements_at w.order.items r)) c.args.room.now w.all c.change_side.new.side c.take_out.new.self c.join_in.new.self room inv.all shown c.take_out.ensures c.join_in.ensures in
+    sym (ap (λ (x : SidesToCome). x.to_come) c.self.view_is)
+    ∙ next_side w.n (length w.order.items) w.order.items bs w.first w.given at inv.borders within (inv.start within) refl
+    ∙ ap (λ (b : Border). side_at w.n w.order.items record { from = b.place; to = (border_at bs at).place } ∷ sides_left w.n w.order.items bs w.first (w.given + 1)) (sym first)
+    ∙ ap (λ (b : Border). side_at w.n w.order.items record { from = c.index-start.result.now.place; to = b.place } ∷ sides_left w.n w.order.items bs w.first (w.given + 1)) (sym end)
+    ∙ ap (λ l. l ∷ sides_left w.n w.order.items bs w.first (w.given + 1)) (sym (ap (λ (s : VertexList). s.members) full))

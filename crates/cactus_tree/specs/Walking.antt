@@ -1,0 +1,18 @@
+-- What a walk keeps of its borders and of its place among them.
+use Rattle.std.specs.Prelude.{ℕ, ◌≤◌, ◌<◌, ⊤, List, [], ◌∷◌, map, drop, length}
+use Rattle.cactus_tree.specs.Borders.{ranges_between, border_at}
+use Rattle.cactus_tree.specs.Places.{side_at}
+use Rattle.cactus_tree.specs.declared.walk.borders.Border.{Border}
+
+-- the borders stand at places of a list so long, and those that follow each in its block follow it
+abbrev pub AreBorders : ℕ → List Border → Type 0
+AreBorders long [] = ⊤
+AreBorders long (b ∷ bs) = (b.place ≤ long) × (b.following ≤ length bs) × AreBorders long bs
+
+-- the sides from a border on, without those of its cuts that were given
+abbrev pub sides_left : ℕ → List ℕ → List Border → ℕ → ℕ → List (List ℕ)
+sides_left n order borders first given = map (side_at n order) (drop given (ranges_between (drop first borders)))
+
+-- a cut that begins at the border is still to be given
+abbrev pub IsStart : List Border → ℕ → ℕ → Type 0
+IsStart borders first given = first < length borders → given < (border_at borders first).following
