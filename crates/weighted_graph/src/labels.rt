@@ -71,6 +71,14 @@ impl Labels {
         self.class_of.len() as u32
     }
 
+    /// The classes of the vertices 1 to n, in their order, lent without a copy.
+    pub fn as_slice(&self) -> &[u32]
+        ensures value { result.now ≡ self.now }
+        ensures labels { IsLabels self.now }
+    {
+        &self.class_of
+    }
+
     /// First these labels, then `next` on their classes, of which it labels each, in O(n). It is refused only where
     /// memory is wanting.
     pub fn compose(&self, alloc: Global, next: &Labels) -> Result<Labels, AllocError>

@@ -1,0 +1,15 @@
+pub mod Labelled
+pub mod Sided
+pub mod Merging
+pub mod PartLabels
+pub mod Maximal
+pub mod Flat
+pub mod Found
+pub mod Single
+pub mod Assembling
+pub mod Neighbours
+pub mod Counting
+pub mod Growing
+pub mod Closing
+pub mod Stacking
+pub mod Splitting

@@ -1,0 +1,14 @@
+use Rattle.std.proofs.Common.{◌≤◌}
+use Rattle.cactus_solver.specs.Light.{HasNoneBelow, IsContracted}
+use Rattle.cactus_solver.proofs.contract.contract.Given as goal
+
+abbrev pub invariant-heavy : goal.invariant-heavy
+invariant-heavy l = record {
+  contracted : IsContracted l.bound l.fn.graph l.labels l.graph;
+  none_below : HasNoneBelow l.bound l.graph;
+  some : 1 ≤ l.graph.vertices;
+  smaller : l.graph.vertices ≤ l.fn.graph.vertices;
+}
+
+abbrev pub decreases-heavy : goal.decreases-heavy
+decreases-heavy l = l.graph.vertices

@@ -1,0 +1,26 @@
+-- The triangle has the value 2, so it is connected.
+use Rattle.std.proofs.Common.{◌≡◌, ◌≤◌, ℕ, [], ◌∷◌, refl, sym, ap, subst, arith}
+use Rattle.cut_definitions.specs.declared.edge_list.Edge.{Edge}
+use Rattle.cut_definitions.specs.Graph.{Graph}
+use Rattle.cut_definitions.specs.Components.{IsConnected}
+use Rattle.cut_definitions.specs.Cuts.{sides, value}
+use Rattle.cactus_solver.proofs.Splitting.{connected_by_value}
+use Rattle.cactus_solver.proofs.tests.a_triangle_has_three_sides.Goals as goal
+
+abbrev edge : ℕ → ℕ → ℕ → Edge
+edge a b x = record { u = a; v = b; w = x }
+
+abbrev triangle : Graph
+triangle = record { vertices = 3; edges = edge 1 2 1 ∷ edge 1 3 1 ∷ edge 2 3 1 ∷ [] }
+
+value_is : value triangle ≡ 2
+unfolding value sides
+value_is = refl
+
+pub expect_solved-requires-clause-connected : goal.expect_solved-requires-clause-connected
+expect_solved-requires-clause-connected c =
+    let is : IsConnected triangle = connected_by_value triangle c.graph_of.ensures.edge_list.is_graph (omega (arith, value_is)) in
+    subst (λ (h : Graph). IsConnected h) (sym c.in_ok-graph.ensures.value) is
+
+pub expect_solved-requires-clause-enough : goal.expect_solved-requires-clause-enough
+expect_solved-requires-clause-enough c = omega (arith, ap (λ (h : Graph). h.vertices) c.in_ok-graph.ensures.value)

@@ -1,0 +1,5 @@
+pub mod Light
+pub mod Merging
+pub mod Parts
+pub mod Opened
+pub mod Stacked
