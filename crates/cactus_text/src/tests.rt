@@ -1,0 +1,162 @@
+ghost use Rattle.std.specs.Prelude.{◌≡◌, [], ◌∷◌, ◌++◌, IfOk};
+ghost use Rattle.cactus_tree.specs.Entered.{entered};
+ghost use Rattle.cactus_tree.specs.Widths.{widths};
+
+use crate::page::Page;
+use crate::{print, print_flat};
+use cactus_tree::{Block, Blocks, Cactus, FlatCactus, Node, VertexList};
+use outside::{MemorySink, Sink, SinkFailed};
+use std::alloc::{AllocError, Global};
+use std::test::Fail;
+
+/// Nodes with 1 and 2, and with 3, joined by a bridge.
+fn two_nodes(alloc: Global) -> Result<FlatCactus, AllocError> {
+    let mut flat = FlatCactus::new(alloc, 3);
+    flat.push_node()?;
+    flat.push_vertex(1)?;
+    flat.push_vertex(2)?;
+    flat.push_node()?;
+    flat.push_vertex(3)?;
+    flat.push_bridge(0, 1)?;
+    Ok(flat)
+}
+
+const TWO_NODES: &str = "cactus 5 3 2 1 0\nnode 0 1 2\nnode 1 3\nbridge 0 1\n";
+
+/// A ring of a node with a vertex and of two empty nodes.
+fn ring(alloc: Global) -> Result<FlatCactus, AllocError> {
+    let mut flat = FlatCactus::new(alloc, 1);
+    flat.push_node()?;
+    flat.push_vertex(1)?;
+    flat.push_node()?;
+    flat.push_node()?;
+    flat.push_cycle()?;
+    flat.push_member(0)?;
+    flat.push_member(1)?;
+    flat.push_member(2)?;
+    Ok(flat)
+}
+
+const RING: &str = "cactus 4611686018427387904 1 3 0 1\nnode 0 1\nnode 1\nnode 2\ncycle 0 1 2\n";
+
+/// A node without blocks.
+fn leaf(alloc: Global, own: &[u32]) -> Result<Node, AllocError>
+    ensures entered { IfOk result (λ x. entered x ≡ own.now ∷ []) }
+    ensures widths { IfOk result (λ x. widths x ≡ []) }
+{
+    let vertices = Vec::from_slice(alloc, own)?;
+    Ok(Node {
+        vertices: VertexList::from_vec(vertices),
+        blocks: Blocks::new(alloc),
+    })
+}
+
+/// The node with a bridge more, down to a child.
+fn with_bridge(alloc: Global, node: Node, child: Node) -> Result<Node, AllocError>
+    ensures entered { IfOk result (λ x. entered x ≡ entered node ++ entered child) }
+    ensures widths { IfOk result (λ x. widths x ≡ widths node ++ widths child) }
+{
+    let mut node = node;
+    let child = Box::new(alloc, child)?;
+    node.blocks.push(Block::Bridge(child))?;
+    Ok(node)
+}
+
+/// A root with 1 and 2, and a bridge down to 3.
+fn one_bridge(alloc: Global) -> Result<Cactus, AllocError>
+    ensures { IfOk result (λ c. c.vertices ≡ 3) }
+{
+    let root = leaf(alloc, &[1, 2])?;
+    let child = leaf(alloc, &[3])?;
+    let tree = with_bridge(alloc, root, child)?;
+    Ok(Cactus::from_root(3, tree))
+}
+
+#[test]
+fn a_cactus_is_printed(rt: HostRuntime) -> Result<(), Fail> {
+    let alloc = rt.alloc();
+    let mut sink = MemorySink::new(alloc, 200, Vec::new(alloc))?;
+    assert!(rt; print(alloc, &one_bridge(alloc)?, 5, &mut sink).is_ok());
+    assert_eq!(rt; sink.taken(), TWO_NODES.as_bytes());
+    Ok(())
+}
+
+#[test]
+fn bridges_and_cycles_are_printed(rt: HostRuntime) -> Result<(), Fail> {
+    let alloc = rt.alloc();
+    for (flat, value, text) in [
+        (two_nodes(alloc)?, 5, TWO_NODES),
+        (ring(alloc)?, 4611686018427387904, RING),
+    ] {
+        let mut sink = MemorySink::new(alloc, 200, Vec::new(alloc))?;
+        let mut page = Page::new(alloc)?;
+        assert!(rt; print_flat(&mut page, &flat, value, &mut sink).is_ok());
+        assert_eq!(rt; sink.taken(), text.as_bytes());
+    }
+    Ok(())
+}
+
+/// Takes one byte at each write, and fails once it has no room.
+#[derive(Drop)]
+struct Narrow {
+    bytes: Vec<u8>,
+    room: usize,
+    faults: u64,
+}
+
+impl Sink for Narrow {
+    ghost use Rattle.std.specs.Prelude.{None};
+
+    ghost taken = { λ _. None };
+
+    ghost faults = { λ s. s.faults };
+
+    fn write(&mut self, piece: &[u8]) -> Result<usize, SinkFailed> {
+        if piece.is_empty() {
+            return Ok(0);
+        }
+        if self.bytes.len() < self.room && self.bytes.push(piece[0]).is_ok() {
+            return Ok(1);
+        }
+        self.faults = self.faults.saturating_add(1);
+        Err(SinkFailed)
+    }
+}
+
+#[test]
+fn a_first_part_is_taken(rt: HostRuntime) -> Result<(), Fail> {
+    let alloc = rt.alloc();
+    for room in [0, 1, 20, 47, 48] {
+        let mut sink = Narrow {
+            bytes: Vec::new(alloc),
+            room,
+            faults: 0,
+        };
+        let mut page = Page::new(alloc)?;
+        let printed = print_flat(&mut page, &two_nodes(alloc)?, 5, &mut sink);
+        assert_eq!(rt; printed.is_ok(), room == 48);
+        assert_eq!(rt; sink.faults, if room == 48 { 0 } else { 1 });
+        assert_eq!(rt; sink.bytes.as_slice(), &TWO_NODES.as_bytes()[..room]);
+    }
+    Ok(())
+}
+
+#[test]
+fn a_long_text_goes_out_in_pages(rt: HostRuntime) -> Result<(), Fail> {
+    let alloc = rt.alloc();
+    let mut flat = FlatCactus::new(alloc, 1);
+    for i in 0..3000 {
+        flat.push_bridge(i, i + 1)?;
+    }
+    let mut sink = MemorySink::new(alloc, 60000, Vec::new(alloc))?;
+    let mut page = Page::new(alloc)?;
+    assert!(rt; print_flat(&mut page, &flat, 7, &mut sink).is_ok());
+    let taken = sink.taken();
+    assert_eq!(rt; taken.len(), 48803);
+    let mut broken = MemorySink::new(alloc, 60000, [1].to_vec(alloc)?)?;
+    let mut page = Page::new(alloc)?;
+    assert!(rt; print_flat(&mut page, &flat, 7, &mut broken).is_err());
+    assert_eq!(rt; broken.taken().len(), 32767);
+    assert!(rt; taken.starts_with(broken.taken()));
+    Ok(())
+}
