@@ -61,10 +61,10 @@ one_result r x e p q = cc (p, q)
 pub no_reply : (words : List (List ℕ)) (left : Option (List ℕ)) (bytes text : List ℕ) (fault : Fault) → HasCommand words → left ≡ Some bytes → graph_of bytes ≡ Err fault →
     IsReply words left text → ⊥
 no_reply words left bytes text fault command is wrong reply =
-    let answer : IfSome left (λ bytes. IsAnswer bytes text) = subst
-    (λ (o : Option Notice). MatchOption o (IfSome left (λ bytes. IsAnswer bytes text)) (λ notice. text ≡ text_of notice)) (no_notice words command) reply in
-    let a : IsAnswer bytes text = subst (λ (o : Option (List ℕ)). IfSome o (λ bytes. IsAnswer bytes text)) is answer in
-    one_result (graph_of bytes) a.graph fault a.accepted wrong
+    let answer : IfSome left (λ bytes. IsAnswer words bytes text) = subst
+    (λ (o : Option Notice). MatchOption o (IfSome left (λ bytes. IsAnswer words bytes text)) (λ notice. text ≡ text_of notice)) (no_notice words command) reply in
+    let a : IsAnswer words bytes text = subst (λ (o : Option (List ℕ)). IfSome o (λ bytes. IsAnswer words bytes text)) is answer in
+    one_result (graph_of bytes) a.answer.graph fault a.answer.accepted wrong
 
 -- ---- what was told
 

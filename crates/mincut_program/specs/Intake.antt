@@ -8,8 +8,10 @@ use Rattle.metis_reader.specs.File.{graph_of, fixed}
 use Rattle.metis_reader.specs.Fed.{HeaderEndsIn}
 use Rattle.mincut_program.specs.declared.stop.Stop.{Stop}
 use Rattle.mincut_program.specs.declared.stop.Stop.TheVariants.{BadWords, Refused, ReadFailed, NoMemory}
-use Rattle.mincut_program.specs.Words.{HasCommand, AsksNothing}
-use Rattle.mincut_program.specs.Texts.{value_line}
+use Rattle.mincut_program.specs.declared.command.Command.{Command}
+use Rattle.mincut_program.specs.declared.command.Job.{Job}
+use Rattle.mincut_program.specs.Words.{command_of, HasCommand, AsksNothing}
+use Rattle.mincut_program.specs.Jobs.{IsAnswerOf}
 use Rattle.mincut_program.specs.Notices.{notice_of, text_of}
 
 -- these bytes were read of those that were left, where the source tells them
@@ -54,12 +56,18 @@ IsCause words before now m n (Refused fault) = HasCommand words × (n ≡ m) × 
 IsCause words before now m n ReadFailed = HasCommand words × Rose m n × IsUnrefused before now
 IsCause words before now m n NoMemory = (n ≡ m) × IsMemoryPlace before now
 
--- the text is that of the job `value` for the graph of the bytes
-pub record IsAnswer (bytes text : List ℕ) : Type 0 where
+-- the text is what the job answers for the graph of the bytes
+pub record IsJobAnswer (job : Job) (bytes text : List ℕ) : Type 0 where
   pub graph : Graph
   pub accepted : graph_of bytes ≡ Ok graph
-  pub text_is : text ≡ value_line graph
+  pub answer : IsAnswerOf job graph text
+
+-- the text is what the job of the words answers
+pub record IsAnswer (words : List (List ℕ)) (bytes text : List ℕ) : Type 0 where
+  pub command : Command
+  pub commanded : command_of words ≡ Some command
+  pub answer : IsJobAnswer command.job bytes text
 
 -- the text is that of the notice that the words ask for, or else that of the job for the graph of the bytes that the source had left
 abbrev pub IsReply : List (List ℕ) → Option (List ℕ) → List ℕ → Type 0
-IsReply words left text = MatchOption (notice_of words) (IfSome left (λ bytes. IsAnswer bytes text)) (λ notice. text ≡ text_of notice)
+IsReply words left text = MatchOption (notice_of words) (IfSome left (λ bytes. IsAnswer words bytes text)) (λ notice. text ≡ text_of notice)

@@ -4,5 +4,7 @@ pub mod Numbers
 pub mod Line
 pub mod Words
 pub mod Stops
+pub mod Jobs
+pub mod Replies
 pub mod Intake
 pub mod Answers

@@ -11,6 +11,7 @@ text_of Help =
     ++ line (codes "reads a graph in METIS text from standard input")
     ++ line (codes "JOB is one of")
     ++ line (codes "value: prints the least weight of a cut")
+    ++ line (codes "cactus: prints all minimum cuts as one cactus")
     ++ line (codes "N, the number of workers, is 1 to 64, and 4 where it is not named")
 text_of Version = line (codes "mincut 0.1.0")
 

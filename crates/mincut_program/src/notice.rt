@@ -8,6 +8,7 @@ const HELP: &str = "usage: mincut JOB [U V] [--workers N]\n\
     reads a graph in METIS text from standard input\n\
     JOB is one of\n\
     value: prints the least weight of a cut\n\
+    cactus: prints all minimum cuts as one cactus\n\
     N, the number of workers, is 1 to 64, and 4 where it is not named\n";
 
 const VERSION: &str = "mincut 0.1.0\n";

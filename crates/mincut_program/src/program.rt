@@ -1,24 +1,26 @@
-ghost use Rattle.std.specs.Prelude.{◌≡◌, ◌≢◌, ◌⊎◌, ℕ, List, IfOk, IfErr, IfSome, OnOk, IsErrOf, string_bytes};
+ghost use Rattle.std.specs.Prelude.{◌≡◌, ◌≢◌, ◌≤◌, ◌⊎◌, ℕ, List, IfOk, IfErr, IfSome, OnOk, IsErrOf, string_bytes};
 ghost use Rattle.std.specs.Io.KnownBytes.{Appends, IsAtEnd};
 ghost use Rattle.outside.specs.Faults.{Rose};
 ghost use Rattle.cut_definitions.specs.Graph.{Graph};
 ghost use Rattle.metis_reader.specs.declared.fault.Fault.{Fault};
 ghost use Rattle.metis_reader.specs.File.{graph_of};
 ghost use Rattle.mincut_program.specs.Words.{texts, AsksNothing, HasCommand};
-ghost use Rattle.mincut_program.specs.Texts.{usage_line, read_failed_line, out_of_memory_line, value_line};
-ghost use Rattle.mincut_program.specs.Intake.{IsCause, IsAnswer, IsReply};
+ghost use Rattle.mincut_program.specs.Texts.{usage_line, read_failed_line, out_of_memory_line};
+ghost use Rattle.mincut_program.specs.Intake.{IsCause, IsJobAnswer, IsReply};
+ghost use Rattle.mincut_program.specs.Replies.{text_of, IsPrintable, TakesMemory};
 ghost use Rattle.mincut_program.specs.Stops.{status_of, line_of};
-ghost use Rattle.mincut_program.specs.Notices.{text_of};
+ghost use Rattle.mincut_program.specs.Notices as notices;
 ghost use Rattle.mincut_program.specs.Answers.{Writes, TakesReply, ReplyFailed, Tells, TellsFault, TellingFailed};
 
-use crate::command::{Job, WordsRefusal, read_words};
+use crate::answer::answer;
+use crate::command::{Command, WordsRefusal, read_words};
 use crate::intake::take_in;
 use crate::notice::{Notice, notice_of};
+use crate::reply::{Reply, write_reply};
 use crate::status::Status;
 use crate::stop::{Stop, refused_line};
-use cut_definitions::EdgeList;
-use outside::{Gate, NoMemory, Sink, Source, write_whole};
-use scan_forest::plain_value;
+use cactus_text::PrintRefusal;
+use outside::{Gate, Sink, Source, write_whole};
 use std::alloc::Global;
 
 const USAGE_LINE: &str = "usage: mincut JOB [U V] [--workers N]\n";
@@ -55,60 +57,63 @@ fn tell<E: Sink>(alloc: Global, err: &mut E, stop: Stop) -> Status
 }
 
 // The text of a notice.
-fn notice_text(alloc: Global, notice: Notice) -> Result<String, Stop>
-    ensures text { IfOk result (λ text. string_bytes text ≡ text_of notice) }
+fn notice_reply(alloc: Global, notice: Notice) -> Result<Reply, Stop>
+    ensures text { IfOk result (λ reply. text_of reply ≡ notices.text_of notice) }
+    ensures printable { IfOk result IsPrintable }
+    ensures ready { IfOk result (λ reply. ¬ TakesMemory reply) }
     ensures memory { IfErr result (λ stop. stop ≡ Stop.NoMemory) }
 {
     match String::from_str(alloc, notice.text()) {
-        Ok(text) => Ok(text),
+        Ok(text) => Ok(Reply::Text(text)),
         Err(_) => Err(Stop::NoMemory),
     }
 }
 
-// The line for the job `value`.
-fn value_line(alloc: Global, list: &EdgeList) -> Result<String, NoMemory>
-    ensures { IfOk result (λ text. string_bytes text ≡ value_line list.now) }
-{
-    if list.n() < 2 {
-        return String::from_str(alloc, "no cut\n");
-    }
-    let value = plain_value(alloc, list)?;
-    format!(in alloc; "value {value}\n")
-}
-
-// The text for the job `value`.
-fn value_text<S: Source>(alloc: Global, source: &mut S) -> Result<String, Stop>
-    ensures text { IfOk result (λ text. IfSome (S.left source.old) (λ bytes. IsAnswer bytes (string_bytes text))) }
-    ensures ended { IfOk result (λ text. IsAtEnd (S.left source.new)) }
-    ensures same { IfOk result (λ text. S.faults source.new ≡ S.faults source.old) }
+// What a command answers for the graph that the source gives.
+fn job_reply<S: Source, G: Gate>(
+    alloc: Global,
+    command: Command,
+    source: &mut S,
+    gate: &G,
+) -> Result<Reply, Stop>
+    requires workers { (1 ≤ command.workers) × (command.workers ≤ 64) }
+    ensures text { IfOk result (λ reply. IfSome (S.left source.old) (λ bytes. IsJobAnswer command.job bytes (text_of reply))) }
+    ensures printable { IfOk result IsPrintable }
+    ensures ended { IfOk result (λ reply. IsAtEnd (S.left source.new)) }
+    ensures same { IfOk result (λ reply. S.faults source.new ≡ S.faults source.old) }
     ensures cause { IfErr result (λ stop. (words : List (List ℕ)) → HasCommand words
         → IsCause words (S.left source.old) (S.left source.new) (S.faults source.old) (S.faults source.new) stop) }
     ensures words { result ≢ Err Stop.BadWords }
 {
     let graph = take_in(alloc, source)?;
-    match value_line(alloc, &graph.edges) {
-        Ok(text) => Ok(text),
+    match answer(alloc, command, &graph.edges, gate) {
+        Ok(reply) => Ok(reply),
         Err(_) => Err(Stop::NoMemory),
     }
 }
 
-// The text of the reply. Nothing is written yet.
-fn reply_text<S: Source>(alloc: Global, words: &[String], source: &mut S) -> Result<String, Stop>
-    ensures text { IfOk result (λ text. IsReply (texts words.now) (S.left source.old) (string_bytes text)) }
-    ensures ended { IfOk result (λ text. HasCommand (texts words.now) → IsAtEnd (S.left source.new)) }
-    ensures same { IfOk result (λ text. S.faults source.new ≡ S.faults source.old) }
+// What the words ask for. Nothing is written yet.
+fn reply<S: Source, G: Gate>(
+    alloc: Global,
+    words: &[String],
+    source: &mut S,
+    gate: &G,
+) -> Result<Reply, Stop>
+    ensures text { IfOk result (λ reply. IsReply (texts words.now) (S.left source.old) (text_of reply)) }
+    ensures printable { IfOk result IsPrintable }
+    ensures ended { IfOk result (λ reply. HasCommand (texts words.now) → IsAtEnd (S.left source.new)) }
+    ensures ready { IfOk result (λ reply. TakesMemory reply → IsAtEnd (S.left source.new)) }
+    ensures same { IfOk result (λ reply. S.faults source.new ≡ S.faults source.old) }
     ensures asked { OnOk result (AsksNothing (texts words.now) → ⊥) }
     ensures cause { IfErr result (IsCause (texts words.now) (S.left source.old) (S.left source.new) (S.faults source.old) (S.faults source.new)) }
     ensures asks_nothing { AsksNothing (texts words.now) → IsErrOf result Stop.BadWords ⊎ IsErrOf result Stop.NoMemory }
     ensures unread { ¬ HasCommand (texts words.now) → source.new ≡ source.old }
 {
     if let Some(notice) = notice_of(words) {
-        return notice_text(alloc, notice);
+        return notice_reply(alloc, notice);
     }
     match read_words(alloc, words) {
-        Ok(command) => match command.job {
-            Job::Value => value_text(alloc, source),
-        },
+        Ok(command) => job_reply(alloc, command, source, gate),
         Err(WordsRefusal::BadWords) => Err(Stop::BadWords),
         Err(WordsRefusal::NoMemory) => Err(Stop::NoMemory),
     }
@@ -117,14 +122,15 @@ fn reply_text<S: Source>(alloc: Global, words: &[String], source: &mut S) -> Res
 /// All that the program does, over whatever source and sinks: it reads the words, reads the source to its end, writes
 /// the text of the reply to `out` or the line that tells why there is none to `err`, and answers how it ended.
 ///
-/// The job `value` takes O(n^3 + m) steps and a table of n^2 weights.
+/// The jobs take O(n^3 + m) steps and a table of n^2 weights for the value of the graph. Beside that the job `cactus`
+/// takes a flow for each split of the graph.
 pub fn run<S: Source, K: Sink, E: Sink, G: Gate>(
     alloc: Global,
     words: &[String],
     source: &mut S,
     out: &mut K,
     err: &mut E,
-    _gate: &G,
+    gate: &G,
 ) -> Status
     // Words that are no command and ask for no notice are told as such. Nothing is read where there is no command.
     ensures bad_words { result ≡ Status.BadWords → AsksNothing (texts words.now) }
@@ -179,8 +185,12 @@ pub fn run<S: Source, K: Sink, E: Sink, G: Gate>(
     ensures no_listing { result ≢ Status.ListTooLarge }
     ensures no_vertex { result ≢ Status.BadVertex }
 {
-    match reply_text(alloc, words, source) {
-        Ok(text) => write_text(out, text.as_str(), Status::Ok),
+    match reply(alloc, words, source, gate) {
+        Ok(reply) => match write_reply(alloc, out, &reply) {
+            Ok(()) => Status::Ok,
+            Err(PrintRefusal::SinkFailed) => Status::WriteFault,
+            Err(PrintRefusal::NoMemory) => tell(alloc, err, Stop::NoMemory),
+        },
         Err(stop) => tell(alloc, err, stop),
     }
 }

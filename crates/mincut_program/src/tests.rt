@@ -76,6 +76,41 @@ fn values_are_printed(rt: HostRuntime) -> Result<(), Fail> {
 }
 
 #[test]
+fn cactuses_are_printed(rt: HostRuntime) -> Result<(), Fail> {
+    for (text, lines) in [
+        (
+            TRIANGLE,
+            "cactus 2 3 3 0 1\nnode 0 1\nnode 1 3\nnode 2 2\ncycle 0 1 2\n",
+        ),
+        (
+            b"3 2 1\n2 5\n1 5 3 5\n2 5\n".as_slice(),
+            "cactus 5 3 3 2 0\nnode 0 1\nnode 1 2\nnode 2 3\nbridge 0 1\nbridge 1 2\n",
+        ),
+        (
+            b"4 4\n2 4\n1 3\n2 4\n1 3\n".as_slice(),
+            "cactus 2 4 4 0 1\nnode 0 1\nnode 1 4\nnode 2 3\nnode 3 2\ncycle 0 1 2 3\n",
+        ),
+        (
+            b"2 1 1\n2 7\n1 7\n".as_slice(),
+            "cactus 7 2 2 1 0\nnode 0 1\nnode 1 2\nbridge 0 1\n",
+        ),
+        (
+            b"3 3 1\n2 5 3 1\n1 5 3 4\n1 1 2 4\n".as_slice(),
+            "cactus 5 3 2 1 0\nnode 0 1 2\nnode 1 3\nbridge 0 1\n",
+        ),
+        (b"4 2\n2\n1\n4\n3\n".as_slice(), "disconnected 2\n"),
+        (b"1 0\n\n".as_slice(), "no cut\n"),
+        (b"0 0\n".as_slice(), "no cut\n"),
+    ] {
+        let outcome = run_on(rt.alloc(), &["cactus"], text, &HONEST)?;
+        assert_eq!(rt; outcome.status, Status::Ok, "{lines}");
+        assert_eq!(rt; outcome.out.taken(), lines.as_bytes());
+        assert_eq!(rt; outcome.err.taken(), b"".as_slice());
+    }
+    Ok(())
+}
+
+#[test]
 fn reads_may_be_cut_anywhere(rt: HostRuntime) -> Result<(), Fail> {
     for first in 1..TRIANGLE.len() {
         let cut = [first];

@@ -3,9 +3,9 @@ use Rattle.clap.specs.Words.{found_of}
 use Rattle.mincut_program.proofs.Reading.{read_by_rows}
 use Rattle.mincut_program.proofs.command.read_matches.Goals as goal
 
-pub returns : goal.returns
-returns c =
+pub returns-clause-value : goal.returns-clause-value
+returns-clause-value c =
     let values_are = c.unwrap_or-values.ensures in
     let ruled = read_by_rows (found_of c.args.matches.now) c.get_str.result c.get_str-2.result c.get_strs.result _ refl
     c.get_str.ensures c.get_strs.ensures c.get_str-2.ensures in
-    c.read_command.ensures ∙ (rw values_are ruled)
+    c.read_command.ensures.value ∙ (rw values_are ruled)

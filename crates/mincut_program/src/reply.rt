@@ -1,0 +1,47 @@
+//! What is written to `out`.
+
+ghost use Rattle.std.specs.Prelude.{◌≡◌, ◌≢◌, Err, IsErrOf, OnOk};
+ghost use Rattle.mincut_program.specs.Answers.{Wrote, Failed};
+ghost use Rattle.mincut_program.specs.Replies.{text_of, IsPrintable, TakesMemory};
+
+use cactus_solver::Solved;
+use cactus_text::{PrintRefusal, print};
+use outside::{Sink, write_whole};
+use std::alloc::Global;
+
+/// What there is to write to `out`.
+#[derive(Drop)]
+pub enum Reply {
+    /// A text that is in memory.
+    Text(String),
+    /// All minimum cuts, with their weight.
+    Cactus(Solved),
+}
+
+// Writes a text that is in memory.
+fn write_text<K: Sink>(out: &mut K, text: &str) -> Result<(), PrintRefusal>
+    ensures whole { OnOk result (Wrote text.now (K.taken out.old) (K.taken out.new) (K.faults out.old) (K.faults out.new)) }
+    ensures failed { IsErrOf result PrintRefusal.SinkFailed → Failed text.now (K.taken out.old) (K.taken out.new) (K.faults out.old) (K.faults out.new) }
+    ensures no_memory { result ≢ Err PrintRefusal.NoMemory }
+{
+    match write_whole(out, text.as_bytes()) {
+        Ok(()) => Ok(()),
+        Err(_) => Err(PrintRefusal::SinkFailed),
+    }
+}
+
+/// Writes all of a reply.
+///
+/// Where memory is wanting nothing is written; a text takes none.
+pub fn write_reply<K: Sink>(alloc: Global, out: &mut K, reply: &Reply) -> Result<(), PrintRefusal>
+    requires { IsPrintable reply.now }
+    ensures whole { OnOk result (Wrote (text_of reply.now) (K.taken out.old) (K.taken out.new) (K.faults out.old) (K.faults out.new)) }
+    ensures failed { IsErrOf result PrintRefusal.SinkFailed → Failed (text_of reply.now) (K.taken out.old) (K.taken out.new) (K.faults out.old) (K.faults out.new) }
+    ensures kept { IsErrOf result PrintRefusal.NoMemory → out.new ≡ out.old }
+    ensures memory { IsErrOf result PrintRefusal.NoMemory → TakesMemory reply.now }
+{
+    match reply {
+        Reply::Text(text) => write_text(out, text.as_str()),
+        Reply::Cactus(solved) => print(alloc, &solved.cactus, solved.value, out),
+    }
+}

@@ -1,0 +1,142 @@
+#!/usr/bin/env python3
+"""The jobs that list, count and choose minimum cuts, on random graphs, compared with all sides tried by hand.
+
+    tools/check_listing.py [--jobs cuts,part,count,balanced,trial] [--program PATH] [--count 5000] [--seed 1] [--most 10]
+                           [--threads 4] [--workers 1,4,64]
+
+Each graph is given to one of the named jobs, in turn. `value`, `cuts`, `part U V` (random pairs, equal ones and numbers out of
+range among them) and `count` have one right text, and it is compared whole. `balanced` may print any side of best balance.
+`trial N` reads nothing and is compared with the formulas of its graph. Exit status 1 on any difference.
+"""
+import argparse
+import random
+import sys
+from collections import Counter
+from concurrent.futures import ThreadPoolExecutor
+
+import cuts_by_hand as hand
+
+JOBS = ['value', 'cuts', 'part', 'count', 'balanced', 'trial']
+
+
+def words_of(rng, job, n):
+    """The words of the command."""
+    if job == 'trial':
+        return ['trial', str(rng.choice([12, 13, 15, 16, 2000, rng.randrange(12, 2001)]))]
+    if job != 'part':
+        return [job]
+    out_of_range = [0, n + 1, n + 2, (1 << 64) - 1]
+    u = rng.choice(out_of_range) if n == 0 or rng.random() < 0.03 else rng.randrange(1, n + 1)
+    v = rng.choice(out_of_range) if n == 0 or rng.random() < 0.03 else rng.randrange(1, n + 1)
+    if rng.random() < 0.1:
+        v = u
+    zeros = '0' * rng.choice([0, 0, 0, 20 - len(str(u))])
+    return [job, zeros + str(u), str(v)]
+
+
+def lines(*parts):
+    return ''.join(part + '\n' for part in parts)
+
+
+def listing(value, sides):
+    return lines(f'value {value}', f'cuts {len(sides)}', *(' '.join(map(str, side)) for side in sides))
+
+
+def trial_text(number):
+    k = number // 4
+    cuts = k * (k - 1) // 2 + 2 * k
+    return lines(f'vertices {4 * k}', f'edges {5 * k}', 'value 4', f'count {cuts}', f'balance {4 * (k // 2)}')
+
+
+def wanted(words, graph):
+    """The right answers: (status, list of the texts on standard output that are right, standard error)."""
+    job = words[0]
+    n = graph[0]
+    if job == 'trial':
+        return 0, [trial_text(int(words[1]))], ''
+    for number in map(int, words[1:]):
+        if not 1 <= number <= n:
+            return 7, [''], lines(f'vertex {number} not in 1..{n}')
+    if n < 2:
+        return 0, [lines('no cut')], ''
+    pieces = hand.components(graph)
+    if pieces > 1:
+        return 0, [lines('value 0') if job == 'value' else lines(f'disconnected {pieces}')], ''
+    value, sides = hand.minimum_cuts(graph)
+    if job == 'value':
+        return 0, [lines(f'value {value}')], ''
+    if job == 'count':
+        return 0, [lines(f'value {value}', f'count {len(sides)}')], ''
+    if job == 'balanced':
+        best = max(hand.balance(n, side) for side in sides)
+        right = [side for side in sides if hand.balance(n, side) == best]
+        return 0, [lines(f'value {value}', f'balance {best}', 'side ' + ' '.join(map(str, side))) for side in right], ''
+    if job == 'part':
+        u, v = map(int, words[1:])
+        sides = [side for side in sides if (u in side) != (v in side)]
+    return 0, [listing(value, sides)], ''
+
+
+def kind_of_answer(words, right):
+    status, outs, _ = right
+    if status == 7:
+        return 'part: vertex out of range'
+    if outs[0].startswith(('no cut', 'disconnected')):
+        return words[0] + (': no cut' if outs[0].startswith('no') else ': disconnected')
+    if words[0] == 'balanced':
+        return 'balanced: one side of best balance' if len(outs) == 1 else 'balanced: several sides of best balance'
+    if words[0] == 'part':
+        equal = int(words[1]) == int(words[2])
+        return 'part: equal vertices' if equal else 'part: no cut parts them' if 'cuts 0\n' in outs[0] else 'part: some cuts'
+    return words[0] + ': an answer'
+
+
+def check(program, job, seed, most, workers):
+    """(name of the answer's kind, what differs or None) of one random graph."""
+    rng = random.Random(seed)
+    kind, graph = hand.random_graph(rng, most)
+    words = words_of(rng, job, graph[0])
+    right = wanted(words, graph)
+    if workers:
+        words += ['--workers', rng.choice(workers)]
+    text = '' if job == 'trial' else hand.metis_text(graph)
+    status, out, err = hand.run_program(program, words, text)
+    wrong = None
+    if status != right[0] or out not in right[1] or err != right[2]:
+        wrong = f'DIFFERS seed {seed}, {kind}, words {words}\n  graph  {text!r}\n  right  {right}\n  answer {(status, out, err)}'
+    return kind_of_answer(words, right), wrong
+
+
+def main():
+    parser = argparse.ArgumentParser(description=__doc__, formatter_class=argparse.RawDescriptionHelpFormatter)
+    parser.add_argument('--program', default=hand.DEFAULT_PROGRAM)
+    parser.add_argument('--jobs', default='cuts,part', help='some of ' + ','.join(JOBS))
+    parser.add_argument('--count', type=int, default=5000)
+    parser.add_argument('--seed', type=int, default=1)
+    parser.add_argument('--most', type=int, default=10, help='most vertices of a graph, 6 to 14')
+    parser.add_argument('--threads', type=int, default=4)
+    parser.add_argument('--workers', default='', help='numbers of workers, one of which is taken at random for each graph')
+    options = parser.parse_args()
+    jobs = options.jobs.split(',')
+    for job in jobs:
+        if job not in JOBS:
+            parser.error(f'no job {job}')
+    workers = [word for word in options.workers.split(',') if word]
+    first = options.seed * 1_000_003
+
+    def one(k):
+        return check(options.program, jobs[k % len(jobs)], first + k, options.most, workers)
+
+    with ThreadPoolExecutor(options.threads) as pool:
+        answers = list(pool.map(one, range(options.count)))
+    for name, count in sorted(Counter(name for name, _ in answers).items()):
+        print(f'{count:7d} {name}')
+    wrong = [text for _, text in answers if text is not None]
+    for text in wrong[:10]:
+        print(text)
+    print(f'{options.count} graphs, {len(wrong)} differ')
+    sys.exit(1 if wrong else 0)
+
+
+if __name__ == '__main__':
+    main()
