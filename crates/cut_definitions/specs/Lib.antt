@@ -5,5 +5,6 @@ pub mod Scan
 pub mod Chain
 pub mod Contraction
 pub mod Components
+pub mod Balance
 pub mod Safe
 pub mod Laws
