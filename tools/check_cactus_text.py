@@ -3,18 +3,23 @@
 
     tools/check_cactus_text.py --write FILE [--count 2500] [--seed 1] [--program PATH]
     tools/check_cactus_text.py --compare FILE COMMAND [WORDS ..]
+    tools/check_cactus_text.py --trial FILE
 
 The first form writes cases: right texts of random cactuses, and the same with one or two changes. With --program half of the
 texts are what `PATH cactus` prints for random graphs. The second form gives the file to the command on its standard input and
-compares the numbers that it prints, one line for each case. Exit status 1 on any difference.
+compares the numbers that it prints, one line for each case. The third form does so with a small program over `read` of the
+crate cactus_text, which it makes in a folder of its own and runs by `rt try`. Exit status 1 on any difference.
 
 The file: a line with the number of cases; then for each case a line `E L`, where E is the line of the first fault, or 0 where
 the text has none, and L is the number of its bytes; then these bytes; then a line feed.
 """
 import argparse
+import pathlib
 import random
+import shutil
 import subprocess
 import sys
+import tempfile
 from collections import Counter
 
 import cuts_by_hand as hand
@@ -357,10 +362,74 @@ def compare(path, command):
     return wrong
 
 
+CRATES = ('outside', 'cut_definitions', 'vertex_set', 'cactus_tree', 'cactus_text')
+
+TRIAL = '''// Reads cases of cactus texts, and prints for each the number of the line that is refused, or 0.
+#![tactic(auto)]
+
+use cactus_text::{TextRefusal, read};
+use outside::{Source, StdSource};
+use std::io;
+
+fn number(bytes: &[u8], start: usize) -> (usize, usize) {
+    let mut value = 0;
+    let mut at = start;
+    while at < bytes.len() && bytes[at] >= 48 && bytes[at] <= 57 {
+        value = value * 10 + (bytes[at] - 48) as usize;
+        at += 1;
+    }
+    (value, at + 1)
+}
+
+fn main(rt: HostRuntime) -> io::Result<()> {
+    let alloc = rt.alloc();
+    let mut source = StdSource::new(rt.stdin());
+    let mut bytes: Vec<u8> = Vec::new(alloc);
+    let mut room = [0u8; 65_536];
+    while let Ok(count) = source.read(&mut room) {
+        if count == 0 {
+            break;
+        }
+        bytes.extend_from_slice(&room[..count])?;
+    }
+    let (count, mut at) = number(&bytes, 0);
+    for _ in 0..count {
+        let (_, next) = number(&bytes, at);
+        let (length, next) = number(&bytes, next);
+        let line = match read(alloc, &bytes[next..next + length]) {
+            Ok(_) => 0,
+            Err(TextRefusal::Malformed(line)) => line,
+            Err(TextRefusal::NoMemory) => 999_999,
+        };
+        println!(rt; "{line}")?;
+        at = next + length + 1;
+    }
+    Ok(())
+}
+'''
+
+
+def try_reader(path):
+    """Compares with what a small program over `read` prints, which `rt try` runs in a folder of its own."""
+    top = pathlib.Path(__file__).resolve().parent.parent
+    with tempfile.TemporaryDirectory() as folder:
+        trial = pathlib.Path(folder)
+        for name in CRATES:
+            shutil.copytree(top / 'crates' / name, trial / 'crates' / name)
+        lines = [line for line in (top / 'crates.txt').read_text().splitlines() if line.split(':')[0] in CRATES]
+        (trial / 'crates.txt').write_text('\n'.join(lines + ['text_trial: outside cactus_text']) + '\n')
+        shutil.copy(top / 'HANDLES', trial)
+        source = trial / 'crates' / 'text_trial' / 'src'
+        source.mkdir(parents=True)
+        (source / 'main.rt').write_text(TRIAL)
+        return compare(path, ['sh', '-c', f'cd {source.parent} && exec rt try --seconds 600'])
+
+
 def main():
     parser = argparse.ArgumentParser(description=__doc__, formatter_class=argparse.RawDescriptionHelpFormatter)
     mode = parser.add_mutually_exclusive_group(required=True)
     mode.add_argument('--write', metavar='FILE')
+    mode.add_argument('--trial', metavar='FILE')
     mode.add_argument('--compare', metavar=('FILE', 'COMMAND'), nargs=argparse.REMAINDER)
     parser.add_argument('--count', type=int, default=2500)
     parser.add_argument('--seed', type=int, default=1)
@@ -370,6 +439,8 @@ def main():
         cases = make_cases(options.count, options.seed, options.program)
         write_cases(options.write, cases)
         report(cases)
+    elif options.trial is not None:
+        sys.exit(1 if try_reader(options.trial) else 0)
     else:
         if len(options.compare) < 2:
             parser.error('--compare needs a file and a command')

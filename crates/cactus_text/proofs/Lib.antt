@@ -1,2 +1,15 @@
 pub mod Putting
 pub mod Lines
+pub mod Numbers
+pub mod Scanning
+pub mod Splitting
+pub mod Following
+pub mod Rules
+pub mod Printed
+pub mod Law
+pub mod Labelling
+pub mod Suffixes
+pub mod Rounds
+pub mod Forms
+pub mod Accepted
+pub mod Unique

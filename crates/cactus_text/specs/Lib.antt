@@ -1,2 +1,7 @@
 pub mod Text
 pub mod Puts
+pub mod Reading
+pub mod Scanned
+pub mod Reader
+pub mod Labels
+pub mod TextLaws

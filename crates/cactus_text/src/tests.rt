@@ -3,7 +3,7 @@ ghost use Rattle.cactus_tree.specs.Entered.{entered};
 ghost use Rattle.cactus_tree.specs.Widths.{widths};
 
 use crate::page::Page;
-use crate::{print, print_flat};
+use crate::{TextRefusal, print, print_flat, read};
 use cactus_tree::{Block, Blocks, Cactus, FlatCactus, Node, VertexList};
 use outside::{MemorySink, Sink, SinkFailed};
 use std::alloc::{AllocError, Global};
@@ -36,6 +36,9 @@ fn ring(alloc: Global) -> Result<FlatCactus, AllocError> {
     flat.push_member(2)?;
     Ok(flat)
 }
+
+const FOUR_NODES: &str =
+    "cactus 2 4 4 0 1\nnode 0 1\nnode 1 2\nnode 2 3\nnode 3 4\ncycle 0 1 2 3\n";
 
 const RING: &str = "cactus 4611686018427387904 1 3 0 1\nnode 0 1\nnode 1\nnode 2\ncycle 0 1 2\n";
 
@@ -158,5 +161,79 @@ fn a_long_text_goes_out_in_pages(rt: HostRuntime) -> Result<(), Fail> {
     assert!(rt; print_flat(&mut page, &flat, 7, &mut broken).is_err());
     assert_eq!(rt; broken.taken().len(), 32767);
     assert!(rt; taken.starts_with(broken.taken()));
+    Ok(())
+}
+
+#[test]
+fn what_was_printed_is_read(rt: HostRuntime) -> Result<(), Fail> {
+    let alloc = rt.alloc();
+    for text in [TWO_NODES, RING, FOUR_NODES] {
+        let file = match read(alloc, text.as_bytes()) {
+            Ok(file) => file,
+            Err(_) => return Err(Fail::from("refused")),
+        };
+        let mut sink = MemorySink::new(alloc, 200, Vec::new(alloc))?;
+        let mut page = Page::new(alloc)?;
+        assert!(rt; print_flat(&mut page, &file.cactus, file.value, &mut sink).is_ok());
+        assert_eq!(rt; sink.taken(), text.as_bytes());
+    }
+    Ok(())
+}
+
+#[test]
+fn the_first_line_that_breaks_a_rule_is_named(rt: HostRuntime) -> Result<(), Fail> {
+    let alloc = rt.alloc();
+    for (text, number) in [
+        ("", 1),
+        ("cactus 5 3 2 1 0", 1),
+        ("cactus 5 3 2 1 0 \n", 1),
+        ("cactus 5  3 2 1 0\n", 1),
+        ("cactus 05 3 2 1 0\n", 1),
+        ("cactus 5 3 2 1\n", 1),
+        ("cactus 4611686018427387905 1 1 0 0\nnode 0 1\n", 1),
+        ("cactus 5 0 0 0 0\n", 1),
+        ("cactus 5 4194305 0 0 0\n", 1),
+        ("cactus 5 1 18446744073709551616 0 0\n", 1),
+        ("cactus 5 1 18446744073709551615 0 0\n", 2),
+        ("cactus 5 3 2 1 0\nnode 0 1 2\nnode 1 3\n", 4),
+        ("cactus 5 3 2 0 0\nnode 0 1 2\nnode 1 3\n", 4),
+        ("cactus 5 3 2 1 0\nnode 0 1 2\nnode 1 2\nbridge 0 1\n", 3),
+        ("cactus 5 3 2 1 0\nnode 0 2 1\nnode 1 3\nbridge 0 1\n", 2),
+        ("cactus 5 3 2 1 0\nnode 0 3\nnode 1 1 2\nbridge 0 1\n", 2),
+        ("cactus 5 3 2 1 0\nnode 0 1\nnode 1 2 4\nbridge 0 1\n", 3),
+        ("cactus 5 3 2 1 0\nnode 0 1\nnode 1 2\nbridge 0 1\n", 5),
+        ("cactus 5 3 2 1 0\nnode 0 1 2\nnode 1 3\nbridge 1 0\n", 4),
+        ("cactus 5 3 2 1 0\nnode 0 1 2\nnode 1 3\nbridge 0 2\n", 4),
+        ("cactus 5 3 2 1 0\nnode 0 1 2\nnode 1 3\nbridge 0 1", 4),
+        ("cactus 5 3 2 1 0\nnode 0 1 2\nnode 1 3\nbridge 0 1\n\n", 5),
+        ("cactus 5 3 2 1 0\nnode 0 1 2\r\nnode 1 3\nbridge 0 1\n", 2),
+        ("cactus 5 2 2 0 1\nnode 0 1\nnode 1 2\ncycle 0 1\n", 4),
+        (
+            "cactus 5 2 3 0 1\nnode 0 1\nnode 1 2\nnode 2\ncycle 0 1 1\n",
+            5,
+        ),
+        (
+            "cactus 5 2 3 0 1\nnode 0 1\nnode 1 2\nnode 2\ncycle 1 0 2\n",
+            5,
+        ),
+        (
+            "cactus 5 2 3 0 1\nnode 0 1\nnode 1 2\nnode 2\ncycle 0 1 3\n",
+            5,
+        ),
+        (
+            "cactus 5 2 5 1 1\nnode 0 1\nnode 1 2\nnode 2\nnode 3\nnode 4\nbridge 0 1\ncycle 0 1 2\n",
+            9,
+        ),
+        (
+            "cactus 5 2 4 0 1\nnode 0 1\nnode 1 2\nnode 2\nnode 3\ncycle 0 1 2\n",
+            7,
+        ),
+    ] {
+        assert_eq!(rt;
+            read(alloc, text.as_bytes()).err(),
+            Some(TextRefusal::Malformed(number)),
+            "at {text}"
+        );
+    }
     Ok(())
 }

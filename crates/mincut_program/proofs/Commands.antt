@@ -28,7 +28,7 @@ another_job : command_of (codes "Value" ∷ []) ≡ None
 unfolding clap_on_literals command_of
 another_job = refl
 
-a_job_not_built : command_of (codes "cuts" ∷ []) ≡ None
+a_job_not_built : command_of (codes "count" ∷ []) ≡ None
 unfolding clap_on_literals command_of
 a_job_not_built = refl
 
@@ -47,3 +47,11 @@ too_many_workers = refl
 an_option_twice : command_of (codes "value" ∷ codes "--workers" ∷ codes "8" ∷ codes "--workers" ∷ codes "9" ∷ []) ≡ None
 unfolding clap_on_literals command_of
 an_option_twice = refl
+
+two_numbers : command_of (codes "part" ∷ codes "007" ∷ codes "2" ∷ []) ≡ Some (record { job = job.Part 7 2; workers = 4 })
+unfolding clap_on_literals command_of
+two_numbers = refl
+
+one_number : command_of (codes "part" ∷ codes "1" ∷ []) ≡ None
+unfolding clap_on_literals command_of
+one_number = refl

@@ -1,12 +1,14 @@
 -- What a solved graph is printed as.
-use Rattle.std.proofs.Common.{◌≡◌, ℕ, List, ◌<◌, ◌≤◌, ◌^◌, arith, refl, inr, Result, Ok, Err}
-use Rattle.std.specs.Prelude.{◌≢◌, ◌↔◌, IfOk}
-use Rattle.std.specs.declared.alloc.AllocError.{AllocError}
+use Rattle.std.proofs.Common.{◌≡◌, ℕ, List, [], ◌∷◌, get_or, ◌<◌, ◌≤◌, ◌^◌, ◌∙◌, arith, refl, sym, ap, subst, inr, Result, Ok, Err}
+use Rattle.std.proofs.lemmas.List.Elements.{All-contains, Contains-get_or}
+use Rattle.std.specs.Prelude.{◌↔◌, ◌*◌, IfOk, IfErr, length}
 use Rattle.cut_definitions.specs.Components.{IsConnected, HasComponents}
 use Rattle.weighted_graph.specs.Components.{LawOfOneComponent}
 use Rattle.cut_definitions.specs.Graph.{Graph, IsEdgeList}
 use Rattle.cut_definitions.specs.Cuts.{has, value, mincuts}
-use Rattle.cut_definitions.proofs.Values.{value_is_weight}
+use Rattle.cut_definitions.proofs.Values.{value_is_weight, Contains-mincuts}
+use Rattle.cactus_tree.specs.Trees.{blocks}
+use Rattle.cactus_solver.proofs.Single.{no_sides}
 use Rattle.cut_definitions.proofs.Running.{weight-le_total}
 use Rattle.cactus_tree.specs.Flat.{Flat}
 use Rattle.cactus_tree.specs.Rooted.{Rooted, IsCactus, sides_of}
@@ -15,11 +17,24 @@ use Rattle.cactus_tree.specs.Flattened.{flat_of}
 use Rattle.cactus_tree.specs.FlatLaws.{LawOfFlatForm, LawOfFlatSides}
 use Rattle.cactus_merge.specs.Assembled.{SameMembers}
 use Rattle.cactus_text.specs.Text.{cactus_text}
-use Rattle.mincut_program.specs.Jobs.{StandsFor, IsCactusText, IsAnswerOf}
-use Rattle.mincut_program.specs.Replies.{text_of}
-use Rattle.mincut_program.specs.declared.reply.Reply.{Reply}
+use Rattle.mincut_program.specs.Jobs.{StandsFor, IsCactusText, IsBalancedText, IsTextFor, IsListed, IsInRange, IsAnswerOf, IsStopFor, asked_cuts}
+use Rattle.mincut_program.specs.Solving.{IsSolved, IsListReply, IsListStop, cuts_for}
+use Rattle.mincut_program.specs.Listings.{listing_text, balanced_text}
+use Rattle.mincut_program.specs.declared.stop.Stop.{Stop}
+use Rattle.mincut_program.specs.declared.stop.Stop.TheVariants as stop
+use Rattle.cut_definitions.specs.Balance.{balance, IsBest}
+use Rattle.vertex_set.specs.Side.{VertexList}
+use Rattle.cactus_solver.specs.declared.solver.Solved.{Solved}
+use Rattle.cut_listing.specs.Asks.{lets}
+use Rattle.cut_listing.specs.Laws.{LawOfMinimumCuts, LawOfCount}
+use Rattle.cut_listing.specs.Listings.{IsList, IsRefusal, members_of}
+use Rattle.cut_listing.specs.declared.list_refusal.ListRefusal.TheVariants as refusal
+use Rattle.std.proofs.lemmas.List.{length-map}
+use Rattle.cut_listing.specs.declared.ask.Ask.{Ask}
+use Rattle.cut_listing.specs.declared.ask.Ask.TheVariants as ask
+use Rattle.std.specs.List.{Contains, filter}
 use Rattle.mincut_program.specs.declared.command.Job.{Job}
-use Rattle.mincut_program.specs.declared.command.Job.TheVariants.{Value, Cactus}
+use Rattle.mincut_program.specs.declared.command.Job.TheVariants.{Cuts}
 
 -- the value of a graph that the program takes is small
 pub value_small : (g : Graph) → IsEdgeList g → 2 ≤ g.vertices → value g ≤ 2 ^ 62
@@ -54,9 +69,101 @@ one_component g count law two counted none few =
     let some : (count ≡ 0) → ⊥ = λ is. omega (arith, none.0 is, two) in
     (law g count (omega (arith, two)) counted).0 (omega (arith, some, few))
 
--- the answer for a connected graph
-pub answer_on_cuts : (job : Job) (g : Graph) → 2 ≤ g.vertices → job ≢ Value → IsConnected g → (result : Result Reply AllocError) →
-    IfOk result (λ reply. IsCactusText g (text_of reply)) → IfOk result (λ reply. IsAnswerOf job g (text_of reply))
-answer_on_cuts Value g two other connected result text = absurd (other refl)
-answer_on_cuts Cactus g two other connected (Ok reply) text = inr (inr (record { enough = two; connected = λ _. connected; text_is = text }))
-answer_on_cuts Cactus g two other connected (Err e) text = tt
+-- ---- what a solved graph is answered
+
+-- the minimum cuts that a job lists are those that its ask lets through
+all_let_through : (xs : List (List ℕ)) → filter (lets ask.All) xs ≡ xs
+all_let_through [] = refl
+all_let_through (x ∷ xs) = ap (λ l. x ∷ l) (all_let_through xs)
+
+pub cuts_of_all : (g : Graph) → cuts_for ask.All g ≡ asked_cuts Cuts g
+cuts_of_all g = all_let_through (mincuts g)
+
+-- a listing in the words of a job
+pub listed_answer : (job : Job) (a : Ask) (g : Graph) → cuts_for a g ≡ asked_cuts job g → IsListed job → IsInRange job g.vertices → 2 ≤ g.vertices → IsConnected g →
+    ((text : List ℕ) → text ≡ listing_text (value g) (asked_cuts job g) → IsTextFor job g text) → (text : List ℕ) → IsListReply a g text → IsAnswerOf job g text
+listed_answer job a g same listed inside two connected fits text r = record {
+  in_range = inside;
+  answer = inr (inr (record {
+    enough = two;
+    connected = λ _. connected;
+    within = λ _. subst (λ (l : List (List ℕ)). length l * g.vertices ≤ 2 ^ 30) same r.within;
+    text_is = fits text (r.text_is ∙ ap (λ (l : List (List ℕ)). listing_text (value g) l) same);
+  }));
+}
+
+pub listed_stop : (job : Job) (a : Ask) (g : Graph) → cuts_for a g ≡ asked_cuts job g → IsListed job → IsInRange job g.vertices → 2 ≤ g.vertices → IsConnected g →
+    (s : Stop) → IsListStop a g s → IsStopFor job g s
+listed_stop job a g same listed inside two connected (stop.TooLarge cuts n) r = record {
+  in_range = inside;
+  enough = two;
+  connected = connected;
+  listed = listed;
+  counted = r.counted ∙ ap (λ (l : List (List ℕ)). length l) same;
+  over = r.over;
+  large = r.large;
+}
+listed_stop job a g same listed inside two connected stop.NoMemory r = tt
+listed_stop job a g same listed inside two connected (stop.BadVertex x n) r = absurd r
+listed_stop job a g same listed inside two connected stop.BadWords r = absurd r
+listed_stop job a g same listed inside two connected (stop.Refused f) r = absurd r
+listed_stop job a g same listed inside two connected stop.ReadFailed r = absurd r
+
+pub over_ok : {X E : Type 0} (P Q : X → Type 0) (r : Result X E) → ((x : X) → P x → Q x) → IfOk r P → IfOk r Q
+over_ok P Q (Ok x) f p = f x p
+over_ok P Q (Err e) f p = tt
+
+pub over_err : {X E : Type 0} (P Q : E → Type 0) (r : Result X E) → ((e : E) → P e → Q e) → IfErr r P → IfErr r Q
+over_err P Q (Ok x) f p = tt
+over_err P Q (Err e) f p = f e p
+
+pub whole_answer : (job : Job) (g : Graph) → IsInRange job g.vertices → 2 ≤ g.vertices → IsConnected g → (IsListed job → ⊥) → (text : List ℕ) → IsTextFor job g text → IsAnswerOf job g text
+whole_answer job g inside two connected unlisted text is = record {
+  in_range = inside;
+  answer = inr (inr (record { enough = two; connected = λ _. connected; within = λ listed. absurd (unlisted listed); text_is = is }));
+}
+
+-- the best side of a solved graph
+pub best_text : (g : Graph) (solved : Solved) (side : VertexList) → IsSolved g solved → side.vertices ≡ solved.cactus.vertices → IsBest solved.cactus.vertices (sides_of solved.cactus) side.members →
+    IsBalancedText g (balanced_text solved.value side.vertices side.members)
+best_text g solved side s over best = record {
+  side = side.members;
+  best = record {
+    member = (s.sides side.members).0 best.member;
+    none_greater = λ i d lt. no_greater (get_or (mincuts g) i d) (Contains-get_or (mincuts g) i d lt);
+  };
+  text_is = ap (λ (k : ℕ). balanced_text k side.vertices side.members) s.value ∙ ap (λ (k : ℕ). balanced_text (value g) k side.members) (over ∙ s.over);
+}
+  where
+    no_greater : (other : List ℕ) → Contains (mincuts g) other → balance g.vertices other ≤ balance g.vertices side.members
+    no_greater other m =
+        subst (λ (k : ℕ). balance k other ≤ balance k side.members) s.over
+        (All-contains (λ (o : List ℕ). balance solved.cactus.vertices o ≤ balance solved.cactus.vertices side.members) (sides_of solved.cactus) other best.none_greater ((s.sides other).1 m))
+
+-- a graph that has a cut has a cactus with a block
+pub has_block : (g : Graph) (solved : Solved) → 2 ≤ g.vertices → IsSolved g solved → blocks solved.cactus.root ≡ [] → ⊥
+has_block g solved two s none =
+    let least = value_is_weight g two in
+    let m : Contains (mincuts g) least.0 = Contains-mincuts g least.0 least.1 least.2 in
+    let empty : sides_of solved.cactus ≡ [] = no_sides solved.cactus none in
+    let gone : Contains [] least.0 = subst (λ (l : List (List ℕ)). Contains l least.0) empty ((s.sides least.0).1 m) in
+    omega (arith, gone.1)
+
+-- the list of a solved graph
+pub list_reply : (g : Graph) (solved : Solved) (a : Ask) (n : ℕ) (list : List VertexList) → LawOfMinimumCuts → IsSolved g solved → n ≡ g.vertices → IsList (2 ^ 30) n a solved.cactus list →
+    IsListReply a g (listing_text solved.value (members_of list))
+list_reply g solved a n list law s over l =
+    let same : members_of list ≡ cuts_for a g = law g solved.cactus a (members_of list) s.sides l.listing in
+    let long : length list ≡ length (cuts_for a g) = sym (length-map list (λ (x : VertexList). x.members)) ∙ ap (λ (xs : List (List ℕ)). length xs) same in
+    record {
+      within = subst (λ (k : ℕ). length (cuts_for a g) * k ≤ 2 ^ 30) over (subst (λ (k : ℕ). k * n ≤ 2 ^ 30) long l.not_too_large);
+      text_is = ap (λ (v : ℕ). listing_text v (members_of list)) s.value ∙ ap (λ (xs : List (List ℕ)). listing_text (value g) xs) same;
+    }
+
+pub list_stop : (g : Graph) (solved : Solved) (a : Ask) (n cuts m : ℕ) → LawOfCount → IsSolved g solved → n ≡ g.vertices → IsRefusal (2 ^ 30) n a solved.cactus (refusal.TooLarge cuts m) →
+    IsListStop a g (stop.TooLarge cuts m)
+list_stop g solved a n cuts m law s over r = record {
+  counted = law g solved.cactus a cuts s.sides r.0;
+  over = r.1 ∙ over;
+  large = subst (λ (k : ℕ). 2 ^ 30 < cuts * k) (sym r.1) r.2;
+}

@@ -1,9 +1,11 @@
 -- What was replied, and what was told where there is no reply.
-use Rattle.std.proofs.Common.{◌++◌, ◌≡◌, ℕ, ◌⊎◌, inl, inr, ⊎_elim, List, Option, Some, None, Result, Ok, Err, refl, sym, ◌∙◌, subst, ap}
+use Rattle.std.proofs.Common.{◌++◌, ◌≡◌, ℕ, ◌⊎◌, ◌≤◌, ◌<◌, ◌*◌, ◌^◌, length, arith, inl, inr, ⊎_elim, List, Option, Some, None, Result, Ok, Err, refl, sym, ◌∙◌, subst, ap}
 use Rattle.std.specs.Prelude.{◌≢◌, IfSome, IfOk, MatchOption}
 use Rattle.std.specs.Io.KnownBytes.{Appends}
 use Rattle.outside.specs.Faults.{Rose}
 use Rattle.cut_definitions.specs.Graph.{Graph}
+use Rattle.cut_definitions.specs.Components.{IsConnected}
+use Rattle.weighted_graph.specs.Components.{LawOfOneComponent}
 use Rattle.metis_reader.specs.declared.fault.Fault.{Fault}
 use Rattle.metis_reader.specs.File.{graph_of}
 use Rattle.metis_reader.proofs.FixedFaults.{graph_of_fixed, fixed_stays}
@@ -13,11 +15,15 @@ use Rattle.mincut_program.specs.declared.status.Status.{Status}
 use Rattle.mincut_program.specs.declared.status.Status.TheVariants as status
 use Rattle.mincut_program.specs.declared.notice.Notice.{Notice}
 use Rattle.mincut_program.specs.Notices.{notice_of, text_of}
+use Rattle.mincut_program.specs.declared.command.Command.{Command}
+use Rattle.mincut_program.specs.declared.command.Job.{Job}
+use Rattle.mincut_program.specs.declared.command.Job.TheVariants.{Value, Cactus, Cuts, Part, Balanced}
+use Rattle.mincut_program.specs.Jobs.{IsAnswerOf, IsStopFor, IsInRange, IsOutside, IsWithin, asked_cuts}
 use Rattle.mincut_program.specs.Words.{HasCommand, command_of}
 use Rattle.mincut_program.specs.Texts.{out_of_memory_line}
 use Rattle.mincut_program.specs.Stops.{status_of, line_of}
-use Rattle.mincut_program.specs.Intake.{IsRefused, IsAnswer, IsReply, IsCause}
-use Rattle.mincut_program.specs.Answers.{Writes, Tells, TellsFault, TellingFailed}
+use Rattle.mincut_program.specs.Intake.{IsRefused, IsAnswer, IsStopped, IsReply, IsCause}
+use Rattle.mincut_program.specs.Answers.{Writes, Tells, TellsFault, TellsVertex, TellsTooLarge, TellingFailed}
 use Rattle.mincut_program.proofs.NoticeWords.{notice_is_no_command}
 use Rattle.mincut_program.proofs.Bytes.{read_all}
 
@@ -66,6 +72,69 @@ no_reply words left bytes text fault command is wrong reply =
     let a : IsAnswer words bytes text = subst (λ (o : Option (List ℕ)). IfSome o (λ bytes. IsAnswer words bytes text)) is answer in
     one_result (graph_of bytes) a.answer.graph fault a.answer.accepted wrong
 
+-- ---- the command and the graph
+
+some_is : {X : Type 0} (x y : X) → ◌≡◌ {A = Option X} (Some x) (Some y) → x ≡ y
+some_is {X} x y e = ap (λ (o : Option X). elim o [ Some v ↦ v | None ↦ x ]) e
+
+ok_is : {T E : Type 0} (x y : T) → ◌≡◌ {A = Result T E} (Ok x) (Ok y) → x ≡ y
+ok_is {T} {E} x y e = ap (λ (r : Result T E). elim r [ Ok v ↦ v | Err e ↦ x ]) e
+
+pub has_command : (words : List (List ℕ)) (command : Command) → command_of words ≡ Some command → HasCommand words
+has_command words command is = rw is refl
+
+-- the reply to a command for a graph
+pub answered : (words : List (List ℕ)) (command : Command) (left : Option (List ℕ)) (bytes text : List ℕ) (graph : Graph) → command_of words ≡ Some command →
+    left ≡ Some bytes → graph_of bytes ≡ Ok graph → IsReply words left text → IsAnswerOf command.job graph text
+answered words command left bytes text graph is from accepted reply =
+    let told : IfSome left (λ bytes. IsAnswer words bytes text) = subst
+    (λ (o : Option Notice). MatchOption o (IfSome left (λ bytes. IsAnswer words bytes text)) (λ notice. text ≡ text_of notice)) (no_notice words (has_command words command is)) reply in
+    let a : IsAnswer words bytes text = subst (λ (o : Option (List ℕ)). IfSome o (λ bytes. IsAnswer words bytes text)) from told in
+    let c : a.command ≡ command = some_is a.command command (sym a.commanded ∙ is) in
+    let g : a.answer.graph ≡ graph = ok_is a.answer.graph graph (sym a.answer.accepted ∙ accepted) in
+    subst (λ (x : Command). IsAnswerOf x.job graph text) c (subst (λ (y : Graph). IsAnswerOf a.command.job y text) g a.answer.answer)
+
+-- the stop of a command for a graph
+stopped : (words : List (List ℕ)) (command : Command) (left : Option (List ℕ)) (bytes : List ℕ) (graph : Graph) (s : Stop) → command_of words ≡ Some command →
+    left ≡ Some bytes → graph_of bytes ≡ Ok graph → IfSome left (λ bytes. IsStopped words bytes s) → IsStopFor command.job graph s
+stopped words command left bytes graph s is from accepted why =
+    let a : IsStopped words bytes s = subst (λ (o : Option (List ℕ)). IfSome o (λ bytes. IsStopped words bytes s)) from why in
+    let c : a.command ≡ command = some_is a.command command (sym a.commanded ∙ is) in
+    let g : a.graph ≡ graph = ok_is a.graph graph (sym a.accepted ∙ accepted) in
+    subst (λ (x : Command). IsStopFor x.job graph s) c (subst (λ (y : Graph). IsStopFor a.command.job y s) g a.why)
+
+-- a graph that is accepted has no fault
+accepted_twice : (words : List (List ℕ)) (left : Option (List ℕ)) (bytes : List ℕ) (fault : Fault) (s : Stop) → left ≡ Some bytes → graph_of bytes ≡ Err fault →
+    IfSome left (λ bytes. IsStopped words bytes s) → ⊥
+accepted_twice words left bytes fault s from wrong why =
+    let a : IsStopped words bytes s = subst (λ (o : Option (List ℕ)). IfSome o (λ bytes. IsStopped words bytes s)) from why in
+    one_result (graph_of bytes) a.graph fault a.accepted wrong
+
+out_of_range : (job : Job) (n x : ℕ) → IsOutside job n x → IsInRange job n → ⊥
+out_of_range Value n x outside inside = outside
+out_of_range Cactus n x outside inside = outside
+out_of_range Cuts n x outside inside = outside
+out_of_range Balanced n x outside inside = outside
+out_of_range (Part u v) n x outside inside = ⊎_elim (λ a. a.1 inside.0) (λ b. b.2 inside.1) outside
+
+-- a vertex that is not there stops no job whose vertices are there
+bad_vertex_stops : (job : Job) (g : Graph) (x n : ℕ) → IsStopFor job g (stop.BadVertex x n) → IsInRange job g.vertices → ⊥
+bad_vertex_stops job g x n why inside = out_of_range job n x why.1 (subst (λ (k : ℕ). IsInRange job k) (sym why.0) inside)
+
+-- nor does a list within its limit
+too_large_stops : (job : Job) (g : Graph) (cuts n : ℕ) → IsStopFor job g (stop.TooLarge cuts n) → (2 ≤ g.vertices → IsConnected g → IsWithin job g) → ⊥
+too_large_stops job g cuts n why within =
+    let most : length (asked_cuts job g) * g.vertices ≤ 2 ^ 30 = within why.enough why.connected why.listed in
+    let least : 2 ^ 30 < length (asked_cuts job g) * g.vertices = subst (λ (k : ℕ). 2 ^ 30 < k * g.vertices) why.counted (subst (λ (k : ℕ). 2 ^ 30 < cuts * k) why.over why.large) in
+    omega (arith, most, least)
+
+-- no reply lists more cuts than it may
+pub too_large_reply : (job : Job) (g : Graph) (text : List ℕ) → LawOfOneComponent → IsAnswerOf job g text → 2 ≤ g.vertices → IsConnected g → (IsWithin job g → ⊥) → ⊥
+too_large_reply job g text law a two connected large =
+    ⊎_elim (λ few. omega (arith, few.few, two))
+    (⊎_elim (λ apart. omega (arith, apart.several, (law g apart.count (omega (arith, two)) apart.components).1 connected)) (λ whole. large whole.within))
+    a.answer
+
 -- ---- what was told
 
 -- the line of the stop was written, or that of want of memory
@@ -81,6 +150,8 @@ memory_cause stop.BadWords words left now m n cause words_ok read_ok = absurd (w
 memory_cause (stop.Refused fault) words left now m n cause words_ok read_ok = (cause.1, inr (inr (inr (fault, cause.2))))
 memory_cause stop.ReadFailed words left now m n cause words_ok read_ok = absurd (read_ok refl)
 memory_cause stop.NoMemory words left now m n cause words_ok read_ok = cause
+memory_cause (stop.BadVertex x k) words left now m n cause words_ok read_ok = (cause.0, inr (inr (inl cause.1)))
+memory_cause (stop.TooLarge cuts k) words left now m n cause words_ok read_ok = (cause.0, inr (inr (inl cause.1)))
 
 -- a stop with its cause that was told, whole or in part
 pub record Telling (words : List (List ℕ)) (left now : Option (List ℕ)) (m n : ℕ) (before after : Option (List ℕ)) (p q : ℕ) (result : Status) : Type 0 where
@@ -101,6 +172,8 @@ no_write_fault stop.BadWords e = cc
 no_write_fault (stop.Refused fault) e = cc
 no_write_fault stop.ReadFailed e = cc
 no_write_fault stop.NoMemory e = cc
+no_write_fault (stop.BadVertex x k) e = cc
+no_write_fault (stop.TooLarge cuts k) e = cc
 
 module _ (words : List (List ℕ)) (left now : Option (List ℕ)) (m n : ℕ) (before after : Option (List ℕ)) (p q : ℕ) (result : Status) where
   -- what was taken where no write failed
@@ -119,6 +192,8 @@ module _ (words : List (List ℕ)) (left now : Option (List ℕ)) (m n : ℕ) (b
       of (stop.Refused fault) cause w = record { fault = fault; told = record { cause = cause; line_taken = w.1 } }
       of stop.ReadFailed cause w = let e : result ≡ status.ReadFault = w.0 in absurd (cc (e, is))
       of stop.NoMemory cause w = let e : result ≡ status.OutOfMemory = w.0 in absurd (cc (e, is))
+      of (stop.BadVertex x k) cause w = let e : result ≡ status.BadVertex = w.0 in absurd (cc (e, is))
+      of (stop.TooLarge cuts k) cause w = let e : result ≡ status.ListTooLarge = w.0 in absurd (cc (e, is))
 
   pub read_told : Telling words left now m n before after p q result → result ≡ status.ReadFault → Tells words left now m n before after stop.ReadFailed
   read_told t is = of t.stop t.cause (whole t.stop t.writes (λ e. off (sym is ∙ e)))
@@ -131,6 +206,8 @@ module _ (words : List (List ℕ)) (left now : Option (List ℕ)) (m n : ℕ) (b
       of (stop.Refused fault) cause w = let e : result ≡ status.Refused = w.0 in absurd (cc (e, is))
       of stop.ReadFailed cause w = record { cause = cause; line_taken = w.1 }
       of stop.NoMemory cause w = let e : result ≡ status.OutOfMemory = w.0 in absurd (cc (e, is))
+      of (stop.BadVertex x k) cause w = let e : result ≡ status.BadVertex = w.0 in absurd (cc (e, is))
+      of (stop.TooLarge cuts k) cause w = let e : result ≡ status.ListTooLarge = w.0 in absurd (cc (e, is))
 
   pub memory_told : Telling words left now m n before after p q result → result ≡ status.OutOfMemory → Tells words left now m n before after stop.NoMemory
   memory_told t is = of t.stop t.cause (whole t.stop t.writes (λ e. off (sym is ∙ e)))
@@ -143,6 +220,36 @@ module _ (words : List (List ℕ)) (left now : Option (List ℕ)) (m n : ℕ) (b
       of (stop.Refused fault) cause w = let e : result ≡ status.Refused = w.0 in absurd (cc (e, is))
       of stop.ReadFailed cause w = let e : result ≡ status.ReadFault = w.0 in absurd (cc (e, is))
       of stop.NoMemory cause w = record { cause = cause; line_taken = w.1 }
+      of (stop.BadVertex x k) cause w = let e : result ≡ status.BadVertex = w.0 in absurd (cc (e, is))
+      of (stop.TooLarge cuts k) cause w = let e : result ≡ status.ListTooLarge = w.0 in absurd (cc (e, is))
+
+  pub vertex_told : Telling words left now m n before after p q result → result ≡ status.BadVertex → TellsVertex words left now m n before after
+  vertex_told t is = of t.stop t.cause (whole t.stop t.writes (λ e. off (sym is ∙ e)))
+    where
+      off : status.BadVertex ≡ status.WriteFault → ⊥
+      off e = cc
+
+      of : (s : Stop) → IsCause words left now m n s → (result ≡ status_of s) × Appends before after (line_of s) → TellsVertex words left now m n before after
+      of stop.BadWords cause w = let e : result ≡ status.BadWords = w.0 in absurd (cc (e, is))
+      of (stop.Refused fault) cause w = let e : result ≡ status.Refused = w.0 in absurd (cc (e, is))
+      of stop.ReadFailed cause w = let e : result ≡ status.ReadFault = w.0 in absurd (cc (e, is))
+      of stop.NoMemory cause w = let e : result ≡ status.OutOfMemory = w.0 in absurd (cc (e, is))
+      of (stop.BadVertex x k) cause w = record { vertex = x; vertices = k; told = record { cause = cause; line_taken = w.1 } }
+      of (stop.TooLarge cuts k) cause w = let e : result ≡ status.ListTooLarge = w.0 in absurd (cc (e, is))
+
+  pub too_large_told : Telling words left now m n before after p q result → result ≡ status.ListTooLarge → TellsTooLarge words left now m n before after
+  too_large_told t is = of t.stop t.cause (whole t.stop t.writes (λ e. off (sym is ∙ e)))
+    where
+      off : status.ListTooLarge ≡ status.WriteFault → ⊥
+      off e = cc
+
+      of : (s : Stop) → IsCause words left now m n s → (result ≡ status_of s) × Appends before after (line_of s) → TellsTooLarge words left now m n before after
+      of stop.BadWords cause w = let e : result ≡ status.BadWords = w.0 in absurd (cc (e, is))
+      of (stop.Refused fault) cause w = let e : result ≡ status.Refused = w.0 in absurd (cc (e, is))
+      of stop.ReadFailed cause w = let e : result ≡ status.ReadFault = w.0 in absurd (cc (e, is))
+      of stop.NoMemory cause w = let e : result ≡ status.OutOfMemory = w.0 in absurd (cc (e, is))
+      of (stop.BadVertex x k) cause w = let e : result ≡ status.BadVertex = w.0 in absurd (cc (e, is))
+      of (stop.TooLarge cuts k) cause w = record { cuts = cuts; vertices = k; told = record { cause = cause; line_taken = w.1 } }
 
   pub telling_failed : Telling words left now m n before after p q result → result ≡ status.WriteFault → TellingFailed words left now m n before after p q
   telling_failed t is =
@@ -155,26 +262,70 @@ module _ (words : List (List ℕ)) (left now : Option (List ℕ)) (m n : ℕ) (b
   calm : (t : Telling words left now m n before after p q result) → ¬ Rose p q → result ≡ status_of t.stop
   calm t no_fault = ⊎_elim (λ w. w.0) (λ w. absurd (no_fault w.1.rose)) t.writes
 
-  module _ (command : HasCommand words) (reads : ¬ Rose m n) (tells : ¬ Rose p q) (bytes : List ℕ) (is : left ≡ Some bytes)
+  module _ (has : HasCommand words) (reads : ¬ Rose m n) (tells : ¬ Rose p q) (bytes : List ℕ) (from : left ≡ Some bytes)
       (t : Telling words left now m n before after p q result) where
-    -- for a graph only memory can be wanting
-    pub graph_told : (graph : Graph) → graph_of bytes ≡ Ok graph → (result ≡ status.Ok) ⊎ (result ≡ status.OutOfMemory)
-    graph_told graph accepted = of t.stop t.cause (calm t tells)
+    -- why a graph has no reply
+    stop_for : (command : Command) (graph : Graph) → command_of words ≡ Some command → graph_of bytes ≡ Ok graph → (s : Stop) → IsCause words left now m n s →
+        (s ≡ stop.NoMemory) ⊎ IsStopFor command.job graph s
+    stop_for command graph is accepted stop.BadWords cause = absurd (none_command words cause.0 has)
+    stop_for command graph is accepted (stop.Refused fault) cause =
+        let wrong : graph_of bytes ≡ Err fault = subst (λ (o : Option (List ℕ)). IfSome o (λ all. graph_of all ≡ Err fault)) from (refused_all left now fault cause.2) in
+        absurd (one_result (graph_of bytes) graph fault accepted wrong)
+    stop_for command graph is accepted stop.ReadFailed cause = absurd (reads cause.1)
+    stop_for command graph is accepted stop.NoMemory cause = inl refl
+    stop_for command graph is accepted (stop.BadVertex x k) cause = inr (stopped words command left bytes graph (stop.BadVertex x k) is from accepted cause.2)
+    stop_for command graph is accepted (stop.TooLarge cuts k) cause = inr (stopped words command left bytes graph (stop.TooLarge cuts k) is from accepted cause.2)
+
+    -- for a graph whose job has a text only memory can be wanting
+    pub graph_told : (command : Command) (graph : Graph) → command_of words ≡ Some command → graph_of bytes ≡ Ok graph → IsInRange command.job graph.vertices →
+        (2 ≤ graph.vertices → IsConnected graph → IsWithin command.job graph) → (result ≡ status.Ok) ⊎ (result ≡ status.OutOfMemory)
+    graph_told command graph is accepted inside within = of t.stop (stop_for command graph is accepted t.stop t.cause) (calm t tells)
       where
-        of : (s : Stop) → IsCause words left now m n s → result ≡ status_of s → (result ≡ status.Ok) ⊎ (result ≡ status.OutOfMemory)
-        of stop.BadWords cause e = absurd (none_command words cause.0 command)
-        of (stop.Refused fault) cause e =
-            let wrong : graph_of bytes ≡ Err fault = subst (λ (o : Option (List ℕ)). IfSome o (λ all. graph_of all ≡ Err fault)) is (refused_all left now fault cause.2) in
-            absurd (one_result (graph_of bytes) graph fault accepted wrong)
-        of stop.ReadFailed cause e = absurd (reads cause.1)
-        of stop.NoMemory cause e = inr e
+        of : (s : Stop) → (s ≡ stop.NoMemory) ⊎ IsStopFor command.job graph s → result ≡ status_of s → (result ≡ status.Ok) ⊎ (result ≡ status.OutOfMemory)
+        of s (inl memory) e = inr (e ∙ ap status_of memory)
+        of (stop.BadVertex x k) (inr why) e = absurd (bad_vertex_stops command.job graph x k why inside)
+        of (stop.TooLarge cuts k) (inr why) e = absurd (too_large_stops command.job graph cuts k why within)
+        of stop.NoMemory (inr why) e = inr e
+        of stop.BadWords (inr why) e = absurd why
+        of (stop.Refused fault) (inr why) e = absurd why
+        of stop.ReadFailed (inr why) e = absurd why
+
+    -- a vertex that is not there is told
+    pub outside_told : (command : Command) (graph : Graph) → command_of words ≡ Some command → graph_of bytes ≡ Ok graph → (IsInRange command.job graph.vertices → ⊥) →
+        (result ≡ status.BadVertex) ⊎ (result ≡ status.OutOfMemory)
+    outside_told command graph is accepted outside = of t.stop (stop_for command graph is accepted t.stop t.cause) (calm t tells)
+      where
+        of : (s : Stop) → (s ≡ stop.NoMemory) ⊎ IsStopFor command.job graph s → result ≡ status_of s → (result ≡ status.BadVertex) ⊎ (result ≡ status.OutOfMemory)
+        of s (inl memory) e = inr (e ∙ ap status_of memory)
+        of (stop.BadVertex x k) (inr why) e = inl e
+        of (stop.TooLarge cuts k) (inr why) e = absurd (outside why.in_range)
+        of stop.NoMemory (inr why) e = inr e
+        of stop.BadWords (inr why) e = absurd why
+        of (stop.Refused fault) (inr why) e = absurd why
+        of stop.ReadFailed (inr why) e = absurd why
+
+    -- a list that is too large is told
+    pub over_limit_told : (command : Command) (graph : Graph) → command_of words ≡ Some command → graph_of bytes ≡ Ok graph → IsInRange command.job graph.vertices →
+        (result ≡ status.ListTooLarge) ⊎ (result ≡ status.OutOfMemory)
+    over_limit_told command graph is accepted inside = of t.stop (stop_for command graph is accepted t.stop t.cause) (calm t tells)
+      where
+        of : (s : Stop) → (s ≡ stop.NoMemory) ⊎ IsStopFor command.job graph s → result ≡ status_of s → (result ≡ status.ListTooLarge) ⊎ (result ≡ status.OutOfMemory)
+        of s (inl memory) e = inr (e ∙ ap status_of memory)
+        of (stop.BadVertex x k) (inr why) e = absurd (bad_vertex_stops command.job graph x k why inside)
+        of (stop.TooLarge cuts k) (inr why) e = inl e
+        of stop.NoMemory (inr why) e = inr e
+        of stop.BadWords (inr why) e = absurd why
+        of (stop.Refused fault) (inr why) e = absurd why
+        of stop.ReadFailed (inr why) e = absurd why
 
     -- for a fault the bytes are refused, or memory is wanting
-    pub fault_is_told : (result ≡ status.Refused) ⊎ (result ≡ status.OutOfMemory)
-    fault_is_told = of t.stop t.cause (calm t tells)
+    pub fault_is_told : (fault : Fault) → graph_of bytes ≡ Err fault → (result ≡ status.Refused) ⊎ (result ≡ status.OutOfMemory)
+    fault_is_told fault wrong = of t.stop t.cause (calm t tells)
       where
         of : (s : Stop) → IsCause words left now m n s → result ≡ status_of s → (result ≡ status.Refused) ⊎ (result ≡ status.OutOfMemory)
-        of stop.BadWords cause e = absurd (none_command words cause.0 command)
+        of stop.BadWords cause e = absurd (none_command words cause.0 has)
         of (stop.Refused fault) cause e = inl e
         of stop.ReadFailed cause e = absurd (reads cause.1)
         of stop.NoMemory cause e = inr e
+        of (stop.BadVertex x k) cause e = absurd (accepted_twice words left bytes fault (stop.BadVertex x k) from wrong cause.2)
+        of (stop.TooLarge cuts k) cause e = absurd (accepted_twice words left bytes fault (stop.TooLarge cuts k) from wrong cause.2)

@@ -59,6 +59,18 @@ pub record TellsFault (words : List (List ℕ)) (left_before left_now : Option (
   pub fault : Fault
   pub told : Tells words left_before left_now m n taken_before taken_after (stop.Refused fault)
 
+-- the line that names the vertex that is not there was taken whole
+pub record TellsVertex (words : List (List ℕ)) (left_before left_now : Option (List ℕ)) (m n : ℕ) (taken_before taken_after : Option (List ℕ)) : Type 0 where
+  pub vertex : ℕ
+  pub vertices : ℕ
+  pub told : Tells words left_before left_now m n taken_before taken_after (stop.BadVertex vertex vertices)
+
+-- the line that says how large the list is was taken whole
+pub record TellsTooLarge (words : List (List ℕ)) (left_before left_now : Option (List ℕ)) (m n : ℕ) (taken_before taken_after : Option (List ℕ)) : Type 0 where
+  pub cuts : ℕ
+  pub vertices : ℕ
+  pub told : Tells words left_before left_now m n taken_before taken_after (stop.TooLarge cuts vertices)
+
 -- a write failed of the line that tells why there is no answer: a first part of it was taken
 pub record TellingFailed (words : List (List ℕ)) (left_before left_now : Option (List ℕ)) (m n : ℕ)
     (taken_before taken_after : Option (List ℕ)) (before now : ℕ) : Type 0 where

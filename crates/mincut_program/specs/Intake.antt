@@ -7,11 +7,11 @@ use Rattle.metis_reader.specs.declared.fault.Fault.{Fault}
 use Rattle.metis_reader.specs.File.{graph_of, fixed}
 use Rattle.metis_reader.specs.Fed.{HeaderEndsIn}
 use Rattle.mincut_program.specs.declared.stop.Stop.{Stop}
-use Rattle.mincut_program.specs.declared.stop.Stop.TheVariants.{BadWords, Refused, ReadFailed, NoMemory}
+use Rattle.mincut_program.specs.declared.stop.Stop.TheVariants.{BadWords, Refused, ReadFailed, NoMemory, BadVertex, TooLarge}
 use Rattle.mincut_program.specs.declared.command.Command.{Command}
 use Rattle.mincut_program.specs.declared.command.Job.{Job}
 use Rattle.mincut_program.specs.Words.{command_of, HasCommand, AsksNothing}
-use Rattle.mincut_program.specs.Jobs.{IsAnswerOf}
+use Rattle.mincut_program.specs.Jobs.{IsAnswerOf, IsStopFor}
 use Rattle.mincut_program.specs.Notices.{notice_of, text_of}
 
 -- these bytes were read of those that were left, where the source tells them
@@ -49,12 +49,26 @@ pub record IsAtHeader (before now : Option (List ℕ)) : Type 0 where
 abbrev pub IsMemoryPlace : Option (List ℕ) → Option (List ℕ) → Type 0
 IsMemoryPlace before now = IsRead before now [] ⊎ (IsAtHeader before now ⊎ (IsAtEnd now ⊎ ((fault : Fault) × IsRefused before now fault)))
 
+-- the job of the words has no text for the graph of the bytes
+pub record IsStopped (words : List (List ℕ)) (bytes : List ℕ) (stop : Stop) : Type 0 where
+  pub command : Command
+  pub commanded : command_of words ≡ Some command
+  pub graph : Graph
+  pub accepted : graph_of bytes ≡ Ok graph
+  pub why : IsStopFor command.job graph stop
+
+-- all was read, and for the graph of it the job has no text
+abbrev pub IsJobStop : List (List ℕ) → Option (List ℕ) → Option (List ℕ) → ℕ → ℕ → Stop → Type 0
+IsJobStop words before now m n stop = (n ≡ m) × IsAtEnd now × IfSome before (λ bytes. IsStopped words bytes stop)
+
 -- why there is no answer: by the words, the bytes that the source had left before and has now, and its count of faults before and now
 abbrev pub IsCause : List (List ℕ) → Option (List ℕ) → Option (List ℕ) → ℕ → ℕ → Stop → Type 0
 IsCause words before now m n BadWords = AsksNothing words
 IsCause words before now m n (Refused fault) = HasCommand words × (n ≡ m) × IsRefused before now fault
 IsCause words before now m n ReadFailed = HasCommand words × Rose m n × IsUnrefused before now
 IsCause words before now m n NoMemory = (n ≡ m) × IsMemoryPlace before now
+IsCause words before now m n (BadVertex x k) = IsJobStop words before now m n (BadVertex x k)
+IsCause words before now m n (TooLarge cuts k) = IsJobStop words before now m n (TooLarge cuts k)
 
 -- the text is what the job answers for the graph of the bytes
 pub record IsJobAnswer (job : Job) (bytes text : List ℕ) : Type 0 where

@@ -4,7 +4,9 @@ pub mod Numbers
 pub mod Line
 pub mod Words
 pub mod Stops
+pub mod Listings
 pub mod Jobs
 pub mod Replies
+pub mod Solving
 pub mod Intake
 pub mod Answers

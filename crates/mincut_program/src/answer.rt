@@ -1,22 +1,23 @@
 //! From the graph to what is written.
 
-ghost use Rattle.std.specs.Prelude.{◌≡◌, ◌≢◌, ◌<◌, ◌≤◌, IfOk};
+ghost use Rattle.std.specs.Prelude.{◌≡◌, ◌≢◌, ◌<◌, ◌≤◌, ◌⊎◌, IfOk, IfErr, OnOk, true, false};
 ghost use Rattle.cut_definitions.specs.Components.{IsConnected};
 ghost use Rattle.cut_definitions.specs.Cuts.{value};
-ghost use Rattle.cut_definitions.specs.Graph.{IsEdgeList};
-ghost use Rattle.mincut_program.specs.Jobs.{IsAnswerOf, IsCactusText};
+ghost use Rattle.cut_definitions.specs.Graph.{IsEdgeList, Graph as EdgeGraph};
+ghost use Rattle.mincut_program.specs.Jobs.{IsAnswerOf, IsInRange, IsStopFor, IsVertex};
 ghost use Rattle.mincut_program.specs.Replies.{text_of, IsPrintable};
 ghost use Rattle.mincut_program.specs.Texts.{no_cut_line, disconnected_line, value_line};
 
 use crate::command::{Command, Job};
+use crate::cuts::cuts_reply;
 use crate::reply::Reply;
+use crate::stop::Stop;
 use cactus_solver::solve;
-use cactus_tree::laws;
 use cut_definitions::EdgeList;
 use outside::{Gate, NoMemory};
 use scan_forest::plain_value;
 use std::alloc::Global;
-use weighted_graph::{Graph, laws as graph_laws};
+use weighted_graph::{Graph, laws};
 
 // A graph of fewer than two vertices has no cut.
 fn no_cut(alloc: Global) -> Result<Reply, NoMemory>
@@ -47,25 +48,24 @@ fn value_reply(alloc: Global, list: &EdgeList) -> Result<Reply, NoMemory>
     Ok(Reply::Text(text))
 }
 
-// All minimum cuts of a connected graph.
-fn cactus_reply<G: Gate>(
-    alloc: Global,
-    graph: &Graph,
-    workers: u32,
-    gate: &G,
-) -> Result<Reply, NoMemory>
-    requires enough { 2 ≤ graph.now.vertices }
-    requires connected { IsConnected graph.now }
-    requires workers { (1 ≤ workers) × (workers ≤ 64) }
-    ensures text { IfOk result (λ reply. IsCactusText graph.now (text_of reply)) }
-    ensures printable { IfOk result IsPrintable }
+// Whether a number is a vertex of 1 to n.
+fn is_vertex(n: u32, v: u64) -> bool
+    ensures yes { result ≡ true → IsVertex n v }
+    ensures out { result ≡ false → ¬ IsVertex n v }
 {
-    laws::flat_form();
-    laws::flat_sides();
-    let _ = graph.n();
-    let solved = solve(alloc, graph, workers, gate)?;
-    let _ = solved.cactus.n();
-    Ok(Reply::Cactus(solved))
+    1 <= v && v <= n as u64
+}
+
+// The first vertex that a job names that is not of 1 to n.
+fn check_vertices(job: Job, n: u32) -> Result<(), Stop>
+    ensures in_range { OnOk result (IsInRange job n) }
+    ensures outside { (g : EdgeGraph) → g.vertices ≡ n → IfErr result (IsStopFor job g) }
+{
+    match job {
+        Job::Part(u, _) if !is_vertex(n, u) => Err(Stop::BadVertex { vertex: u, n }),
+        Job::Part(_, v) if !is_vertex(n, v) => Err(Stop::BadVertex { vertex: v, n }),
+        _ => Ok(()),
+    }
 }
 
 // The answer of a job on the cuts themselves.
@@ -74,38 +74,48 @@ fn reply_on_cuts<G: Gate>(
     command: Command,
     list: &EdgeList,
     gate: &G,
-) -> Result<Reply, NoMemory>
+) -> Result<Reply, Stop>
     requires enough { 2 ≤ list.now.vertices }
+    requires in_range { IsInRange command.job list.now.vertices }
     requires job { command.job ≢ Job.Value }
     requires workers { (1 ≤ command.workers) × (command.workers ≤ 64) }
     ensures text { IfOk result (λ reply. IsAnswerOf command.job list.now (text_of reply)) }
     ensures printable { IfOk result IsPrintable }
+    ensures stop { IfErr result (IsStopFor command.job list.now) }
 {
-    graph_laws::connected_is_one_component();
+    laws::connected_is_one_component();
     let graph = Graph::build(alloc, list)?;
     let components = graph.components(alloc)?;
     if components >= 2 {
-        return disconnected(alloc, components);
+        let reply = disconnected(alloc, components)?;
+        return Ok(reply);
     }
-    cactus_reply(alloc, &graph, command.workers, gate)
+    let solved = solve(alloc, &graph, command.workers, gate)?;
+    cuts_reply(alloc, command.job, &graph, solved)
 }
 
-/// What a command answers for a graph.
+/// What a command answers for a graph, or why it has no answer.
 pub fn answer<G: Gate>(
     alloc: Global,
     command: Command,
     list: &EdgeList,
     gate: &G,
-) -> Result<Reply, NoMemory>
+) -> Result<Reply, Stop>
     requires workers { (1 ≤ command.workers) × (command.workers ≤ 64) }
     ensures text { IfOk result (λ reply. IsAnswerOf command.job list.now (text_of reply)) }
     ensures printable { IfOk result IsPrintable }
+    ensures stop { IfErr result (IsStopFor command.job list.now) }
 {
+    if let Err(stop) = check_vertices(command.job, list.n()) {
+        return Err(stop);
+    }
     if list.n() < 2 {
-        return no_cut(alloc);
+        let reply = no_cut(alloc)?;
+        return Ok(reply);
     }
-    match command.job {
-        Job::Value => value_reply(alloc, list),
-        Job::Cactus => reply_on_cuts(alloc, command, list, gate),
+    if let Job::Value = command.job {
+        let reply = value_reply(alloc, list)?;
+        return Ok(reply);
     }
+    reply_on_cuts(alloc, command, list, gate)
 }

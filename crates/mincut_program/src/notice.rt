@@ -9,6 +9,9 @@ const HELP: &str = "usage: mincut JOB [U V] [--workers N]\n\
     JOB is one of\n\
     value: prints the least weight of a cut\n\
     cactus: prints all minimum cuts as one cactus\n\
+    cuts: lists the minimum cuts, each by its side without vertex 1\n\
+    part: lists those that part the vertices U and V\n\
+    balanced: prints a minimum cut whose smaller side is greatest\n\
     N, the number of workers, is 1 to 64, and 4 where it is not named\n";
 
 const VERSION: &str = "mincut 0.1.0\n";

@@ -2,15 +2,18 @@ ghost use Rattle.std.specs.Prelude.{◌≡◌, ◌≢◌, ◌≤◌, ◌⊎◌, 
 ghost use Rattle.std.specs.Io.KnownBytes.{Appends, IsAtEnd};
 ghost use Rattle.outside.specs.Faults.{Rose};
 ghost use Rattle.cut_definitions.specs.Graph.{Graph};
+ghost use Rattle.cut_definitions.specs.Components.{IsConnected};
+ghost use Rattle.mincut_program.specs.declared.command.Command.{Command};
+ghost use Rattle.mincut_program.specs.Jobs.{IsInRange, IsWithin};
 ghost use Rattle.metis_reader.specs.declared.fault.Fault.{Fault};
 ghost use Rattle.metis_reader.specs.File.{graph_of};
-ghost use Rattle.mincut_program.specs.Words.{texts, AsksNothing, HasCommand};
+ghost use Rattle.mincut_program.specs.Words.{texts, command_of, AsksNothing, HasCommand};
 ghost use Rattle.mincut_program.specs.Texts.{usage_line, read_failed_line, out_of_memory_line};
 ghost use Rattle.mincut_program.specs.Intake.{IsCause, IsJobAnswer, IsReply};
 ghost use Rattle.mincut_program.specs.Replies.{text_of, IsPrintable, TakesMemory};
 ghost use Rattle.mincut_program.specs.Stops.{status_of, line_of};
 ghost use Rattle.mincut_program.specs.Notices as notices;
-ghost use Rattle.mincut_program.specs.Answers.{Writes, TakesReply, ReplyFailed, Tells, TellsFault, TellingFailed};
+ghost use Rattle.mincut_program.specs.Answers.{Writes, TakesReply, ReplyFailed, Tells, TellsFault, TellsVertex, TellsTooLarge, TellingFailed};
 
 use crate::answer::answer;
 use crate::command::{Command, WordsRefusal, read_words};
@@ -18,7 +21,7 @@ use crate::intake::take_in;
 use crate::notice::{Notice, notice_of};
 use crate::reply::{Reply, write_reply};
 use crate::status::Status;
-use crate::stop::{Stop, refused_line};
+use crate::stop::{Stop, refused_line, too_large_text, vertex_text};
 use cactus_text::PrintRefusal;
 use outside::{Gate, Sink, Source, write_whole};
 use std::alloc::Global;
@@ -53,6 +56,14 @@ fn tell<E: Sink>(alloc: Global, err: &mut E, stop: Stop) -> Status
         },
         Stop::ReadFailed => write_text(err, READ_FAILED_LINE, Status::ReadFault),
         Stop::NoMemory => write_text(err, OUT_OF_MEMORY_LINE, Status::OutOfMemory),
+        Stop::BadVertex { vertex, n } => match vertex_text(alloc, vertex, n) {
+            Ok(line) => write_text(err, line.as_str(), Status::BadVertex),
+            Err(_) => write_text(err, OUT_OF_MEMORY_LINE, Status::OutOfMemory),
+        },
+        Stop::TooLarge { cuts, n } => match too_large_text(alloc, cuts, n) {
+            Ok(line) => write_text(err, line.as_str(), Status::ListTooLarge),
+            Err(_) => write_text(err, OUT_OF_MEMORY_LINE, Status::OutOfMemory),
+        },
     }
 }
 
@@ -81,15 +92,12 @@ fn job_reply<S: Source, G: Gate>(
     ensures printable { IfOk result IsPrintable }
     ensures ended { IfOk result (λ reply. IsAtEnd (S.left source.new)) }
     ensures same { IfOk result (λ reply. S.faults source.new ≡ S.faults source.old) }
-    ensures cause { IfErr result (λ stop. (words : List (List ℕ)) → HasCommand words
+    ensures cause { IfErr result (λ stop. (words : List (List ℕ)) → command_of words ≡ Some command
         → IsCause words (S.left source.old) (S.left source.new) (S.faults source.old) (S.faults source.new) stop) }
     ensures words { result ≢ Err Stop.BadWords }
 {
     let graph = take_in(alloc, source)?;
-    match answer(alloc, command, &graph.edges, gate) {
-        Ok(reply) => Ok(reply),
-        Err(_) => Err(Stop::NoMemory),
-    }
+    answer(alloc, command, &graph.edges, gate)
 }
 
 // What the words ask for. Nothing is written yet.
@@ -143,6 +151,12 @@ pub fn run<S: Source, K: Sink, E: Sink, G: Gate>(
     ensures refused { result ≡ Status.Refused → TellsFault (texts words.now) (S.left source.old) (S.left source.new)
         (S.faults source.old) (S.faults source.new) (E.taken err.old) (E.taken err.new) }
 
+    // A vertex that is not there and a list that is too large are named, after all was read.
+    ensures bad_vertex { result ≡ Status.BadVertex → TellsVertex (texts words.now) (S.left source.old) (S.left source.new)
+        (S.faults source.old) (S.faults source.new) (E.taken err.old) (E.taken err.new) }
+    ensures too_large { result ≡ Status.ListTooLarge → TellsTooLarge (texts words.now) (S.left source.old) (S.left source.new)
+        (S.faults source.old) (S.faults source.new) (E.taken err.old) (E.taken err.new) }
+
     // A failed read is told where no fault was fixed before it, and memory is wanting at three places alone.
     ensures read_fault { result ≡ Status.ReadFault → Tells (texts words.now) (S.left source.old) (S.left source.new)
         (S.faults source.old) (S.faults source.new) (E.taken err.old) (E.taken err.new) Stop.ReadFailed }
@@ -172,18 +186,28 @@ pub fn run<S: Source, K: Sink, E: Sink, G: Gate>(
     ensures out_kept { result ≢ Status.Ok → result ≢ Status.WriteFault → out.new ≡ out.old }
     ensures told_words { result ≡ Status.BadWords → Appends (E.taken err.old) (E.taken err.new) usage_line }
 
-    // Where memory suffices and no count rose, a graph is answered, and a fault is refused.
-    ensures accepted { (bytes : List ℕ) (graph : Graph) → HasCommand (texts words.now)
-        → S.left source.old ≡ Some bytes → graph_of bytes ≡ Ok graph → ¬ Rose (S.faults source.old) (S.faults source.new)
+    // Where memory suffices and no count rose, a graph is answered, a vertex that is not there and a list that is too
+    // large are told, and a fault is refused.
+    ensures accepted { (bytes : List ℕ) (graph : Graph) (command : Command) → command_of (texts words.now) ≡ Some command
+        → S.left source.old ≡ Some bytes → graph_of bytes ≡ Ok graph
+        → IsInRange command.job graph.vertices → (2 ≤ graph.vertices → IsConnected graph → IsWithin command.job graph) → ¬ Rose (S.faults source.old) (S.faults source.new)
         → ¬ Rose (K.faults out.old) (K.faults out.new) → ¬ Rose (E.faults err.old) (E.faults err.new)
         → (result ≡ Status.Ok) ⊎ (result ≡ Status.OutOfMemory) }
+    ensures outside { (bytes : List ℕ) (graph : Graph) (command : Command) → command_of (texts words.now) ≡ Some command
+        → S.left source.old ≡ Some bytes → graph_of bytes ≡ Ok graph
+        → ¬ IsInRange command.job graph.vertices → ¬ Rose (S.faults source.old) (S.faults source.new)
+        → ¬ Rose (K.faults out.old) (K.faults out.new) → ¬ Rose (E.faults err.old) (E.faults err.new)
+        → (result ≡ Status.BadVertex) ⊎ (result ≡ Status.OutOfMemory) }
+    ensures over_limit { (bytes : List ℕ) (graph : Graph) (command : Command) → command_of (texts words.now) ≡ Some command
+        → S.left source.old ≡ Some bytes → graph_of bytes ≡ Ok graph
+        → IsInRange command.job graph.vertices → 2 ≤ graph.vertices → IsConnected graph → ¬ IsWithin command.job graph
+        → ¬ Rose (S.faults source.old) (S.faults source.new)
+        → ¬ Rose (K.faults out.old) (K.faults out.new) → ¬ Rose (E.faults err.old) (E.faults err.new)
+        → (result ≡ Status.ListTooLarge) ⊎ (result ≡ Status.OutOfMemory) }
     ensures faulty { (bytes : List ℕ) (fault : Fault) → HasCommand (texts words.now)
         → S.left source.old ≡ Some bytes → graph_of bytes ≡ Err fault → ¬ Rose (S.faults source.old) (S.faults source.new)
         → ¬ Rose (K.faults out.old) (K.faults out.new) → ¬ Rose (E.faults err.old) (E.faults err.new)
         → (result ≡ Status.Refused) ⊎ (result ≡ Status.OutOfMemory) }
-
-    ensures no_listing { result ≢ Status.ListTooLarge }
-    ensures no_vertex { result ≢ Status.BadVertex }
 {
     match reply(alloc, words, source, gate) {
         Ok(reply) => match write_reply(alloc, out, &reply) {

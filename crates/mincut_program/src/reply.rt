@@ -4,10 +4,12 @@ ghost use Rattle.std.specs.Prelude.{◌≡◌, ◌≢◌, Err, IsErrOf, OnOk};
 ghost use Rattle.mincut_program.specs.Answers.{Wrote, Failed};
 ghost use Rattle.mincut_program.specs.Replies.{text_of, IsPrintable, TakesMemory};
 
+use crate::pages::{print_balanced, print_listing};
 use cactus_solver::Solved;
 use cactus_text::{PrintRefusal, print};
 use outside::{Sink, write_whole};
 use std::alloc::Global;
+use vertex_set::Side;
 
 /// What there is to write to `out`.
 #[derive(Drop)]
@@ -16,6 +18,10 @@ pub enum Reply {
     Text(String),
     /// All minimum cuts, with their weight.
     Cactus(Solved),
+    /// The weight of the minimum cuts, and the sides of a list of them.
+    Listing { value: u64, sides: Vec<Side> },
+    /// The weight of the minimum cuts, and a side of one.
+    Balanced { value: u64, side: Side },
 }
 
 // Writes a text that is in memory.
@@ -43,5 +49,7 @@ pub fn write_reply<K: Sink>(alloc: Global, out: &mut K, reply: &Reply) -> Result
     match reply {
         Reply::Text(text) => write_text(out, text.as_str()),
         Reply::Cactus(solved) => print(alloc, &solved.cactus, solved.value, out),
+        Reply::Listing { value, sides } => print_listing(alloc, *value, sides, out),
+        Reply::Balanced { value, side } => print_balanced(alloc, *value, side, out),
     }
 }

@@ -110,6 +110,124 @@ fn cactuses_are_printed(rt: HostRuntime) -> Result<(), Fail> {
     Ok(())
 }
 
+const SQUARE: &[u8] = b"4 4\n2 4\n1 3\n2 4\n1 3\n";
+
+// A graph whose cactus has two cycles that meet in a node without vertices.
+const TWO_CYCLES: &[u8] =
+    b"6 8 1\n2 2 4 1 6 1\n1 2 3 2\n2 2 4 1 6 1\n1 1 3 1 5 2\n4 2 6 2\n1 1 3 1 5 2\n";
+
+const TWO_PIECES: &[u8] = b"4 2\n2\n1\n4\n3\n";
+
+#[test]
+fn cuts_are_listed(rt: HostRuntime) -> Result<(), Fail> {
+    for (line, text, lines) in [
+        ("cuts", TRIANGLE, "value 2\ncuts 3\n2\n2 3\n3\n"),
+        ("cuts|--workers=2", TRIANGLE, "value 2\ncuts 3\n2\n2 3\n3\n"),
+        (
+            "cuts",
+            b"3 2 1\n2 5\n1 5 3 5\n2 5\n",
+            "value 5\ncuts 2\n2 3\n3\n",
+        ),
+        (
+            "cuts",
+            SQUARE,
+            "value 2\ncuts 6\n2\n2 3\n2 3 4\n3\n3 4\n4\n",
+        ),
+        (
+            "cuts",
+            b"4 6\n2 3 4\n1 3 4\n1 2 4\n1 2 3\n",
+            "value 3\ncuts 4\n2\n2 3 4\n3\n4\n",
+        ),
+        (
+            "cuts|--workers|64",
+            b"2 1 1\n2 7\n1 7\n",
+            "value 7\ncuts 1\n2\n",
+        ),
+        (
+            "cuts",
+            TWO_CYCLES,
+            "value 4\ncuts 11\n2\n2 3\n2 3 4 5 6\n3\n3 4 5 6\n4\n4 5\n4 5 6\n5\n5 6\n6\n",
+        ),
+        (
+            "cuts",
+            b"3 3 1\n2 5 3 1\n1 5 3 4\n1 1 2 4\n",
+            "value 5\ncuts 1\n3\n",
+        ),
+        ("cuts", b"1 0\n\n", "no cut\n"),
+        ("cuts", b"0 0\n", "no cut\n"),
+        ("cuts", TWO_PIECES, "disconnected 2\n"),
+        ("part|2|2", TRIANGLE, "value 2\ncuts 0\n"),
+        ("part|2|3", TRIANGLE, "value 2\ncuts 2\n2\n3\n"),
+        ("part|1|1", b"1 0\n\n", "no cut\n"),
+        ("part|2|3", TWO_PIECES, "disconnected 2\n"),
+        ("balanced", SQUARE, "value 2\nbalance 2\nside 3 4\n"),
+        ("balanced", TWO_CYCLES, "value 4\nbalance 3\nside 4 5 6\n"),
+        ("balanced", b"0 0\n", "no cut\n"),
+    ] {
+        let words: Vec<&str> = line.split('|').collect(rt.alloc())?;
+        let outcome = run_on(rt.alloc(), &words, text, &HONEST)?;
+        assert_eq!(rt; outcome.out.taken(), lines.as_bytes(), "{line}");
+    }
+    let single = [1; 20];
+    let script = Script {
+        cuts: &single,
+        ..HONEST
+    };
+    let outcome = run_on(rt.alloc(), &["cuts"], TRIANGLE, &script)?;
+    assert_eq!(rt; outcome.status, Status::Ok);
+    assert_eq!(rt;
+        outcome.out.taken(),
+        b"value 2\ncuts 3\n2\n2 3\n3\n".as_slice()
+    );
+    Ok(())
+}
+
+#[test]
+fn vertices_that_are_not_there_are_told(rt: HostRuntime) -> Result<(), Fail> {
+    for (line, text, told) in [
+        ("part|2|9", TRIANGLE, "vertex 9 not in 1..3\n"),
+        ("part|0|9", TRIANGLE, "vertex 0 not in 1..3\n"),
+        ("part|1|2", b"1 0\n\n", "vertex 2 not in 1..1\n"),
+        ("part|1|1", b"0 0\n", "vertex 1 not in 1..0\n"),
+        ("part|2|9", TWO_PIECES, "vertex 9 not in 1..4\n"),
+        ("part|007|2", b"2 1 1\n2 7\n1 7\n", "vertex 7 not in 1..2\n"),
+    ] {
+        let words: Vec<&str> = line.split('|').collect(rt.alloc())?;
+        let outcome = run_on(rt.alloc(), &words, text, &HONEST)?;
+        assert_eq!(rt; outcome.status, Status::BadVertex, "{line}");
+        assert_eq!(rt; outcome.status.code(), 7);
+        assert_eq!(rt; outcome.out.taken(), b"".as_slice());
+        assert_eq!(rt; outcome.err.taken(), told.as_bytes());
+    }
+    Ok(())
+}
+
+// The line of a vertex of a ring.
+fn ring_line(alloc: Global, before: u32, after: u32) -> Result<String, Fail> {
+    let line = format!(in alloc; "{before} {after}\n")?;
+    Ok(line)
+}
+
+#[test]
+fn a_list_that_is_too_large_is_told(rt: HostRuntime) -> Result<(), Fail> {
+    let alloc = rt.alloc();
+    let mut text = Vec::new(alloc);
+    text.extend_from_slice(b"1291 1291\n2 1291\n")?;
+    for v in 2..1291 {
+        let line = ring_line(alloc, v - 1, v + 1)?;
+        text.extend_from_slice(line.as_bytes())?;
+    }
+    text.extend_from_slice(b"1290 1\n")?;
+    let outcome = run_on(alloc, &["cuts"], &text, &HONEST)?;
+    assert_eq!(rt; outcome.status, Status::ListTooLarge);
+    assert_eq!(rt; outcome.out.taken(), b"".as_slice());
+    assert_eq!(rt;
+        outcome.err.taken(),
+        b"list too large: 832695 cuts, 1291 vertices\n".as_slice()
+    );
+    Ok(())
+}
+
 #[test]
 fn reads_may_be_cut_anywhere(rt: HostRuntime) -> Result<(), Fail> {
     for first in 1..TRIANGLE.len() {
@@ -180,10 +298,13 @@ fn other_words_are_refused_unread(rt: HostRuntime) -> Result<(), Fail> {
         ..HONEST
     };
     for line in [
-        "cuts",
+        "count",
         "Value",
         "value|3",
         "part|1",
+        "part|1|2|3",
+        "part|1|x",
+        "cuts|2",
         "value|value",
         "value|--workers|0",
         "value|--workers|65",

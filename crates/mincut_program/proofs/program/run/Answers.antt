@@ -3,7 +3,8 @@ use Rattle.mincut_program.specs.Words.{texts}
 use Rattle.mincut_program.specs.Intake.{IsCause}
 use Rattle.mincut_program.specs.Replies.{TakesMemory}
 use Rattle.mincut_program.specs.declared.stop.Stop.TheVariants.{NoMemory}
-use Rattle.mincut_program.proofs.Telling.{telling, telling_failed, graph_told, no_reply}
+use Rattle.weighted_graph.proofs.OneComponent.{law_of_one_component}
+use Rattle.mincut_program.proofs.Telling.{telling, telling_failed, graph_told, outside_told, over_limit_told, vertex_told, too_large_told, answered, too_large_reply, has_command, no_reply}
 use Rattle.mincut_program.proofs.program.run.Goals as goal
 
 pub returns-in-Ok-write_reply-clause-faulty : goal.returns-in-Ok-write_reply-clause-faulty
@@ -43,13 +44,67 @@ returns-clause-write_fault g c is =
     )
 
 pub returns-clause-accepted : goal.returns-clause-accepted
-returns-clause-accepted g c bytes graph command left accepted reads writes tells =
+returns-clause-accepted g c bytes graph command is left accepted inside within reads writes tells =
     graph_told (texts c.args.words.now) (g.S.Source.left c.args.source.now) (g.S.Source.left c.reply.new.source)
     (g.S.Source.faults c.args.source.now) (g.S.Source.faults c.reply.new.source)
     (g.E.Sink.taken c.args.err.now) (g.E.Sink.taken c.tell-in-Err.new.err) (g.E.Sink.faults c.args.err.now) (g.E.Sink.faults c.tell-in-Err.new.err) c.tell-in-Err.result
-    command reads tells bytes left
+    (has_command (texts c.args.words.now) command is) reads tells bytes left
     (telling c.in-Err.stop (texts c.args.words.now) (g.S.Source.left c.args.source.now) (g.S.Source.left c.reply.new.source)
     (g.S.Source.faults c.args.source.now) (g.S.Source.faults c.reply.new.source) c.in-Err.ensures.cause
     (g.E.Sink.taken c.args.err.now) (g.E.Sink.taken c.tell-in-Err.new.err) (g.E.Sink.faults c.args.err.now) (g.E.Sink.faults c.tell-in-Err.new.err)
     c.tell-in-Err.result c.tell-in-Err.ensures)
-    graph accepted
+    command graph is accepted inside within
+
+pub returns-clause-outside : goal.returns-clause-outside
+returns-clause-outside g c bytes graph command is left accepted outside reads writes tells =
+    outside_told (texts c.args.words.now) (g.S.Source.left c.args.source.now) (g.S.Source.left c.reply.new.source)
+    (g.S.Source.faults c.args.source.now) (g.S.Source.faults c.reply.new.source)
+    (g.E.Sink.taken c.args.err.now) (g.E.Sink.taken c.tell-in-Err.new.err) (g.E.Sink.faults c.args.err.now) (g.E.Sink.faults c.tell-in-Err.new.err) c.tell-in-Err.result
+    (has_command (texts c.args.words.now) command is) reads tells bytes left
+    (telling c.in-Err.stop (texts c.args.words.now) (g.S.Source.left c.args.source.now) (g.S.Source.left c.reply.new.source)
+    (g.S.Source.faults c.args.source.now) (g.S.Source.faults c.reply.new.source) c.in-Err.ensures.cause
+    (g.E.Sink.taken c.args.err.now) (g.E.Sink.taken c.tell-in-Err.new.err) (g.E.Sink.faults c.args.err.now) (g.E.Sink.faults c.tell-in-Err.new.err)
+    c.tell-in-Err.result c.tell-in-Err.ensures)
+    command graph is accepted outside
+
+pub returns-clause-over_limit : goal.returns-clause-over_limit
+returns-clause-over_limit g c bytes graph command is left accepted inside two connected large reads writes tells =
+    over_limit_told (texts c.args.words.now) (g.S.Source.left c.args.source.now) (g.S.Source.left c.reply.new.source)
+    (g.S.Source.faults c.args.source.now) (g.S.Source.faults c.reply.new.source)
+    (g.E.Sink.taken c.args.err.now) (g.E.Sink.taken c.tell-in-Err.new.err) (g.E.Sink.faults c.args.err.now) (g.E.Sink.faults c.tell-in-Err.new.err) c.tell-in-Err.result
+    (has_command (texts c.args.words.now) command is) reads tells bytes left
+    (telling c.in-Err.stop (texts c.args.words.now) (g.S.Source.left c.args.source.now) (g.S.Source.left c.reply.new.source)
+    (g.S.Source.faults c.args.source.now) (g.S.Source.faults c.reply.new.source) c.in-Err.ensures.cause
+    (g.E.Sink.taken c.args.err.now) (g.E.Sink.taken c.tell-in-Err.new.err) (g.E.Sink.faults c.args.err.now) (g.E.Sink.faults c.tell-in-Err.new.err)
+    c.tell-in-Err.result c.tell-in-Err.ensures)
+    command graph is accepted inside
+
+pub returns-clause-bad_vertex : goal.returns-clause-bad_vertex
+returns-clause-bad_vertex g c is =
+    vertex_told (texts c.args.words.now) (g.S.Source.left c.args.source.now) (g.S.Source.left c.reply.new.source)
+    (g.S.Source.faults c.args.source.now) (g.S.Source.faults c.reply.new.source)
+    (g.E.Sink.taken c.args.err.now) (g.E.Sink.taken c.tell-in-Err.new.err) (g.E.Sink.faults c.args.err.now) (g.E.Sink.faults c.tell-in-Err.new.err) c.tell-in-Err.result
+    (telling c.in-Err.stop (texts c.args.words.now) (g.S.Source.left c.args.source.now) (g.S.Source.left c.reply.new.source)
+    (g.S.Source.faults c.args.source.now) (g.S.Source.faults c.reply.new.source) c.in-Err.ensures.cause
+    (g.E.Sink.taken c.args.err.now) (g.E.Sink.taken c.tell-in-Err.new.err) (g.E.Sink.faults c.args.err.now) (g.E.Sink.faults c.tell-in-Err.new.err)
+    c.tell-in-Err.result c.tell-in-Err.ensures)
+    is
+
+pub returns-clause-too_large : goal.returns-clause-too_large
+returns-clause-too_large g c is =
+    too_large_told (texts c.args.words.now) (g.S.Source.left c.args.source.now) (g.S.Source.left c.reply.new.source)
+    (g.S.Source.faults c.args.source.now) (g.S.Source.faults c.reply.new.source)
+    (g.E.Sink.taken c.args.err.now) (g.E.Sink.taken c.tell-in-Err.new.err) (g.E.Sink.faults c.args.err.now) (g.E.Sink.faults c.tell-in-Err.new.err) c.tell-in-Err.result
+    (telling c.in-Err.stop (texts c.args.words.now) (g.S.Source.left c.args.source.now) (g.S.Source.left c.reply.new.source)
+    (g.S.Source.faults c.args.source.now) (g.S.Source.faults c.reply.new.source) c.in-Err.ensures.cause
+    (g.E.Sink.taken c.args.err.now) (g.E.Sink.taken c.tell-in-Err.new.err) (g.E.Sink.faults c.args.err.now) (g.E.Sink.faults c.tell-in-Err.new.err)
+    c.tell-in-Err.result c.tell-in-Err.ensures)
+    is
+
+pub returns-in-Ok-write_reply-clause-outside : goal.returns-in-Ok-write_reply-clause-outside
+returns-in-Ok-write_reply-clause-outside g c bytes graph command is left accepted outside reads writes tells =
+    absurd (outside (answered (texts c.args.words.now) command (g.S.Source.left c.args.source.now) bytes _ graph is left accepted c.in-Ok.ensures.text).in_range)
+
+pub returns-in-Ok-write_reply-clause-over_limit : goal.returns-in-Ok-write_reply-clause-over_limit
+returns-in-Ok-write_reply-clause-over_limit g c bytes graph command is left accepted inside two connected large reads writes tells =
+    absurd (too_large_reply command.job graph _ law_of_one_component (answered (texts c.args.words.now) command (g.S.Source.left c.args.source.now) bytes _ graph is left accepted c.in-Ok.ensures.text) two connected large)

@@ -1,11 +1,23 @@
-use Rattle.std.proofs.Common.{sym, subst}
-use Rattle.outside.specs.Faults.{AppendsPrefix}
-use Rattle.mincut_program.specs.declared.reply.Reply.{Reply}
+use Rattle.std.proofs.Common.{List, map, ap, ◌∙◌, sym}
+use Rattle.vertex_set.specs.Side.{VertexList}
+use Rattle.mincut_program.specs.Listings.{listing_text}
 use Rattle.mincut_program.specs.Replies.{text_of}
+use Rattle.mincut_program.proofs.Writing.{wrote_by, failed_by}
 use Rattle.mincut_program.proofs.reply.write_reply.Goals as goal
 
 pub returns-in-Cactus-clause-failed : goal.returns-in-Cactus-clause-failed
-returns-in-Cactus-clause-failed g c failed = record {
-  part_taken = subst (λ (r : Reply). AppendsPrefix (g.K.Sink.taken c.args.out.now) (g.K.Sink.taken c.print.new.sink) (text_of r)) (sym c.in-Cactus.is) (c.print.ensures.prefix failed);
-  rose = c.print.ensures.rose failed;
-}
+returns-in-Cactus-clause-failed g c failed =
+    failed_by (text_of c.args.reply.now) _ (g.K.Sink.taken c.args.out.now) (g.K.Sink.taken c.print.new.sink) (g.K.Sink.faults c.args.out.now) (g.K.Sink.faults c.print.new.sink)
+    (ap text_of (sym c.in-Cactus.is)) (c.print.ensures.prefix failed) (c.print.ensures.rose failed)
+
+pub returns-in-Listing-clause-whole : goal.returns-in-Listing-clause-whole
+returns-in-Listing-clause-whole g c =
+    let same = ap (λ (xs : List VertexList). listing_text c.in-Listing.value (map (λ (s : VertexList). s.members) xs)) c.deref.ensures.value ∙ ap text_of (sym c.in-Listing.is) in
+    wrote_by c.print_listing.result (text_of c.args.reply.now) _ (g.K.Sink.taken c.args.out.now) (g.K.Sink.taken c.print_listing.new.sink) (g.K.Sink.faults c.args.out.now) (g.K.Sink.faults c.print_listing.new.sink)
+    same c.print_listing.ensures.whole c.print_listing.ensures.same_count
+
+pub returns-in-Listing-clause-failed : goal.returns-in-Listing-clause-failed
+returns-in-Listing-clause-failed g c failed =
+    let same = ap (λ (xs : List VertexList). listing_text c.in-Listing.value (map (λ (s : VertexList). s.members) xs)) c.deref.ensures.value ∙ ap text_of (sym c.in-Listing.is) in
+    failed_by (text_of c.args.reply.now) _ (g.K.Sink.taken c.args.out.now) (g.K.Sink.taken c.print_listing.new.sink) (g.K.Sink.faults c.args.out.now) (g.K.Sink.faults c.print_listing.new.sink)
+    same (c.print_listing.ensures.prefix failed) (c.print_listing.ensures.rose failed)

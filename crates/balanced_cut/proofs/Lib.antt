@@ -1,0 +1,2 @@
+pub mod SomeCut
+pub mod Weighing

@@ -1,0 +1,5 @@
+pub mod Listed
+pub mod Sorted
+pub mod Passes
+pub mod Few
+pub mod Ordered

@@ -1,0 +1,256 @@
+-- Lists of lists in strict order: their members determine them, and the least different ones of a list do not depend on
+-- the greater ones.
+use Rattle.std.proofs.Common.{◌≡◌, ℕ, zero, suc, ◌<◌, ◌≤◌, Bool, true, false, List, [], ◌∷◌, ◌++◌, ◌⊎◌, inl, inr, length, take, drop, get_or, refl, sym, ◌∙◌, ap, subst, arith, true≢false}
+use Rattle.std.specs.declared.cmp.Ordering.{Ordering}
+use Rattle.std.specs.declared.cmp.Ordering.TheVariants.{Less, Equal, Greater}
+use Rattle.std.specs.Ordering.{nat_cmp, is_lt, ordering_reverse}
+use Rattle.std.specs.Cmp.Lexicographic.{slice_cmp}
+use Rattle.std.specs.List.{All, Contains, filter}
+use Rattle.std.specs.List.Sorted.{IsStrictlySortedBy}
+use Rattle.std.proofs.lemmas.Cmp.{nat_list_cmp_total, tied_itself}
+use Rattle.std.proofs.lemmas.List.{take-take}
+use Rattle.std.proofs.lemmas.List.Elements.{All-nil, All-take, All-weaker, All-contains, All-contains_itself, All-from_recursion, recursion_from_All, Contains-append_left, Contains-append_right, Contains-append_cases}
+use Rattle.std.proofs.lemmas.List.Kept.{IsStrictlySortedBy-filter}
+use Rattle.std.proofs.lemmas.Map.Keys.{sorted_head, sorted_tail}
+use Rattle.std.proofs.lemmas.Map.Lookups.{exact_bytes}
+use Rattle.cut_definitions.proofs.Lists.{Contains-here, Contains-there, Contains-cons_cases, Contains-nil, Contains-filter, Contains-from_filter}
+use Rattle.cut_listing.specs.Listings.{IsAscending, IsListing, AgreeTo, put, put_by, different}
+
+abbrev Lists : Type 0
+Lists = List (List ℕ)
+
+abbrev cmp : List ℕ → List ℕ → Ordering
+cmp = slice_cmp nat_cmp
+
+-- ---- the order
+less_equal : Less ≡ Equal → ⊥
+less_equal e = true≢false (ap is_lt e)
+
+pub less_itself : (x : List ℕ) → slice_cmp nat_cmp x x ≡ Less → ⊥
+less_itself x h = less_equal (sym h ∙ tied_itself nat_list_cmp_total x)
+
+pub less_on : (x y z : List ℕ) → slice_cmp nat_cmp x y ≡ Less → slice_cmp nat_cmp y z ≡ Less → slice_cmp nat_cmp x z ≡ Less
+less_on = nat_list_cmp_total.trans
+
+greater_back : (x y : List ℕ) → cmp x y ≡ Greater → cmp y x ≡ Less
+greater_back x y h = nat_list_cmp_total.antisymm y x ∙ ap ordering_reverse h
+
+-- ---- ascending lists
+pub all_from : (P : List ℕ → Type 0) (xs : Lists) → ((s : List ℕ) → Contains xs s → P s) → All P xs
+all_from P xs h = All-weaker (Contains xs) P h xs (All-contains_itself xs)
+
+pub ascending_cons : (x : List ℕ) (xs : Lists) → All (λ y. slice_cmp nat_cmp x y ≡ Less) xs → IsAscending xs → IsAscending (x ∷ xs)
+unfolding IsStrictlySortedBy
+ascending_cons x xs h rest = (recursion_from_All (λ y. cmp x y ≡ Less) xs h, rest)
+
+pub ascending_nil : IsAscending []
+unfolding IsStrictlySortedBy
+ascending_nil = tt
+
+pub all_after : (x : List ℕ) (xs : Lists) → IsAscending (x ∷ xs) → All (λ y. slice_cmp nat_cmp x y ≡ Less) xs
+all_after x xs h = All-from_recursion (λ y. cmp x y ≡ Less) xs (sorted_head cmp x xs h)
+
+pub after_head : (x : List ℕ) (xs : Lists) (s : List ℕ) → IsAscending (x ∷ xs) → Contains xs s → slice_cmp nat_cmp x s ≡ Less
+after_head x xs s h c = All-contains (λ y. cmp x y ≡ Less) xs s (all_after x xs h) c
+
+pub ascending_take : (count : ℕ) (xs : Lists) → IsAscending xs → IsAscending (take count xs)
+ascending_take zero xs h = ascending_nil
+ascending_take (suc count) [] h = ascending_nil
+ascending_take (suc count) (x ∷ xs) h = ascending_cons x (take count xs) (All-take (λ y. cmp x y ≡ Less) count xs (all_after x xs h)) (ascending_take count xs (sorted_tail cmp x xs h))
+
+-- ---- two ascending lists with the same members are equal
+tail_in_tail : (x y : List ℕ) (xs ys : Lists) → y ≡ x → IsAscending (x ∷ xs) → ((s : List ℕ) → Contains (x ∷ xs) s → Contains (y ∷ ys) s)
+    → (s : List ℕ) → Contains xs s → Contains ys s
+tail_in_tail x y xs ys same up to s c = elim (Contains-cons_cases y ys s (to s (Contains-there x xs s c))) [
+  | inl e ↦ absurd (less_itself x (subst (λ t. cmp x t ≡ Less) (sym e ∙ same) (after_head x xs s up c)))
+  | inr d ↦ d
+]
+
+pub only_listing : (xs ys : List (List ℕ)) → IsAscending xs → IsAscending ys → ((s : List ℕ) → Contains xs s → Contains ys s) → ((s : List ℕ) → Contains ys s → Contains xs s) → xs ≡ ys
+only_listing [] [] up rise to from = refl
+only_listing [] (y ∷ ys) up rise to from = absurd (Contains-nil y (from y (Contains-here y ys)))
+only_listing (x ∷ xs) [] up rise to from = absurd (Contains-nil x (to x (Contains-here x xs)))
+only_listing (x ∷ xs) (y ∷ ys) up rise to from =
+    let heads : y ≡ x = elim (Contains-cons_cases y ys x (to x (Contains-here x xs))) [
+      | inl same ↦ same
+      | inr c ↦ elim (Contains-cons_cases x xs y (from y (Contains-here y ys))) [
+        | inl same ↦ sym same
+        | inr d ↦ absurd (less_itself x (less_on x y x (after_head x xs y up d) (after_head y ys x rise c)))
+      ]
+    ] in
+    ap (λ z. z ∷ xs) (sym heads)
+    ∙ ap (λ zs. y ∷ zs) (only_listing xs ys (sorted_tail cmp x xs up) (sorted_tail cmp y ys rise) (tail_in_tail x y xs ys heads up to) (tail_in_tail y x ys xs (sym heads) rise from))
+
+-- ---- putting a list into a listing
+at_order_of : (P : Lists → Type 0) (x y : List ℕ) (ys more : Lists) (o : Ordering) → cmp x y ≡ o
+    → (cmp x y ≡ Less → P (x ∷ (y ∷ ys))) → (cmp x y ≡ Equal → P (y ∷ ys)) → (cmp x y ≡ Greater → P (y ∷ more)) → P (put_by o x y ys more)
+at_order_of P x y ys more Less e f g h = f e
+at_order_of P x y ys more Equal e f g h = g e
+at_order_of P x y ys more Greater e f g h = h e
+
+at_order : (P : Lists → Type 0) (x y : List ℕ) (ys more : Lists)
+    → (cmp x y ≡ Less → P (x ∷ (y ∷ ys))) → (cmp x y ≡ Equal → P (y ∷ ys)) → (cmp x y ≡ Greater → P (y ∷ more)) → P (put_by (cmp x y) x y ys more)
+at_order P x y ys more = at_order_of P x y ys more (cmp x y) refl
+
+put_from : (x : List ℕ) (ys : Lists) (s : List ℕ) → Contains (put x ys) s → (s ≡ x) ⊎ Contains ys s
+put_from x [] s c = elim (Contains-cons_cases x [] s c) [ inl e ↦ inl (sym e) | inr d ↦ inr d ]
+put_from x (y ∷ ys) s c = at_order (λ l. Contains l s → (s ≡ x) ⊎ Contains (y ∷ ys) s) x y ys (put x ys)
+    (λ o c. elim (Contains-cons_cases x (y ∷ ys) s c) [ inl e ↦ inl (sym e) | inr d ↦ inr d ])
+    (λ o c. inr c)
+    (λ o c. elim (Contains-cons_cases y (put x ys) s c) [
+      | inl e ↦ inr (subst (Contains (y ∷ ys)) e (Contains-here y ys))
+      | inr d ↦ elim (put_from x ys s d) [ inl e ↦ inl e | inr f ↦ inr (Contains-there y ys s f) ]
+    ])
+    c
+
+put_new : (x : List ℕ) (ys : Lists) → Contains (put x ys) x
+put_new x [] = Contains-here x []
+put_new x (y ∷ ys) = at_order (λ l. Contains l x) x y ys (put x ys)
+    (λ o. Contains-here x (y ∷ ys))
+    (λ o. subst (Contains (y ∷ ys)) (sym (exact_bytes x y o)) (Contains-here y ys))
+    (λ o. Contains-there y (put x ys) x (put_new x ys))
+
+put_old : (x : List ℕ) (ys : Lists) (s : List ℕ) → Contains ys s → Contains (put x ys) s
+put_old x [] s c = absurd (Contains-nil s c)
+put_old x (y ∷ ys) s c = at_order (λ l. Contains l s) x y ys (put x ys)
+    (λ o. Contains-there x (y ∷ ys) s c)
+    (λ o. c)
+    (λ o. elim (Contains-cons_cases y ys s c) [
+      | inl e ↦ subst (Contains (y ∷ put x ys)) e (Contains-here y (put x ys))
+      | inr d ↦ Contains-there y (put x ys) s (put_old x ys s d)
+    ])
+
+put_ascending : (x : List ℕ) (ys : Lists) → IsAscending ys → IsAscending (put x ys)
+put_ascending x [] h = ascending_cons x [] (All-nil (λ y. cmp x y ≡ Less)) ascending_nil
+put_ascending x (y ∷ ys) h = at_order IsAscending x y ys (put x ys)
+    (λ o. ascending_cons x (y ∷ ys)
+    (all_from (λ s. cmp x s ≡ Less) (y ∷ ys) (λ s c. elim (Contains-cons_cases y ys s c) [
+      | inl e ↦ subst (λ t. cmp x t ≡ Less) e o
+      | inr d ↦ less_on x y s o (after_head y ys s h d)
+    ]))
+    h)
+    (λ o. h)
+    (λ o. ascending_cons y (put x ys)
+    (all_from (λ s. cmp y s ≡ Less) (put x ys) (λ s c. elim (put_from x ys s c) [
+      | inl e ↦ subst (λ t. cmp y t ≡ Less) (sym e) (greater_back x y o)
+      | inr d ↦ after_head y ys s h d
+    ]))
+    (put_ascending x ys (sorted_tail cmp y ys h)))
+
+pub length_put_least : (x : List ℕ) (ys : List (List ℕ)) → length ys ≤ length (put x ys)
+length_put_least x [] = omega arith
+length_put_least x (y ∷ ys) = at_order (λ l. length (y ∷ ys) ≤ length l) x y ys (put x ys) (λ o. omega arith) (λ o. omega arith) (λ o. let r = length_put_least x ys in omega (arith, r))
+
+pub length_put_most : (x : List ℕ) (ys : List (List ℕ)) → length (put x ys) ≤ suc (length ys)
+length_put_most x [] = omega arith
+length_put_most x (y ∷ ys) = at_order (λ l. length l ≤ suc (length (y ∷ ys))) x y ys (put x ys) (λ o. omega arith) (λ o. omega arith) (λ o. let r = length_put_most x ys in omega (arith, r))
+
+pub put_fresh : (x : List ℕ) (ys : List (List ℕ)) → (Contains ys x → ⊥) → length (put x ys) ≡ suc (length ys)
+put_fresh x [] h = refl
+put_fresh x (y ∷ ys) h = at_order (λ l. length l ≡ suc (length (y ∷ ys))) x y ys (put x ys)
+    (λ o. refl)
+    (λ o. absurd (h (subst (Contains (y ∷ ys)) (sym (exact_bytes x y o)) (Contains-here y ys))))
+    (λ o. ap suc (put_fresh x ys (λ c. h (Contains-there y ys x c))))
+
+-- ---- the different ones of a list
+pub different_ascending : (xs : List (List ℕ)) → IsAscending (different xs)
+different_ascending [] = ascending_nil
+different_ascending (x ∷ xs) = put_ascending x (different xs) (different_ascending xs)
+
+pub different_from : (xs : List (List ℕ)) (s : List ℕ) → Contains (different xs) s → Contains xs s
+different_from [] s c = c
+different_from (x ∷ xs) s c = elim (put_from x (different xs) s c) [
+  | inl e ↦ subst (Contains (x ∷ xs)) (sym e) (Contains-here x xs)
+  | inr d ↦ Contains-there x xs s (different_from xs s d)
+]
+
+pub different_to : (xs : List (List ℕ)) (s : List ℕ) → Contains xs s → Contains (different xs) s
+different_to [] s c = c
+different_to (x ∷ xs) s c = elim (Contains-cons_cases x xs s c) [
+  | inl e ↦ subst (Contains (put x (different xs))) e (put_new x (different xs))
+  | inr d ↦ put_old x (different xs) s (different_to xs s d)
+]
+
+pub different_is_listing : (xs : List (List ℕ)) → IsListing xs (different xs)
+different_is_listing xs = record { ascending = different_ascending xs; same = λ s. (different_from xs s, different_to xs s) }
+
+-- an ascending list with the same members is the listing
+pub is_different : (xs ys : List (List ℕ)) → IsAscending ys → ((s : List ℕ) → Contains ys s → Contains xs s) → ((s : List ℕ) → Contains xs s → Contains ys s) → ys ≡ different xs
+is_different xs ys up from to = only_listing ys (different xs) up (different_ascending xs) (λ s c. different_to xs s (from s c)) (λ s c. to s (different_from xs s c))
+
+pub different_itself : (xs : List (List ℕ)) → IsAscending xs → different xs ≡ xs
+different_itself xs up = sym (is_different xs xs up (λ s c. c) (λ s c. c))
+
+pub same_different : (xs ys : List (List ℕ)) → ((s : List ℕ) → Contains xs s → Contains ys s) → ((s : List ℕ) → Contains ys s → Contains xs s) → different xs ≡ different ys
+same_different xs ys to from = is_different ys (different xs) (different_ascending xs) (λ s c. to s (different_from xs s c)) (λ s c. different_to xs s (from s c))
+
+pub different_filter : (p : List ℕ → Bool) (xs : List (List ℕ)) → different (filter p xs) ≡ filter p (different xs)
+different_filter p xs = sym (is_different (filter p xs) (filter p (different xs)) (IsStrictlySortedBy-filter cmp p (different xs) (different_ascending xs))
+    (λ s c. let d = Contains-from_filter p (different xs) s c in Contains-filter p xs s (different_from xs s d.0) d.1)
+    (λ s c. let d = Contains-from_filter p xs s c in Contains-filter p (different xs) s (different_to xs s d.0) d.1))
+
+-- ---- the least of them
+less_take : (count : ℕ) (y : List ℕ) (ys : Lists) → take count (y ∷ ys) ≡ take count (y ∷ take count ys)
+less_take zero y ys = refl
+less_take (suc count) y ys = ap (λ t. y ∷ t) (sym (take-take count (suc count) ys (omega arith)))
+
+put_take_of : (count : ℕ) (x y : List ℕ) (ys : Lists) (o : Ordering) → take count (put x ys) ≡ take count (put x (take count ys))
+    → take (suc count) (put_by o x y ys (put x ys)) ≡ take (suc count) (put_by o x y (take count ys) (put x (take count ys)))
+put_take_of count x y ys Less h = ap (λ t. x ∷ t) (less_take count y ys)
+put_take_of count x y ys Equal h = ap (λ t. y ∷ t) (sym (take-take count count ys (omega arith)))
+put_take_of count x y ys Greater h = ap (λ t. y ∷ t) h
+
+put_take : (count : ℕ) (x : List ℕ) (ys : Lists) → take count (put x ys) ≡ take count (put x (take count ys))
+put_take zero x ys = refl
+put_take (suc count) x [] = refl
+put_take (suc count) x (y ∷ ys) = put_take_of count x y ys (cmp x y) (put_take count x ys)
+
+put_agree : (count : ℕ) (x : List ℕ) (xs ys : Lists) → take count xs ≡ take count ys → take count (put x xs) ≡ take count (put x ys)
+put_agree count x xs ys h = put_take count x xs ∙ ap (λ t. take count (put x t)) h ∙ sym (put_take count x ys)
+
+agree_behind : (count : ℕ) (front xs ys : Lists) → AgreeTo count xs ys → AgreeTo count (front ++ xs) (front ++ ys)
+agree_behind count [] xs ys h = h
+agree_behind count (x ∷ front) xs ys h = put_agree count x (different (front ++ xs)) (different (front ++ ys)) (agree_behind count front xs ys h)
+
+swapped : (xs ys : Lists) (s : List ℕ) → Contains (xs ++ ys) s → Contains (ys ++ xs) s
+swapped xs ys s c = elim (Contains-append_cases xs ys s c) [ inl d ↦ Contains-append_right ys xs s d | inr d ↦ Contains-append_left ys xs s d ]
+
+different_swap : (xs ys : Lists) → different (xs ++ ys) ≡ different (ys ++ xs)
+different_swap xs ys = same_different (xs ++ ys) (ys ++ xs) (swapped xs ys) (swapped ys xs)
+
+-- what agrees, agrees with more behind it
+pub agree_before : (count : ℕ) (xs ys more : List (List ℕ)) → AgreeTo count xs ys → AgreeTo count (xs ++ more) (ys ++ more)
+agree_before count xs ys more h = ap (take count) (different_swap xs more) ∙ agree_behind count more xs ys h ∙ ap (take count) (different_swap more ys)
+
+-- the least ones agree with all
+pub agree_least : (count : ℕ) (xs ys : List (List ℕ)) → xs ≡ take count (different ys) → AgreeTo count xs ys
+agree_least count xs ys e =
+    ap (λ l. take count (different l)) e
+    ∙ ap (take count) (different_itself (take count (different ys)) (ascending_take count (different ys) (different_ascending ys)))
+    ∙ take-take count count (different ys) (omega arith)
+
+-- ---- going on behind one of an ascending list
+pass_all : (p : List ℕ → Bool) (xs : Lists) → ((s : List ℕ) → Contains xs s → p s ≡ true) → filter p xs ≡ xs
+pass_all p [] h = refl
+pass_all p (x ∷ xs) h = rw (h x (Contains-here x xs)) (ap (λ l. x ∷ l) (pass_all p xs (λ s c. h s (Contains-there x xs s c))))
+
+pub pass_true : (xs : List (List ℕ)) → filter (λ (s : List ℕ). true) xs ≡ xs
+pass_true xs = pass_all (λ s. true) xs (λ s c. refl)
+
+not_less_of : (o : Ordering) → (o ≡ Less → ⊥) → is_lt o ≡ false
+not_less_of Less h = absurd (h refl)
+not_less_of Equal h = refl
+not_less_of Greater h = refl
+
+not_before : (x m : List ℕ) → cmp x m ≡ Less → is_lt (cmp m x) ≡ false
+not_before x m h = not_less_of (cmp m x) (λ e. less_itself x (less_on x m x h e))
+
+pub behind : (xs : List (List ℕ)) (place : ℕ) (d : List ℕ) → IsAscending xs → place < length xs → filter (λ s. is_lt (slice_cmp nat_cmp (get_or xs place d) s)) xs ≡ drop (suc place) xs
+behind [] place d up h = absurd (omega arith)
+behind (x ∷ xs) zero d up h =
+    let own : is_lt (cmp x x) ≡ false = not_less_of (cmp x x) (less_itself x) in
+    rw own (pass_all (λ s. is_lt (cmp x s)) xs (λ s c. ap is_lt (after_head x xs s up c)))
+behind (x ∷ xs) (suc place) d up h =
+    let l : place < length xs = omega arith in
+    let first : is_lt (cmp (get_or xs place d) x) ≡ false = not_before x (get_or xs place d) (all_after x xs up place d l) in
+    rw first (behind xs place d (sorted_tail cmp x xs up) l)

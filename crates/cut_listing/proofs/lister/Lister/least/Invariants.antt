@@ -1,0 +1,18 @@
+use Rattle.std.proofs.Common.{◌≡◌, ◌++◌, length}
+use Rattle.std.specs.List.{All, filter}
+use Rattle.cut_definitions.specs.Cuts.{IsAscendingWithin}
+use Rattle.cut_listing.specs.Asks.{lets}
+use Rattle.cut_listing.specs.Listings.{AgreeTo, asked_sides, is_after, members_of}
+use Rattle.cut_listing.proofs.lister.Lister.least.Given as goal
+
+abbrev pub invariant-sides : goal.invariant-sides
+invariant-sides g l = record {
+  walk : l.walk.vertices ≡ l.self.n;
+  room : l.room.vertices ≡ l.self.n;
+  over_n : All (λ s. s.vertices ≡ l.self.n) l.found.items;
+  ascending : All (IsAscendingWithin 1 l.self.n) l.walk.to_come;
+  agrees : AgreeTo l.count (members_of l.found.items ++ filter (λ s. is_after l.bound s) (filter (lets l.self.ask) l.walk.to_come)) (filter (λ s. is_after l.bound s) (asked_sides l.self.ask l.cactus));
+}
+
+abbrev pub decreases-sides : goal.decreases-sides
+decreases-sides g l = length l.walk.to_come

@@ -1,0 +1,18 @@
+use Rattle.std.proofs.Common.{◌++◌, ◌∙◌, ap, refl}
+use Rattle.cactus_tree.specs.Entered.{entered}
+use Rattle.cactus_tree.specs.Widths.{widths}
+use Rattle.cactus_tree.proofs.Orders.{entered_bridge}
+use Rattle.cactus_tree.proofs.Widths.{widths_bridge}
+use Rattle.cactus_tree.proofs.Orders.{hung_entered}
+use Rattle.cactus_tree.proofs.Built.{hung_widths}
+use Rattle.cut_listing.proofs.tests.with_bridge.Goals as goal
+
+pub returns-clause-entered : goal.returns-clause-entered
+returns-clause-entered c =
+    hung_entered c.args.node _ _ refl c.in_ok-push.ensures.ok
+    ∙ ap (λ l. entered c.args.node ++ l) (entered_bridge c.in_ok-child.child ∙ ap entered c.in_ok-child.ensures.ok)
+
+pub returns-clause-widths : goal.returns-clause-widths
+returns-clause-widths c =
+    hung_widths c.args.node _ _ c.in_ok-push.ensures.ok
+    ∙ ap (λ l. widths c.args.node ++ l) (widths_bridge c.in_ok-child.child ∙ ap widths c.in_ok-child.ensures.ok)

@@ -1,0 +1,30 @@
+-- The laws of listings, as facts that the functions of the module `laws` state.
+use Rattle.std.specs.Prelude.{ℕ, Bool, ◌≡◌, ◌↔◌, List, length}
+use Rattle.std.specs.List.{Contains, filter}
+use Rattle.cut_definitions.specs.Graph.{Graph}
+use Rattle.cut_definitions.specs.Cuts.{sides, mincuts}
+use Rattle.cactus_tree.specs.Rooted.{Rooted, sides_of}
+use Rattle.cut_listing.specs.declared.ask.Ask.{Ask}
+use Rattle.cut_listing.specs.Asks.{lets}
+use Rattle.cut_listing.specs.Listings.{IsAscending, IsListing, HaveDifferent, asked_sides}
+
+-- there is one listing of some sides
+abbrev pub LawOfOneListing : Type 0
+LawOfOneListing = (some first second : List (List ℕ)) → IsListing some first → IsListing some second → first ≡ second
+
+-- an ascending list with the members of the sides of n that pass a test is these sides, as they stand among all sides
+abbrev pub LawOfSides : Type 0
+LawOfSides = (n : ℕ) (test : List ℕ → Bool) (listing : List (List ℕ)) → IsAscending listing →
+    ((side : List ℕ) → Contains listing side ↔ Contains (filter test (sides n)) side) → listing ≡ filter test (sides n)
+
+-- where the sides of a cactus are the minimum cuts of a graph, a listing is the minimum cuts that are asked for, in the order of lists
+abbrev pub LawOfMinimumCuts : Type 0
+LawOfMinimumCuts = (g : Graph) (cactus : Rooted) (ask : Ask) (listing : List (List ℕ)) →
+    ((side : List ℕ) → Contains (sides_of cactus) side ↔ Contains (mincuts g) side) →
+    IsListing (asked_sides ask cactus) listing → listing ≡ filter (lets ask) (mincuts g)
+
+-- and the number of the different sides is that of these minimum cuts
+abbrev pub LawOfCount : Type 0
+LawOfCount = (g : Graph) (cactus : Rooted) (ask : Ask) (count : ℕ) →
+    ((side : List ℕ) → Contains (sides_of cactus) side ↔ Contains (mincuts g) side) →
+    HaveDifferent (asked_sides ask cactus) count → count ≡ length (filter (lets ask) (mincuts g))

@@ -1,0 +1,3 @@
+pub mod Climbs
+pub mod Members
+pub mod Making
