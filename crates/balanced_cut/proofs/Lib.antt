@@ -1,2 +1,3 @@
 pub mod SomeCut
-pub mod Weighing
+pub mod Moving
+pub mod BestSide

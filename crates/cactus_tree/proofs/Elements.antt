@@ -35,13 +35,13 @@ take_length zero xs h = refl
 take_length (suc k) [] h = absurd (omega (arith, h))
 take_length (suc k) (x ∷ xs) h = ap suc (take_length k xs (omega (arith, h)))
 
-elements_more : (xs : List ℕ) (from place : ℕ) → from ≤ place → place < length xs → drop from (take (place + 1) xs) ≡ drop from (take place xs) ++ get_or xs place 0 ∷ []
+pub elements_more : (xs : List ℕ) (from place : ℕ) → from ≤ place → place < length xs → drop from (take (place + 1) xs) ≡ drop from (take place xs) ++ get_or xs place 0 ∷ []
 elements_more xs from place h within =
     let next : place + 1 ≡ suc place = omega arith in
     let few : from ≤ length (take place xs) = omega (arith, h, within, take_length place xs (omega (arith, within))) in
     ap (λ k. drop from (take k xs)) next ∙ ap (drop from) (take-suc xs place 0 within) ∙ drop_push from (take place xs) (get_or xs place 0) few
 
-has_push : (xs : List ℕ) (x u : ℕ) → has (xs ++ x ∷ []) u ≡ (has xs u || (x == u))
+pub has_push : (xs : List ℕ) (x u : ℕ) → has (xs ++ x ∷ []) u ≡ (has xs u || (x == u))
 has_push [] x u = or_false (x == u)
   where
     or_false : (a : Bool) → (a || false) ≡ a

@@ -16,6 +16,8 @@ pub mod Bordered
 pub mod Elements
 pub mod Once
 pub mod PlaceLaws
+pub mod Masses
+pub mod Chained
 pub mod Stepping
 pub mod Layouts
 pub mod Shapes

@@ -117,6 +117,17 @@ each_once n root h v low high =
     let p = one_place v (concat (entered root)) one in
     (p.0, λ r. p.1 r.from r.to)
 
+-- a number that stands in a list is in it
+times_has : (v : ℕ) (xs : List ℕ) → times v xs ≡ 1 → has xs v ≡ true
+times_has v [] h = absurd (omega (arith, h))
+times_has v (x ∷ xs) h = elim (one_if (x == v) (times v xs) h) [
+  | inl a ↦ ap (λ b. b || has xs v) a.0
+  | inr b ↦ ap (λ c. c || has xs v) b.0 ∙ times_has v xs b.1
+]
+
+pub each_there : (n : ℕ) (root : Node) → IsCactus n root → (v : ℕ) → 1 ≤ v → v ≤ n → has (concat (entered root)) v ≡ true
+each_there n root h v low high = times_has v (concat (entered root)) (all_times n v (entered root) h.ascending ∙ h.in_one_node v low high)
+
 ascending_vertices : (low n : ℕ) (l : List ℕ) → 1 ≤ low → IsAscendingWithin low n l → All (IsVertex n) l
 ascending_vertices low n [] h a = All-nil (IsVertex n)
 ascending_vertices low n (x ∷ l) h a = All-cons (IsVertex n) x l (omega (arith, h, a.0), a.1) (ascending_vertices (x + 1) n l (omega arith) a.2)

@@ -1,5 +1,5 @@
--- What a walk keeps of its borders and of its place among them.
-use Rattle.std.specs.Prelude.{ℕ, ◌≤◌, ◌<◌, ⊤, List, [], ◌∷◌, map, drop, length}
+-- What is known of the borders of a tree, and what a walk keeps of its place among them.
+use Rattle.std.specs.Prelude.{ℕ, ◌+◌, ◌≡◌, ◌≤◌, ◌<◌, ⊤, List, [], ◌∷◌, map, drop, length}
 use Rattle.cactus_tree.specs.Borders.{ranges_between, border_at}
 use Rattle.cactus_tree.specs.Places.{side_at}
 use Rattle.cactus_tree.specs.declared.walk.borders.Border.{Border}
@@ -8,6 +8,11 @@ use Rattle.cactus_tree.specs.declared.walk.borders.Border.{Border}
 abbrev pub AreBorders : ℕ → List Border → Type 0
 AreBorders long [] = ⊤
 AreBorders long (b ∷ bs) = (b.place ≤ long) × (b.following ≤ length bs) × AreBorders long bs
+
+-- each border but the last of its block is followed by the next one of the block, which stands at no lesser place
+abbrev pub AreChained : List Border → Type 0
+AreChained [] = ⊤
+AreChained (b ∷ bs) = (0 < b.following → (b.place ≤ (border_at bs 0).place) × (b.following ≡ (border_at bs 0).following + 1)) × AreChained bs
 
 -- the sides from a border on, without those of its cuts that were given
 abbrev pub sides_left : ℕ → List ℕ → List Border → ℕ → ℕ → List (List ℕ)

@@ -11,7 +11,8 @@
 //! vertices are listed, its subtrees are measured, and `spread` and `rename_node` put other vertices in their place, by loops;
 //! `nodes` and `is_normal` take no memory and call themselves once for each level. A `Walk` gives the sides one after
 //! another, by loops and without a borrow: in the order of entering each side is one range of the vertices, so each step
-//! changes only what two sides do not share.
+//! changes only what two sides do not share. `cut_places` gives these ranges by the borders of the blocks, so that
+//! cuts can be weighed by their places alone, and `put_range` the vertices of one range.
 //! `flatten` numbers the nodes and gives the bridges and cycles by these numbers, as a `FlatCactus`, in loops. The cuts
 //! of that, told by what node 0 still reaches once one bridge or two edges of a cycle are taken away, have the sides of
 //! the tree: `laws::flat_sides`.
@@ -32,7 +33,7 @@ pub use tree::{
     Block, Blocks, Children, Node, gather, rename_node, subtree_sizes, vertices_in_order,
 };
 pub use vertex_list::VertexList;
-pub use walk::Walk;
+pub use walk::{Border, CutPlaces, Span, Walk, cut_places, next_start, put_range};
 
 #[cfg(test)]
 mod tests;

@@ -5,8 +5,8 @@ ghost use Rattle.cactus_tree.specs.Trees.{nodes_in};
 ghost use Rattle.cactus_tree.specs.Widths.{widths};
 
 use crate::{
-    Block, Blocks, Cactus, Children, FlatCactus, Node, VertexList, Walk, flatten, rename_node,
-    vertices_in_order,
+    Block, Blocks, Cactus, Children, FlatCactus, Node, VertexList, Walk, cut_places, flatten,
+    next_start, put_range, rename_node, vertices_in_order,
 };
 use std::alloc::{AllocError, Global};
 use std::test::Fail;
@@ -167,6 +167,31 @@ fn a_cycle_of_four_nodes_has_six_sides(rt: HostRuntime) -> Result<(), Fail> {
     assert!(rt; gives(&mut walk, &mut room, &[4]));
     assert!(rt; !walk.next(&mut room));
     assert!(rt; has_exactly(&room, &[4]));
+    Ok(())
+}
+
+#[test]
+fn the_cuts_of_a_cycle_are_ranges_between_its_borders(rt: HostRuntime) -> Result<(), Fail> {
+    let alloc = rt.alloc();
+    let cactus = one_ring(alloc)?;
+    let places = cut_places(alloc, &cactus)?;
+    assert_eq!(rt; places.order.as_slice(), [1, 2, 3, 4].as_slice());
+    assert_eq!(rt;
+        (next_start(&places.borders, 0), places.borders.len()),
+        (0, 4)
+    );
+    assert_eq!(rt;
+        (places.borders[0].place, places.borders[0].following),
+        (1, 3)
+    );
+    assert_eq!(rt;
+        (places.borders[2].place, places.borders[2].following),
+        (3, 1)
+    );
+    let mut side = Side::empty(alloc, 4)?;
+    side.insert(4);
+    put_range(&mut side, &places.order, 1, 3);
+    assert!(rt; has_exactly(&side, &[2, 3, 4]));
     Ok(())
 }
 

@@ -4,12 +4,14 @@ ghost use Rattle.std.specs.Prelude.{◌≡◌, [], ◌∷◌, true, false, IfOk}
 ghost use Rattle.cactus_tree.specs.Rooted.{sides_of};
 
 mod borders;
+mod places;
 mod shown;
 
 use crate::cactus::Cactus;
-use crate::tree::{in_order, outline_of, sizes_along};
-use borders::{Border, borders_of, next_start};
-use shown::{Span, change_side};
+pub use borders::{Border, next_start};
+pub use places::{CutPlaces, cut_places};
+use shown::change_side;
+pub use shown::{Span, put_range};
 use std::alloc::{AllocError, Global};
 use std::marker::Model;
 use vertex_set::Side;
@@ -72,19 +74,15 @@ impl Walk {
         ensures sides { IfOk result (λ w. w.to_come ≡ sides_of cactus.now) }
     {
         let n = cactus.n();
-        let root = cactus.root();
-        let listing = in_order(alloc, root)?;
-        let entries = outline_of(alloc, root)?;
-        let sizes = sizes_along(alloc, &entries)?;
-        let borders = borders_of(alloc, &entries, &sizes, &listing.places)?;
-        let first = next_start(&borders, 0);
+        let places = cut_places(alloc, cactus)?;
+        let first = next_start(&places.borders, 0);
         let side = Side::empty(alloc, n)?;
         let mut all = Side::empty(alloc, n)?;
         all.flip();
         Ok(Walk {
             n,
-            order: listing.vertices,
-            borders,
+            order: places.order,
+            borders: places.borders,
             first,
             given: 0,
             span: Span { from: 0, to: 0 },

@@ -69,7 +69,8 @@ pub fn borders_of(
     Ok(borders)
 }
 
-/// The first border from a place on which others of its block follow; the number of borders where there is none.
+/// The first border from a place of the list on, counted from 0, which others of its block follow; the number of borders
+/// where there is none. One step for each border that is passed.
 pub fn next_start(borders: &[Border], from: usize) -> usize
     requires { from ≤ length borders.now }
     ensures within { result ≤ length borders.now }

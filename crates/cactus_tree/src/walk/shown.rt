@@ -10,10 +10,12 @@ ghost use Rattle.cactus_tree.specs.Places.{AreOnce, IsVertex};
 
 use vertex_set::Side;
 
-/// The places from one on that are before another.
+/// The places of a list, counted from 0, from one on that are before another.
 #[derive(Clone, Copy)]
 pub struct Span {
+    /// The first place.
     pub from: usize,
+    /// The place behind the last one.
     pub to: usize,
 }
 
@@ -31,8 +33,10 @@ fn take_range(side: &mut Side, order: &[u32], from: usize, to: usize)
     }
 }
 
-/// Puts the vertices at the places of a range into the side.
-fn put_range(side: &mut Side, order: &[u32], from: usize, to: usize)
+/// Puts the vertices at the places from `from` on that are before `to` into the side; what was there stays.
+///
+/// One step for each of them. It takes no memory.
+pub fn put_range(side: &mut Side, order: &[u32], from: usize, to: usize)
     requires vertices { All (IsVertex side.old.vertices) order.now }
     requires to { to ≤ length order.now }
     ensures n { side.new.vertices ≡ side.old.vertices }

@@ -1,27 +1,42 @@
--- The best of the sides that were weighed; there is a first one, since the cactus has a block.
-use Rattle.std.proofs.Common.{ap, sym, ◌∙◌}
-use Rattle.vertex_set.specs.Side.{VertexList}
+-- The sides of a cactus are those at the ranges between the borders of its blocks, and one of these is best.
+use Rattle.std.proofs.Common.{◌∙◌, ap, sym, map, length, subst, arith}
+use Rattle.std.specs.List.{Contains}
+use Rattle.cactus_tree.specs.Borders.{ranges_between}
+use Rattle.cactus_tree.specs.Places.{side_at}
 use Rattle.cactus_tree.specs.Rooted.{sides_of}
+use Rattle.cactus_tree.specs.Walking.{AreBorders}
+use Rattle.balanced_cut.specs.Ends.{NoneGreater, range_of}
+use Rattle.balanced_cut.proofs.BestSide.{best_side, side_filled}
+use Rattle.balanced_cut.proofs.Moving.{best_fits, ranges_fit}
 use Rattle.balanced_cut.proofs.SomeCut.{some_side}
-use Rattle.balanced_cut.proofs.Weighing.{best_at_first, best_of_more}
 use Rattle.balanced_cut.proofs.weighed.best.Goals as goal
 
-pub sides-init : goal.sides-init
-sides-init c = record {
-  walk = c.next.ensures.n ∙ c.in_ok-walk.ensures.n;
-  best = c.next.ensures.room ∙ ap (λ (s : VertexList). s.vertices) c.in_ok-best.ensures ∙ c.n-n.ensures.value;
-  contender = ap (λ (s : VertexList). s.vertices) c.in_ok-contender.ensures ∙ c.n-n.ensures.value;
-  so_far = best_at_first c.next.result c.args.cactus.now.vertices (sides_of c.args.cactus.now) c.next.new.self.to_come c.next.new.room.members
-      (some_side c.args.cactus.now c.n-n.ensures.cactus c.requires)
-      (λ given. sym c.in_ok-walk.ensures.sides ∙ c.next.ensures.some given) (λ none. sym c.in_ok-walk.ensures.sides ∙ c.next.ensures.none none);
-}
+pub best_span-span-requires-clause-some : goal.best_span-span-requires-clause-some
+best_span-span-requires-clause-some c = λ none.
+    some_side c.args.cactus.now c.n-n.ensures.cactus c.requires
+    (sym c.in_ok-places.ensures.sides ∙ ap (map (side_at c.args.cactus.now.vertices c.in_ok-places.places.order.items)) (ap ranges_between (sym c.deref.ensures.value) ∙ none))
 
-pub sides-preserved : goal.sides-preserved
-sides-preserved c = record {
-  walk = c.next-in-sides.ensures.n ∙ c.sides.invariant.walk;
-  best = c.keep_better.ensures.n ∙ c.sides.invariant.best;
-  contender = c.keep_better.ensures.room ∙ c.sides.invariant.best;
-  so_far = best_of_more c.args.cactus.now.vertices c.sides.best.vertices (sides_of c.args.cactus.now) c.sides.walk.to_come c.next-in-sides.new.self.to_come
-      c.sides.best.members c.next-in-sides.new.room.members c.keep_better.new.best.members c.sides.invariant.best
-      (c.next-in-sides.ensures.some c.sides-test.true) c.keep_better.ensures.put c.keep_better.ensures.kept c.sides.invariant.so_far;
-}
+pub put_range-requires-clause-to : goal.put_range-requires-clause-to
+put_range-requires-clause-to c =
+    let n = c.args.cactus.now.vertices in
+    let borders = c.in_ok-places.places.borders.items in
+    let chosen = range_of c.best_span-span.result in
+    let fit : AreBorders n borders = subst (λ k. AreBorders k borders) c.in_ok-places.ensures.long c.in_ok-places.ensures.borders in
+    let member : Contains (ranges_between borders) chosen = subst (λ b. Contains (ranges_between b) chosen) c.deref.ensures.value c.best_span-span.ensures.member in
+    let within = best_fits n borders chosen fit c.in_ok-places.ensures.chained member in
+    omega (arith, within.1, c.in_ok-places.ensures.long, ap length c.deref-2.ensures.value)
+
+pub returns-clause-best : goal.returns-clause-best
+returns-clause-best c =
+    let n = c.args.cactus.now.vertices in
+    let order = c.in_ok-places.places.order.items in
+    let borders = c.in_ok-places.places.borders.items in
+    let chosen = range_of c.best_span-span.result in
+    let fit : AreBorders n borders = subst (λ k. AreBorders k borders) c.in_ok-places.ensures.long c.in_ok-places.ensures.borders in
+    best_side n order (ranges_between borders) (sides_of c.args.cactus.now) chosen c.put_range.new.side.members
+    c.in_ok-places.ensures.once c.in_ok-places.ensures.vertices c.in_ok-places.ensures.long (ranges_fit n borders fit c.in_ok-places.ensures.chained)
+    (subst (λ b. Contains (ranges_between b) chosen) c.deref.ensures.value c.best_span-span.ensures.member)
+    (subst (λ b. NoneGreater n (ranges_between b) chosen) c.deref.ensures.value (subst (λ k. NoneGreater k (ranges_between c.deref.result.now) chosen) c.n-n.ensures.value c.best_span-span.ensures.none_greater))
+    c.in_ok-places.ensures.sides
+    (side_filled c.n-n.result c.deref-2.result.now chosen c.in_ok-side.side c.put_range.new.side c.in_ok-side.ensures c.put_range.ensures.set
+    ∙ ap (λ k. side_at k c.deref-2.result.now chosen) c.n-n.ensures.value ∙ ap (λ o. side_at n o chosen) c.deref-2.ensures.value)
