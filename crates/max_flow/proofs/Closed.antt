@@ -35,7 +35,7 @@ pub record IsArcFrom (g : Graph) (toward : List ℕ) (v : ℕ) (a : Arc) : Type 
   pub along : IsAlong (edge_of g.edges a.edge) (get_or toward a.edge 0) v a.to (residual_on v toward a)
 
 -- an arc of a row says what a search wants to know
-arc_from : (g : Graph) → IsGraph g → (toward : List ℕ) (v : ℕ) (a : Arc) → IsArcAt g v a → IsArcFrom g toward v a
+pub arc_from : (g : Graph) → IsGraph g → (toward : List ℕ) (v : ℕ) (a : Arc) → IsArcAt g v a → IsArcFrom g toward v a
 arc_from g ok toward v a h =
     let e = edge_of g.edges a.edge in
     let x = get_or toward a.edge 0 in

@@ -6,4 +6,5 @@ pub mod Pushing
 pub mod Augmenting
 pub mod RowStarts
 pub mod Showing
+pub mod Preflows
 pub mod Members

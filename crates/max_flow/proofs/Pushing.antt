@@ -82,12 +82,12 @@ pub pushed_none : (g : Graph) (toward : List ℕ) (steps : List Step) (place amo
 pushed_none g toward steps place amount h l = record { inside = omega arith; residual = h; bottleneck = l; same = λ j a b. refl; balance = λ side. refl }
 
 -- what one push changes
-record PushedOnce (g : Graph) (toward toward' : List ℕ) (a b amount : ℕ) : Type 0 where
-  residual : IsResidual g toward'
-  balance : (side : VertexSet) → out g.edges toward' side + counted side a amount ≡ out g.edges toward side + counted side b amount
+pub record PushedOnce (g : Graph) (toward toward' : List ℕ) (a b amount : ℕ) : Type 0 where
+  pub residual : IsResidual g toward'
+  pub balance : (side : VertexSet) → out g.edges toward' side + counted side a amount ≡ out g.edges toward side + counted side b amount
 
 -- one arc
-pushed_once : (g : Graph) → IsGraph g → (toward : List ℕ) (i a b amount : ℕ) → IsResidual g toward → i < length g.edges →
+pub pushed_once : (g : Graph) → IsGraph g → (toward : List ℕ) (i a b amount : ℕ) → IsResidual g toward → i < length g.edges →
     IsAlong (edge_of g.edges i) (get_or toward i 0) a b amount →
     PushedOnce g toward (set toward i (carried (eqb (edge_of g.edges i).v b) (get_or toward i 0) amount)) a b amount
 pushed_once g ok toward i a b amount h l along =
@@ -114,7 +114,7 @@ pushed_once g ok toward i a b amount h l along =
     along
 
 -- less can be carried along where more can
-narrower_path : (e : Edge) (x y a b bottleneck amount : ℕ) → amount ≤ bottleneck → x ≡ y → IsAlong e x a b bottleneck → IsAlong e y a b amount
+pub narrower_path : (e : Edge) (x y a b bottleneck amount : ℕ) → amount ≤ bottleneck → x ≡ y → IsAlong e x a b bottleneck → IsAlong e y a b amount
 narrower_path e x y a b bottleneck amount h is along =
     ⊎_elim
     (λ (p : (e.u ≡ a) × (e.v ≡ b) × (bottleneck ≤ x)). inl (p.0, p.1, omega (arith, p.2)))

@@ -4,3 +4,4 @@ pub mod Tree
 pub mod Outcome
 pub mod Rows
 pub mod Flow
+pub mod Preflow

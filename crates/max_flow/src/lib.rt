@@ -18,6 +18,7 @@
 
 pub mod flow;
 pub mod outcome;
+pub mod preflow;
 mod push;
 mod residual;
 mod rows;
@@ -26,6 +27,7 @@ mod side;
 
 pub use flow::Flow;
 pub use outcome::{BestRun, Outcome};
+pub use preflow::{Beyond, Preflow};
 
 #[cfg(test)]
 mod tests;

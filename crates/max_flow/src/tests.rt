@@ -1,9 +1,10 @@
-ghost use Rattle.std.specs.Prelude.{◌↔◌, ◌≡◌, ◌≢◌, ◌<◌, ◌≤◌, ◌^◌, IsTrue, IfOk};
+ghost use Rattle.std.specs.Prelude.{◌↔◌, ◌≡◌, ◌≢◌, ◌<◌, ◌≤◌, ◌^◌, [], ◌∷◌, IsTrue, IfOk};
 ghost use Rattle.std.specs.List.{All};
-ghost use Rattle.cut_definitions.specs.Graph.{IsBefore};
+ghost use Rattle.cut_definitions.specs.Graph.{IsBefore, IsEdgeList};
+ghost use Rattle.cut_definitions.specs.Weight.{VertexSet, weight, IsCut};
 ghost use Rattle.max_flow.specs.Flow.{StandsFor};
 
-use crate::{Flow, Outcome};
+use crate::{Beyond, Flow, Outcome, Preflow};
 use cut_definitions::{Edge, EdgeList};
 use std::alloc::Global;
 use std::test::Fail;
@@ -138,5 +139,40 @@ fn a_heavy_ring(rt: HostRuntime) -> Result<(), Fail> {
     assert!(rt; agrees(&mut flow, &graph, 2, 4, 2, 123));
     assert!(rt; agrees(&mut flow, &graph, 4, 2, 2, 4));
     assert!(rt; agrees(&mut flow, &graph, 3, 5, 0, 1234));
+    Ok(())
+}
+
+// What is told of the sets with t and without vertex 1.
+fn told_from_first(alloc: Global, graph: &Graph, t: u32, bound: u64) -> Result<Beyond, Fail>
+    requires from_two { 2 ≤ t }
+    requires to_n { t ≤ graph.now.vertices }
+    requires positive { 1 ≤ bound }
+    requires small { bound ≤ 2 ^ 61 }
+    requires none_below { (s : VertexSet) → IsCut graph.now.vertices s → bound ≤ weight graph.now s }
+{
+    let mut preflow = Preflow::new(alloc, graph)?;
+    preflow.enter(graph, 1);
+    Ok(preflow.look_beyond(graph, t, bound))
+}
+
+// The triangle with the weights 5, 1 and 4.
+fn triangle(alloc: Global) -> Result<Graph, Fail>
+    ensures value { IfOk result (λ g. g ≡ record { vertices = 3; edges = record { u = 1; v = 2; w = 5 } ∷ record { u = 1; v = 3; w = 1 } ∷ record { u = 2; v = 3; w = 4 } ∷ [] }) }
+    ensures is_graph { IfOk result (λ g. IsEdgeList g) }
+{
+    let edges = [
+        Edge { u: 1, v: 2, w: 5 },
+        Edge { u: 1, v: 3, w: 1 },
+        Edge { u: 2, v: 3, w: 4 },
+    ];
+    let list = EdgeList::from_edges(3, Vec::from_slice(alloc, &edges)?);
+    Ok(Graph::build(alloc, &list)?)
+}
+
+#[test]
+fn what_a_preflow_tells(rt: HostRuntime) -> Result<(), Fail> {
+    let graph = triangle(rt.alloc())?;
+    assert!(rt; told_from_first(rt.alloc(), &graph, 2, 5)? == Beyond::Heavy);
+    assert!(rt; told_from_first(rt.alloc(), &graph, 3, 5)? == Beyond::Alone);
     Ok(())
 }

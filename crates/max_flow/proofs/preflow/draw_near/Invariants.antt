@@ -1,0 +1,6 @@
+-- The preflow is kept.
+use Rattle.max_flow.specs.Preflow.{IsPreflow}
+use Rattle.max_flow.proofs.preflow.draw_near.Given as goal
+
+abbrev pub invariant-arcs : goal.invariant-arcs
+invariant-arcs l = IsPreflow l.graph (record { entered = l.entered; excess = l.excess; toward = l.toward })
