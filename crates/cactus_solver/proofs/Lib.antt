@@ -13,3 +13,8 @@ pub mod Growing
 pub mod Closing
 pub mod Stacking
 pub mod Splitting
+pub mod Sweeping
+pub mod Classing
+pub mod SweptSides
+pub mod CutOffs
+pub mod Composing

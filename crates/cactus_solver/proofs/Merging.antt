@@ -7,12 +7,12 @@ use Rattle.std.proofs.lemmas.List.FromFn.{length-range_with_len, get_or-range_wi
 use Rattle.cut_definitions.specs.Graph.{Graph, IsGraph}
 use Rattle.cut_definitions.specs.Weight.{weight}
 use Rattle.cut_definitions.specs.Cuts.{has, IsSide}
-use Rattle.cut_definitions.specs.Contraction.{label, classes, relabel, lift}
+use Rattle.cut_definitions.specs.Contraction.{label, classes, IsLabels, relabel, lift}
 use Rattle.cut_definitions.proofs.Bridge.{same_ascending}
 use Rattle.cut_definitions.proofs.Contracted.{has-lift}
 use Rattle.weighted_graph.specs.ContractionLaws.{IsLabelled}
 use Rattle.weighted_graph.proofs.Contraction.{law_of_lifted_sides}
-use Rattle.cactus_solver.specs.Light.{HasNoneBelow, IsLightSide, IsContracted, IsHeavyPair}
+use Rattle.cactus_solver.specs.Light.{HasNoneBelow, IsLightSide, IsLifted, IsContracted, IsHeavyPair}
 use Rattle.cactus_solver.specs.Merging.{merged_class}
 use Rattle.cactus_solver.proofs.Labelled.{AreLabelsOf, classes_are, are_labels}
 use Rattle.cactus_solver.proofs.Sided.{lowered, lift_light, none_below, vertices_are_classes}
@@ -41,16 +41,25 @@ alone_lift n x side =
     same_ascending 2 n (lift labels x) x up.ascending side.ascending
     (λ v l u. has-lift labels x v (omega (arith, l)) (omega (arith, u, long)) ∙ ap (has x) (alone_label n v (omega (arith, l)) u))
 
-pub contracted_alone : (bound : ℕ) (g : Graph) → IsContracted bound g (range_with_len 1 g.vertices) g
-contracted_alone bound g =
+-- labels whose classes are the vertices of the other graph cut nothing off
+contracted_whole : (bound : ℕ) (g : Graph) (labels : List ℕ) (h : Graph) → IsLabels labels → length labels ≡ g.vertices → 1 ≤ h.vertices → classes labels ≡ h.vertices →
+    ((x : List ℕ) → IsLightSide bound h x → IsLightSide bound g (lift labels x)) → ((x : List ℕ) → IsLightSide bound g x → IsLifted bound labels h x) → IsContracted bound g labels h
+contracted_whole bound g labels h are long some counted lifted each = record {
+  are_labels = are;
+  long = long;
+  some = some;
+  counted = omega (arith, counted);
+  lifted = lifted;
+  cut_off = λ c l u. absurd (omega (arith, l, u, counted));
+  each = λ x light. inl (each x light);
+}
+
+pub contracted_alone : (bound : ℕ) (g : Graph) → 1 ≤ g.vertices → IsContracted bound g (range_with_len 1 g.vertices) g
+contracted_alone bound g some =
     let n = g.vertices in
-    record {
-      are_labels = are_labels (range_with_len 1 n) n (alone_labels n);
-      long = length-range_with_len 1 n;
-      counted = classes_are (range_with_len 1 n) n (alone_labels n);
-      lifted = λ x light. subst (IsLightSide bound g) (sym (alone_lift n x light.side)) light;
-      each = λ x light. (x, light, alone_lift n x light.side);
-    }
+    contracted_whole bound g (range_with_len 1 n) g (are_labels (range_with_len 1 n) n (alone_labels n)) (length-range_with_len 1 n) some (classes_are (range_with_len 1 n) n (alone_labels n))
+    (λ x light. subst (IsLightSide bound g) (sym (alone_lift n x light.side)) light)
+    (λ x light. record { small = x; light = light; same = alone_lift n x light.side })
 
 -- ---- one vertex with vertex 1
 
@@ -142,20 +151,20 @@ contracted_merged bound g ok t pair labels is =
     let long : length labels ≡ n = ap length is ∙ length-map-range_with_len (merged_class t) 1 n in
     let h : IsLabelled g labels = record { are_labels = are_labels labels (n - 1) of; long = long } in
     let at = λ (v : ℕ) (l : 1 ≤ v) (u : v ≤ n). (let e : label labels v ≡ merged_class t v = ap (λ (k : List ℕ). label k v) is ∙ merged_label n t v l u in e) in
-    record {
-      are_labels = h.are_labels;
-      long = long;
-      counted = sym (vertices_are_classes g ok labels h);
-      lifted = λ x light. lift_light g ok labels h bound x light;
-      each = λ x light. lowered g ok labels h bound x light (λ u v lu uu lv uv same.
-          let same_ends : has x 1 ≡ has x t = not_parted (has x 1) (has x t) (λ p. (let far : bound < weight g (has x) = pair.heavy (has x) p in omega (arith, far, light.weighs))) in
-          ⊎_elim
-          (λ e. ap (has x) e)
-          (⊎_elim
-          (λ (e : (u ≡ 1) × (v ≡ t)). ap (has x) e.0 ∙ same_ends ∙ sym (ap (has x) e.1))
-          (λ (e : (u ≡ t) × (v ≡ 1)). ap (has x) e.0 ∙ sym same_ends ∙ sym (ap (has x) e.1)))
-          (merged_same t u v pair.from_two lu lv (sym (at u lu uu) ∙ same ∙ at v lv uv)));
-    }
+    let count : classes labels ≡ n - 1 = classes_are labels (n - 1) of in
+    let size : (relabel g labels).vertices ≡ classes labels = vertices_are_classes g ok labels h in
+    contracted_whole bound g labels (relabel g labels) h.are_labels long (omega (arith, size, count, pair.from_two, pair.to_n)) (sym size)
+    (λ x light. lift_light g ok labels h bound x light)
+    (λ x light.
+    let y = lowered g ok labels h bound x light (λ u v lu uu lv uv same.
+    let same_ends : has x 1 ≡ has x t = not_parted (has x 1) (has x t) (λ p. (let far : bound < weight g (has x) = pair.heavy (has x) p in omega (arith, far, light.weighs))) in
+    ⊎_elim
+    (λ e. ap (has x) e)
+    (⊎_elim
+    (λ (e : (u ≡ 1) × (v ≡ t)). ap (has x) e.0 ∙ same_ends ∙ sym (ap (has x) e.1))
+    (λ (e : (u ≡ t) × (v ≡ 1)). ap (has x) e.0 ∙ sym same_ends ∙ sym (ap (has x) e.1)))
+    (merged_same t u v pair.from_two lu lv (sym (at u lu uu) ∙ same ∙ at v lv uv))) in
+    record { small = y.0; light = y.1; same = y.2 })
 
 pub merged_length : (n t : ℕ) (labels : List ℕ) → labels ≡ map (merged_class t) (range_with_len 1 n) → length labels ≡ n
 merged_length n t labels is = ap (λ (l : List ℕ). length l) is ∙ length-map-range_with_len (merged_class t) 1 n

@@ -1,23 +1,19 @@
 -- The sides of one weight under labels: those of the classes are the lifted ones, where labels part none of them.
-use Rattle.std.proofs.Common.{◌≡◌, ℕ, ◌+◌, ◌-◌, ◌≤◌, ⊎_elim, Bool, true, false, List, [], ◌∷◌, map, length, refl, sym, ◌∙◌, ap, subst, arith}
+use Rattle.std.proofs.Common.{◌≡◌, ℕ, ◌+◌, ◌-◌, ◌<◌, ◌≤◌, ◌||◌, ⊎_elim, Bool, true, false, List, [], ◌∷◌, map, refl, sym, ◌∙◌, ap, subst, arith, ne_eqb}
 use Rattle.std.specs.List.{filter, range_with_len}
 use Rattle.std.proofs.lemmas.Bool.{cases_eq}
 use Rattle.cut_definitions.specs.Graph.{Graph, IsGraph}
 use Rattle.cut_definitions.specs.Weight.{VertexSet, weight}
 use Rattle.cut_definitions.specs.Cuts.{has, IsSide, IsAscendingWithin}
-use Rattle.cut_definitions.specs.Contraction.{label, classes, IsLabels, relabel, lift, lifted, RespectsClasses}
+use Rattle.cut_definitions.specs.Contraction.{label, classes, relabel, lift, lifted, RespectsClasses}
 use Rattle.cut_definitions.proofs.Lists.{Contains-map, Contains-from_map}
 use Rattle.cut_definitions.proofs.Bridge.{weight-agree, has_low, has_none, has_first_of, has_within, has_below, IsAscendingWithin-filter, same_ascending}
 use Rattle.cut_definitions.proofs.Contracted.{has-lift, weight-lift}
 use Rattle.weighted_graph.specs.ContractionLaws.{IsLabelled}
-use Rattle.weighted_graph.proofs.Contraction.{label_from_one, label_to_classes, vertex_of, fits_graph, IsCut-lifted, law_of_contracted_weights, law_of_lifted_sides}
-use Rattle.weighted_graph.proofs.SafeContraction.{law_of_composed_lifts}
-use Rattle.weighted_graph.proofs.Labelling.{composed_are_labels, label-map}
+use Rattle.weighted_graph.proofs.Contraction.{label_from_one, label_to_classes, fits_graph, IsCut-lifted, law_of_contracted_weights, law_of_lifted_sides}
 use Rattle.cactus_tree.proofs.Groups.{contains_has, has_contains}
-use Rattle.std.proofs.lemmas.List.{length-map}
 use Rattle.cactus_merge.proofs.Names.{ascends_at, place_of}
-use Rattle.cactus_solver.proofs.Labelled.{classes_by}
-use Rattle.cactus_solver.specs.Light.{HasNoneBelow, IsLightSide, IsContracted}
+use Rattle.cactus_solver.specs.Light.{HasNoneBelow, IsLightSide}
 
 -- ---- members of a side
 
@@ -28,7 +24,14 @@ member_within low high x v up is =
     let w = ascends_at low high x p.place up p.inside in
     (omega (arith, w.0, p.there), omega (arith, w.1, p.there))
 
-same_bool : (a b : Bool) → (a ≡ true → b ≡ true) → (b ≡ true → a ≡ true) → a ≡ b
+-- an ascending list has nothing above its bound
+pub has_high : (low high v : ℕ) (l : List ℕ) → IsAscendingWithin low high l → high < v → has l v ≡ false
+has_high low high v [] a h = refl
+has_high low high v (x ∷ l) a h =
+    let differ : x ≡ v → ⊥ = λ e. omega (arith, a.1, h, e) in
+    ap (λ (b : Bool). b || has l v) (ne_eqb x v differ) ∙ has_high (x + 1) high v l a.2 h
+
+pub same_bool : (a b : Bool) → (a ≡ true → b ≡ true) → (b ≡ true → a ≡ true) → a ≡ b
 same_bool true b f g = sym (f refl)
 same_bool false true f g = g refl
 same_bool false false f g = refl
@@ -119,34 +122,3 @@ module _ (g : Graph) (ok : IsGraph g) (labels : List ℕ) (h : IsLabelled g labe
   pub vertices_are_classes : (relabel g labels).vertices ≡ classes labels
   unfolding relabel
   vertices_are_classes = refl
-
--- ---- one contraction after another
-
-composed_classes : (labels next : List ℕ) → IsLabels labels → IsLabels next → length next ≡ classes labels → classes (map (label next) labels) ≡ classes next
-composed_classes labels next h hn long =
-    classes_by (map (label next) labels) (classes next)
-    (λ v l u.
-    let in_labels : v ≤ length labels = omega (arith, u, length-map labels (label next)) in
-    let from = label_from_one labels h v l in_labels in
-    let to = label_to_classes labels v l in_labels in
-    let there : label next (label labels v) ≤ classes next = label_to_classes next (label labels v) from (omega (arith, to, long)) in
-    omega (arith, there, label-map labels next v l in_labels))
-    (λ some.
-    let d = vertex_of next hn (classes next) some (omega arith) in
-    let v = vertex_of labels h d.0 d.1 (omega (arith, d.2, long)) in
-    (v.0, v.1, omega (arith, v.2, length-map labels (label next)), label-map labels next v.0 v.1 v.2 ∙ (ap (label next) v.3 ∙ d.3)))
-
-pub contracted_twice : (bound : ℕ) (g : Graph) (labels : List ℕ) (h : Graph) (next : List ℕ) (k : Graph) → IsContracted bound g labels h → IsContracted bound h next k →
-    IsContracted bound g (map (label next) labels) k
-contracted_twice bound g labels h next k a b =
-    let long : length next ≡ classes labels = b.long ∙ sym a.counted in
-    record {
-      are_labels = composed_are_labels labels next a.are_labels b.are_labels long;
-      long = length-map labels (label next) ∙ a.long;
-      counted = composed_classes labels next a.are_labels b.are_labels long ∙ b.counted;
-      lifted = λ x light. subst (IsLightSide bound g) (sym (law_of_composed_lifts labels next a.are_labels long x)) (a.lifted (lift next x) (b.lifted x light));
-      each = λ x light.
-          let y = a.each x light in
-          let z = b.each y.0 y.1 in
-          (z.0, z.1, law_of_composed_lifts labels next a.are_labels long z.0 ∙ ap (lift labels) z.2 ∙ y.2);
-    }

@@ -3,3 +3,6 @@ pub mod Merging
 pub mod Parts
 pub mod Opened
 pub mod Stacked
+pub mod Sweeping
+pub mod CutOff
+pub mod Composed

@@ -1,5 +1,5 @@
 -- The sides of one weight, which no cut undercuts.
-use Rattle.std.specs.Prelude.{ℕ, ◌≡◌, ◌<◌, ◌≤◌, ◌↔◌, List, length}
+use Rattle.std.specs.Prelude.{ℕ, ◌≡◌, ◌<◌, ◌≤◌, ◌↔◌, ◌⊎◌, ◌∷◌, [], List, length}
 use Rattle.std.specs.List.{Contains}
 use Rattle.cut_definitions.specs.Graph.{Graph}
 use Rattle.cut_definitions.specs.Weight.{VertexSet, weight, parts, IsCut}
@@ -25,13 +25,29 @@ pub record HasLightSides (bound : ℕ) (g : Graph) (c : Rooted) : Type 0 where
   pub over : c.vertices ≡ g.vertices
   pub exact : (x : List ℕ) → Contains (sides_of c) x ↔ IsLightSide bound g x
 
--- labels make the one graph the other, and the sides that weigh the bound are the lifted ones
+-- a side is lifted from one of the other graph that weighs the bound
+pub record IsLifted (bound : ℕ) (labels : List ℕ) (h : Graph) (x : List ℕ) : Type 0 where
+  pub small : List ℕ
+  pub light : IsLightSide bound h small
+  pub same : lift labels small ≡ x
+
+-- a side is a class above the vertices of the other graph
+pub record IsCutOff (labels : List ℕ) (h : Graph) (x : List ℕ) : Type 0 where
+  pub class : ℕ
+  pub above : h.vertices < class
+  pub to_classes : class ≤ classes labels
+  pub same : lift labels (class ∷ []) ≡ x
+
+-- labels make the one graph the other, but that a class above its vertices is cut off alone: the sides that weigh the bound
+-- are the lifted ones of the other graph, and each class that is cut off
 pub record IsContracted (bound : ℕ) (g : Graph) (labels : List ℕ) (h : Graph) : Type 0 where
   pub are_labels : IsLabels labels
   pub long : length labels ≡ g.vertices
-  pub counted : classes labels ≡ h.vertices
+  pub some : 1 ≤ h.vertices
+  pub counted : h.vertices ≤ classes labels
   pub lifted : (x : List ℕ) → IsLightSide bound h x → IsLightSide bound g (lift labels x)
-  pub each : (x : List ℕ) → IsLightSide bound g x → (y : List ℕ) × IsLightSide bound h y × (lift labels y ≡ x)
+  pub cut_off : (c : ℕ) → h.vertices < c → c ≤ classes labels → IsLightSide bound g (lift labels (c ∷ []))
+  pub each : (x : List ℕ) → IsLightSide bound g x → IsLifted bound labels h x ⊎ IsCutOff labels h x
 
 -- every set that parts vertex 1 from another weighs more than the bound
 pub record IsHeavyPair (bound : ℕ) (g : Graph) (t : ℕ) : Type 0 where

@@ -8,6 +8,7 @@ ghost use Rattle.cactus_solver.specs.Light.{HasNoneBelow, IsContracted, IsLightC
 ghost use Rattle.cactus_solver.specs.Opened.{IsOpenedBy, IsOpened, StandsForLight, IsLess, work};
 
 use crate::contract::{Contracted, contract};
+use crate::cut_off::lifted_cactus;
 use crate::parts::{group_of, inner_numbers, part_graph};
 use cactus_merge::{PartCactus, assemble};
 use cactus_tree::{Cactus, VertexList, gather};
@@ -109,7 +110,8 @@ fn with_parts(
     })
 }
 
-/// What there is of a graph that has no cut below the bound: its cactus where no cut weighs the bound, else a chain.
+/// What there is of a graph that has no cut below the bound: a chain of the contracted graph, or its cactus where that has
+/// one vertex.
 pub fn split_graph(alloc: Global, graph: Graph, bound: u64) -> Result<Split, NoMemory>
     requires some { 1 ≤ graph.vertices }
     requires positive { 1 ≤ bound }
@@ -118,7 +120,6 @@ pub fn split_graph(alloc: Global, graph: Graph, bound: u64) -> Result<Split, NoM
     ensures stands { IfOk result (λ s. StandsForLight bound graph s) }
     ensures less { IfOk result (λ s. IsLess graph.vertices s) }
 {
-    let n = graph.n();
     let Contracted {
         labels,
         graph,
@@ -126,7 +127,8 @@ pub fn split_graph(alloc: Global, graph: Graph, bound: u64) -> Result<Split, NoM
     } = contract(alloc, graph, bound)?;
     match chain {
         None => {
-            let cactus = Cactus::single(alloc, n)?;
+            let single = Cactus::single(alloc, 1)?;
+            let cactus = lifted_cactus(alloc, single, &labels)?;
             Ok(Split::Done(cactus))
         }
         Some(chain) => {
@@ -148,6 +150,6 @@ pub fn close(alloc: Global, open_chain: OpenChain) -> Result<Cactus, NoMemory>
         tasks: _,
     } = open_chain;
     let cactus = assemble(alloc, &chain, parts)?;
-    let spread = cactus.spread(alloc, labels.n(), labels.as_slice())?;
-    Ok(spread)
+    let whole = lifted_cactus(alloc, cactus, &labels)?;
+    Ok(whole)
 }

@@ -54,8 +54,8 @@ fn copy_of(alloc: Global, graph: &Graph) -> Result<Graph, NoMemory>
 /// The value of a connected graph of two or more vertices, and the cactus of its minimum cuts.
 ///
 /// All work is done by the caller: the workers and the gate are not used yet. The value takes O(n^3) steps and a table of
-/// n^2 weights (Stoer and Wagner, 1997). Apart from it there are at most 2n contractions and chains, each with one flow and
-/// a graph of what is left; memory is in proportion to n + m. It is refused only where memory is wanting.
+/// n^2 weights (Stoer and Wagner, 1997). Apart from it there are at most 2n contractions and chains, each with one sweep, one
+/// flow and a graph of what is left; memory is in proportion to n + m. It is refused only where memory is wanting.
 pub fn solve<G: Gate>(
     alloc: Global,
     graph: &Graph,

@@ -1,7 +1,9 @@
-ghost use Rattle.std.specs.Prelude.{◌≡◌, ◌≤◌, ◌^◌, IfOk};
+ghost use Rattle.std.specs.Prelude.{◌≡◌, ◌≤◌, ◌^◌, [], ◌∷◌, IfOk};
 ghost use Rattle.cut_definitions.specs.Graph.{IsEdgeList};
 ghost use Rattle.cut_definitions.specs.Components.{IsConnected};
 
+use crate::compose::compose_above;
+use crate::cut_off::lifted_cactus;
 use crate::solve;
 use cactus_tree::{Cactus, Walk};
 use cut_definitions::{Edge, EdgeList, NoMemory};
@@ -9,7 +11,7 @@ use outside::OpenGate;
 use std::alloc::Global;
 use std::test::Fail;
 use vertex_set::Side;
-use weighted_graph::Graph;
+use weighted_graph::{Graph, Labels};
 
 fn graph_of(alloc: Global, n: u32, edges: &[Edge]) -> Result<Graph, NoMemory>
     requires { IsEdgeList (record { vertices = n; edges = edges.now }) }
@@ -134,4 +136,41 @@ fn a_complete_graph_has_its_vertices(rt: HostRuntime) -> Result<(), Fail> {
         vec![in rt.alloc(); 4]?,
     ]?;
     expect_solved(rt.alloc(), &graph, 3, &wanted)
+}
+
+// Vertices 1 and 2 in class 1, vertex 3 in class 2, vertex 4 in class 3.
+fn three_classes(alloc: Global) -> Result<Labels, NoMemory>
+    ensures { IfOk result (λ l. l ≡ 1 ∷ 1 ∷ 2 ∷ 3 ∷ []) }
+{
+    let list = vec![in alloc; 1, 1, 2, 3]?;
+    Ok(Labels::from_list(list))
+}
+
+// Two vertices in one class.
+fn one_class(alloc: Global) -> Result<Labels, NoMemory>
+    ensures { IfOk result (λ l. l ≡ 1 ∷ 1 ∷ []) }
+{
+    let list = vec![in alloc; 1, 1]?;
+    Ok(Labels::from_list(list))
+}
+
+#[test]
+fn a_class_above_stays_apart(rt: HostRuntime) -> Result<(), Fail> {
+    let labels = three_classes(rt.alloc())?;
+    let next = one_class(rt.alloc())?;
+    let composed = compose_above(rt.alloc(), &labels, &next)?;
+    assert_eq!(rt; composed.as_slice(), [1, 1, 1, 2].as_slice());
+    assert_eq!(rt; composed.classes(), 2);
+    Ok(())
+}
+
+#[test]
+fn classes_that_are_cut_off_are_sides(rt: HostRuntime) -> Result<(), Fail> {
+    let labels = three_classes(rt.alloc())?;
+    let single = Cactus::single(rt.alloc(), 1)?;
+    let cactus = lifted_cactus(rt.alloc(), single, &labels)?;
+    let found = all_sides(rt.alloc(), &cactus)?;
+    let wanted = vec![in rt.alloc(); vec![in rt.alloc(); 3]?, vec![in rt.alloc(); 4]?]?;
+    assert!(rt; are_same(&found, &wanted));
+    Ok(())
 }

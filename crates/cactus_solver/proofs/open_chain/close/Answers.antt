@@ -1,8 +1,5 @@
-use Rattle.std.proofs.Common.{◌≡◌, ℕ, List, map, sym, ◌∙◌, ap, subst}
-use Rattle.cut_definitions.specs.Contraction.{lift}
-use Rattle.cactus_tree.specs.Rooted.{sides_of}
-use Rattle.cactus_tree.specs.Spread.{AreClasses}
-use Rattle.cactus_solver.proofs.Closing.{are_parts, are_classes, closed}
+use Rattle.std.proofs.Common.{arith}
+use Rattle.cactus_solver.proofs.Closing.{are_parts, closed}
 use Rattle.cactus_solver.proofs.open_chain.close.Goals as goal
 
 pub assemble-requires : goal.assemble-requires
@@ -10,14 +7,18 @@ assemble-requires c =
     let o = c.args.open_chain in
     are_parts c.requires.0 c.requires.1 o.labels o.chain o.parts.items c.requires.2
 
-pub spread-requires : goal.spread-requires
-spread-requires c =
-    let o = c.args.open_chain in
-    subst (AreClasses c.n.result c.in_ok-cactus.cactus.vertices) (sym c.as_slice.ensures.value)
-    (are_classes c.requires.0 c.requires.1 o.labels o.chain o.parts.items c.requires.2 c.n.result c.in_ok-cactus.cactus.vertices c.n.ensures c.in_ok-cactus.ensures.n)
+pub lifted_cactus-requires-clause-some : goal.lifted_cactus-requires-clause-some
+lifted_cactus-requires-clause-some c =
+    let is = c.requires.2 in
+    omega (arith, c.in_ok-cactus.ensures.n, is.light.across.each_vertex, is.light.two)
+
+pub lifted_cactus-requires-clause-counted : goal.lifted_cactus-requires-clause-counted
+lifted_cactus-requires-clause-counted c =
+    let is = c.requires.2 in
+    omega (arith, c.in_ok-cactus.ensures.n, is.light.across.each_vertex, is.contracted.counted)
 
 pub returns : goal.returns
 returns c =
     let o = c.args.open_chain in
-    let sides : sides_of c.in_ok-spread.spread ≡ map (lift o.labels) (sides_of c.in_ok-cactus.cactus) = c.in_ok-spread.ensures.sides ∙ ap (λ (l : List ℕ). map (lift l) (sides_of c.in_ok-cactus.cactus)) c.as_slice.ensures.value in
-    λ bound g h. closed bound g o.labels o.chain o.parts.items h c.in_ok-cactus.cactus c.in_ok-cactus.ensures.sides c.in_ok-spread.spread (c.in_ok-spread.ensures.n ∙ c.n.ensures) sides
+    let assembled = c.in_ok-cactus.ensures in
+    λ bound g h. c.in_ok-whole.ensures bound g h.inner h.contracted (closed bound g o.labels o.chain o.parts.items h c.in_ok-cactus.cactus assembled.n assembled.sides)

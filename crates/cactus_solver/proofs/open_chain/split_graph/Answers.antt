@@ -1,4 +1,4 @@
-use Rattle.std.proofs.Common.{◌≡◌, Option, ◌∙◌, subst}
+use Rattle.std.proofs.Common.{◌≡◌, Option, subst}
 use Rattle.std.specs.Prelude.{IfNone, IfSome}
 use Rattle.residual_chain.specs.Chain.{ChainView}
 use Rattle.cactus_solver.specs.Light.{IsLightChain}
@@ -11,8 +11,9 @@ pub returns-in_ok-cactus-in-None-clause-stands : goal.returns-in_ok-cactus-in-No
 returns-in_ok-cactus-in-None-clause-stands c =
     let h = c.in_ok-labels.field-0.graph in
     let one : h.vertices ≡ 1 = subst (λ (o : Option ChainView). IfNone o (h.vertices ≡ 1)) c.in-None.is c.in_ok-labels.ensures.one in
-    none_light c.args.bound c.args.graph h (λ x light. (let y = c.in_ok-labels.ensures.contracted.each x light in (y.0, y.1))) one c.in_ok-cactus-in-None.cactus
-    (c.in_ok-cactus-in-None.ensures.n ∙ c.n-n.ensures.value) (no_sides c.in_ok-cactus-in-None.cactus c.in_ok-cactus-in-None.ensures.blocks)
+    let single = c.in_ok-single-in-None.single in
+    c.in_ok-cactus-in-None.ensures c.args.bound c.args.graph h c.in_ok-labels.ensures.contracted
+    (none_light c.args.bound h one single c.in_ok-single-in-None.ensures.n (no_sides single c.in_ok-single-in-None.ensures.blocks))
 
 pub returns-in_ok-open_chain-in-Some-clause-stands : goal.returns-in_ok-open_chain-in-Some-clause-stands
 returns-in_ok-open_chain-in-Some-clause-stands c =
