@@ -1,3 +1,4 @@
 pub mod Climbs
 pub mod Members
 pub mod Making
+pub mod Connected

@@ -46,19 +46,19 @@ edge_list_of rings low high =
 
 -- The five edges, each where it stands.
 
-first_of_five : (rings ring : ℕ) → Contains (five_edges rings ring) (double (4 * ring + 1) (4 * ring + 2))
+pub first_of_five : (rings ring : ℕ) → Contains (five_edges rings ring) (double (4 * ring + 1) (4 * ring + 2))
 first_of_five rings ring = (0, omega arith, joining-less (4 * ring + 1) (4 * ring + 2) (omega arith))
 
-second_of_five : (rings ring : ℕ) → Contains (five_edges rings ring) (double (4 * ring + 2) (4 * ring + 3))
+pub second_of_five : (rings ring : ℕ) → Contains (five_edges rings ring) (double (4 * ring + 2) (4 * ring + 3))
 second_of_five rings ring = (1, omega arith, joining-less (4 * ring + 2) (4 * ring + 3) (omega arith))
 
-third_of_five : (rings ring : ℕ) → Contains (five_edges rings ring) (double (4 * ring + 3) (4 * ring + 4))
+pub third_of_five : (rings ring : ℕ) → Contains (five_edges rings ring) (double (4 * ring + 3) (4 * ring + 4))
 third_of_five rings ring = (2, omega arith, joining-less (4 * ring + 3) (4 * ring + 4) (omega arith))
 
-fourth_of_five : (rings ring : ℕ) → Contains (five_edges rings ring) (double (4 * ring + 1) (4 * ring + 4))
+pub fourth_of_five : (rings ring : ℕ) → Contains (five_edges rings ring) (double (4 * ring + 1) (4 * ring + 4))
 fourth_of_five rings ring = (3, omega arith, joining-less (4 * ring + 1) (4 * ring + 4) (omega arith))
 
-fifth_of_five : (rings ring : ℕ) → Contains (five_edges rings ring) (joining (4 * ring + 3) (4 * following rings ring + 1))
+pub fifth_of_five : (rings ring : ℕ) → Contains (five_edges rings ring) (joining (4 * ring + 3) (4 * following rings ring + 1))
 fifth_of_five rings ring = (4, omega arith, refl)
 
 after_next : (rings ring : ℕ) → ring + 1 < rings → following rings ring ≡ ring + 1
@@ -68,7 +68,7 @@ after_last : (rings ring : ℕ) → ring + 1 ≡ rings → following rings ring 
 after_last rings ring last = let test : eqb (ring + 1) rings ≡ true = eq-eqb (ring + 1) rings last in rw test refl
 
 -- the link to the next ring
-link_on : (rings ring : ℕ) → ring + 1 < rings → joining (4 * ring + 3) (4 * following rings ring + 1) ≡ double (4 * ring + 3) (4 * ring + 5)
+pub link_on : (rings ring : ℕ) → ring + 1 < rings → joining (4 * ring + 3) (4 * following rings ring + 1) ≡ double (4 * ring + 3) (4 * ring + 5)
 link_on rings ring less =
     let same : 4 * (ring + 1) + 1 ≡ 4 * ring + 5 = omega arith in
     ap (λ k. joining (4 * ring + 3) (4 * k + 1)) (after_next rings ring less)

@@ -3,6 +3,7 @@ use Rattle.std.specs.Prelude.{ℕ, ◌≡◌, ◌==◌, ◌↔◌, nat_lt, ◌+�
 use Rattle.std.specs.List.{Contains, flat_map, range_with_len}
 use Rattle.cut_definitions.specs.declared.edge_list.Edge.{Edge}
 use Rattle.cut_definitions.specs.Graph.{Graph, IsEdgeList}
+use Rattle.cut_definitions.specs.Components.{IsConnected}
 
 -- an edge of weight 2
 abbrev pub double : ℕ → ℕ → Edge
@@ -51,3 +52,6 @@ pub record IsMade (number : ℕ) : Type 0 where
 
 abbrev pub LawOfMaking : Type 0
 LawOfMaking = (number : ℕ) → 12 ≤ number → number ≤ 100000 → IsMade number
+
+abbrev pub LawOfConnectedMaking : Type 0
+LawOfConnectedMaking = (number : ℕ) → 12 ≤ number → number ≤ 100000 → IsConnected (made_graph number)

@@ -1,8 +1,13 @@
-//! The law of the made graph. The function does nothing, and its contract is the law.
+//! The laws of the made graph. The functions do nothing, and their contracts are the laws.
 
-ghost use Rattle.graph_maker.specs.Made.{LawOfMaking};
+ghost use Rattle.graph_maker.specs.Made.{LawOfConnectedMaking, LawOfMaking};
 
 /// The made graph has five edges for each ring: four round it, and one to the ring that follows.
 pub fn making()
     ensures { LawOfMaking }
+{}
+
+/// The made graph is connected: every cut of it weighs at least 1.
+pub fn connected_making()
+    ensures { LawOfConnectedMaking }
 {}

@@ -13,7 +13,7 @@ use Rattle.outside.specs.Faults.{Rose}
 use Rattle.mincut_program.specs.declared.stop.Stop.{Stop}
 use Rattle.mincut_program.specs.declared.stop.Stop.TheVariants.{ReadFailed}
 use Rattle.mincut_program.specs.Stops.{stop_of}
-use Rattle.mincut_program.specs.Words.{HasCommand}
+use Rattle.mincut_program.specs.Words.{ReadsGraph}
 use Rattle.mincut_program.specs.Intake.{IsRead, IsCause}
 
 pub read_none : (left : Option (List ℕ)) → IsRead left left []
@@ -54,19 +54,19 @@ read_kept (Some all) (Some left) (Some rest) bytes r k =
     let same : left ≡ r.0 = cc (r.1) in (rest, refl, r.2 ∙ ap (λ xs. bytes ++ xs) (sym same ∙ sym k))
 
 -- the cause where a read failed
-pub read_cause : (words : List (List ℕ)) → HasCommand words → (before now next : Option (List ℕ)) (m n k : ℕ) → n ≡ m → Rose n k → (bytes : List ℕ) →
+pub read_cause : (words : List (List ℕ)) → ReadsGraph words → (before now next : Option (List ℕ)) (m n k : ℕ) → n ≡ m → Rose n k → (bytes : List ℕ) →
     IsRead before now bytes → Keeps now next → fixed bytes ≡ None → IsCause words before next m k ReadFailed
 read_cause words command before now next m n k same rose bytes read kept none =
     (command, subst (λ (x : ℕ). Rose x k) same rose, record { bytes = bytes; read = read_kept before now next bytes read kept; none = none })
 
 -- the cause of a refusal once all was read
-pub finish_cause : (words : List (List ℕ)) → HasCommand words → (before now : Option (List ℕ)) (m n : ℕ) → n ≡ m → (bytes : List ℕ) → IsRead before now bytes → IsAtEnd now →
+pub finish_cause : (words : List (List ℕ)) → ReadsGraph words → (before now : Option (List ℕ)) (m n : ℕ) → n ≡ m → (bytes : List ℕ) → IsRead before now bytes → IsAtEnd now →
     (refusal : ReadRefusal) → ((f : TheFault) → refusal ≡ Fault f → graph_of bytes ≡ Err f) → IsCause words before now m n (stop_of refusal)
 finish_cause words command before now m n same bytes read end (Fault f) why = (command, same, record { bytes = bytes; read = read; why = inr (end, why f refl) })
 finish_cause words command before now m n same bytes read end NoMemory why = (same, inr (inr (inl end)))
 
 -- the cause of a refusal of a piece
-pub feed_cause : (words : List (List ℕ)) → HasCommand words → (before now : Option (List ℕ)) (m n : ℕ) → n ≡ m → (bytes piece : List ℕ) → fixed bytes ≡ None → IsRead before now (bytes ++ piece) →
+pub feed_cause : (words : List (List ℕ)) → ReadsGraph words → (before now : Option (List ℕ)) (m n : ℕ) → n ≡ m → (bytes piece : List ℕ) → fixed bytes ≡ None → IsRead before now (bytes ++ piece) →
     (refusal : ReadRefusal) → ((f : TheFault) → refusal ≡ Fault f → fixed (bytes ++ piece) ≡ Some f) → (refusal ≡ NoMemory → HeaderEndsIn bytes piece) →
     IsCause words before now m n (stop_of refusal)
 feed_cause words command before now m n same bytes piece none read (Fault f) why header = (

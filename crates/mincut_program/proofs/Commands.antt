@@ -55,3 +55,23 @@ two_numbers = refl
 one_number : command_of (codes "part" ∷ codes "1" ∷ []) ≡ None
 unfolding clap_on_literals command_of
 one_number = refl
+
+a_trial : command_of (codes "trial" ∷ codes "012" ∷ []) ≡ Some (record { job = job.Trial 12; workers = 4 })
+unfolding clap_on_literals command_of
+a_trial = refl
+
+a_great_trial : command_of (codes "trial" ∷ codes "2000" ∷ []) ≡ Some (record { job = job.Trial 2000; workers = 4 })
+unfolding clap_on_literals command_of
+a_great_trial = refl
+
+too_small_a_trial : command_of (codes "trial" ∷ codes "11" ∷ []) ≡ None
+unfolding clap_on_literals command_of
+too_small_a_trial = refl
+
+too_great_a_trial : command_of (codes "trial" ∷ codes "2001" ∷ []) ≡ None
+unfolding clap_on_literals command_of
+too_great_a_trial = refl
+
+no_number : command_of (codes "trial" ∷ []) ≡ None
+unfolding clap_on_literals command_of
+no_number = refl

@@ -1,7 +1,8 @@
 -- What a solved graph is printed as.
-use Rattle.std.proofs.Common.{◌≡◌, ℕ, List, [], ◌∷◌, get_or, ◌<◌, ◌≤◌, ◌^◌, ◌∙◌, arith, refl, sym, ap, subst, inr, Result, Ok, Err}
+use Rattle.std.proofs.Common.{◌≡◌, ℕ, List, [], ◌∷◌, get_or, ◌<◌, ◌≤◌, ◌^◌, ◌∙◌, append_assoc, append-nil, arith, refl, sym, ap, subst, inr, Result, Ok, Err}
 use Rattle.std.proofs.lemmas.List.Elements.{All-contains, Contains-get_or}
-use Rattle.std.specs.Prelude.{◌↔◌, ◌*◌, IfOk, IfErr, length}
+use Rattle.std.specs.Fmt.{decimal}
+use Rattle.std.specs.Prelude.{◌↔◌, codes, ◌++◌, ◌*◌, IfOk, IfErr, length}
 use Rattle.cut_definitions.specs.Components.{IsConnected, HasComponents}
 use Rattle.weighted_graph.specs.Components.{LawOfOneComponent}
 use Rattle.cut_definitions.specs.Graph.{Graph, IsEdgeList}
@@ -16,10 +17,12 @@ use Rattle.cactus_tree.specs.FlatCuts.{HasSides}
 use Rattle.cactus_tree.specs.Flattened.{flat_of}
 use Rattle.cactus_tree.specs.FlatLaws.{LawOfFlatForm, LawOfFlatSides}
 use Rattle.cactus_merge.specs.Assembled.{SameMembers}
-use Rattle.cactus_text.specs.Text.{cactus_text}
+use Rattle.cactus_text.specs.Text.{cactus_text, line}
 use Rattle.mincut_program.specs.Jobs.{StandsFor, IsCactusText, IsBalancedText, IsTextFor, IsListed, IsInRange, IsAnswerOf, IsStopFor, asked_cuts}
 use Rattle.mincut_program.specs.Solving.{IsSolved, IsListReply, IsListStop, cuts_for}
 use Rattle.mincut_program.specs.Listings.{listing_text, balanced_text}
+use Rattle.mincut_program.specs.Trials.{trial_text, IsFactsText}
+use Rattle.graph_maker.specs.Made.{made_graph}
 use Rattle.mincut_program.specs.declared.stop.Stop.{Stop}
 use Rattle.mincut_program.specs.declared.stop.Stop.TheVariants as stop
 use Rattle.cut_definitions.specs.Balance.{balance, IsBest}
@@ -123,22 +126,26 @@ whole_answer job g inside two connected unlisted text is = record {
   answer = inr (inr (record { enough = two; connected = λ _. connected; within = λ listed. absurd (unlisted listed); text_is = is }));
 }
 
--- the best side of a solved graph
-pub best_text : (g : Graph) (solved : Solved) (side : VertexList) → IsSolved g solved → side.vertices ≡ solved.cactus.vertices → IsBest solved.cactus.vertices (sides_of solved.cactus) side.members →
-    IsBalancedText g (balanced_text solved.value side.vertices side.members)
-best_text g solved side s over best = record {
-  side = side.members;
-  best = record {
-    member = (s.sides side.members).0 best.member;
-    none_greater = λ i d lt. no_greater (get_or (mincuts g) i d) (Contains-get_or (mincuts g) i d lt);
-  };
-  text_is = ap (λ (k : ℕ). balanced_text k side.vertices side.members) s.value ∙ ap (λ (k : ℕ). balanced_text (value g) k side.members) (over ∙ s.over);
+-- the best side of a solved graph is a best minimum cut
+best_of_cuts : (g : Graph) (solved : Solved) (side : VertexList) → IsSolved g solved → IsBest solved.cactus.vertices (sides_of solved.cactus) side.members →
+    IsBest g.vertices (mincuts g) side.members
+best_of_cuts g solved side s best = record {
+  member = (s.sides side.members).0 best.member;
+  none_greater = λ i d lt. no_greater (get_or (mincuts g) i d) (Contains-get_or (mincuts g) i d lt);
 }
   where
     no_greater : (other : List ℕ) → Contains (mincuts g) other → balance g.vertices other ≤ balance g.vertices side.members
     no_greater other m =
         subst (λ (k : ℕ). balance k other ≤ balance k side.members) s.over
         (All-contains (λ (o : List ℕ). balance solved.cactus.vertices o ≤ balance solved.cactus.vertices side.members) (sides_of solved.cactus) other best.none_greater ((s.sides other).1 m))
+
+pub best_text : (g : Graph) (solved : Solved) (side : VertexList) → IsSolved g solved → side.vertices ≡ solved.cactus.vertices → IsBest solved.cactus.vertices (sides_of solved.cactus) side.members →
+    IsBalancedText g (balanced_text solved.value side.vertices side.members)
+best_text g solved side s over best = record {
+  side = side.members;
+  best = best_of_cuts g solved side s best;
+  text_is = ap (λ (k : ℕ). balanced_text k side.vertices side.members) s.value ∙ ap (λ (k : ℕ). balanced_text (value g) k side.members) (over ∙ s.over);
+}
 
 -- a graph that has a cut has a cactus with a block
 pub has_block : (g : Graph) (solved : Solved) → 2 ≤ g.vertices → IsSolved g solved → blocks solved.cactus.root ≡ [] → ⊥
@@ -167,3 +174,57 @@ list_stop g solved a n cuts m law s over r = record {
   over = r.1 ∙ over;
   large = subst (λ (k : ℕ). 2 ^ 30 < cuts * k) (sym r.1) r.2;
 }
+
+-- ---- the facts of a solved graph
+
+-- the number of the minimum cuts is the length of their list
+pub count_by_list : (g : Graph) (solved : Solved) (list : List VertexList) → LawOfMinimumCuts → IsSolved g solved → IsList (2 ^ 30) g.vertices ask.All solved.cactus list →
+    length list ≡ length (mincuts g)
+count_by_list g solved list law s l =
+    let same : members_of list ≡ cuts_for ask.All g = law g solved.cactus ask.All (members_of list) s.sides l.listing in
+    sym (length-map list (λ (x : VertexList). x.members)) ∙ ap (λ (xs : List (List ℕ)). length xs) (same ∙ all_let_through (mincuts g))
+
+-- or the number that the refusal of the list names
+pub count_by_refusal : (g : Graph) (solved : Solved) (cuts n : ℕ) → LawOfCount → IsSolved g solved → IsRefusal (2 ^ 30) g.vertices ask.All solved.cactus (refusal.TooLarge cuts n) →
+    cuts ≡ length (mincuts g)
+count_by_refusal g solved cuts n law s r = law g solved.cactus ask.All cuts s.sides r.0 ∙ ap (λ (xs : List (List ℕ)). length xs) (all_let_through (mincuts g))
+
+-- the facts of a solved graph and of a best side
+pub facts_known : (g : Graph) (solved : Solved) (side : VertexList) (n m count b : ℕ) → IsSolved g solved → side.vertices ≡ solved.cactus.vertices →
+    IsBest solved.cactus.vertices (sides_of solved.cactus) side.members → n ≡ g.vertices → m ≡ length g.edges → count ≡ length (mincuts g) → b ≡ balance side.vertices side.members →
+    (text : List ℕ) → text ≡ trial_text n m solved.value count b → IsFactsText g text
+facts_known g solved side n m count b s over best all edges counted balanced text is =
+    let even : b ≡ balance g.vertices side.members = balanced ∙ ap (λ (k : ℕ). balance k side.members) (over ∙ s.over) in
+    record { side = side.members; best = best_of_cuts g solved side s best; text_is = is ∙ (λ i. trial_text (all i) (edges i) (s.value i) (counted i) (even i)) }
+
+-- the made graph of a trial has a cut
+pub made_enough : (number : ℕ) → 12 ≤ number → 2 ≤ (made_graph number).vertices
+unfolding made_graph
+made_enough number low = omega arith
+
+-- a line of one number before another text
+line_before : (word rest other : List ℕ) (number : ℕ) → rest ≡ other → word ++ ((32 ∷ decimal number) ++ (10 ∷ rest)) ≡ line word (number ∷ []) ++ other
+line_before word rest other number same =
+    let spaced_number : List ℕ = 32 ∷ decimal number in
+    let put : (spaced_number ++ []) ++ (10 ∷ other) ≡ spaced_number ++ (10 ∷ other) = ap (λ (l : List ℕ). l ++ (10 ∷ other)) (append-nil spaced_number) in
+    ap (λ (l : List ℕ). word ++ (spaced_number ++ (10 ∷ l))) same
+    ∙ ap (λ (l : List ℕ). word ++ l) (sym put)
+    ∙ sym (append_assoc word (spaced_number ++ []) (10 ∷ other))
+    ∙ sym (append_assoc (word ++ (spaced_number ++ [])) (10 ∷ []) other)
+
+last_line : (word : List ℕ) (number : ℕ) → word ++ ((32 ∷ decimal number) ++ (10 ∷ [])) ≡ line word (number ∷ [])
+last_line word number = line_before word [] [] number refl ∙ append-nil (line word (number ∷ []))
+
+-- the five lines as they are formatted
+abbrev pub formatted : ℕ → ℕ → ℕ → ℕ → ℕ → List ℕ
+formatted n m least count most =
+    codes "vertices " ++ (decimal n ++ ((10 ∷ codes "edges ") ++ (decimal m ++ ((10 ∷ codes "value ") ++ (decimal least ++ ((10 ∷ codes "count ") ++ (decimal count
+    ++ ((10 ∷ codes "balance ") ++ (decimal most ++ (10 ∷ []))))))))))
+
+five_parts : (a b c d e : List ℕ) → a ++ (b ++ (c ++ (d ++ e))) ≡ a ++ b ++ c ++ d ++ e
+five_parts a b c d e = simp append_assoc
+
+pub five_lines : (n m least count most : ℕ) → formatted n m least count most ≡ trial_text n m least count most
+five_lines n m least count most =
+    line_before (codes "vertices") _ _ n (line_before (codes "edges") _ _ m (line_before (codes "value") _ _ least (line_before (codes "count") _ _ count (last_line (codes "balance") most))))
+    ∙ five_parts (line (codes "vertices") (n ∷ [])) (line (codes "edges") (m ∷ [])) (line (codes "value") (least ∷ [])) (line (codes "count") (count ∷ [])) (line (codes "balance") (most ∷ []))

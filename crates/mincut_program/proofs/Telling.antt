@@ -1,6 +1,6 @@
 -- What was replied, and what was told where there is no reply.
 use Rattle.std.proofs.Common.{◌++◌, ◌≡◌, ℕ, ◌⊎◌, ◌≤◌, ◌<◌, ◌*◌, ◌^◌, length, arith, inl, inr, ⊎_elim, List, Option, Some, None, Result, Ok, Err, refl, sym, ◌∙◌, subst, ap}
-use Rattle.std.specs.Prelude.{◌≢◌, IfSome, IfOk, MatchOption}
+use Rattle.std.specs.Prelude.{◌≢◌, IsSome, IfSome, IfOk, MatchOption}
 use Rattle.std.specs.Io.KnownBytes.{Appends}
 use Rattle.outside.specs.Faults.{Rose}
 use Rattle.cut_definitions.specs.Graph.{Graph}
@@ -17,17 +17,21 @@ use Rattle.mincut_program.specs.declared.notice.Notice.{Notice}
 use Rattle.mincut_program.specs.Notices.{notice_of, text_of}
 use Rattle.mincut_program.specs.declared.command.Command.{Command}
 use Rattle.mincut_program.specs.declared.command.Job.{Job}
-use Rattle.mincut_program.specs.declared.command.Job.TheVariants.{Value, Cactus, Cuts, Part, Balanced}
+use Rattle.mincut_program.specs.declared.command.Job.TheVariants.{Value, Cactus, Cuts, Part, Balanced, Trial}
 use Rattle.mincut_program.specs.Jobs.{IsAnswerOf, IsStopFor, IsInRange, IsOutside, IsWithin, asked_cuts}
-use Rattle.mincut_program.specs.Words.{HasCommand, command_of}
+use Rattle.mincut_program.specs.Words.{IsReading, ReadsGraph, command_of}
 use Rattle.mincut_program.specs.Texts.{out_of_memory_line}
 use Rattle.mincut_program.specs.Stops.{status_of, line_of}
-use Rattle.mincut_program.specs.Intake.{IsRefused, IsAnswer, IsStopped, IsReply, IsCause}
+use Rattle.mincut_program.specs.Intake.{IsRefused, IsAnswer, IsJobAnswer, IsJobReply, IsStopped, IsReply, IsCause}
 use Rattle.mincut_program.specs.Answers.{Writes, Tells, TellsFault, TellsVertex, TellsTooLarge, TellingFailed}
 use Rattle.mincut_program.proofs.NoticeWords.{notice_is_no_command}
 use Rattle.mincut_program.proofs.Bytes.{read_all}
+use Rattle.mincut_program.proofs.Trials.{some_is, is_reading}
 
 -- ---- words
+
+abbrev pub HasCommand : List (List ℕ) → Type 0
+HasCommand words = IsSome (command_of words)
 
 none_command : (words : List (List ℕ)) → command_of words ≡ None → HasCommand words → ⊥
 none_command words none command = cc
@@ -40,10 +44,16 @@ no_notice words command = none_of (notice_of words) refl
     none_of None e = refl
     none_of (Some n) e = absurd (none_command words (notice_is_no_command words (rw e refl)) command)
 
+pub has_command : (words : List (List ℕ)) (command : Command) → command_of words ≡ Some command → HasCommand words
+has_command words command is = rw is refl
+
+reading_command : (words : List (List ℕ)) → ReadsGraph words → HasCommand words
+reading_command words reads = has_command words reads.command reads.commanded
+
 -- nothing is said of a command where the words ask for a notice
 pub only_notice : {T E : Type 0} (words : List (List ℕ)) (notice : Notice) → notice_of words ≡ Some notice → (answer : Result T E) (P : Type 0) →
-    IfOk answer (λ _. HasCommand words → P)
-only_notice words notice is (Ok x) P = λ command. absurd (off (no_notice words command))
+    IfOk answer (λ _. ReadsGraph words → P)
+only_notice words notice is (Ok x) P = λ reads. absurd (off (no_notice words (reading_command words reads)))
   where
     off : notice_of words ≡ None → ⊥
     off none = cc (is, none)
@@ -63,36 +73,58 @@ refused_all (Some all) now fault r =
 one_result : {T E : Type 0} (r : Result T E) (x : T) (e : E) → r ≡ Ok x → r ≡ Err e → ⊥
 one_result r x e p q = cc (p, q)
 
--- no reply stands where the bytes have a fault
-pub no_reply : (words : List (List ℕ)) (left : Option (List ℕ)) (bytes text : List ℕ) (fault : Fault) → HasCommand words → left ≡ Some bytes → graph_of bytes ≡ Err fault →
-    IsReply words left text → ⊥
-no_reply words left bytes text fault command is wrong reply =
-    let answer : IfSome left (λ bytes. IsAnswer words bytes text) = subst
-    (λ (o : Option Notice). MatchOption o (IfSome left (λ bytes. IsAnswer words bytes text)) (λ notice. text ≡ text_of notice)) (no_notice words command) reply in
-    let a : IsAnswer words bytes text = subst (λ (o : Option (List ℕ)). IfSome o (λ bytes. IsAnswer words bytes text)) is answer in
-    one_result (graph_of bytes) a.answer.graph fault a.answer.accepted wrong
-
 -- ---- the command and the graph
-
-some_is : {X : Type 0} (x y : X) → ◌≡◌ {A = Option X} (Some x) (Some y) → x ≡ y
-some_is {X} x y e = ap (λ (o : Option X). elim o [ Some v ↦ v | None ↦ x ]) e
 
 ok_is : {T E : Type 0} (x y : T) → ◌≡◌ {A = Result T E} (Ok x) (Ok y) → x ≡ y
 ok_is {T} {E} x y e = ap (λ (r : Result T E). elim r [ Ok v ↦ v | Err e ↦ x ]) e
 
-pub has_command : (words : List (List ℕ)) (command : Command) → command_of words ≡ Some command → HasCommand words
-has_command words command is = rw is refl
+-- the reply to a command
+replied : (words : List (List ℕ)) (command : Command) (left : Option (List ℕ)) (text : List ℕ) → command_of words ≡ Some command → IsReply words left text → IsJobReply command.job left text
+replied words command left text is reply =
+    let a : IsAnswer words left text = subst
+    (λ (o : Option Notice). MatchOption o (IsAnswer words left text) (λ notice. text ≡ text_of notice)) (no_notice words (has_command words command is)) reply in
+    subst (λ (x : Command). IsJobReply x.job left text) (some_is a.command command (sym a.commanded ∙ is)) a.answer
 
--- the reply to a command for a graph
-pub answered : (words : List (List ℕ)) (command : Command) (left : Option (List ℕ)) (bytes text : List ℕ) (graph : Graph) → command_of words ≡ Some command →
+-- a job that reads a graph replies for the bytes
+reading_replied : (job : Job) (left : Option (List ℕ)) (bytes text : List ℕ) → IsReading job → left ≡ Some bytes → IsJobReply job left text → IsJobAnswer job bytes text
+reading_replied Value left bytes text reading from reply = subst (λ (o : Option (List ℕ)). IfSome o (λ bytes. IsJobAnswer Value bytes text)) from reply
+reading_replied Cactus left bytes text reading from reply = subst (λ (o : Option (List ℕ)). IfSome o (λ bytes. IsJobAnswer Cactus bytes text)) from reply
+reading_replied Cuts left bytes text reading from reply = subst (λ (o : Option (List ℕ)). IfSome o (λ bytes. IsJobAnswer Cuts bytes text)) from reply
+reading_replied (Part u v) left bytes text reading from reply = subst (λ (o : Option (List ℕ)). IfSome o (λ bytes. IsJobAnswer (Part u v) bytes text)) from reply
+reading_replied Balanced left bytes text reading from reply = subst (λ (o : Option (List ℕ)). IfSome o (λ bytes. IsJobAnswer Balanced bytes text)) from reply
+reading_replied (Trial number) left bytes text reading from reply = absurd reading
+
+-- the reply to a command for a graph that was read
+pub answered : (words : List (List ℕ)) (command : Command) (left : Option (List ℕ)) (bytes text : List ℕ) (graph : Graph) → command_of words ≡ Some command → IsReading command.job →
     left ≡ Some bytes → graph_of bytes ≡ Ok graph → IsReply words left text → IsAnswerOf command.job graph text
-answered words command left bytes text graph is from accepted reply =
-    let told : IfSome left (λ bytes. IsAnswer words bytes text) = subst
-    (λ (o : Option Notice). MatchOption o (IfSome left (λ bytes. IsAnswer words bytes text)) (λ notice. text ≡ text_of notice)) (no_notice words (has_command words command is)) reply in
-    let a : IsAnswer words bytes text = subst (λ (o : Option (List ℕ)). IfSome o (λ bytes. IsAnswer words bytes text)) from told in
-    let c : a.command ≡ command = some_is a.command command (sym a.commanded ∙ is) in
-    let g : a.answer.graph ≡ graph = ok_is a.answer.graph graph (sym a.answer.accepted ∙ accepted) in
-    subst (λ (x : Command). IsAnswerOf x.job graph text) c (subst (λ (y : Graph). IsAnswerOf a.command.job y text) g a.answer.answer)
+answered words command left bytes text graph is reading from accepted reply =
+    let a : IsJobAnswer command.job bytes text = reading_replied command.job left bytes text reading from (replied words command left text is reply) in
+    subst (λ (y : Graph). IsAnswerOf command.job y text) (ok_is a.graph graph (sym a.accepted ∙ accepted)) a.answer
+
+-- no reply stands where the bytes have a fault
+pub no_reply : (words : List (List ℕ)) (left : Option (List ℕ)) (bytes text : List ℕ) (fault : Fault) → ReadsGraph words → left ≡ Some bytes → graph_of bytes ≡ Err fault →
+    IsReply words left text → ⊥
+no_reply words left bytes text fault reads from wrong reply =
+    let a : IsJobAnswer reads.command.job bytes text =
+    reading_replied reads.command.job left bytes text reads.reading from (replied words reads.command left text reads.commanded reply) in
+    one_result (graph_of bytes) a.graph fault a.accepted wrong
+
+-- a job whose vertices may be missing, or whose list may be too large, reads a graph
+pub reading_of_outside : (job : Job) (n : ℕ) → (IsInRange job n → ⊥) → IsReading job
+reading_of_outside (Part u v) n outside = tt
+reading_of_outside Value n outside = tt
+reading_of_outside Cactus n outside = tt
+reading_of_outside Cuts n outside = tt
+reading_of_outside Balanced n outside = tt
+reading_of_outside (Trial number) n outside = absurd (outside tt)
+
+pub reading_of_large : (job : Job) (g : Graph) → (IsWithin job g → ⊥) → IsReading job
+reading_of_large (Part u v) g large = tt
+reading_of_large Value g large = tt
+reading_of_large Cactus g large = tt
+reading_of_large Cuts g large = tt
+reading_of_large Balanced g large = tt
+reading_of_large (Trial number) g large = absurd (large (λ listed. absurd listed))
 
 -- the stop of a command for a graph
 stopped : (words : List (List ℕ)) (command : Command) (left : Option (List ℕ)) (bytes : List ℕ) (graph : Graph) (s : Stop) → command_of words ≡ Some command →
@@ -115,6 +147,7 @@ out_of_range Value n x outside inside = outside
 out_of_range Cactus n x outside inside = outside
 out_of_range Cuts n x outside inside = outside
 out_of_range Balanced n x outside inside = outside
+out_of_range (Trial number) n x outside inside = outside
 out_of_range (Part u v) n x outside inside = ⊎_elim (λ a. a.1 inside.0) (λ b. b.2 inside.1) outside
 
 -- a vertex that is not there stops no job whose vertices are there
@@ -150,8 +183,8 @@ memory_cause stop.BadWords words left now m n cause words_ok read_ok = absurd (w
 memory_cause (stop.Refused fault) words left now m n cause words_ok read_ok = (cause.1, inr (inr (inr (fault, cause.2))))
 memory_cause stop.ReadFailed words left now m n cause words_ok read_ok = absurd (read_ok refl)
 memory_cause stop.NoMemory words left now m n cause words_ok read_ok = cause
-memory_cause (stop.BadVertex x k) words left now m n cause words_ok read_ok = (cause.0, inr (inr (inl cause.1)))
-memory_cause (stop.TooLarge cuts k) words left now m n cause words_ok read_ok = (cause.0, inr (inr (inl cause.1)))
+memory_cause (stop.BadVertex x k) words left now m n cause words_ok read_ok = (cause.1, inr (inr (inl cause.2)))
+memory_cause (stop.TooLarge cuts k) words left now m n cause words_ok read_ok = (cause.1, inr (inr (inl cause.2)))
 
 -- a stop with its cause that was told, whole or in part
 pub record Telling (words : List (List ℕ)) (left now : Option (List ℕ)) (m n : ℕ) (before after : Option (List ℕ)) (p q : ℕ) (result : Status) : Type 0 where
@@ -262,6 +295,22 @@ module _ (words : List (List ℕ)) (left now : Option (List ℕ)) (m n : ℕ) (b
   calm : (t : Telling words left now m n before after p q result) → ¬ Rose p q → result ≡ status_of t.stop
   calm t no_fault = ⊎_elim (λ w. w.0) (λ w. absurd (no_fault w.1.rose)) t.writes
 
+  -- a trial is told of want of memory alone
+  pub trial_told : (command : Command) (number : ℕ) → command_of words ≡ Some command → command.job ≡ Trial number → ¬ Rose p q →
+      Telling words left now m n before after p q result → (result ≡ status.Ok) ⊎ (result ≡ status.OutOfMemory)
+  trial_told command number is trial tells t = of t.stop t.cause (calm t tells)
+    where
+      no_reading : ReadsGraph words → ⊥
+      no_reading reads = subst IsReading trial (is_reading words command is reads)
+
+      of : (s : Stop) → IsCause words left now m n s → result ≡ status_of s → (result ≡ status.Ok) ⊎ (result ≡ status.OutOfMemory)
+      of stop.BadWords cause e = absurd (none_command words cause.0 (has_command words command is))
+      of (stop.Refused fault) cause e = absurd (no_reading cause.0)
+      of stop.ReadFailed cause e = absurd (no_reading cause.0)
+      of stop.NoMemory cause e = inr e
+      of (stop.BadVertex x k) cause e = absurd (no_reading cause.0)
+      of (stop.TooLarge cuts k) cause e = absurd (no_reading cause.0)
+
   module _ (has : HasCommand words) (reads : ¬ Rose m n) (tells : ¬ Rose p q) (bytes : List ℕ) (from : left ≡ Some bytes)
       (t : Telling words left now m n before after p q result) where
     -- why a graph has no reply
@@ -273,8 +322,8 @@ module _ (words : List (List ℕ)) (left now : Option (List ℕ)) (m n : ℕ) (b
         absurd (one_result (graph_of bytes) graph fault accepted wrong)
     stop_for command graph is accepted stop.ReadFailed cause = absurd (reads cause.1)
     stop_for command graph is accepted stop.NoMemory cause = inl refl
-    stop_for command graph is accepted (stop.BadVertex x k) cause = inr (stopped words command left bytes graph (stop.BadVertex x k) is from accepted cause.2)
-    stop_for command graph is accepted (stop.TooLarge cuts k) cause = inr (stopped words command left bytes graph (stop.TooLarge cuts k) is from accepted cause.2)
+    stop_for command graph is accepted (stop.BadVertex x k) cause = inr (stopped words command left bytes graph (stop.BadVertex x k) is from accepted cause.3)
+    stop_for command graph is accepted (stop.TooLarge cuts k) cause = inr (stopped words command left bytes graph (stop.TooLarge cuts k) is from accepted cause.3)
 
     -- for a graph whose job has a text only memory can be wanting
     pub graph_told : (command : Command) (graph : Graph) → command_of words ≡ Some command → graph_of bytes ≡ Ok graph → IsInRange command.job graph.vertices →
@@ -327,5 +376,5 @@ module _ (words : List (List ℕ)) (left now : Option (List ℕ)) (m n : ℕ) (b
         of (stop.Refused fault) cause e = inl e
         of stop.ReadFailed cause e = absurd (reads cause.1)
         of stop.NoMemory cause e = inr e
-        of (stop.BadVertex x k) cause e = absurd (accepted_twice words left bytes fault (stop.BadVertex x k) from wrong cause.2)
-        of (stop.TooLarge cuts k) cause e = absurd (accepted_twice words left bytes fault (stop.TooLarge cuts k) from wrong cause.2)
+        of (stop.BadVertex x k) cause e = absurd (accepted_twice words left bytes fault (stop.BadVertex x k) from wrong cause.3)
+        of (stop.TooLarge cuts k) cause e = absurd (accepted_twice words left bytes fault (stop.TooLarge cuts k) from wrong cause.3)

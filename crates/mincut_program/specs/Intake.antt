@@ -10,8 +10,10 @@ use Rattle.mincut_program.specs.declared.stop.Stop.{Stop}
 use Rattle.mincut_program.specs.declared.stop.Stop.TheVariants.{BadWords, Refused, ReadFailed, NoMemory, BadVertex, TooLarge}
 use Rattle.mincut_program.specs.declared.command.Command.{Command}
 use Rattle.mincut_program.specs.declared.command.Job.{Job}
-use Rattle.mincut_program.specs.Words.{command_of, HasCommand, AsksNothing}
+use Rattle.mincut_program.specs.declared.command.Job.TheVariants.{Trial}
+use Rattle.mincut_program.specs.Words.{command_of, ReadsGraph, AsksNothing}
 use Rattle.mincut_program.specs.Jobs.{IsAnswerOf, IsStopFor}
+use Rattle.mincut_program.specs.Trials.{IsTrialText}
 use Rattle.mincut_program.specs.Notices.{notice_of, text_of}
 
 -- these bytes were read of those that were left, where the source tells them
@@ -57,15 +59,15 @@ pub record IsStopped (words : List (List ℕ)) (bytes : List ℕ) (stop : Stop) 
   pub accepted : graph_of bytes ≡ Ok graph
   pub why : IsStopFor command.job graph stop
 
--- all was read, and for the graph of it the job has no text
+-- the words read a graph, all was read, and for the graph of it the job has no text
 abbrev pub IsJobStop : List (List ℕ) → Option (List ℕ) → Option (List ℕ) → ℕ → ℕ → Stop → Type 0
-IsJobStop words before now m n stop = (n ≡ m) × IsAtEnd now × IfSome before (λ bytes. IsStopped words bytes stop)
+IsJobStop words before now m n stop = ReadsGraph words × (n ≡ m) × IsAtEnd now × IfSome before (λ bytes. IsStopped words bytes stop)
 
 -- why there is no answer: by the words, the bytes that the source had left before and has now, and its count of faults before and now
 abbrev pub IsCause : List (List ℕ) → Option (List ℕ) → Option (List ℕ) → ℕ → ℕ → Stop → Type 0
 IsCause words before now m n BadWords = AsksNothing words
-IsCause words before now m n (Refused fault) = HasCommand words × (n ≡ m) × IsRefused before now fault
-IsCause words before now m n ReadFailed = HasCommand words × Rose m n × IsUnrefused before now
+IsCause words before now m n (Refused fault) = ReadsGraph words × (n ≡ m) × IsRefused before now fault
+IsCause words before now m n ReadFailed = ReadsGraph words × Rose m n × IsUnrefused before now
 IsCause words before now m n NoMemory = (n ≡ m) × IsMemoryPlace before now
 IsCause words before now m n (BadVertex x k) = IsJobStop words before now m n (BadVertex x k)
 IsCause words before now m n (TooLarge cuts k) = IsJobStop words before now m n (TooLarge cuts k)
@@ -76,12 +78,17 @@ pub record IsJobAnswer (job : Job) (bytes text : List ℕ) : Type 0 where
   pub accepted : graph_of bytes ≡ Ok graph
   pub answer : IsAnswerOf job graph text
 
--- the text is what the job of the words answers
-pub record IsAnswer (words : List (List ℕ)) (bytes text : List ℕ) : Type 0 where
+-- the text is what a job replies: a trial for the graph that it makes, whatever the source has left, and any other for the graph of the bytes that it had left
+abbrev pub IsJobReply : Job → Option (List ℕ) → List ℕ → Type 0
+IsJobReply (Trial number) left text = IsTrialText number text
+IsJobReply job left text = IfSome left (λ bytes. IsJobAnswer job bytes text)
+
+-- the text is what the job of the words replies
+pub record IsAnswer (words : List (List ℕ)) (left : Option (List ℕ)) (text : List ℕ) : Type 0 where
   pub command : Command
   pub commanded : command_of words ≡ Some command
-  pub answer : IsJobAnswer command.job bytes text
+  pub answer : IsJobReply command.job left text
 
--- the text is that of the notice that the words ask for, or else that of the job for the graph of the bytes that the source had left
+-- the text is that of the notice that the words ask for, or else that of their job
 abbrev pub IsReply : List (List ℕ) → Option (List ℕ) → List ℕ → Type 0
-IsReply words left text = MatchOption (notice_of words) (IfSome left (λ bytes. IsAnswer words bytes text)) (λ notice. text ≡ text_of notice)
+IsReply words left text = MatchOption (notice_of words) (IsAnswer words left text) (λ notice. text ≡ text_of notice)

@@ -10,7 +10,7 @@ use Rattle.cactus_tree.specs.Flat.{Flat}
 use Rattle.cactus_tree.specs.FlatCuts.{IsWellFormed, HasSides}
 use Rattle.cactus_text.specs.Text.{cactus_text}
 use Rattle.mincut_program.specs.declared.command.Job.{Job}
-use Rattle.mincut_program.specs.declared.command.Job.TheVariants.{Value, Cactus, Cuts, Part, Balanced}
+use Rattle.mincut_program.specs.declared.command.Job.TheVariants.{Value, Cactus, Cuts, Part, Balanced, Trial}
 use Rattle.mincut_program.specs.declared.stop.Stop.{Stop}
 use Rattle.mincut_program.specs.declared.stop.Stop.TheVariants.{BadVertex, TooLarge, NoMemory}
 use Rattle.mincut_program.specs.Listings.{listing_text, balanced_text}
@@ -39,13 +39,14 @@ abbrev pub asked_cuts : Job → Graph → List (List ℕ)
 asked_cuts (Part u v) g = filter (λ s. parts (has s) u v) (mincuts g)
 asked_cuts _ g = mincuts g
 
--- the text of a job for a graph that has a cut
+-- the text of a job for a graph that has a cut; a trial has none for a graph that was read
 abbrev pub IsTextFor : Job → Graph → List ℕ → Type 0
 IsTextFor Value g text = text ≡ value_line (value g)
 IsTextFor Cactus g text = IsCactusText g text
 IsTextFor Cuts g text = text ≡ listing_text (value g) (asked_cuts Cuts g)
 IsTextFor (Part u v) g text = text ≡ listing_text (value g) (asked_cuts (Part u v) g)
 IsTextFor Balanced g text = IsBalancedText g text
+IsTextFor (Trial number) g text = ⊥
 
 abbrev pub IsListed : Job → Type 0
 IsListed Cuts = ⊤

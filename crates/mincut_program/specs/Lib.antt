@@ -5,6 +5,7 @@ pub mod Line
 pub mod Words
 pub mod Stops
 pub mod Listings
+pub mod Trials
 pub mod Jobs
 pub mod Replies
 pub mod Solving

@@ -7,6 +7,7 @@ ghost use Rattle.cut_definitions.specs.Graph.{IsEdgeList, Graph as EdgeGraph};
 ghost use Rattle.mincut_program.specs.Jobs.{IsAnswerOf, IsInRange, IsStopFor, IsVertex};
 ghost use Rattle.mincut_program.specs.Replies.{text_of, IsPrintable};
 ghost use Rattle.mincut_program.specs.Texts.{no_cut_line, disconnected_line, value_line};
+ghost use Rattle.mincut_program.specs.Words.{IsReading};
 
 use crate::command::{Command, Job};
 use crate::cuts::cuts_reply;
@@ -78,6 +79,7 @@ fn reply_on_cuts<G: Gate>(
     requires enough { 2 ≤ list.now.vertices }
     requires in_range { IsInRange command.job list.now.vertices }
     requires job { command.job ≢ Job.Value }
+    requires reading { IsReading command.job }
     requires workers { (1 ≤ command.workers) × (command.workers ≤ 64) }
     ensures text { IfOk result (λ reply. IsAnswerOf command.job list.now (text_of reply)) }
     ensures printable { IfOk result IsPrintable }
@@ -94,7 +96,7 @@ fn reply_on_cuts<G: Gate>(
     cuts_reply(alloc, command.job, &graph, solved)
 }
 
-/// What a command answers for a graph, or why it has no answer.
+/// What a command that reads a graph answers for it, or why it has no answer.
 pub fn answer<G: Gate>(
     alloc: Global,
     command: Command,
@@ -102,6 +104,7 @@ pub fn answer<G: Gate>(
     gate: &G,
 ) -> Result<Reply, Stop>
     requires workers { (1 ≤ command.workers) × (command.workers ≤ 64) }
+    requires reading { IsReading command.job }
     ensures text { IfOk result (λ reply. IsAnswerOf command.job list.now (text_of reply)) }
     ensures printable { IfOk result IsPrintable }
     ensures stop { IfErr result (IsStopFor command.job list.now) }

@@ -1,10 +1,13 @@
 //! From a solved graph to what is written.
 
-ghost use Rattle.std.specs.Prelude.{◌≡◌, ◌≢◌, ◌≤◌, IfOk, IfErr};
+ghost use Rattle.std.specs.Prelude.{◌≡◌, ◌≢◌, ◌≤◌, ◌^◌, IfOk, IfErr, length};
 ghost use Rattle.cut_definitions.specs.Components.{IsConnected};
+ghost use Rattle.cut_definitions.specs.Cuts.{mincuts};
 ghost use Rattle.mincut_program.specs.Jobs.{IsAnswerOf, IsInRange, IsStopFor, IsCactusText, IsBalancedText};
 ghost use Rattle.mincut_program.specs.Solving.{IsSolved, IsListReply, IsListStop};
+ghost use Rattle.mincut_program.specs.Words.{IsReading};
 ghost use Rattle.cut_listing.specs.Asks.{IsAskWithin};
+ghost use Rattle.cut_listing.specs.Listings.{IsList, IsRefusal};
 ghost use Rattle.mincut_program.specs.Replies.{text_of, IsPrintable};
 
 use crate::command::Job;
@@ -19,16 +22,18 @@ use std::alloc::{AllocError, Global};
 use vertex_set::Side;
 use weighted_graph::Graph;
 
-// The list of the minimum cuts that are asked for.
-fn listing_reply(alloc: Global, ask: Ask, graph: &Graph, solved: Solved) -> Result<Reply, Stop>
-    requires solved { IsSolved graph.now solved }
+// The sides of the minimum cuts that are asked for, in order, or their number where they are too many.
+fn asked_sides(
+    alloc: Global,
+    ask: Ask,
+    graph: &Graph,
+    solved: &Solved,
+) -> Result<Vec<Side>, ListRefusal>
+    requires solved { IsSolved graph.now solved.now }
     requires within { IsAskWithin graph.now.vertices ask }
-    ensures text { IfOk result (λ reply. IsListReply ask graph.now (text_of reply)) }
-    ensures printable { IfOk result IsPrintable }
-    ensures stop { IfErr result (IsListStop ask graph.now) }
+    ensures list { IfOk result (λ sides. IsList (2 ^ 30) graph.now.vertices ask solved.now.cactus sides.items) }
+    ensures refusal { IfErr result (IsRefusal (2 ^ 30) graph.now.vertices ask solved.now.cactus) }
 {
-    minimum_cuts_in_order();
-    count_of_minimum_cuts();
     let Ok(keep) = Box::new(
         alloc,
         move |side: &Side|
@@ -40,16 +45,43 @@ fn listing_reply(alloc: Global, ask: Ask, graph: &Graph, solved: Solved) -> Resu
             }
         },
     ) else {
-        return Err(Stop::NoMemory);
+        return Err(ListRefusal::NoMemory);
     };
     let lister = Lister::new(graph.n(), ask, keep);
-    match lister.list(alloc, &solved.cactus) {
+    lister.list(alloc, &solved.cactus)
+}
+
+// The list of the minimum cuts that are asked for.
+fn listing_reply(alloc: Global, ask: Ask, graph: &Graph, solved: Solved) -> Result<Reply, Stop>
+    requires solved { IsSolved graph.now solved }
+    requires within { IsAskWithin graph.now.vertices ask }
+    ensures text { IfOk result (λ reply. IsListReply ask graph.now (text_of reply)) }
+    ensures printable { IfOk result IsPrintable }
+    ensures stop { IfErr result (IsListStop ask graph.now) }
+{
+    minimum_cuts_in_order();
+    count_of_minimum_cuts();
+    match asked_sides(alloc, ask, graph, &solved) {
         Ok(sides) => Ok(Reply::Listing {
             value: solved.value,
             sides,
         }),
         Err(ListRefusal::TooLarge { cuts, n }) => Err(Stop::TooLarge { cuts, n }),
         Err(ListRefusal::NoMemory) => Err(Stop::NoMemory),
+    }
+}
+
+/// The number of all minimum cuts of a solved graph.
+pub fn count_of_cuts(alloc: Global, graph: &Graph, solved: &Solved) -> Result<u64, AllocError>
+    requires { IsSolved graph.now solved.now }
+    ensures { IfOk result (λ count. count ≡ length (mincuts graph.now)) }
+{
+    minimum_cuts_in_order();
+    count_of_minimum_cuts();
+    match asked_sides(alloc, Ask::All, graph, solved) {
+        Ok(sides) => Ok(sides.len() as u64),
+        Err(ListRefusal::TooLarge { cuts, .. }) => Ok(cuts),
+        Err(ListRefusal::NoMemory) => Err(AllocError),
     }
 }
 
@@ -73,6 +105,7 @@ pub fn cuts_reply(alloc: Global, job: Job, graph: &Graph, solved: Solved) -> Res
     requires connected { IsConnected graph.now }
     requires in_range { IsInRange job graph.now.vertices }
     requires job { job ≢ Job.Value }
+    requires reading { IsReading job }
     requires solved { IsSolved graph.now solved }
     ensures text { IfOk result (λ reply. IsAnswerOf job graph.now (text_of reply)) }
     ensures printable { IfOk result IsPrintable }
@@ -82,7 +115,8 @@ pub fn cuts_reply(alloc: Global, job: Job, graph: &Graph, solved: Solved) -> Res
         Job::Cuts => listing_reply(alloc, Ask::All, graph, solved),
         Job::Part(u, v) => listing_reply(alloc, Ask::Parting(u as u32, v as u32), graph, solved),
         Job::Balanced => Ok(balanced_reply(alloc, graph, solved)?),
-        Job::Value | Job::Cactus => Ok(cactus_reply(graph, solved)),
+        Job::Cactus => Ok(cactus_reply(graph, solved)),
+        Job::Value | Job::Trial(_) => unreachable!(),
     }
 }
 

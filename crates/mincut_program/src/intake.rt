@@ -3,7 +3,7 @@
 ghost use Rattle.std.specs.Prelude.{◌≡◌, ◌≢◌, ℕ, List, Ok, IfOk, IfErr, IfSome};
 ghost use Rattle.std.specs.Io.KnownBytes.{IsAtEnd};
 ghost use Rattle.metis_reader.specs.File.{graph_of};
-ghost use Rattle.mincut_program.specs.Words.{HasCommand};
+ghost use Rattle.mincut_program.specs.Words.{ReadsGraph};
 ghost use Rattle.mincut_program.specs.Intake.{IsCause};
 
 use crate::stop::Stop;
@@ -18,7 +18,7 @@ pub fn take_in<S: Source>(alloc: Global, source: &mut S) -> Result<MetisGraph, S
     ensures graph { IfOk result (λ graph. IfSome (S.left source.old) (λ bytes. graph_of bytes ≡ Ok graph.edges)) }
     ensures ended { IfOk result (λ graph. IsAtEnd (S.left source.new)) }
     ensures same { IfOk result (λ graph. S.faults source.new ≡ S.faults source.old) }
-    ensures cause { IfErr result (λ stop. (words : List (List ℕ)) → HasCommand words
+    ensures cause { IfErr result (λ stop. (words : List (List ℕ)) → ReadsGraph words
         → IsCause words (S.left source.old) (S.left source.new) (S.faults source.old) (S.faults source.new) stop) }
     ensures words { result ≢ Err Stop.BadWords }
 {

@@ -105,7 +105,7 @@ fn put_worded_side<K: Sink>(page: &mut Page, sink: &mut K, side: &Side) -> Resul
 }
 
 /// The lesser of the numbers of members and of other vertices.
-fn balance_of(side: &Side) -> u32
+pub fn balance_of(side: &Side) -> u32
     ensures { result ≡ balance side.now.vertices side.now.members }
 {
     let size = side.len();

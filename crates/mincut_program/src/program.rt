@@ -7,21 +7,22 @@ ghost use Rattle.mincut_program.specs.declared.command.Command.{Command};
 ghost use Rattle.mincut_program.specs.Jobs.{IsInRange, IsWithin};
 ghost use Rattle.metis_reader.specs.declared.fault.Fault.{Fault};
 ghost use Rattle.metis_reader.specs.File.{graph_of};
-ghost use Rattle.mincut_program.specs.Words.{texts, command_of, AsksNothing, HasCommand};
+ghost use Rattle.mincut_program.specs.Words.{texts, command_of, AsksNothing, IsMakeable, IsReading, ReadsGraph};
 ghost use Rattle.mincut_program.specs.Texts.{usage_line, read_failed_line, out_of_memory_line};
-ghost use Rattle.mincut_program.specs.Intake.{IsCause, IsJobAnswer, IsReply};
+ghost use Rattle.mincut_program.specs.Intake.{IsCause, IsJobAnswer, IsJobReply, IsReply};
 ghost use Rattle.mincut_program.specs.Replies.{text_of, IsPrintable, TakesMemory};
 ghost use Rattle.mincut_program.specs.Stops.{status_of, line_of};
 ghost use Rattle.mincut_program.specs.Notices as notices;
 ghost use Rattle.mincut_program.specs.Answers.{Writes, TakesReply, ReplyFailed, Tells, TellsFault, TellsVertex, TellsTooLarge, TellingFailed};
 
 use crate::answer::answer;
-use crate::command::{Command, WordsRefusal, read_words};
+use crate::command::{Command, Job, WordsRefusal, read_words};
 use crate::intake::take_in;
 use crate::notice::{Notice, notice_of};
 use crate::reply::{Reply, write_reply};
 use crate::status::Status;
 use crate::stop::{Stop, refused_line, too_large_text, vertex_text};
+use crate::trial::trial_reply;
 use cactus_text::PrintRefusal;
 use outside::{Gate, Sink, Source, write_whole};
 use std::alloc::Global;
@@ -80,14 +81,15 @@ fn notice_reply(alloc: Global, notice: Notice) -> Result<Reply, Stop>
     }
 }
 
-// What a command answers for the graph that the source gives.
-fn job_reply<S: Source, G: Gate>(
+// What a command that reads a graph answers for the one that the source gives.
+fn reading_reply<S: Source, G: Gate>(
     alloc: Global,
     command: Command,
     source: &mut S,
     gate: &G,
 ) -> Result<Reply, Stop>
     requires workers { (1 ≤ command.workers) × (command.workers ≤ 64) }
+    requires reading { IsReading command.job }
     ensures text { IfOk result (λ reply. IfSome (S.left source.old) (λ bytes. IsJobAnswer command.job bytes (text_of reply))) }
     ensures printable { IfOk result IsPrintable }
     ensures ended { IfOk result (λ reply. IsAtEnd (S.left source.new)) }
@@ -100,6 +102,33 @@ fn job_reply<S: Source, G: Gate>(
     answer(alloc, command, &graph.edges, gate)
 }
 
+// What a command answers. A trial leaves the source as it is.
+fn job_reply<S: Source, G: Gate>(
+    alloc: Global,
+    command: Command,
+    source: &mut S,
+    gate: &G,
+) -> Result<Reply, Stop>
+    requires workers { (1 ≤ command.workers) × (command.workers ≤ 64) }
+    requires number { IsMakeable command.job }
+    ensures text { IfOk result (λ reply. IsJobReply command.job (S.left source.old) (text_of reply)) }
+    ensures printable { IfOk result IsPrintable }
+    ensures ended { IfOk result (λ reply. IsReading command.job → IsAtEnd (S.left source.new)) }
+    ensures ready { IfOk result (λ reply. TakesMemory reply → IsAtEnd (S.left source.new)) }
+    ensures same { IfOk result (λ reply. S.faults source.new ≡ S.faults source.old) }
+    ensures cause { IfErr result (λ stop. (words : List (List ℕ)) → command_of words ≡ Some command
+        → IsCause words (S.left source.old) (S.left source.new) (S.faults source.old) (S.faults source.new) stop) }
+    ensures words { result ≢ Err Stop.BadWords }
+    ensures unread { ¬ IsReading command.job → source.new ≡ source.old }
+{
+    match command.job {
+        Job::Trial(number) => Ok(trial_reply(alloc, number, command.workers, gate)?),
+        Job::Value | Job::Cactus | Job::Cuts | Job::Part(..) | Job::Balanced => {
+            reading_reply(alloc, command, source, gate)
+        }
+    }
+}
+
 // What the words ask for. Nothing is written yet.
 fn reply<S: Source, G: Gate>(
     alloc: Global,
@@ -109,13 +138,13 @@ fn reply<S: Source, G: Gate>(
 ) -> Result<Reply, Stop>
     ensures text { IfOk result (λ reply. IsReply (texts words.now) (S.left source.old) (text_of reply)) }
     ensures printable { IfOk result IsPrintable }
-    ensures ended { IfOk result (λ reply. HasCommand (texts words.now) → IsAtEnd (S.left source.new)) }
+    ensures ended { IfOk result (λ reply. ReadsGraph (texts words.now) → IsAtEnd (S.left source.new)) }
     ensures ready { IfOk result (λ reply. TakesMemory reply → IsAtEnd (S.left source.new)) }
     ensures same { IfOk result (λ reply. S.faults source.new ≡ S.faults source.old) }
     ensures asked { OnOk result (AsksNothing (texts words.now) → ⊥) }
     ensures cause { IfErr result (IsCause (texts words.now) (S.left source.old) (S.left source.new) (S.faults source.old) (S.faults source.new)) }
     ensures asks_nothing { AsksNothing (texts words.now) → IsErrOf result Stop.BadWords ⊎ IsErrOf result Stop.NoMemory }
-    ensures unread { ¬ HasCommand (texts words.now) → source.new ≡ source.old }
+    ensures unread { ¬ ReadsGraph (texts words.now) → source.new ≡ source.old }
 {
     if let Some(notice) = notice_of(words) {
         return notice_reply(alloc, notice);
@@ -128,7 +157,8 @@ fn reply<S: Source, G: Gate>(
 }
 
 /// All that the program does, over whatever source and sinks: it reads the words, reads the source to its end, writes
-/// the text of the reply to `out` or the line that tells why there is none to `err`, and answers how it ended.
+/// the text of the reply to `out` or the line that tells why there is none to `err`, and answers how it ended. The job
+/// `trial` makes its graph and reads nothing.
 ///
 /// The jobs take O(n^3 + m) steps and a table of n^2 weights for the value of the graph. Beside that the job `cactus`
 /// takes a flow for each split of the graph.
@@ -140,12 +170,13 @@ pub fn run<S: Source, K: Sink, E: Sink, G: Gate>(
     err: &mut E,
     gate: &G,
 ) -> Status
-    // Words that are no command and ask for no notice are told as such. Nothing is read where there is no command.
+    // Words that are no command and ask for no notice are told as such. Nothing is read where they are no command that
+    // reads a graph.
     ensures bad_words { result ≡ Status.BadWords → AsksNothing (texts words.now) }
     ensures asks_nothing { AsksNothing (texts words.now) →
         (result ≡ Status.BadWords) ⊎ (result ≡ Status.OutOfMemory)
         ⊎ ((result ≡ Status.WriteFault) × Rose (E.faults err.old) (E.faults err.new)) }
-    ensures unread { ¬ HasCommand (texts words.now) → source.new ≡ source.old }
+    ensures unread { ¬ ReadsGraph (texts words.now) → source.new ≡ source.old }
 
     // The line of a fault names the first fault of the bytes, and nothing is read once they fix it.
     ensures refused { result ≡ Status.Refused → TellsFault (texts words.now) (S.left source.old) (S.left source.new)
@@ -175,8 +206,9 @@ pub fn run<S: Source, K: Sink, E: Sink, G: Gate>(
     ensures out_changed { K.faults out.new ≢ K.faults out.old → result ≡ Status.WriteFault }
     ensures err_changed { E.faults err.new ≢ E.faults err.old → result ≡ Status.WriteFault }
 
-    // At `Ok` the source was read to its end, no count changed, the whole reply was taken, and nothing was told.
-    ensures ok_end { result ≡ Status.Ok → HasCommand (texts words.now) → IsAtEnd (S.left source.new) }
+    // At `Ok` the source was read to its end for a job that reads a graph, no count changed, the whole reply was taken,
+    // and nothing was told.
+    ensures ok_end { result ≡ Status.Ok → ReadsGraph (texts words.now) → IsAtEnd (S.left source.new) }
     ensures ok_source { result ≡ Status.Ok → S.faults source.new ≡ S.faults source.old }
     ensures ok_out { result ≡ Status.Ok → K.faults out.new ≡ K.faults out.old }
     ensures ok_text { result ≡ Status.Ok → TakesReply (texts words.now) (S.left source.old) (K.taken out.old) (K.taken out.new) }
@@ -204,10 +236,15 @@ pub fn run<S: Source, K: Sink, E: Sink, G: Gate>(
         → ¬ Rose (S.faults source.old) (S.faults source.new)
         → ¬ Rose (K.faults out.old) (K.faults out.new) → ¬ Rose (E.faults err.old) (E.faults err.new)
         → (result ≡ Status.ListTooLarge) ⊎ (result ≡ Status.OutOfMemory) }
-    ensures faulty { (bytes : List ℕ) (fault : Fault) → HasCommand (texts words.now)
+    ensures faulty { (bytes : List ℕ) (fault : Fault) → ReadsGraph (texts words.now)
         → S.left source.old ≡ Some bytes → graph_of bytes ≡ Err fault → ¬ Rose (S.faults source.old) (S.faults source.new)
         → ¬ Rose (K.faults out.old) (K.faults out.new) → ¬ Rose (E.faults err.old) (E.faults err.new)
         → (result ≡ Status.Refused) ⊎ (result ≡ Status.OutOfMemory) }
+
+    // A trial has its text, whatever is left to read.
+    ensures made { (command : Command) (number : ℕ) → command_of (texts words.now) ≡ Some command → command.job ≡ Job.Trial number
+        → ¬ Rose (K.faults out.old) (K.faults out.new) → ¬ Rose (E.faults err.old) (E.faults err.new)
+        → (result ≡ Status.Ok) ⊎ (result ≡ Status.OutOfMemory) }
 {
     match reply(alloc, words, source, gate) {
         Ok(reply) => match write_reply(alloc, out, &reply) {

@@ -305,6 +305,10 @@ fn other_words_are_refused_unread(rt: HostRuntime) -> Result<(), Fail> {
         "part|1|2|3",
         "part|1|x",
         "cuts|2",
+        "trial",
+        "trial|11",
+        "trial|2001",
+        "trial|12|13",
         "value|value",
         "value|--workers|0",
         "value|--workers|65",
@@ -341,6 +345,30 @@ fn notices_are_printed_unread(rt: HostRuntime) -> Result<(), Fail> {
         let outcome = run_on(rt.alloc(), &[word], TRIANGLE, &unread)?;
         assert_eq!(rt; outcome.status, Status::Ok, "{word}");
         assert!(rt; outcome.out.taken().starts_with(line));
+        assert_eq!(rt; outcome.err.taken(), b"".as_slice());
+    }
+    Ok(())
+}
+
+#[test]
+fn trials_are_printed_unread(rt: HostRuntime) -> Result<(), Fail> {
+    let unread = Script {
+        reads: &[0],
+        ..HONEST
+    };
+    let twelve = "vertices 12\nedges 15\nvalue 4\ncount 9\nbalance 4\n";
+    let thousand = "vertices 1000\nedges 1250\nvalue 4\ncount 31625\nbalance 500\n";
+    for (line, text) in [
+        ("trial|12", twelve),
+        ("trial|15", twelve),
+        ("--workers=64|trial|012", twelve),
+        ("trial|1000|--workers|1", thousand),
+        ("trial|1000|--workers|8", thousand),
+    ] {
+        let words: Vec<&str> = line.split('|').collect(rt.alloc())?;
+        let outcome = run_on(rt.alloc(), &words, TRIANGLE, &unread)?;
+        assert_eq!(rt; outcome.status, Status::Ok, "{line}");
+        assert_eq!(rt; outcome.out.taken(), text.as_bytes());
         assert_eq!(rt; outcome.err.taken(), b"".as_slice());
     }
     Ok(())

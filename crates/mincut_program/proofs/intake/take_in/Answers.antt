@@ -1,7 +1,7 @@
 use Rattle.std.proofs.Common.{take, ◌++◌, ℕ, List, [], Err, ◌∙◌, ap, refl, arith}
 use Rattle.metis_reader.proofs.StillFed.{still_fed}
 use Rattle.mincut_program.specs.declared.stop.Stop.{Stop}
-use Rattle.mincut_program.specs.Words.{HasCommand}
+use Rattle.mincut_program.specs.Words.{ReadsGraph}
 use Rattle.mincut_program.specs.Intake.{IsCause}
 use Rattle.mincut_program.proofs.Bytes.{read_none, read_more, read_nothing, read_cause, finish_cause, feed_cause, fewer, handed_on}
 use Rattle.mincut_program.proofs.intake.take_in.Goals as goal
@@ -25,7 +25,7 @@ returns-in_err-finish-in-Ok-eq0-clause-cause g c =
     let n = g.S.Source.faults c.read.new.self in
     let fed = c.reading.invariant in
     let taken = c.in-Ok-eq0.ensures.bytes in
-    let why : Stop → Type 0 = λ stop. (words : List (List ℕ)) → HasCommand words → IsCause words left now m n stop in
+    let why : Stop → Type 0 = λ stop. (words : List (List ℕ)) → ReadsGraph words → IsCause words left now m n stop in
     handed_on why c.from_residual.result c.in_err-finish-in-Ok-eq0.field-0.0 c.from_residual.ensures.1
     (λ words command. finish_cause words command left now m n (c.in-Ok-eq0.ensures.cause.ok ∙ fed.1.faults) fed.0
     (read_nothing left (g.S.Source.left c.reading.source) now fed.0 c.read.new.room c.in-Ok-eq0.field-0 fed.1.read c.in-Ok-eq0.field-0-test taken.0)
@@ -39,7 +39,7 @@ returns-in_err-feed-in-Ok-clause-cause g c =
     let m = g.S.Source.faults c.args.source.now in
     let n = g.S.Source.faults c.read.new.self in
     let fed = c.reading.invariant in
-    let why : Stop → Type 0 = λ stop. (words : List (List ℕ)) → HasCommand words → IsCause words left now m n stop in
+    let why : Stop → Type 0 = λ stop. (words : List (List ℕ)) → ReadsGraph words → IsCause words left now m n stop in
     handed_on why c.from_residual-in_err-feed-in-Ok.result c.in_err-feed-in-Ok.field-0.0 c.from_residual-in_err-feed-in-Ok.ensures.1
     (λ words command. feed_cause words command left now m n (c.in-Ok.ensures.cause.ok ∙ fed.1.faults) fed.0 _
     (still_fed c.reading.reader fed.0 fed.1.stands fed.1.accepted).none

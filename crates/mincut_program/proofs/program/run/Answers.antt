@@ -4,7 +4,7 @@ use Rattle.mincut_program.specs.Intake.{IsCause}
 use Rattle.mincut_program.specs.Replies.{TakesMemory}
 use Rattle.mincut_program.specs.declared.stop.Stop.TheVariants.{NoMemory}
 use Rattle.weighted_graph.proofs.OneComponent.{law_of_one_component}
-use Rattle.mincut_program.proofs.Telling.{telling, telling_failed, graph_told, outside_told, over_limit_told, vertex_told, too_large_told, answered, too_large_reply, has_command, no_reply}
+use Rattle.mincut_program.proofs.Telling.{telling, telling_failed, graph_told, outside_told, over_limit_told, vertex_told, too_large_told, answered, reading_of_large, reading_of_outside, too_large_reply, trial_told, has_command, no_reply}
 use Rattle.mincut_program.proofs.program.run.Goals as goal
 
 pub returns-in-Ok-write_reply-clause-faulty : goal.returns-in-Ok-write_reply-clause-faulty
@@ -103,8 +103,19 @@ returns-clause-too_large g c is =
 
 pub returns-in-Ok-write_reply-clause-outside : goal.returns-in-Ok-write_reply-clause-outside
 returns-in-Ok-write_reply-clause-outside g c bytes graph command is left accepted outside reads writes tells =
-    absurd (outside (answered (texts c.args.words.now) command (g.S.Source.left c.args.source.now) bytes _ graph is left accepted c.in-Ok.ensures.text).in_range)
+    absurd (outside (answered (texts c.args.words.now) command (g.S.Source.left c.args.source.now) bytes _ graph is (reading_of_outside command.job graph.vertices outside) left accepted c.in-Ok.ensures.text).in_range)
 
 pub returns-in-Ok-write_reply-clause-over_limit : goal.returns-in-Ok-write_reply-clause-over_limit
 returns-in-Ok-write_reply-clause-over_limit g c bytes graph command is left accepted inside two connected large reads writes tells =
-    absurd (too_large_reply command.job graph _ law_of_one_component (answered (texts c.args.words.now) command (g.S.Source.left c.args.source.now) bytes _ graph is left accepted c.in-Ok.ensures.text) two connected large)
+    absurd (too_large_reply command.job graph _ law_of_one_component (answered (texts c.args.words.now) command (g.S.Source.left c.args.source.now) bytes _ graph is (reading_of_large command.job graph large) left accepted c.in-Ok.ensures.text) two connected large)
+
+pub returns-clause-made : goal.returns-clause-made
+returns-clause-made g c command number is trial writes tells =
+    trial_told (texts c.args.words.now) (g.S.Source.left c.args.source.now) (g.S.Source.left c.reply.new.source)
+    (g.S.Source.faults c.args.source.now) (g.S.Source.faults c.reply.new.source)
+    (g.E.Sink.taken c.args.err.now) (g.E.Sink.taken c.tell-in-Err.new.err) (g.E.Sink.faults c.args.err.now) (g.E.Sink.faults c.tell-in-Err.new.err) c.tell-in-Err.result
+    command number is trial tells
+    (telling c.in-Err.stop (texts c.args.words.now) (g.S.Source.left c.args.source.now) (g.S.Source.left c.reply.new.source)
+    (g.S.Source.faults c.args.source.now) (g.S.Source.faults c.reply.new.source) c.in-Err.ensures.cause
+    (g.E.Sink.taken c.args.err.now) (g.E.Sink.taken c.tell-in-Err.new.err) (g.E.Sink.faults c.args.err.now) (g.E.Sink.faults c.tell-in-Err.new.err)
+    c.tell-in-Err.result c.tell-in-Err.ensures)

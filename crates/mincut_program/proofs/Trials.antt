@@ -1,0 +1,70 @@
+-- The number of a trial is in range, and a trial reads no graph.
+use Rattle.std.proofs.Common.{◌≡◌, ℕ, ◌&&◌, Bool, true, false, List, [], ◌∷◌, Option, Some, None, codes, refl, sym, ◌∙◌, ap, subst, if◌then◌else◌, nat_le}
+use Rattle.std.specs.Prelude.{IfSome, unwrap_or}
+use Rattle.std.specs.Str.{bytes_eq}
+use Rattle.std.proofs.lemmas.Bool.{leb-true}
+use Rattle.clap.specs.Words.{Text, all_of, first_of, fault_of, matches_of}
+use Rattle.mincut_program.specs.Line.{mincut}
+use Rattle.mincut_program.specs.Numbers.{number_of}
+use Rattle.mincut_program.specs.Words.{IsMakeable, IsReading, ReadsGraph, command_by, command_from, command_of, is_clean, job_of, part_of, trial_of, within, workers_of}
+use Rattle.mincut_program.specs.declared.command.Job.{Job}
+use Rattle.mincut_program.specs.declared.command.Command.{Command}
+
+-- what holds of both branches holds of a choice
+chosen : {X : Type 0} (P : X → Type 0) (b : Bool) (x y : Option X) → IfSome x P → IfSome y P → IfSome (if b then x else y) P
+chosen P true x y p q = p
+chosen P false x y p q = q
+
+trial_within : (o : Option ℕ) → IfSome (trial_of (within 12 2000 o)) IsMakeable
+trial_within None = tt
+trial_within (Some n) = go (nat_le 12 n) (nat_le n 2000) refl refl
+  where
+    go : (a b : Bool) → nat_le 12 n ≡ a → nat_le n 2000 ≡ b → IfSome (trial_of (if a && b then Some n else None)) IsMakeable
+    go true true low high = (leb-true 12 n low, leb-true n 2000 high)
+    go true false low high = tt
+    go false b low high = tt
+
+part_within : (a b : Option ℕ) → IfSome (part_of a b) IsMakeable
+part_within None b = tt
+part_within (Some u) None = tt
+part_within (Some u) (Some v) = tt
+
+job_within : (name : Text) (values : List Text) → IfSome (job_of name values) IsMakeable
+job_within name [] =
+    chosen IsMakeable (bytes_eq name (codes "value")) _ _ tt
+    (chosen IsMakeable (bytes_eq name (codes "cactus")) _ _ tt
+    (chosen IsMakeable (bytes_eq name (codes "cuts")) _ _ tt (chosen IsMakeable (bytes_eq name (codes "balanced")) _ _ tt tt)))
+job_within name (first ∷ []) = chosen IsMakeable (bytes_eq name (codes "trial")) _ _ (trial_within (number_of first)) tt
+job_within name (first ∷ second ∷ []) = chosen IsMakeable (bytes_eq name (codes "part")) _ _ (part_within (number_of first) (number_of second)) tt
+job_within name (first ∷ second ∷ third ∷ more) = tt
+
+abbrev IsMade : Command → Type 0
+IsMade command = IsMakeable command.job
+
+from_within : (j : Option Job) (n : Option ℕ) → IfSome j IsMakeable → IfSome (command_from j n) IsMade
+from_within None n h = tt
+from_within (Some j) None h = tt
+from_within (Some j) (Some n) h = h
+
+by_within : (name : Option Text) (values : List Text) (workers : Option Text) → IfSome (command_by name values workers) IsMade
+by_within None values workers = tt
+by_within (Some name) values None = tt
+by_within (Some name) values (Some workers) = from_within (job_of name values) (workers_of workers) (job_within name values)
+
+command_within : (words : List Text) → IfSome (command_of words) IsMade
+unfolding command_of
+command_within words = chosen IsMade (is_clean (fault_of mincut words)) _ _ (by_within (first_of (codes "job") (matches_of mincut words)) (unwrap_or (all_of (codes "values") (matches_of mincut words)) []) (first_of (codes "workers") (matches_of mincut words))) tt
+
+-- the number of a trial that words ask for is in range
+pub is_makeable : (words : List Text) (command : Command) → command_of words ≡ Some command → IsMakeable command.job
+is_makeable words command is = subst (λ (o : Option Command). IfSome o IsMade) is (command_within words)
+
+pub reads_graph : (words : List Text) (command : Command) → command_of words ≡ Some command → IsReading command.job → ReadsGraph words
+reads_graph words command is reading = record { command = command; commanded = is; reading = reading }
+
+pub some_is : {X : Type 0} (x y : X) → ◌≡◌ {A = Option X} (Some x) (Some y) → x ≡ y
+some_is {X} x y e = ap (λ (o : Option X). elim o [ Some v ↦ v | None ↦ x ]) e
+
+-- what words that read a graph have as their command does so
+pub is_reading : (words : List Text) (command : Command) → command_of words ≡ Some command → ReadsGraph words → IsReading command.job
+is_reading words command is reads = subst (λ (c : Command). IsReading c.job) (some_is reads.command command (sym reads.commanded ∙ is)) reads.reading
