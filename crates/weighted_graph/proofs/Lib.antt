@@ -1,5 +1,7 @@
 pub mod Rows
 pub mod Filled
+pub mod Blocks
+pub mod Degrees
 pub mod RowLaws
 pub mod RowSearch
 pub mod Contraction
@@ -13,3 +15,4 @@ pub mod OneComponent
 pub mod Searched
 pub mod Counting
 pub mod SafeContraction
+pub mod MarkLaws

@@ -19,11 +19,11 @@ use Rattle.weighted_graph.proofs.RowLaws.{to_term}
 
 -- ---- a sum with one term
 
-none_counts : {X : Type 0} (f : X → ℕ) (xs : List X) (d : X) → ((k : ℕ) → k < length xs → f (get_or xs k d) ≡ 0) → sum_by f xs ≡ 0
+pub none_counts : {X : Type 0} (f : X → ℕ) (xs : List X) (d : X) → ((k : ℕ) → k < length xs → f (get_or xs k d) ≡ 0) → sum_by f xs ≡ 0
 none_counts f [] d none = refl
 none_counts f (x ∷ xs) d none = omega (arith, sum_by-cons f x xs, none 0 (omega arith), none_counts f xs d (λ k l. none (suc k) (omega arith)))
 
-one_counts : {X : Type 0} (f : X → ℕ) (xs : List X) (d : X) (i : ℕ) → i < length xs → ((k : ℕ) → k < length xs → k ≢ i → f (get_or xs k d) ≡ 0) → sum_by f xs ≡ f (get_or xs i d)
+pub one_counts : {X : Type 0} (f : X → ℕ) (xs : List X) (d : X) (i : ℕ) → i < length xs → ((k : ℕ) → k < length xs → k ≢ i → f (get_or xs k d) ≡ 0) → sum_by f xs ≡ f (get_or xs i d)
 one_counts f [] d i l others = absurd (omega arith)
 one_counts f (x ∷ xs) d zero l others = omega (arith, sum_by-cons f x xs, none_counts f xs d (λ k m. others (suc k) (omega arith) (λ q. omega arith)))
 one_counts f (x ∷ xs) d (suc i) l others =
@@ -40,7 +40,8 @@ term_here v a e = rw (eq-eqb v a.to (sym e)) refl
 term_elsewhere : (v : ℕ) (a : Arc) → v ≢ a.to → to_term v a ≡ 0
 term_elsewhere v a ne = rw (ne_eqb v a.to ne) refl
 
-found : (row : List Arc) → Ascends row → (v place : ℕ) → place < length row → (get_or row place no_arc).to ≡ v → (get_or row place no_arc).weight ≡ sum_by (to_term v) row
+-- an arc of a row weighs what the row has to its other end
+pub found : (row : List Arc) → Ascends row → (v place : ℕ) → place < length row → (get_or row place no_arc).to ≡ v → (get_or row place no_arc).weight ≡ sum_by (to_term v) row
 found row up v place l is =
     sym (one_counts (to_term v) row no_arc place l
     (λ k m ne. term_elsewhere v (get_or row k no_arc) (⊎_elim

@@ -1,7 +1,9 @@
 pub mod Rows
+pub mod Blocks
 pub mod RowLaws
 pub mod Components
 pub mod ContractionLaws
 pub mod Labels
 pub mod Merging
 pub mod Searches
+pub mod Marks

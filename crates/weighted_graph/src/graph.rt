@@ -11,7 +11,7 @@ ghost use Rattle.cut_definitions.specs.Components.{HasComponents};
 ghost use Rattle.cut_definitions.specs.Contraction.{relabel};
 ghost use Rattle.cut_definitions.specs.Scan.{single};
 ghost use Rattle.weighted_graph.specs.declared.graph.Arc.{Arc};
-ghost use Rattle.weighted_graph.specs.Rows.{row_of};
+ghost use Rattle.weighted_graph.specs.Rows.{row_of, weight_in};
 
 use crate::components::count_components;
 use crate::labels::Labels;
@@ -30,10 +30,10 @@ pub struct Arc {
     pub weight: u64,
 }
 
-/// The weight of the arc to a vertex, or 0 where the row has none, by binary search.
-fn weight_to(row: &[Arc], v: u32) -> u64
+/// The weight of the arc to a vertex in an ascending row, or 0 where the row has none, by binary search.
+pub fn weight_to(row: &[Arc], v: u32) -> u64
     requires { AllPairs (λ (a b : Arc). a.to < b.to) row.now }
-    ensures { result ≡ sum_by (λ (a : Arc). if single v a.to then a.weight else 0) row.now }
+    ensures { result ≡ weight_in row.now v }
 {
     match row.binary_search_by_key(&v, |arc| arc.to) {
         Ok(place) => row[place].weight,
@@ -66,7 +66,8 @@ impl Model for Graph {
 }
 
 impl Graph {
-    /// The graph of a list of edges, in O(n + m). It is refused only where memory is wanting.
+    /// The graph of a list of edges, in O(n + m). It is refused only where memory is wanting. While it is built it takes
+    /// 8 bytes more a vertex, and 24 an edge where a large graph's edges lead far apart, before the edges are copied.
     pub fn build(alloc: Global, list: &EdgeList) -> Result<Graph, AllocError>
         ensures { IfOk result (λ g. g ≡ list.now) }
     {
@@ -74,7 +75,7 @@ impl Graph {
         let edges = list.edges();
         let starts = row_starts(alloc, n, edges)?;
         let arcs = rows(alloc, edges, &starts)?;
-        let degrees = degrees(alloc, n, edges)?;
+        let degrees = degrees(alloc, n, &starts, &arcs)?;
         let edges = Vec::from_slice(alloc, edges)?;
         Ok(Graph {
             n,

@@ -1,7 +1,7 @@
 //! Weighted graphs with a row for each vertex, labels that give each vertex a class, and contraction of the classes.
 //!
 //! Contracts see a `Graph` as its number of vertices and its ascending list of edges, and `Labels` as the list of the
-//! classes of the vertices 1 to n. A graph is built from its list in two passes, so the row of a vertex is one slice;
+//! classes of the vertices 1 to n. A graph is built from its list in a few passes, so the row of a vertex is one slice;
 //! components are found by breadth-first search; contraction sorts the edges between classes once.
 #![tactic(auto)]
 
@@ -10,6 +10,7 @@ pub mod graph;
 pub mod labels;
 pub mod laws;
 mod relabel;
+mod row_blocks;
 mod row_index;
 
 pub use graph::{Arc, Graph};
