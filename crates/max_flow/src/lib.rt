@@ -20,7 +20,7 @@ pub mod flow;
 pub mod outcome;
 pub mod preflow;
 mod push;
-mod residual;
+pub mod residual;
 mod rows;
 mod search;
 mod side;

@@ -1,0 +1,139 @@
+//! The sweep.
+
+ghost use Rattle.std.specs.Prelude.{◌≡◌, ◌≤◌, ◌<◌, ◌-◌, ◌^◌, ℕ, None, IfOk, IfSome, min, slice_index, slice_set};
+ghost use Rattle.cut_definitions.specs.Cuts.{value};
+ghost use Rattle.region_flow.specs.Regions.{IsRegionFlow};
+ghost use Rattle.least_cut.specs.Sweep.{IsSwept, TellsLeast};
+
+use crate::front::Front;
+use cut_definitions::NoMemory;
+use max_flow::Outcome;
+use region_flow::RegionFlow;
+use std::alloc::Global;
+use weighted_graph::Graph;
+
+/// A vertex of greatest degree.
+fn busiest(graph: &Graph) -> u32
+    requires { 1 ≤ graph.now.vertices }
+    ensures from_one { 1 ≤ result }
+    ensures to_n { result ≤ graph.now.vertices }
+{
+    let mut busiest = 1;
+    for v in 1..graph.n() + 1 {
+        if graph.degree(v) > graph.degree(busiest) {
+            busiest = v;
+        }
+    }
+    busiest
+}
+
+/// The least degree of a vertex.
+fn least_degree(graph: &Graph) -> u64
+    requires { 2 ≤ graph.now.vertices }
+    ensures { value graph.now ≤ result }
+{
+    let n = graph.n();
+    let mut least = graph.degree(1);
+    for v in 1..n + 1 {
+        least = least.min(graph.degree(v));
+    }
+    least
+}
+
+/// Lets a vertex enter the source, and answers the least weight of a cut that is known then. None where the flows went along
+/// too many arcs; the vertex has not entered then.
+fn take_in(
+    graph: &Graph,
+    flow: &mut RegionFlow,
+    t: u32,
+    bound: u64,
+    best: u64,
+    most: usize,
+) -> Option<u64>
+    requires flow { IsRegionFlow graph.now flow.old }
+    requires from_one { 1 ≤ t }
+    requires to_n { t ≤ graph.now.vertices }
+    requires outside { 1 ≤ slice_index flow.old.labels t }
+    requires swept { IsSwept graph.now bound flow.old.labels best }
+    ensures flow { IsRegionFlow graph.now flow.new }
+    ensures labels { IfSome result (λ weight. flow.new.labels ≡ slice_set flow.old.labels t 0) }
+    ensures swept { IfSome result (IsSwept graph.now bound flow.new.labels) }
+    ensures cut_short { result ≡ None → most < 2 ^ 64 - 1 }
+{
+    let _n = graph.n();
+    let Some(outcome) = flow.flow_within(graph, t, best, most) else {
+        return None;
+    };
+    flow.enter(graph, t);
+    match outcome {
+        Outcome::AtLeast => Some(best),
+        Outcome::Best(weight) => Some(weight),
+    }
+}
+
+/// What a sweep tells of the lesser of a bound and the value of a graph.
+#[derive(Clone, Copy, Debug, PartialEq, Eq)]
+pub enum Swept {
+    /// It is this.
+    Whole(u64),
+
+    /// The sweep was cut short, and it is at most this.
+    Part(u64),
+}
+
+/// The lesser of a bound and the value of a graph of two or more vertices, if the flows go along rows of no more than about
+/// so many arcs.
+///
+/// `Part` comes only where there is a limit, a number below 2^64 - 1; what it tells lies between the lesser of the two and
+/// the bound. It takes memory O(n + m), and want of memory is its only refusal. It is one sweep with n flows, each of which
+/// looks only at what it reaches until the least weight that is known is reached.
+pub fn least_weight_within(
+    alloc: Global,
+    graph: &Graph,
+    bound: u64,
+    most: usize,
+) -> Result<Swept, NoMemory>
+    requires { 2 ≤ graph.now.vertices }
+    ensures { IfOk result (TellsLeast graph.now bound most) }
+{
+    // known by this call: the graph is an edge list
+    let _n = graph.n();
+    let mut flow = RegionFlow::new(alloc, graph)?;
+    let mut front = Front::new(alloc, graph)?;
+    let mut best = least_degree(graph).min(bound);
+    let start = busiest(graph);
+    flow.enter(graph, start);
+    front.put_neighbours(graph, start);
+    'sweep: while let Some(t) = front.next(&flow) {
+        let Some(weight) = take_in(graph, &mut flow, t, bound, best, most) else {
+            return Ok(Swept::Part(best));
+        };
+        best = weight;
+        front.put_neighbours(graph, t);
+    }
+    Ok(Swept::Whole(best))
+}
+
+/// The lesser of a bound and the value of a graph of two or more vertices. The cost is that of `least_weight_within` without
+/// a limit.
+pub fn least_weight_below(alloc: Global, graph: &Graph, bound: u64) -> Result<u64, NoMemory>
+    requires { 2 ≤ graph.now.vertices }
+    ensures { IfOk result (λ weight. weight ≡ min bound (value graph.now)) }
+{
+    let swept = least_weight_within(alloc, graph, bound, usize::MAX)?;
+    match swept {
+        Swept::Whole(weight) => Ok(weight),
+        Swept::Part(weight) => Ok(weight),
+    }
+}
+
+/// The value of the graph: the least weight of a cut, which is 0 where the graph is not connected, and where it has fewer
+/// than two vertices. The cost is that of `least_weight_below`.
+pub fn least_weight(alloc: Global, graph: &Graph) -> Result<u64, NoMemory>
+    ensures { IfOk result (λ weight. weight ≡ value graph.now) }
+{
+    if graph.n() < 2 {
+        return Ok(0);
+    }
+    least_weight_below(alloc, graph, least_degree(graph))
+}

@@ -1,0 +1,236 @@
+//! The flow, its regions, and the memory for searches.
+
+ghost use Rattle.std.specs.Prelude.{◌≡◌, ◌≢◌, ◌↔◌, ◌+◌, ◌-◌, ◌^◌, ◌<◌, ◌≤◌, ◌⊎◌, ℕ, None, IfOk, IfSome, length, slice_index, slice_set};
+ghost use Rattle.std.specs.List.{All, AllPairs};
+ghost use Rattle.max_flow.specs.Outcome.{IfBest};
+ghost use Rattle.region_flow.specs.Regions.{RegionState, IsRegionFlow};
+ghost use Rattle.region_flow.specs.Inflow.{IsStopReached, ShowsLeast};
+ghost use Rattle.region_flow.specs.CutOff.{MayBeCutOff, relabelled};
+
+use crate::cutting::cut_off;
+use crate::searching::search;
+use crate::tree::{Link, clear};
+use cut_definitions::NoMemory;
+use max_flow::Outcome;
+use max_flow::residual::start;
+use std::alloc::Global;
+use std::marker::Model;
+use weighted_graph::{Arc, Graph};
+
+/// A flow from a source that grows, with the vertices outside in regions, and the memory for searches.
+///
+/// It keeps no copy of its graph.
+#[derive(Drop)]
+pub struct RegionFlow {
+    labels: Vec<u32>,
+    feed: Vec<u64>,
+    toward: Vec<u64>,
+
+    // the vertices that the last search found are the first `count` of the order; no vertex is marked between two
+    order: Vec<u32>,
+    count: u32,
+    links: Vec<Link>,
+    marks: Vec<u32>,
+
+    // the lengths of all rows that searches went along, added up
+    looked: usize,
+}
+
+impl Model for RegionFlow {
+    ghost use Rattle.std.specs.Prelude.{take};
+    ghost use Rattle.region_flow.specs.Regions.{RegionState};
+    ghost use Rattle.region_flow.specs.Tree.{IsLaidOut};
+
+    ghost Value = { RegionState };
+
+    ghost view = { λ f. record {
+      labels = f.labels.items;
+      feed = f.feed.items;
+      toward = f.toward.items;
+      found = take f.count f.order.items;
+    } };
+
+    ghost invariant = { λ f. IsLaidOut f.labels.items f.marks.items f.order.items f.links.items f.count };
+}
+
+impl RegionFlow {
+    /// A flow in a graph in which no vertex has entered the source, and all are in region 1.
+    ///
+    /// It takes time and memory O(n + m), and all the memory that the flow ever takes. Want of memory is its only refusal.
+    pub fn new(alloc: Global, graph: &Graph) -> Result<RegionFlow, NoMemory>
+        ensures flow { IfOk result (IsRegionFlow graph.now) }
+        ensures one { IfOk result (λ f. (v : ℕ) → 1 ≤ v → v ≤ graph.now.vertices → slice_index f.labels v ≡ 1) }
+    {
+        let size = graph.n() as usize + 1;
+        let none = Arc {
+            to: 0,
+            edge: 0,
+            weight: 0,
+        };
+        let first = Link {
+            parent: 0,
+            arc: none,
+        };
+        let mut toward = vec![in alloc; 0u64; graph.edges()]?;
+        start(graph, toward.as_mut_slice());
+        let mut labels = vec![in alloc; 1u32; size]?;
+        labels[0] = 0;
+        let feed = vec![in alloc; 0u64; size]?;
+        let order = vec![in alloc; 0u32; size]?;
+        let links = vec![in alloc; first; size]?;
+        let marks = vec![in alloc; 0u32; size]?;
+        Ok(RegionFlow {
+            labels,
+            feed,
+            toward,
+            order,
+            count: 0,
+            links,
+            marks,
+            looked: 0,
+        })
+    }
+
+    /// The label of a vertex of 1 to n: 0 where it has entered the source, else that of its region.
+    pub fn label(&self, v: u32) -> u32
+        requires { v < length self.now.labels }
+        ensures { result ≡ slice_index self.now.labels v }
+    {
+        self.labels[v as usize]
+    }
+
+    /// What a vertex of 1 to n is fed.
+    pub fn feed(&self, v: u32) -> u64
+        requires { v < length self.now.feed }
+        ensures { result ≡ slice_index self.now.feed v }
+    {
+        self.feed[v as usize]
+    }
+
+    /// What is left toward the greater end of the edge at a place of the graph's list; toward the lesser end it is the rest
+    /// of twice the edge's weight.
+    pub fn toward(&self, edge: usize) -> u64
+        requires { edge < length self.now.toward }
+        ensures { result ≡ slice_index self.now.toward edge }
+    {
+        self.toward[edge]
+    }
+
+    /// The vertices that the last search found, lent without a copy.
+    pub fn found(&self) -> &[u32]
+        ensures { result.now ≡ self.now.found }
+    {
+        &self.order[..self.count as usize]
+    }
+
+    /// Lets a vertex outside the source enter it: its neighbours in its region are fed what it can send them. It takes one
+    /// step for each arc, and no memory.
+    pub fn enter(&mut self, graph: &Graph, t: u32)
+        requires flow { IsRegionFlow graph.now self.old }
+        requires to_n { t ≤ graph.now.vertices }
+        requires outside { 1 ≤ slice_index self.old.labels t }
+        ensures flow { IsRegionFlow graph.now self.new }
+        ensures labels { self.new.labels ≡ slice_set self.old.labels t 0 }
+        ensures toward { self.new.toward ≡ self.old.toward }
+        ensures found { self.new.found ≡ self.old.found }
+    {
+        let region = self.labels[t as usize];
+        self.cut_off(graph, &[t], region, 0);
+    }
+
+    /// Cuts different vertices off from their region, and gives them a label that no vertex has; or lets them enter the
+    /// source, by the label 0. It takes one step for each of their arcs, and no memory.
+    pub fn cut_off(&mut self, graph: &Graph, moved: &[u32], region: u32, fresh: u32)
+        requires flow { IsRegionFlow graph.now self.old }
+        requires may { MayBeCutOff self.old.labels moved.now region fresh }
+        ensures flow { IsRegionFlow graph.now self.new }
+        ensures labels { (v : ℕ) → slice_index self.new.labels v ≡ relabelled self.old.labels moved.now fresh v }
+        ensures toward { self.new.toward ≡ self.old.toward }
+        ensures found { self.new.found ≡ self.old.found }
+    {
+        cut_off(
+            graph,
+            self.labels.as_mut_slice(),
+            self.feed.as_mut_slice(),
+            self.toward.as_slice(),
+            moved,
+            region,
+            fresh,
+        );
+    }
+
+    /// One search from `t`: it brings `t` something, or finds the least set around `t` whose weight is least.
+    fn pass(&mut self, graph: &Graph, t: u32, stop: u64)
+        requires flow { IsRegionFlow graph.now self.old }
+        requires to_n { t ≤ graph.now.vertices }
+        requires outside { 1 ≤ slice_index self.old.labels t }
+        requires wanting { slice_index self.old.feed t < stop }
+        ensures flow { IsRegionFlow graph.now self.new }
+        ensures labels { self.new.labels ≡ self.old.labels }
+        ensures grown { slice_index self.old.feed t ≤ slice_index self.new.feed t }
+        ensures shows { slice_index self.new.feed t ≡ slice_index self.old.feed t → ShowsLeast graph.now t (slice_index self.new.feed t) self.new }
+    {
+        let _n = graph.n();
+        let marks = self.marks.as_mut_slice();
+        let order = self.order.as_mut_slice();
+        self.count = search(
+            graph,
+            self.labels.as_slice(),
+            self.feed.as_mut_slice(),
+            self.toward.as_mut_slice(),
+            marks,
+            order,
+            self.links.as_mut_slice(),
+            t,
+            stop,
+            &mut self.looked,
+        );
+        clear(marks, order, self.count);
+    }
+
+    /// The same as `flow`, but None where all searches of this flow so far went along rows of more arcs than `most`, which
+    /// comes only where that is below 2^64 - 1. What the searches moved stays moved.
+    pub fn flow_within(&mut self, graph: &Graph, t: u32, stop: u64, most: usize) -> Option<Outcome>
+        requires flow { IsRegionFlow graph.now self.old }
+        requires to_n { t ≤ graph.now.vertices }
+        requires outside { 1 ≤ slice_index self.old.labels t }
+        ensures flow { IsRegionFlow graph.now self.new }
+        ensures labels { self.new.labels ≡ self.old.labels }
+        ensures stopped { IfSome result (λ outcome. (outcome ≡ Outcome.AtLeast) ↔ IsStopReached graph.now self.new.labels t stop) }
+        ensures best { IfSome result (λ outcome. IfBest outcome (λ amount. ShowsLeast graph.now t amount self.new)) }
+        ensures cut_short { result ≡ None → most < 2 ^ 64 - 1 }
+    {
+        while self.feed[t as usize] < stop {
+            if self.looked > most {
+                return None;
+            }
+            let before = self.feed[t as usize];
+            self.pass(graph, t, stop);
+            if self.feed[t as usize] == before {
+                return Some(Outcome::Best(before));
+            }
+        }
+        Some(Outcome::AtLeast)
+    }
+
+    /// The least weight of a set inside the region of `t` with `t`, if it is below the stop.
+    ///
+    /// `AtLeast` comes just where each such set weighs at least the stop. After `Best` the vertices that were found are the
+    /// least such set whose weight is least, and `t` is fed just that weight. It moves feed inside the region alone, looks
+    /// at no arc that leaves it, and takes no memory.
+    pub fn flow(&mut self, graph: &Graph, t: u32, stop: u64) -> Outcome
+        requires flow { IsRegionFlow graph.now self.old }
+        requires to_n { t ≤ graph.now.vertices }
+        requires outside { 1 ≤ slice_index self.old.labels t }
+        ensures flow { IsRegionFlow graph.now self.new }
+        ensures labels { self.new.labels ≡ self.old.labels }
+        ensures stopped { (result ≡ Outcome.AtLeast) ↔ IsStopReached graph.now self.new.labels t stop }
+        ensures best { IfBest result (λ amount. ShowsLeast graph.now t amount self.new) }
+    {
+        match self.flow_within(graph, t, stop, usize::MAX) {
+            Some(outcome) => outcome,
+            // without a limit this does not come
+            None => Outcome::AtLeast,
+        }
+    }
+}
