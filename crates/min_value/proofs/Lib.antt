@@ -1,0 +1,4 @@
+pub mod Contracted
+pub mod Kept
+pub mod Light
+pub mod Scanned

@@ -1,0 +1,8 @@
+use Rattle.min_value.specs.Kernels.{IsKept}
+use Rattle.min_value.proofs.kernels.kernel.Given as goal
+
+abbrev pub invariant-closing : goal.invariant-closing
+invariant-closing g l = IsKept l.graph l.least l.small l.labels
+
+abbrev pub decreases-closing : goal.decreases-closing
+decreases-closing g l = l.small.vertices

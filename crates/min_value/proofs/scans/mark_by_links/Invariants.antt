@@ -1,0 +1,14 @@
+use Rattle.std.proofs.Common.{◌≡◌, ◌≤◌, min}
+use Rattle.cut_definitions.specs.Cuts.{has, value}
+use Rattle.weighted_graph.specs.Marks.{MarksAreSafe}
+use Rattle.scan_forest.specs.Scan.{StandsFor}
+use Rattle.min_value.proofs.scans.mark_by_links.Given as goal
+
+abbrev pub invariant-loop : goal.invariant-loop
+invariant-loop l = record {
+  stands : StandsFor l.scan l.graph;
+  at_most : l.least ≤ l.bound;
+  at_least : min l.bound (value l.graph) ≤ l.least;
+  edges : l.marks.edges ≡ l.fn.marks.edges;
+  safe : MarksAreSafe l.graph (has l.marks.marked) l.least 0;
+}

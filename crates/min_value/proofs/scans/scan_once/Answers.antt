@@ -1,0 +1,23 @@
+use Rattle.std.proofs.Common.{◌≡◌, ◌∙◌, arith}
+use Rattle.cut_definitions.specs.Cuts.{has}
+use Rattle.cut_definitions.specs.Contraction.{classes}
+use Rattle.weighted_graph.specs.ContractionLaws.{IsLabelled}
+use Rattle.min_value.proofs.Scanned.{left_marks, relabelled_vertices}
+use Rattle.min_value.proofs.scans.scan_once.Goals as goal
+
+pub returns : goal.returns
+returns c =
+    let g = c.args.graph.now in
+    let scan = c.mark_by_links-best.ensures in
+    let best = c.mark_by_links-best.result in
+    let labels = c.in_ok-labels.labels in
+    let small = c.in_ok-smaller.smaller in
+    let labelled : IsLabelled g labels = record { are_labels = c.classes.ensures.labels; long = c.in_ok-labels.ensures.vertices } in
+    let number : c.from.result ≡ classes labels = c.from.ensures ∙ c.classes.ensures.value in
+    let vertices : c.from-2.result ≡ g.vertices = c.from-2.ensures ∙ c.n-n.ensures.value in
+    let few : small.vertices ≡ classes labels = relabelled_vertices g labels small c.in_ok-smaller.ensures in
+    record {
+      at_most = scan.at_most;
+      left = left_marks g c.n-n.ensures.edge_list.is_graph (has c.mark_by_links-best.new.marks.marked) labels c.args.bound best small c.requires.enough scan.at_most scan.at_least scan.safe labelled c.in_ok-labels.ensures.classes c.in_ok-smaller.ensures;
+      less = omega (arith, c.if-from.false, number, vertices, few);
+    }

@@ -1,0 +1,88 @@
+//! Marks by which a kernel is closed: where there are none, no certificate holds and a whole scan meets no link.
+
+ghost use Rattle.std.specs.Prelude.{◌≡◌, ℕ, ◌+◌, ◌<◌, ◌≤◌, ◌^◌, IfOk, IfSome, IfNone, length, true, false};
+ghost use Rattle.cut_definitions.specs.Cuts.{has, value as least_value};
+ghost use Rattle.weighted_graph.specs.Marks.{MarksAreSafe};
+ghost use Rattle.scan_forest.specs.Scan.{StandsFor};
+ghost use Rattle.round_workers.specs.Round.{SomeIsMarked};
+ghost use Rattle.min_value.specs.Kernels.{NoneIsCertified, IsLight};
+
+use crate::kept_graph::round_at_value;
+use cut_definitions::NoMemory;
+use mark_board::Marks;
+use outside::Gate;
+use round_workers::mark_links;
+use scan_forest::Scan;
+use std::alloc::Global;
+use weighted_graph::Graph;
+
+/// Whether some edge of a graph is marked. It goes over the edges up to the first that is. (`Marks::is_empty` does not tell
+/// that there is one of this graph.)
+fn is_some_marked(graph: &Graph, marks: &Marks) -> bool
+    requires { marks.now.edges ≡ length graph.now.edges }
+    ensures some { result ≡ true → SomeIsMarked marks.now }
+    ensures none { result ≡ false → (i : ℕ) → i < length graph.now.edges → has marks.now.marked i ≡ false }
+{
+    for edge in 0..graph.edges() {
+        if marks.has(edge) {
+            return true;
+        }
+    }
+    false
+}
+
+/// Scans the whole graph from vertex 1 with the cap value + 1, marks each edge whose link reaches it, and answers whether
+/// there is one. Where there is none, each vertex had at most the value to those scanned before it, so the graph is light.
+fn mark_by_whole_scan(graph: &Graph, scan: &mut Scan, value: u64, marks: &mut Marks) -> bool
+    requires stands { StandsFor scan.old graph.now }
+    requires enough { 1 ≤ graph.now.vertices }
+    requires value { value ≤ 2 ^ 62 }
+    requires marks { marks.old.edges ≡ length graph.now.edges }
+    requires safe { MarksAreSafe graph.now (has marks.old.marked) value 1 }
+    ensures edges { marks.new.edges ≡ marks.old.edges }
+    ensures safe { MarksAreSafe graph.now (has marks.new.marked) value 1 }
+    ensures some { result ≡ true → SomeIsMarked marks.new }
+    ensures light { result ≡ false → IsLight graph.now value }
+{
+    // known by this call: the graph is an edge list
+    let _n = graph.n();
+    let mut some = false;
+    scan.start(1, value + 1);
+    'steps: while let Some(next) = scan.next(graph) {
+        if mark_links(graph, scan, next.vertex, value, 1, marks) {
+            some = true;
+        }
+    }
+    some
+}
+
+/// Marks of edges that lie in no minimum cut: those of a round with slack 1 or, where it marks nothing, of a whole scan.
+/// None where that marks nothing either. The scan is of the very graph that the round marked nothing in.
+pub(crate) fn find_marks<G: Gate>(
+    alloc: Global,
+    graph: &Graph,
+    value: u64,
+    workers: u32,
+    gate: &G,
+) -> Result<Option<Marks>, NoMemory>
+    requires enough { 2 ≤ graph.now.vertices }
+    requires value { value ≡ least_value graph.now }
+    requires workers { (1 ≤ workers) × (workers ≤ 64) }
+    ensures edges { IfOk result (λ found. IfSome found (λ marks. marks.edges ≡ length graph.now.edges)) }
+    ensures safe { IfOk result (λ found. IfSome found (λ marks. MarksAreSafe graph.now (has marks.marked) value 1)) }
+    ensures some { IfOk result (λ found. IfSome found (λ marks. SomeIsMarked marks)) }
+    ensures closed { IfOk result (λ found. IfNone found (NoneIsCertified graph.now (value + 1))) }
+    ensures light { IfOk result (λ found. IfNone found (IsLight graph.now value)) }
+{
+    // known by this call: the graph is an edge list
+    let _n = graph.n();
+    let mut marks = round_at_value(alloc, graph, value, workers, gate)?;
+    if is_some_marked(graph, &marks) {
+        return Ok(Some(marks));
+    }
+    let mut scan = Scan::new(alloc, graph)?;
+    if !mark_by_whole_scan(graph, &mut scan, value, &mut marks) {
+        return Ok(None);
+    }
+    Ok(Some(marks))
+}

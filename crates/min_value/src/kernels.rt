@@ -1,0 +1,83 @@
+//! The kernel of a graph: what is left where no edge is shown to lie in no minimum cut.
+
+ghost use Rattle.std.specs.Prelude.{◌≡◌, ◌+◌, ◌≤◌, IfOk};
+ghost use Rattle.cut_definitions.specs.Cuts.{value as least_value};
+ghost use Rattle.cut_definitions.specs.Contraction.{classes};
+ghost use Rattle.weighted_graph.specs.ContractionLaws.{IsLabelled};
+ghost use Rattle.min_value.specs.Kernels.{KeepsAllMinimumCuts, NoneIsCertified, IsLight};
+
+use crate::closing::find_marks;
+use crate::kept_graph::{Kernel, contract_by_rounds, contract_safely};
+use crate::values::value;
+use cut_definitions::NoMemory;
+use outside::Gate;
+use std::alloc::Global;
+use weighted_graph::Graph;
+
+/// The kernel of a graph of two or more vertices: a smaller graph with the same value whose minimum cuts, lifted by the
+/// labels, are exactly those of the graph (after Padberg and Rinaldi, 1990, and Nagamochi, Ono and Ibaraki, 1994).
+///
+/// No edge of the kernel's graph passes one of the four certificates at the value with slack 1, and the weights of its
+/// edges add up to at most the value for each vertex but one. It takes the value first, and then at most n rounds with
+/// slack 1, each of O((n + m) log n) and the certificates, until one marks nothing and a whole scan meets no link above the
+/// value; each round but the last makes a new graph. The number of workers is 1 to 64. It is refused only where memory is
+/// wanting.
+pub fn kernel<G: Gate>(
+    alloc: Global,
+    graph: &Graph,
+    workers: u32,
+    gate: &G,
+) -> Result<Kernel, NoMemory>
+    requires enough { 2 ≤ graph.now.vertices }
+    requires workers { (1 ≤ workers) × (workers ≤ 64) }
+    ensures value { IfOk result (λ k. k.value ≡ least_value graph.now) }
+    ensures kernel_value { IfOk result (λ k. least_value k.graph ≡ least_value graph.now) }
+    ensures labels { IfOk result (λ k. IsLabelled graph.now k.labels) }
+    ensures minimum_cuts { IfOk result (λ k. KeepsAllMinimumCuts graph.now k.graph k.labels) }
+    ensures counted { IfOk result (λ k. classes k.labels ≡ k.graph.vertices) }
+    ensures closed { IfOk result (λ k. NoneIsCertified k.graph (k.value + 1)) }
+    ensures light { IfOk result (λ k. IsLight k.graph k.value) }
+{
+    let least = value(alloc, graph, workers, gate)?;
+    let (mut small, mut labels) = contract_by_rounds(alloc, graph, least, workers, gate)?;
+    'closing: while let Some(marks) = find_marks(alloc, &small, least, workers, gate)? {
+        let (smaller, next) = contract_safely(alloc, &small, least, &marks)?;
+        labels = labels.compose(alloc, &next)?;
+        small = smaller;
+    }
+    Ok(Kernel {
+        value: least,
+        graph: small,
+        labels,
+    })
+}
+
+/// A smaller graph with the same value whose minimum cuts, lifted by the labels, are exactly those of the graph, by rounds
+/// with slack 1 as long as each takes away a tenth of the vertices.
+///
+/// It is a kernel that is not closed: edges may be left that a certificate or a link shows to lie in no minimum cut. The
+/// graph has two or more vertices, and the value is its value. A round costs O((n + m) log n) and the certificates. The number of
+/// workers is 1 to 64. It is refused only where memory is wanting.
+pub fn reduce<G: Gate>(
+    alloc: Global,
+    graph: &Graph,
+    value: u64,
+    workers: u32,
+    gate: &G,
+) -> Result<Kernel, NoMemory>
+    requires enough { 2 ≤ graph.now.vertices }
+    requires value { value ≡ least_value graph.now }
+    requires workers { (1 ≤ workers) × (workers ≤ 64) }
+    ensures value { IfOk result (λ k. k.value ≡ least_value graph.now) }
+    ensures kernel_value { IfOk result (λ k. least_value k.graph ≡ least_value graph.now) }
+    ensures labels { IfOk result (λ k. IsLabelled graph.now k.labels) }
+    ensures minimum_cuts { IfOk result (λ k. KeepsAllMinimumCuts graph.now k.graph k.labels) }
+    ensures counted { IfOk result (λ k. classes k.labels ≡ k.graph.vertices) }
+{
+    let (small, labels) = contract_by_rounds(alloc, graph, value, workers, gate)?;
+    Ok(Kernel {
+        value,
+        graph: small,
+        labels,
+    })
+}

@@ -1,0 +1,15 @@
+//! The value of a graph, by sweeps of flows, by scans, and by rounds that contract safe edges; and its kernel.
+//!
+//! The contractions are those of Padberg and Rinaldi (1990) and of Nagamochi, Ono and Ibaraki (1994), the sweep that of Hao
+//! and Orlin (1994). All memory is O(n + m).
+#![tactic(auto)]
+
+mod closing;
+mod kept_graph;
+mod kernels;
+mod scans;
+mod values;
+
+pub use kept_graph::Kernel;
+pub use kernels::{kernel, reduce};
+pub use values::value;

@@ -1,0 +1,116 @@
+//! The value of a graph.
+
+ghost use Rattle.std.specs.Prelude.{◌≡◌, ◌≤◌, ℕ, IfOk, if◌then◌else◌, min, nat_lt};
+ghost use Rattle.cut_definitions.specs.Cuts.{value};
+ghost use Rattle.cut_definitions.specs.Safe.{IsFair};
+ghost use Rattle.min_value.specs.Left.{IsLeft};
+
+use crate::scans::value_by_scans;
+use cut_definitions::NoMemory;
+use least_cut::{Swept, least_weight_below, least_weight_within};
+use outside::Gate;
+use round_contract::contract;
+use round_workers::round;
+use std::alloc::Global;
+use weighted_graph::Graph;
+
+// Rounds, whose certificates look at each edge, are for graphs of at most so many edges.
+const FEW_EDGES: usize = 1024;
+
+/// The least degree of a vertex, which is the weight of a cut.
+fn least_degree(graph: &Graph) -> u64
+    requires { 2 ≤ graph.now.vertices }
+    ensures { IsFair graph.now result }
+{
+    let n = graph.n();
+    let mut least = graph.degree(1);
+    for v in 1..n {
+        least = least.min(graph.degree(v + 1));
+    }
+    least
+}
+
+/// A round with slack 0, opened with the least degree, and the contraction of what it marked. It answers the round's
+/// bound and the contracted graph.
+fn contract_once<G: Gate>(
+    alloc: Global,
+    graph: &Graph,
+    workers: u32,
+    gate: &G,
+) -> Result<(u64, Graph), NoMemory>
+    requires enough { 2 ≤ graph.now.vertices }
+    requires workers { (1 ≤ workers) × (workers ≤ 64) }
+    ensures { IfOk result (λ r. IsLeft (value graph.now) r.0 r.1) }
+{
+    // known by this call: the graph is an edge list
+    let _n = graph.n();
+    let bound = least_degree(graph);
+    let (low, marks) = round(alloc, graph, bound, 0, workers, gate)?;
+    let (smaller, _labels) = contract(alloc, graph, &marks)?;
+    Ok((low, smaller))
+}
+
+/// The value by rounds that contract what they show safe, as long as each takes away a tenth of the vertices; the least bound
+/// of all rounds and what is left then decide. A round costs O((n + m) log n) and the certificates.
+fn value_by_rounds<G: Gate>(
+    alloc: Global,
+    graph: &Graph,
+    workers: u32,
+    gate: &G,
+) -> Result<u64, NoMemory>
+    requires enough { 2 ≤ graph.now.vertices }
+    requires workers { (1 ≤ workers) × (workers ≤ 64) }
+    ensures { IfOk result (λ weight. weight ≡ value graph.now) }
+{
+    let (mut best, mut small) = contract_once(alloc, graph, workers, gate)?;
+    let mut shrinks = true;
+    'rounds: while shrinks && small.n() >= 2 {
+        let (low, smaller) = contract_once(alloc, &small, workers, gate)?;
+        shrinks = u64::from(smaller.n()) * 10 <= u64::from(small.n()) * 9;
+        best = best.min(low);
+        small = smaller;
+    }
+    if small.n() < 2 {
+        return Ok(best);
+    }
+    let weight = least_weight_below(alloc, &small, best)?;
+    Ok(weight)
+}
+
+/// The value by a sweep of flows, which are local on most graphs. Where they go along each row more than four times on the
+/// average, scans contract the graph first.
+fn value_by_sweep(alloc: Global, graph: &Graph) -> Result<u64, NoMemory>
+    requires { 2 ≤ graph.now.vertices }
+    ensures { IfOk result (λ weight. weight ≡ value graph.now) }
+{
+    // known by this call: the graph is an edge list, so no weight is above 2^61
+    let _n = graph.n();
+    let bound = least_degree(graph);
+    let swept = least_weight_within(alloc, graph, bound, graph.edges().saturating_mul(8))?;
+    match swept {
+        Swept::Whole(weight) => Ok(weight),
+        Swept::Part(best) => {
+            let weight = value_by_scans(alloc, graph, best)?;
+            Ok(weight)
+        }
+    }
+}
+
+/// The value of a graph of two or more vertices: the least weight of a cut.
+///
+/// A small graph is contracted by rounds, whose certificates look at each edge (Padberg and Rinaldi, 1990); a large one is
+/// swept by flows (Hao and Orlin, 1994), and contracted by scans where these look far. The number of workers is 1 to 64. It
+/// takes memory O(n + m), and is refused only where that is wanting. A sweep has no good bound in n and m; on most graphs
+/// it takes about as long as reading them.
+pub fn value<G: Gate>(alloc: Global, graph: &Graph, workers: u32, gate: &G) -> Result<u64, NoMemory>
+    requires enough { 2 ≤ graph.now.vertices }
+    requires workers { (1 ≤ workers) × (workers ≤ 64) }
+    ensures { IfOk result (λ weight. weight ≡ value graph.now) }
+{
+    if graph.edges() <= FEW_EDGES {
+        let weight = value_by_rounds(alloc, graph, workers, gate)?;
+        return Ok(weight);
+    }
+    let weight = value_by_sweep(alloc, graph)?;
+    Ok(weight)
+}
