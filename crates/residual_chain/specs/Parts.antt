@@ -1,8 +1,7 @@
 -- The parts of a chain while they are found: a vertex without a part has the mark 0.
-use Rattle.std.specs.Prelude.{ℕ, Bool, ◌≡◌, ◌≢◌, ◌==◌, ◌≤◌, ◌&&◌, if◌then◌else◌, nat_lt, nat_le, false, List, length, IsTrue}
+use Rattle.std.specs.Prelude.{ℕ, ◌≡◌, ◌==◌, ◌≤◌, ◌&&◌, if◌then◌else◌, nat_lt, nat_le, List, length}
 use Rattle.cut_definitions.specs.Weight.{VertexSet}
 use Rattle.cut_definitions.specs.Cuts.{has}
-use Rattle.residual_chain.specs.Residuals.{IsClosed}
 use Rattle.residual_chain.specs.Search.{mark_of}
 
 -- the vertices that have a part
@@ -12,22 +11,6 @@ marked part_of v = nat_lt 0 (mark_of part_of v)
 -- the vertices of the first parts
 abbrev pub marked_upto : List ℕ → ℕ → VertexSet
 marked_upto part_of last v = nat_lt 0 (mark_of part_of v) && nat_le (mark_of part_of v) last
-
--- each closed set with a vertex that has no part has t
-pub record AllLeadTo (n : ℕ) (arcs : ℕ → ℕ → Bool) (t : ℕ) (part_of : List ℕ) : Type 0 where
-  pub lead_to : (v : ℕ) → 1 ≤ v → v ≤ n → mark_of part_of v ≡ 0 → (x : VertexSet) → IsClosed arcs x → IsTrue (x v) → IsTrue (x t)
-
--- some closed set without t has all vertices with a part and the start, and each closed set with one of its vertices that has no part has the start
-pub record IsLastStart (n : ℕ) (arcs : ℕ → ℕ → Bool) (t : ℕ) (part_of : List ℕ) (start : ℕ) : Type 0 where
-  pub from_one : 1 ≤ start
-  pub to_n : start ≤ n
-  pub outside : mark_of part_of start ≡ 0
-  pub before : VertexSet
-  pub closed : IsClosed arcs before
-  pub has_marked : (v : ℕ) → 1 ≤ v → v ≤ n → mark_of part_of v ≢ 0 → IsTrue (before v)
-  pub has_start : IsTrue (before start)
-  pub lacks_t : before t ≡ false
-  pub lead_to : (v : ℕ) → 1 ≤ v → v ≤ n → mark_of part_of v ≡ 0 → IsTrue (before v) → (x : VertexSet) → IsClosed arcs x → IsTrue (x v) → IsTrue (x start)
 
 -- the vertices of the source side have part 1, and the others none
 pub record IsSourcePart (n : ℕ) (source : List ℕ) (part_of : List ℕ) : Type 0 where

@@ -22,10 +22,11 @@ use weighted_graph::Graph;
 /// minimum cuts that part `s` from `t`, as sets with `s`. The runs are exactly the longest intervals of parts, between the
 /// first and the last of all, that are a minimum cut; an interval may be one part.
 ///
-/// The first part is the source side. Each further one takes O(n + m): searches against the residual arcs, each through
-/// what the earlier ones have left, and one along them from the start of the last. The runs take one pass over the edges.
-/// It takes memory for five numbers a vertex, once, and for the runs; want of it is the only refusal. The chain across an
-/// edge is that of Karzanov and Timofeev (1986), and of Nagamochi, Nakao and Ibaraki (2000).
+/// It takes O(n + m) in all: the first part is the source side, the last is what one search against the residual arcs finds
+/// from `t`, path-based searches along them (Gabow, 2000) divide the rest in the order of the chain (Picard and Queyranne,
+/// 1980), and the runs take one pass over the edges. It takes memory for six numbers a vertex, of which it gives five back
+/// before it finds the runs, and for two numbers a part and the runs; want of memory is the only refusal. The chain across
+/// an edge is that of Karzanov and Timofeev (1986), and of Nagamochi, Nakao and Ibaraki (2000).
 pub fn chain(alloc: Global, graph: &Graph, flow: &Flow, s: u32, t: u32) -> Result<Chain, NoMemory>
     requires joined { IsJoined graph.now s t }
     requires stands { StandsFor flow.now graph.now }
@@ -34,9 +35,7 @@ pub fn chain(alloc: Global, graph: &Graph, flow: &Flow, s: u32, t: u32) -> Resul
 {
     let n = graph.n();
     let mut part_of = source_part(alloc, flow.source_side())?;
-    let mut marks = vec![in alloc; 0; n as usize]?;
-    let mut queue = vec![in alloc; 0; n as usize + 1]?;
-    let parts = find_parts(graph, flow, t, &mut part_of, &mut marks, &mut queue);
+    let parts = find_parts(alloc, graph, flow, t, &mut part_of)?;
     let runs = runs_of(alloc, graph, &part_of, parts)?;
     Ok(Chain {
         n,

@@ -8,18 +8,22 @@
 //!
 //! The cuts are the sets that no residual arc of a greatest flow leaves (Picard and Queyranne, 1980); the chain across an
 //! edge is a step of the recursion over all minimum cuts (Karzanov and Timofeev, 1986; Nagamochi, Nakao and Ibaraki,
-//! 2000). The parts are found here by searches that follow each arc at most twice for each part, so in O(k (n + m)) for k
-//! parts, with five numbers a vertex, and the runs in one pass over the edges.
+//! 2000). They are found here in O(n + m): the last part by one search against the arcs, those between the first and the
+//! last by path-based searches that look at each arc once (Gabow, 2000), and the runs in one pass over the edges.
 #![tactic(auto)]
 
 mod across;
 mod chain_of_cuts;
 mod direction;
+mod look;
+mod open_arcs;
 mod parts;
+mod path;
 mod run;
 mod runs;
 mod search;
-mod sweep;
+mod split;
+mod walk;
 mod weights;
 
 pub use across::chain;

@@ -1,36 +1,38 @@
--- The parts grow by one step of the chain, until all that is left leads to t.
-use Rattle.std.proofs.Common.{ℕ, Option, MatchOption, subst}
+-- What leads to t is the last part; the pass divides what is left.
+use Rattle.std.proofs.Common.{ℕ, List, subst}
 use Rattle.residual_chain.specs.Residuals.{leads, first_end}
-use Rattle.residual_chain.specs.Parts.{AllLeadTo, IsLastStart}
-use Rattle.residual_chain.proofs.Growing.{IsGrowing-start, IsGrowing-next, IsChain-filled, marked_closed}
+use Rattle.residual_chain.specs.declared.direction.Direction.TheVariants.{Against}
+use Rattle.residual_chain.specs.Search.{steps, Reaches}
+use Rattle.residual_chain.proofs.Growing.{IsGrowing-first, IsGrowing-split, IsToSplit-reached, AllLeadTo-split, IsChain-filled}
 use Rattle.residual_chain.proofs.parts.find_parts.Goals as goal
 
-pub parts-init : goal.parts-init
-parts-init c =
-    IsGrowing-start c.args.graph.now c.args.flow.now (first_end c.args.flow.now.best) c.args.t c.args.part_of.now c.requires.edge_list.is_graph c.requires.joined c.requires.flow c.requires.first
-
-pub last_start-requires-clause-closed : goal.last_start-requires-clause-closed
-last_start-requires-clause-closed c =
-    marked_closed c.args.graph.now c.args.flow.now (first_end c.args.flow.now.best) c.args.t c.parts.parts c.parts.part_of c.requires.flow c.parts.invariant
-
-pub parts-preserved : goal.parts-preserved
-parts-preserved c =
-    let n = c.args.graph.now.vertices in
-    let arcs = leads c.args.graph.now c.args.flow.now in
+pub split-last-requires-clause-split : goal.split-last-requires-clause-split
+split-last-requires-clause-split c =
+    let g = c.args.graph.now in
+    let f = c.args.flow.now in
+    let s = first_end f.best in
     let t = c.args.t in
-    let part_of = c.parts.part_of in
-    let last : IsLastStart n arcs t part_of c.in-Some.start =
-    subst (λ (o : Option ℕ). MatchOption o (AllLeadTo n arcs t part_of) (λ start. IsLastStart n arcs t part_of start)) c.in-Some.is c.last_start.ensures in
-    IsGrowing-next c.args.graph.now c.args.flow.now (first_end c.args.flow.now.best) t c.parts.parts c.in-Some.start part_of c.reach.new.marks
-    c.requires.edge_list.is_graph c.requires.joined c.requires.flow c.parts.invariant last c.reach.ensures
+    let part_of = c.args.part_of.now in
+    let first = IsGrowing-first g f s t part_of c.requires.edge_list.is_graph c.requires.joined c.requires.flow c.requires.first in
+    let reached : Reaches g.vertices (steps Against (leads g f)) t 1 part_of c.reach.new.marks =
+    subst (λ (m : List ℕ). Reaches g.vertices (steps Against (leads g f)) t 1 m c.reach.new.marks) c.copy_from_slice.ensures.after c.reach.ensures in
+    IsToSplit-reached g f s t part_of c.reach.new.marks c.requires.edge_list.few_vertices c.requires.flow first reached
 
 pub returns : goal.returns
 returns c =
-    let n = c.args.graph.now.vertices in
-    let arcs = leads c.args.graph.now c.args.flow.now in
+    let g = c.args.graph.now in
+    let f = c.args.flow.now in
+    let s = first_end f.best in
     let t = c.args.t in
-    let part_of = c.parts.part_of in
-    let lead : AllLeadTo n arcs t part_of =
-    subst (λ (o : Option ℕ). MatchOption o (AllLeadTo n arcs t part_of) (λ start. IsLastStart n arcs t part_of start)) c.in_default.is c.last_start.ensures in
-    IsChain-filled c.args.graph.now c.args.flow.now (first_end c.args.flow.now.best) t c.parts.parts part_of c.fill_rest.new.part_of
-    c.requires.edge_list.is_graph c.requires.joined c.requires.flow c.parts.invariant lead c.fill_rest.ensures
+    let ok = c.requires.edge_list.is_graph in
+    let joined = c.requires.joined in
+    let flow = c.requires.flow in
+    let part_of = c.args.part_of.now in
+    let marks = c.reach.new.marks in
+    let after = c.split-last.new.part_of in
+    let last = c.split-last.result in
+    let first = IsGrowing-first g f s t part_of ok joined flow c.requires.first in
+    let reached : Reaches g.vertices (steps Against (leads g f)) t 1 part_of marks =
+    subst (λ (m : List ℕ). Reaches g.vertices (steps Against (leads g f)) t 1 m marks) c.copy_from_slice.ensures.after c.reach.ensures in
+    let grown = IsGrowing-split g f s t last part_of marks after ok joined flow first reached c.split-last.ensures in
+    IsChain-filled g f s t last after c.fill_rest.new.part_of ok joined flow grown (AllLeadTo-split g f t last part_of marks after reached c.split-last.ensures) c.fill_rest.ensures
