@@ -1,5 +1,5 @@
 -- What the end of the input shows of all bytes fed.
-use Rattle.std.proofs.Common.{◌≡◌, ◌<◌, ◌≤◌, ◌-◌, ◌+◌, ◌^◌, ℕ, suc, List, [], ◌++◌, length, ap, sym, ◌∙◌, subst, arith}
+use Rattle.std.proofs.Common.{◌≡◌, ◌<◌, ◌≤◌, ◌-◌, ◌+◌, ◌^◌, ℕ, suc, List, [], ◌∷◌, ◌++◌, length, ap, sym, ◌∙◌, subst, arith}
 use Rattle.std.specs.Prelude.{Ok, Err}
 use Rattle.cut_definitions.specs.Graph.{Graph}
 use Rattle.metis_reader.specs.declared.fault.Fault as told
@@ -8,11 +8,10 @@ use Rattle.metis_reader.specs.declared.fault.ReadRefusal.TheVariants.{NoMemory, 
 use Rattle.metis_reader.specs.declared.reader.Reader.{Reader}
 use Rattle.metis_reader.specs.File.{graph_of}
 use Rattle.metis_reader.specs.Machine.{final_findings}
-use Rattle.metis_reader.specs.Reading.{Reading, start, reading_from, word_end_state}
+use Rattle.metis_reader.specs.Reading.{Reading, start, reading_from}
 use Rattle.metis_reader.specs.Ending.{TellsFirst, last_line, end_state, line_count, state_graph}
-use Rattle.metis_reader.specs.Shown.{EndsHeader}
-use Rattle.metis_reader.specs.Holding.{RefusedFirst}
-use Rattle.metis_reader.specs.Fed.{IsOpen, HasHeader}
+use Rattle.metis_reader.specs.Holding.{RefusedFirst, ByteEndsHeader}
+use Rattle.metis_reader.specs.Fed.{IsOpen, HeaderEndsIn}
 use Rattle.metis_reader.proofs.Running.{ended_bound}
 use Rattle.metis_reader.proofs.FixedFaults.{refused_at_end, accepted_at_end}
 use Rattle.metis_reader.proofs.GraphLaw.{end_graph, end_parts}
@@ -29,22 +28,22 @@ few_at_end reader bytes still =
 
 -- the last line has a fault
 pub last_line_refused : (reader : Reader) (bytes : List ℕ) (refusal : ReadRefusal) (f : told.Fault) → IsOpen reader bytes
-    → RefusedFirst refusal (last_line (reading_from start bytes)) (EndsHeader (word_end_state (reading_from start bytes).state (reading_from start bytes).word (reading_from start bytes).next))
+    → RefusedFirst refusal (last_line (reading_from start bytes)) (ByteEndsHeader (reading_from start bytes) 10)
     → refusal ≡ Fault f → graph_of bytes ≡ Err f
 last_line_refused reader bytes refusal f still h e =
     let r : Reading = reading_from start bytes in
-    let first = subst (λ refusal. RefusedFirst refusal (last_line r) (EndsHeader (word_end_state r.state r.word r.next))) e h in
+    let first = subst (λ refusal. RefusedFirst refusal (last_line r) (ByteEndsHeader r 10)) e h in
     refused_at_end bytes first.0 (first.1 ++ final_findings (end_state r) r.next (line_count r)) (short reader bytes still) still.none
     (end_parts r ∙ ap (λ fs. fs ++ final_findings (end_state r) r.next (line_count r)) first.2)
     ∙ ap (λ f. Err f) first.3
 
 -- or memory was wanting for a header that the end of the input ends
 pub last_line_memory : (reader : Reader) (bytes : List ℕ) (refusal : ReadRefusal)
-    → RefusedFirst refusal (last_line (reading_from start bytes)) (EndsHeader (word_end_state (reading_from start bytes).state (reading_from start bytes).word (reading_from start bytes).next))
-    → refusal ≡ NoMemory → HasHeader bytes → ⊥
+    → RefusedFirst refusal (last_line (reading_from start bytes)) (ByteEndsHeader (reading_from start bytes) 10)
+    → refusal ≡ NoMemory → HeaderEndsIn bytes (10 ∷ [])
 last_line_memory reader bytes refusal h e =
     let r : Reading = reading_from start bytes in
-    ends_at_last bytes (subst (λ refusal. RefusedFirst refusal (last_line r) (EndsHeader (word_end_state r.state r.word r.next))) e h)
+    ends_at_last bytes (subst (λ refusal. RefusedFirst refusal (last_line r) (ByteEndsHeader r 10)) e h)
 
 -- a test of the end has a fault
 pub end_refused : (reader : Reader) (bytes : List ℕ) (f : told.Fault) (count : ℕ) → IsOpen reader bytes → last_line (reading_from start bytes) ≡ [] → count ≡ line_count (reading_from start bytes)

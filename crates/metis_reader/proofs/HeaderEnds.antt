@@ -10,7 +10,7 @@ use Rattle.metis_reader.specs.File.{is_kept, from_header, VertexLine}
 use Rattle.metis_reader.specs.Machine.{State, AtHeader, InLine, AtWeight, After, after_word, after_line, line_state, at_line, end_vertex, after_neighbour}
 use Rattle.metis_reader.specs.Reading.{Reading, start, word_end_state, line_end_state, after_byte, after_byte_by, reading_from}
 use Rattle.metis_reader.specs.Shown.{EndsHeader}
-use Rattle.metis_reader.specs.Holding.{BytesEndHeader}
+use Rattle.metis_reader.specs.Holding.{ByteEndsHeader, BytesEndHeader}
 use Rattle.metis_reader.specs.Fed.{HasHeader, HeaderEndsIn}
 use Rattle.metis_reader.proofs.MachineLaw.{seen_words}
 use Rattle.metis_reader.proofs.StateLaw.{lines_state, state_law}
@@ -161,8 +161,6 @@ header_ends_in bytes piece h =
           (behind_word_end r.state r.word r.next (behind_bytes (reading_from start bytes) h.before (has_header_behind bytes has))),
     )
 
--- a header that the end of the input ends is not among the bytes
-pub ends_at_last : (bytes : List ℕ) → EndsHeader (word_end_state (reading_from start bytes).state (reading_from start bytes).word (reading_from start bytes).next) → HasHeader bytes → ⊥
-ends_at_last bytes ends has =
-    let r : Reading = reading_from start bytes in
-    ends_not_behind (word_end_state r.state r.word r.next) ends (behind_word_end r.state r.word r.next (has_header_behind bytes has))
+-- one line feed more would end a header that the end of the input ends
+pub ends_at_last : (bytes : List ℕ) → ByteEndsHeader (reading_from start bytes) 10 → HeaderEndsIn bytes (10 ∷ [])
+ends_at_last bytes ends = header_ends_in bytes (10 ∷ []) (record { before = []; behind = []; parts = refl; ends = ends })

@@ -17,6 +17,7 @@ pub mod HeaderEnds
 pub mod Feeding
 pub mod Standing
 pub mod Merge
+pub mod Meeting
 pub mod Times
 pub mod Moved
 pub mod Rows
@@ -27,6 +28,7 @@ pub mod BodyEnd
 pub mod GraphLaw
 pub mod Finishing
 pub mod Runs
+pub mod Digits
 pub mod StillFed
 pub mod PlainText
 pub mod PlainRows

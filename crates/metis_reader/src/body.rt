@@ -30,6 +30,8 @@ pub struct Body {
     header: Header,
     // the line number of each vertex line
     numbers: Vec<u64>,
+    // how many entries to greater neighbours stand up to the end of each vertex line
+    ends: Vec<u32>,
     // One place for each entry: at the front the entries to greater neighbours, at the back those to lesser ones, each with
     // that neighbour as `u` and the last one first.
     table: Vec<Edge>,
@@ -38,6 +40,8 @@ pub struct Body {
     total: u64,
     ghost lines: { length numbers.items ≤ header.vertices },
     ghost line_room: { header.vertices ≤ vec_capacity numbers },
+    ghost ends_of_lines: { length ends.items ≡ length numbers.items },
+    ghost end_room: { header.vertices ≤ vec_capacity ends },
     ghost places: { length table.items ≡ 2 * header.edges },
     ghost in_order: { front ≤ back },
     ghost in_table: { back ≤ length table.items },
@@ -70,6 +74,7 @@ impl Body {
         Body {
             header: Header::NONE,
             numbers: Vec::new(alloc),
+            ends: Vec::new(alloc),
             table: Vec::new(alloc),
             front: 0,
             back: 0,
@@ -85,6 +90,7 @@ impl Body {
         Ok(Body {
             header,
             numbers: Vec::with_capacity(alloc, header.vertices as usize)?,
+            ends: Vec::with_capacity(alloc, header.vertices as usize)?,
             table: vec![in alloc; NO_EDGE; places]?,
             front: 0,
             back: places,
@@ -126,6 +132,7 @@ impl Body {
             → BodyShows self.new header (done ++ record { number = line; entries = here } ∷ []) all }
     {
         let _ = self.numbers.push(line);
+        let _ = self.ends.push(self.front as u32);
     }
 
     /// The neighbour that the word names.
@@ -215,15 +222,17 @@ impl Body {
         let Body {
             header,
             numbers,
+            mut ends,
             mut table,
             front,
             ..
         } = self;
         let (greater, lesser) = table.split_at_mut(front);
-        if let Some((kind, vertex)) = mismatch(greater, lesser) {
+        if let Some((kind, vertex)) = mismatch(greater, lesser, ends.as_mut_slice()) {
             return Err(fault_of_vertex(kind, vertex, &numbers));
         }
         table.truncate(front);
+        table.shrink_to_fit();
         Ok(EdgeList::from_edges(header.vertices, table))
     }
 }

@@ -6,7 +6,8 @@
 //! Contracts speak of the bytes that a `Reader` was fed: `graph_of` is the first fault of some bytes, or their edge list,
 //! and `fixed` the fault that they fix, whatever follows. Both are defined over the whole list of lines and words; the code
 //! is a machine over single bytes that keeps none of them. All memory is taken at the end of the header's line: 32 bytes
-//! for each edge and 8 for each vertex. Reading costs time linear in the bytes, the end of the input that of two sorts.
+//! for each edge and 12 for each vertex. Reading costs time linear in the bytes. The end of the input costs time linear in the
+//! edges where each line names its greater neighbours in ascending order and each entry has its mate, else that of sorting.
 #![tactic(auto)]
 
 mod body;

@@ -127,6 +127,15 @@ fn least_unmatched(greater: &[Edge], lesser: &[Edge]) -> Option<u32>
     found
 }
 
+fn is_at(edges: &[Edge], place: usize, edge: Edge) -> bool
+    ensures { IsTrue result → (place < length edges.now) × (slice_index_or edges.now place edge ≡ edge) }
+{
+    place < edges.len()
+        && edges[place].u == edge.u
+        && edges[place].v == edge.v
+        && edges[place].w == edge.w
+}
+
 fn sort_by_pair(edges: &mut [Edge])
     ensures moved { IsPermutation edges.old edges.new }
     ensures ascends { IsAscending edges.new }
@@ -159,26 +168,78 @@ fn sort_rows(edges: &mut [Edge])
     }
 }
 
-// Sorts edges whose lesser ends ascend, as those of a file's lines do, faster than others.
-fn sort_in_rows(edges: &mut [Edge])
+fn is_strict(edges: &[Edge]) -> bool
+    ensures { IsTrue result → AllPairs IsBefore edges.now }
+{
+    for i in 1..edges.len() {
+        if !is_before(edges[i - 1], edges[i]) {
+            return false;
+        }
+    }
+    true
+}
+
+// Sorts edges whose lesser ends ascend, as those of a file's lines do, faster than others. It tells that no pair stands twice.
+fn sort_in_rows(edges: &mut [Edge]) -> bool
     ensures moved { IsPermutation edges.old edges.new }
     ensures ascends { IsAscending edges.new }
+    ensures strict { IsTrue result → AllPairs IsBefore edges.new }
 {
+    if is_strict(edges) {
+        return true;
+    }
     sort_rows(edges);
+    if is_strict(edges) {
+        return true;
+    }
     sort_by_pair(edges);
+    false
+}
+
+// Whether each entry of `lesser` is the last one of its row in `greater` that was not yet met. `ends` says where the row of
+// each vertex ends, and then where the entries that were met begin. No row is ever searched, so an entry costs one step.
+fn are_met(greater: &[Edge], lesser: &[Edge], ends: &mut [u32]) -> bool
+    requires ascends { AllPairs IsBefore greater.now }
+    requires rows { All (λ (e : Edge). (1 ≤ e.u) × (e.u ≤ length ends.old)) lesser.now }
+    ensures { IsTrue result → IsPermutation lesser.now greater.now }
+{
+    if greater.len() != lesser.len() {
+        return false;
+    }
+    for i in 0..lesser.len() {
+        let entry = lesser[i];
+        let row = entry.u as usize - 1;
+        if ends[row] == 0 {
+            return false;
+        }
+        let end = ends[row] - 1;
+        if !is_at(greater, end as usize, entry) {
+            return false;
+        }
+        ends[row] = end;
+    }
+    true
 }
 
 /// The least vertex whose line has a neighbour twice, or else the least one whose line has an entry without its mate. It sorts
-/// both lists.
-pub fn mismatch(greater: &mut [Edge], lesser: &mut [Edge]) -> Option<(FaultKind, u32)>
+/// the entries to greater neighbours, and those to lesser ones only where an entry is not met in its place: `ends` says where the
+/// row of each vertex ends in `greater`, and is used up. Other numbers there cost time, and change no answer.
+pub fn mismatch(
+    greater: &mut [Edge],
+    lesser: &mut [Edge],
+    ends: &mut [u32],
+) -> Option<(FaultKind, u32)>
     requires in_order { All (λ (e : Edge). e.u < e.v) greater.old }
+    requires rows { All (λ (e : Edge). (1 ≤ e.u) × (e.u ≤ length ends.old)) lesser.old }
     ensures some { IfSome result (λ found. IsFirstMismatch found.0 found.1 greater.old lesser.old) }
     ensures ascends { IfNone result (AllPairs IsBefore greater.new) }
-    ensures same { IfNone result (greater.new ≡ lesser.new) }
     ensures greater { IsPermutation greater.old greater.new }
-    ensures lesser { IsPermutation lesser.old lesser.new }
+    ensures lesser { IfNone result (IsPermutation lesser.old greater.new) }
 {
-    sort_in_rows(greater);
+    let is_strict = sort_in_rows(greater);
+    if is_strict && are_met(greater, lesser, ends) {
+        return None;
+    }
     sort_by_pair(lesser);
     let at_greater = least_repeated(greater, End::Lesser);
     let at_lesser = least_repeated(lesser, End::Greater);

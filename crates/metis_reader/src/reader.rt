@@ -1,4 +1,5 @@
-ghost use Rattle.std.specs.Prelude.{◌≡◌, ◌<◌, ◌≤◌, ◌-◌, ℕ, length, take, drop, [], true};
+ghost use Rattle.std.specs.Prelude.{◌≡◌, ◌≢◌, ◌<◌, ◌≤◌, ◌-◌, ℕ, length, take, drop, [], true};
+ghost use Rattle.std.specs.Bool.{MatchBool};
 ghost use Rattle.metis_reader.specs.declared.parser.Parser.{Parser};
 ghost use Rattle.metis_reader.specs.Reading.{Reading, bytes_findings, reading_from};
 ghost use Rattle.metis_reader.specs.Holding.{Holds};
@@ -14,8 +15,6 @@ use std::alloc::Global;
 const MAX_BYTES: u64 = 8_589_934_592;
 
 const LINE_FEED: u8 = 10;
-
-const SPACE: u8 = 32;
 
 const PERCENT: u8 = 37;
 
@@ -47,26 +46,35 @@ fn is_blank(byte: u8) -> bool
     byte == 32 || byte == 9 || byte == 13
 }
 
-// The word with all bytes from a place on that only make it longer, as most bytes do, and where they end.
-fn lengthened(part: LinePart, word: Word, bytes: &[u8], from: usize) -> (Word, usize)
-    requires { from < length bytes.now }
-    ensures within { (from ≤ result.1) × (result.1 ≤ length bytes.now) }
-    ensures holds { (parser : Parser) (line : ℕ) (r : Reading) → Holds parser line part word r
-        → (bytes_findings r (take (result.1 - from) (drop from bytes.now)) ≡ []) × Holds parser line part result.0 (reading_from r (take (result.1 - from) (drop from bytes.now))) }
+// Whether the byte makes the line a comment.
+fn begins_comment(part: LinePart, byte: u8) -> bool
+    ensures { MatchBool result ((part ≡ LinePart.Start) × (byte ≡ 37)) (part ≡ LinePart.Start → byte ≢ 37) }
 {
-    let mut longer = word;
-    let mut end = from;
-    if let LinePart::Words = part {
-        while end < bytes.len() && bytes[end] > SPACE {
-            longer = longer.with(bytes[end]);
-            end += 1;
-        }
+    match part {
+        LinePart::Start => byte == PERCENT,
+        _ => false,
     }
-    (longer, end)
+}
+
+// The part of the line and the word with the digits from a place on, as most bytes are, and where they end.
+fn lengthened(part: LinePart, word: Word, bytes: &[u8], from: usize) -> (LinePart, Word, usize)
+    requires { from < length bytes.now }
+    ensures within { (from ≤ result.2) × (result.2 ≤ length bytes.now) }
+    ensures holds { (parser : Parser) (line : ℕ) (r : Reading) → Holds parser line part word r
+        → (bytes_findings r (take (result.2 - from) (drop from bytes.now)) ≡ []) × Holds parser line result.0 result.1 (reading_from r (take (result.2 - from) (drop from bytes.now))) }
+{
+    if let LinePart::Comment = part {
+        return (part, word, from);
+    }
+    let (longer, end) = word.with_digits(bytes, from);
+    if end == from {
+        return (part, word, from);
+    }
+    (LinePart::Words, longer, end)
 }
 
 impl Reader {
-    ghost use Rattle.std.specs.Prelude.{◌≡◌, ◌≢◌, ◌<◌, ◌+◌, ◌++◌, ◌-◌, ◌^◌, ℕ, suc, length, List, [], MatchResult, OnOk, None, Some, Ok, Err, IfErr, IfOk, ◌≤◌, ◌⊎◌};
+    ghost use Rattle.std.specs.Prelude.{◌≡◌, ◌≢◌, ◌<◌, ◌+◌, ◌++◌, ◌-◌, ◌^◌, ℕ, suc, length, List, [], ◌∷◌, MatchResult, OnOk, None, Some, Ok, Err, IfErr, IfOk, ◌≤◌, ◌⊎◌};
     ghost use Rattle.metis_reader.specs.declared.fault.Fault as told;
     ghost use Rattle.metis_reader.specs.declared.fault.ReadRefusal as refusals;
     ghost use Rattle.metis_reader.specs.declared.fault.ReadRefusal.TheVariants.{NoMemory, Fault};
@@ -77,7 +85,7 @@ impl Reader {
     ghost use Rattle.metis_reader.specs.Holding.{ParserShows, Holds, RefusedFirst, ByteEndsHeader, BytesEndHeader};
     ghost use Rattle.metis_reader.specs.Shown.{EndsHeader};
     ghost use Rattle.metis_reader.specs.Ending.{last_line, end_state, line_count};
-    ghost use Rattle.metis_reader.specs.Fed.{StandsFor, IsOpen, answered, HasHeader, HeaderEndsIn, FedRefusal};
+    ghost use Rattle.metis_reader.specs.Fed.{StandsFor, IsOpen, answered, HeaderEndsIn, FedRefusal};
 
     /// A reader that was fed nothing. It takes no memory.
     pub fn new(alloc: Global) -> Reader
@@ -140,22 +148,17 @@ impl Reader {
         ensures exact { (r : Reading) → Holds self.old.parser self.old.line part word r → suc r.ended < 2 ^ 64 - 1
             → MatchResult result (λ next. (byte_findings r byte ≡ []) × Holds self.new.parser self.new.line next.0 next.1 (after_byte r byte)) (λ refusal. RefusedFirst refusal (byte_findings r byte) (ByteEndsHeader r byte)) }
     {
-        match part {
-            LinePart::Comment => {
-                if byte != LINE_FEED {
-                    return Ok((LinePart::Comment, word));
-                }
-                self.line = self.line.saturating_add(1);
-                Ok((LinePart::Start, Word::NONE))
+        if let LinePart::Comment = part {
+            if byte != LINE_FEED {
+                return Ok((LinePart::Comment, word));
             }
-            LinePart::Start => {
-                if byte == PERCENT {
-                    return Ok((LinePart::Comment, word));
-                }
-                self.word_byte(part, word, byte)
-            }
-            LinePart::Words => self.word_byte(part, word, byte),
+            self.line = self.line.saturating_add(1);
+            return Ok((LinePart::Start, Word::NONE));
         }
+        if begins_comment(part, byte) {
+            return Ok((LinePart::Comment, word));
+        }
+        self.word_byte(part, word, byte)
     }
 
     // Takes a byte of a line that is no comment.
@@ -196,12 +199,13 @@ impl Reader {
         let mut word = self.word;
         let mut i = 0;
         while i < piece.len() {
-            let (longer, end) = lengthened(part, word, piece, i);
+            let (now, longer, end) = lengthened(part, word, piece, i);
             if end >= piece.len() {
+                part = now;
                 word = longer;
                 i = end;
             } else {
-                match self.byte(part, longer, piece[end]) {
+                match self.byte(now, longer, piece[end]) {
                     Ok(next) => {
                         part = next.0;
                         word = next.1;
@@ -240,7 +244,7 @@ impl Reader {
     // Takes the end of the last line, where no line feed ended it.
     fn end_input(&mut self) -> Result<(), ReadRefusal>
         ensures { (r : Reading) → Holds self.old.parser self.old.line self.old.part self.old.word r → suc r.ended < 2 ^ 64 - 1
-            → MatchResult result (λ _. (last_line r ≡ []) × ParserShows self.new.parser (end_state r) × (self.new.line ≡ suc (line_count r))) (λ refusal. RefusedFirst refusal (last_line r) (EndsHeader (word_end_state r.state r.word r.next))) }
+            → MatchResult result (λ _. (last_line r ≡ []) × ParserShows self.new.parser (end_state r) × (self.new.line ≡ suc (line_count r))) (λ refusal. RefusedFirst refusal (last_line r) (ByteEndsHeader r 10)) }
     {
         match self.part {
             LinePart::Start => Ok(()),
@@ -281,15 +285,18 @@ impl Reader {
 
     /// The graph of the file, where the bytes fed are one without a fault, else its first fault.
     ///
-    /// It answers `NoMemory` only where it was answered before, or where the input's end ends the header's line. Its cost
-    /// for n vertices and m edges is that of sorting the edges, O(n + m log m).
+    /// After a refusal it answers the same one. Else it answers `NoMemory` only where the input's end ends the header's line:
+    /// the header is there, and the line feed that would end its line is not; so never for an input without a header. Its
+    /// cost for m edges is O(m) where each line names its greater neighbours in ascending order and each entry has its mate,
+    /// else that of sorting the edges, O(m log m).
     pub fn finish(mut self) -> Result<MetisGraph, ReadRefusal>
         ensures graph { IfOk result (λ g. (bytes : List ℕ) → StandsFor self bytes → graph_of bytes ≡ Ok g.edges) }
         ensures fault { (f : told.Fault) → result ≡ Err (Fault f) → (bytes : List ℕ) → StandsFor self bytes → graph_of bytes ≡ Err f }
-        ensures no_memory { result ≡ Err NoMemory → answered self ≡ None → (bytes : List ℕ) → StandsFor self bytes → HasHeader bytes → ⊥ }
+        ensures no_memory { result ≡ Err NoMemory → answered self ≡ None → (bytes : List ℕ) → StandsFor self bytes → HeaderEndsIn bytes (10 ∷ []) }
+        ensures again { (refusal : refusals.ReadRefusal) → answered self ≡ Some refusal → result ≡ Err refusal }
     {
-        if let Some(refusal) = self.refusal {
-            return Err(refusal);
+        if let Some(answer) = self.refusal {
+            return Err(answer);
         }
         match self.end_input() {
             Ok(()) => {}

@@ -1,9 +1,10 @@
 -- The entries of both kinds are the two parts of the table.
-use Rattle.std.proofs.Common.{◌≡◌, ◌≤◌, ◌+◌, ◌-◌, ◌*◌, ◌^◌, ℕ, List, length, sum_by, arith, subst, sym, ap, take, drop, get_or, ◌++◌, ◌∙◌, append_assoc}
+use Rattle.std.proofs.Common.{◌≡◌, ◌≤◌, ◌<◌, ◌+◌, ◌-◌, ◌*◌, ◌^◌, ℕ, List, length, sum_by, arith, subst, sym, ap, take, drop, get_or, ◌++◌, ◌∙◌, append_assoc}
 use Rattle.std.proofs.lemmas.Grind.{common_steps}
 use Rattle.std.specs.List.{All, AllPairs}
 use Rattle.std.specs.List.Sorted.{IsPermutation}
 use Rattle.std.proofs.lemmas.List.{take_at}
+use Rattle.std.proofs.lemmas.List.Elements.{All-weaker}
 use Rattle.std.proofs.lemmas.List.Sorted.{All-permutation, sum_by-IsPermutation, length_permutation}
 use Rattle.cut_definitions.specs.Graph.{IsEdgeWithin, IsBefore, IsEdgeList}
 use Rattle.cut_definitions.specs.declared.edge_list.Edge.{Edge}
@@ -14,7 +15,7 @@ use Rattle.metis_reader.specs.File.{end_findings}
 use Rattle.metis_reader.proofs.EndLaw.{mismatch_inside}
 use Rattle.metis_reader.proofs.BodyEnd.{body_missing, body_few, body_mismatch, body_accepted}
 use Rattle.metis_reader.proofs.body.Body.finish.Goals as goal
-use Rattle.metis_reader.proofs.body.Body.finish.Goals.{After-truncate}
+use Rattle.metis_reader.proofs.body.Body.finish.Goals.{After-shrink_to_fit}
 
 pub returns-then-not-has_all_lines : goal.returns-then-not-has_all_lines
 returns-then-not-has_all_lines c = λ header done end shows rows. body_missing c.args.self header done end c.args.lines shows c.if-not-has_all_lines.ensures
@@ -37,6 +38,19 @@ greater_inside b g e = subst (λ g. All (IsEdgeWithin b.header.vertices) g) (sym
 
 lesser_inside : (b : Body) (l : List Edge) → l ≡ lesser_of b → All (IsEdgeWithin b.header.vertices) l
 lesser_inside b l e = subst (λ l. All (IsEdgeWithin b.header.vertices) l) (sym e) b.lesser_within
+
+row_in : (n count : ℕ) → n ≤ count → (e : Edge) → IsEdgeWithin n e → (1 ≤ e.u) × (e.u ≤ count)
+row_in n count le e h = (h.0, let low : e.u < e.v = h.1 in let high : e.v ≤ n = h.2 in omega arith)
+
+pub mismatch-requires-clause-rows : goal.mismatch-requires-clause-rows
+mismatch-requires-clause-rows c =
+    let b = c.args.self in
+    let l = lesser_part b c.deref_mut.result.now c.split_at_mut-greater.result.1.now c.if-not-has_all_entries.ensures c.deref_mut.ensures.value c.split_at_mut-greater.ensures.back in
+    let all : b.header.vertices ≤ length b.numbers.items = c.if-not-has_all_lines.ensures in
+    let same : length b.ends.items ≡ length b.numbers.items = b.ends_of_lines in
+    let ends : length c.as_mut_slice.result.now ≡ length b.ends.items = ap length c.as_mut_slice.ensures.value in
+    All-weaker (IsEdgeWithin b.header.vertices) (λ (e : Edge). (1 ≤ e.u) × (e.u ≤ length c.as_mut_slice.result.now))
+    (row_in b.header.vertices (length c.as_mut_slice.result.now) (omega arith)) c.split_at_mut-greater.result.1.now (lesser_inside b c.split_at_mut-greater.result.1.now l)
 
 pub fault_of_vertex-requires-clause-from_one : goal.fault_of_vertex-requires-clause-from_one
 fault_of_vertex-requires-clause-from_one c =
@@ -99,7 +113,7 @@ kept f n g l tail same le = twice f n ((g ++ l) ++ tail) le ∙ ap (λ xs. take 
     twice f n xs le = grind (arith, common_steps)
 
 -- the edges that are kept are the sorted greater entries
-edges_kept : (c : After-truncate) → c.truncate.new.self.items ≡ c.mismatch.new.greater
+edges_kept : (c : After-shrink_to_fit) → c.shrink_to_fit.new.self.items ≡ c.mismatch.new.greater
 edges_kept c =
     let b = c.args.self in
     let items : c.deref_mut.result.now ≡ b.table.items = c.deref_mut.ensures.value in
@@ -108,7 +122,7 @@ edges_kept c =
     let within : b.front ≤ b.table.len = omega (arith, b.in_order, b.in_table) in
     let moved : length c.mismatch.new.greater ≡ length c.split_at_mut-greater.result.0.now = length_permutation c.split_at_mut-greater.result.0.now c.mismatch.new.greater c.mismatch.ensures.greater in
     let part : length c.split_at_mut-greater.result.0.now ≡ b.front = c.split_at_mut-greater.ensures.front_len in
-    c.truncate.ensures.items ∙ kept b.front b.table.len c.mismatch.new.greater c.mismatch.new.lesser _ (moved ∙ part) within
+    c.shrink_to_fit.ensures.items ∙ c.truncate.ensures.items ∙ kept b.front b.table.len c.mismatch.new.greater c.mismatch.new.lesser _ (moved ∙ part) within
 
 record Matched (b : Body) (g l sorted : List Edge) : Type 0 where
   is_greater : g ≡ greater_of b
@@ -116,12 +130,12 @@ record Matched (b : Body) (g l sorted : List Edge) : Type 0 where
   moved_greater : IsPermutation g sorted
   moved_lesser : IsPermutation l sorted
 
-matched : (c : After-truncate) → Matched c.args.self c.split_at_mut-greater.result.0.now c.split_at_mut-greater.result.1.now c.mismatch.new.greater
+matched : (c : After-shrink_to_fit) → Matched c.args.self c.split_at_mut-greater.result.0.now c.split_at_mut-greater.result.1.now c.mismatch.new.greater
 matched c = record {
   is_greater = greater_part c.args.self c.deref_mut.result.now c.split_at_mut-greater.result.0.now c.deref_mut.ensures.value c.split_at_mut-greater.ensures.front;
   is_lesser = lesser_part c.args.self c.deref_mut.result.now c.split_at_mut-greater.result.1.now c.if-not-has_all_entries.ensures c.deref_mut.ensures.value c.split_at_mut-greater.ensures.back;
   moved_greater = c.mismatch.ensures.greater;
-  moved_lesser = subst (λ xs. IsPermutation c.split_at_mut-greater.result.1.now xs) (sym c.in_default.ensures.same) c.mismatch.ensures.lesser;
+  moved_lesser = c.in_default.ensures.lesser;
 }
 
 pub from_edges-requires : goal.from_edges-requires
@@ -134,7 +148,7 @@ from_edges-requires c =
 
 pub returns : goal.returns
 returns c = λ header done end shows rows.
-    let at = (goal.at.returns c).After-truncate in
+    let at = (goal.at.returns c).After-shrink_to_fit in
     let m = matched at in
     let b = c.args.self in
     let accepted = body_accepted b header done end c.args.lines c.split_at_mut-greater.result.0.now c.split_at_mut-greater.result.1.now c.mismatch.new.greater shows rows

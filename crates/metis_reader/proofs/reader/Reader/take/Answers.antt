@@ -21,23 +21,23 @@ few_ended r xs i most h few =
 
 pub loop-i-preserved-then-end-piece : goal.loop-i-preserved-then-end-piece
 loop-i-preserved-then-end-piece c = record {
-  within = c.lengthened-end.ensures.within.1;
+  within = c.lengthened-now.ensures.within.1;
   same_refusal = c.loop-i.invariant.same_refusal;
   exact = λ r holds few.
-      read_on c.loop-i.self.parser c.loop-i.self.line c.loop-i.part c.loop-i.word c.lengthened-end.result.0 r c.args.piece.now c.loop-i.i c.lengthened-end.result.1 c.lengthened-end.ensures.within.0
-      (c.loop-i.invariant.exact r holds few) (c.lengthened-end.ensures.holds c.loop-i.self.parser c.loop-i.self.line (reading_from r (take c.loop-i.i c.args.piece.now)));
+      read_on c.loop-i.self.parser c.loop-i.self.line c.loop-i.part c.lengthened-now.result.0 c.loop-i.word c.lengthened-now.result.1 r c.args.piece.now c.loop-i.i c.lengthened-now.result.2 c.lengthened-now.ensures.within.0
+      (c.loop-i.invariant.exact r holds few) (c.lengthened-now.ensures.holds c.loop-i.self.parser c.loop-i.self.line (reading_from r (take c.loop-i.i c.args.piece.now)));
 }
 
 pub loop-i-preserved : goal.loop-i-preserved
 loop-i-preserved c = record {
-  within = let inside : c.lengthened-end.result.1 < length c.args.piece.now = c.if-end-piece.false in omega arith;
+  within = let inside : c.lengthened-now.result.2 < length c.args.piece.now = c.if-end-piece.false in omega arith;
   same_refusal = c.byte.ensures.same_refusal ∙ c.loop-i.invariant.same_refusal;
   exact = λ r holds few.
       let xs : List ℕ = c.args.piece.now in
-      let e : ℕ = c.lengthened-end.result.1 in
+      let e : ℕ = c.lengthened-now.result.2 in
       let inside : e < length xs = c.if-end-piece.false in
-      let so_far = read_on c.loop-i.self.parser c.loop-i.self.line c.loop-i.part c.loop-i.word c.lengthened-end.result.0 r xs c.loop-i.i e c.lengthened-end.ensures.within.0
-      (c.loop-i.invariant.exact r holds few) (c.lengthened-end.ensures.holds c.loop-i.self.parser c.loop-i.self.line (reading_from r (take c.loop-i.i xs))) in
+      let so_far = read_on c.loop-i.self.parser c.loop-i.self.line c.loop-i.part c.lengthened-now.result.0 c.loop-i.word c.lengthened-now.result.1 r xs c.loop-i.i e c.lengthened-now.ensures.within.0
+      (c.loop-i.invariant.exact r holds few) (c.lengthened-now.ensures.holds c.loop-i.self.parser c.loop-i.self.line (reading_from r (take c.loop-i.i xs))) in
       let step = c.in-Ok.ensures.exact (reading_from r (take e xs)) so_far.1 (few_ended r xs e (2 ^ 64 - 1) inside few) in (
         ap (λ ys. bytes_findings r ys) (take_next xs e inside) ∙ findings_push r (take e xs) (get_or xs e 0) so_far.0 step.0,
         subst (λ s. Holds c.byte.new.self.parser c.byte.new.self.line c.in-Ok.next.0 c.in-Ok.next.1 s)
@@ -48,9 +48,9 @@ loop-i-preserved c = record {
 pub returns-in-Err-clause-exact : goal.returns-in-Err-clause-exact
 returns-in-Err-clause-exact c = λ r holds few.
     let xs : List ℕ = c.args.piece.now in
-    let e : ℕ = c.lengthened-end.result.1 in
+    let e : ℕ = c.lengthened-now.result.2 in
     let inside : e < length xs = c.if-end-piece.false in
-    let so_far = read_on c.loop-i.self.parser c.loop-i.self.line c.loop-i.part c.loop-i.word c.lengthened-end.result.0 r xs c.loop-i.i e c.lengthened-end.ensures.within.0
-    (c.loop-i.invariant.exact r holds few) (c.lengthened-end.ensures.holds c.loop-i.self.parser c.loop-i.self.line (reading_from r (take c.loop-i.i xs))) in
+    let so_far = read_on c.loop-i.self.parser c.loop-i.self.line c.loop-i.part c.lengthened-now.result.0 c.loop-i.word c.lengthened-now.result.1 r xs c.loop-i.i e c.lengthened-now.ensures.within.0
+    (c.loop-i.invariant.exact r holds few) (c.lengthened-now.ensures.holds c.loop-i.self.parser c.loop-i.self.line (reading_from r (take c.loop-i.i xs))) in
     refused_at c.in-Err.refusal r (take e xs) (get_or xs e 0) (drop (e + 1) xs) xs so_far.0 (split_at xs e inside)
     (c.in-Err.ensures.exact (reading_from r (take e xs)) so_far.1 (few_ended r xs e (2 ^ 64 - 1) inside few))
