@@ -1,0 +1,17 @@
+//! Tests of the crates from scans to the value, over small graphs whose answers are known by hand.
+#![tactic(auto)]
+
+#[cfg(test)]
+mod certificates;
+#[cfg(test)]
+mod flows;
+#[cfg(test)]
+mod graphs;
+#[cfg(test)]
+mod kernels;
+#[cfg(test)]
+mod rounds;
+#[cfg(test)]
+mod scans;
+#[cfg(test)]
+mod values;

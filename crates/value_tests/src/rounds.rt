@@ -1,0 +1,97 @@
+//! Marks, contraction by them, and rounds that mark.
+
+ghost use Rattle.std.specs.Prelude.{◌≤◌};
+ghost use Rattle.cut_definitions.specs.Safe.{IsFair};
+
+use crate::certificates::none_is_certified;
+use crate::graphs::{edges_of, uneven_triangle};
+use cut_definitions::{Edge, EdgeList, NoMemory};
+use mark_board::Marks;
+use outside::OpenGate;
+use round_contract::contract;
+use round_workers::round;
+use std::alloc::Global;
+use std::test::Fail;
+use weighted_graph::Graph;
+
+// The degree of a vertex, which is the weight of a cut.
+fn degree_of(graph: &Graph, v: u32) -> u64
+    requires enough { 2 ≤ graph.now.vertices }
+    requires from_one { 1 ≤ v }
+    requires to_n { v ≤ graph.now.vertices }
+    ensures { IsFair graph.now result }
+{
+    // known by this call: the graph is an edge list
+    let _n = graph.n();
+    graph.degree(v)
+}
+
+// Each of 1, 2, 3 joined to each of 4, 5, 6.
+const THREE_BY_THREE: &str = "6 9\n4 5 6\n4 5 6\n4 5 6\n1 2 3\n1 2 3\n1 2 3\n";
+
+// Whether no edge passes a certificate at 3 and yet a round that is opened with the degree of vertex 1 keeps this bound, 3,
+// and marks an edge.
+fn marks_by_links(alloc: Global, list: &EdgeList) -> Result<bool, NoMemory> {
+    if list.n() < 2 {
+        return Ok(false);
+    }
+    let graph = Graph::build(alloc, list)?;
+    let (bound, marks) = round(alloc, &graph, degree_of(&graph, 1), 0, 1, &OpenGate)?;
+    Ok(none_is_certified(&graph, 3, 0) && bound == 3 && !marks.is_empty())
+}
+
+#[test]
+fn no_edge_is_marked_at_first(rt: HostRuntime) -> Result<(), Fail> {
+    let marks = Marks::none(rt.alloc(), 3)?;
+    assert!(rt; marks.is_empty());
+    Ok(())
+}
+
+#[test]
+fn a_marked_edge_stays_marked(rt: HostRuntime) -> Result<(), Fail> {
+    let mut marks = Marks::none(rt.alloc(), 3)?;
+    marks.set(1);
+    marks.set(1);
+    assert!(rt; marks.has(1) && !marks.has(0) && !marks.has(2) && !marks.is_empty());
+    Ok(())
+}
+
+#[test]
+fn the_first_edge_of_a_triangle_is_contracted(rt: HostRuntime) -> Result<(), Fail> {
+    let graph = uneven_triangle(rt.alloc())?;
+    let mut marks = Marks::none(rt.alloc(), 3)?;
+    marks.set(0);
+    let (contracted, labels) = contract(rt.alloc(), &graph, &marks)?;
+    assert!(rt; labels.as_slice() == [1, 1, 2].as_slice() && contracted.n() == 2);
+    assert!(rt; contracted.edge_list() == [Edge { u: 1, v: 2, w: 5 }].as_slice());
+    Ok(())
+}
+
+// Edge 0 is certified, and the cut around vertex 3 parts the ends of both others.
+#[test]
+fn one_edge_of_a_triangle_is_marked(rt: HostRuntime) -> Result<(), Fail> {
+    let graph = uneven_triangle(rt.alloc())?;
+    let (bound, marks) = round(rt.alloc(), &graph, degree_of(&graph, 3), 1, 2, &OpenGate)?;
+    assert!(rt; bound == 5 && marks.has(0) && !marks.has(1) && !marks.has(2));
+    Ok(())
+}
+
+// Vertex 1 weighs 6, and a scan from any vertex passes a set that weighs 5.
+#[test]
+fn the_bound_falls_to_a_prefix(rt: HostRuntime) -> Result<(), Fail> {
+    let graph = uneven_triangle(rt.alloc())?;
+    let opening = degree_of(&graph, 1);
+    let (bound, _marks) = round(rt.alloc(), &graph, opening, 0, 1, &OpenGate)?;
+    assert!(rt; opening == 6 && bound == 5);
+    Ok(())
+}
+
+#[test]
+fn a_link_marks_where_no_certificate_holds(rt: HostRuntime) -> Result<(), Fail> {
+    let Some(list) = edges_of(rt.alloc(), THREE_BY_THREE) else {
+        assert!(rt; false);
+        return Ok(());
+    };
+    assert!(rt; marks_by_links(rt.alloc(), &list)?);
+    Ok(())
+}

@@ -1,0 +1,89 @@
+//! Capped scans.
+
+ghost use Rattle.std.specs.Prelude.{◌≡◌};
+ghost use Rattle.scan_forest.specs.Scan.{StandsFor};
+
+use crate::graphs::uneven_triangle;
+use cut_definitions::EdgeList;
+use scan_forest::{Scan, Scanned};
+use std::test::Fail;
+use weighted_graph::Graph;
+
+const FIRST: Scanned = Scanned {
+    vertex: 1,
+    prefix_weight: 6,
+    all: false,
+};
+
+const SECOND: Scanned = Scanned {
+    vertex: 2,
+    prefix_weight: 5,
+    all: false,
+};
+
+const THIRD: Scanned = Scanned {
+    vertex: 3,
+    prefix_weight: 0,
+    all: true,
+};
+
+// What is left when vertex 2 was dropped.
+const WITHOUT: Scanned = Scanned {
+    vertex: 3,
+    prefix_weight: 9,
+    all: false,
+};
+
+// Whether this is what the scan answers next.
+fn is_next(graph: &Graph, scan: &mut Scan, wanted: Option<Scanned>) -> bool
+    requires { StandsFor scan.old graph.now }
+    ensures { StandsFor scan.new graph.now }
+{
+    scan.next(graph) == wanted
+}
+
+// Whether these are the links of vertices 2 and 3.
+fn has_links(graph: &Graph, scan: &Scan, second: u64, third: u64) -> bool
+    requires stands { StandsFor scan.now graph.now }
+    requires three { graph.now.vertices ≡ 3 }
+{
+    let links = (scan.link(graph, 2), scan.link(graph, 3));
+    links == (second, third)
+}
+
+#[test]
+fn a_capped_scan_of_a_triangle(rt: HostRuntime) -> Result<(), Fail> {
+    let graph = uneven_triangle(rt.alloc())?;
+    let mut scan = Scan::new(rt.alloc(), &graph)?;
+    scan.start(1, 6);
+    assert!(rt; is_next(&graph, &mut scan, Some(FIRST)));
+    assert!(rt; has_links(&graph, &scan, 5, 1));
+    assert!(rt; scan.peek(&graph) == Some(2));
+    assert!(rt; is_next(&graph, &mut scan, Some(SECOND)));
+    assert!(rt; has_links(&graph, &scan, 0, 5));
+    assert!(rt; is_next(&graph, &mut scan, Some(THIRD)));
+    assert!(rt; is_next(&graph, &mut scan, None));
+    Ok(())
+}
+
+// Vertex 2 is dropped, so 3 comes after 1, and the two are not everything.
+#[test]
+fn a_dropped_vertex_is_passed_over(rt: HostRuntime) -> Result<(), Fail> {
+    let graph = uneven_triangle(rt.alloc())?;
+    let mut scan = Scan::new(rt.alloc(), &graph)?;
+    scan.start(1, 3);
+    scan.drop_vertex(2);
+    assert!(rt; is_next(&graph, &mut scan, Some(FIRST)));
+    assert!(rt; has_links(&graph, &scan, 0, 1));
+    assert!(rt; is_next(&graph, &mut scan, Some(WITHOUT)));
+    assert!(rt; is_next(&graph, &mut scan, None));
+    Ok(())
+}
+
+#[test]
+fn a_scan_of_no_vertices(rt: HostRuntime) -> Result<(), Fail> {
+    let graph = Graph::build(rt.alloc(), &EdgeList::new(rt.alloc(), 0))?;
+    let mut scan = Scan::new(rt.alloc(), &graph)?;
+    assert!(rt; scan.next(&graph).is_none());
+    Ok(())
+}
