@@ -10,8 +10,8 @@ ghost use Rattle.cactus_merge.specs.Assembled.{SameMembers};
 use crate::work::light_cactus;
 use cactus_tree::Cactus;
 use cut_definitions::{EdgeList, NoMemory};
+use min_value::value as least_weight;
 use outside::Gate;
-use scan_forest::plain_value;
 use std::alloc::Global;
 use weighted_graph::Graph;
 
@@ -31,20 +31,10 @@ fn list_of(alloc: Global, graph: &Graph) -> Result<EdgeList, NoMemory>
     Ok(EdgeList::from_edges(graph.n(), edges))
 }
 
-/// The least weight of a cut.
-fn value_of(alloc: Global, graph: &Graph) -> Result<u64, NoMemory>
-    requires { 2 ≤ graph.now.vertices }
-    ensures value { IfOk result (λ weight. weight ≡ value graph.now) }
-    ensures is_graph { IsGraph graph.now }
-{
-    let list = list_of(alloc, graph)?;
-    let value = plain_value(alloc, &list)?;
-    Ok(value)
-}
-
 /// The same graph once more.
 fn copy_of(alloc: Global, graph: &Graph) -> Result<Graph, NoMemory>
-    ensures { IfOk result (λ g. g ≡ graph.now) }
+    ensures value { IfOk result (λ g. g ≡ graph.now) }
+    ensures is_graph { IsGraph graph.now }
 {
     let list = list_of(alloc, graph)?;
     let copy = Graph::build(alloc, &list)?;
@@ -53,9 +43,9 @@ fn copy_of(alloc: Global, graph: &Graph) -> Result<Graph, NoMemory>
 
 /// The value of a connected graph of two or more vertices, and the cactus of its minimum cuts.
 ///
-/// All work is done by the caller: the workers and the gate are not used yet. The value takes O(n^3) steps and a table of
-/// n^2 weights (Stoer and Wagner, 1997). Apart from it there are at most 2n contractions and chains, each with one sweep, one
-/// flow and a graph of what is left; memory is in proportion to n + m. It is refused only where memory is wanting.
+/// The value comes from rounds of contraction and a sweep of flows. Apart from it there are at most 2n contractions and
+/// chains, each with one sweep, one flow and a graph of what is left; memory is in proportion to n + m. The workers and the
+/// gate are handed to the search for the value. It is refused only where memory is wanting.
 pub fn solve<G: Gate>(
     alloc: Global,
     graph: &Graph,
@@ -69,7 +59,7 @@ pub fn solve<G: Gate>(
     ensures n { IfOk result (λ s. s.cactus.vertices ≡ graph.now.vertices) }
     ensures sides { IfOk result (λ s. SameMembers (sides_of s.cactus) (mincuts graph.now)) }
 {
-    let value = value_of(alloc, graph)?;
+    let value = least_weight(alloc, graph, workers, gate)?;
     let own = copy_of(alloc, graph)?;
     let cactus = light_cactus(alloc, own, value)?;
     Ok(Solved { value, cactus })

@@ -15,8 +15,8 @@ use crate::reply::Reply;
 use crate::stop::Stop;
 use cactus_solver::solve;
 use cut_definitions::EdgeList;
+use min_value::value as least_weight;
 use outside::{Gate, NoMemory};
-use scan_forest::plain_value;
 use std::alloc::Global;
 use weighted_graph::{Graph, laws};
 
@@ -38,13 +38,28 @@ fn disconnected(alloc: Global, components: u32) -> Result<Reply, NoMemory>
     Ok(Reply::Text(text))
 }
 
+// The graph with rows. The list is let go, so its memory is free for what comes next.
+fn with_rows(alloc: Global, list: EdgeList) -> Result<Graph, NoMemory>
+    ensures { IfOk result (λ graph. graph ≡ list) }
+{
+    let graph = Graph::build(alloc, &list)?;
+    Ok(graph)
+}
+
 // The line of the job `value`.
-fn value_reply(alloc: Global, list: &EdgeList) -> Result<Reply, NoMemory>
-    requires { 2 ≤ list.now.vertices }
-    ensures text { IfOk result (λ reply. text_of reply ≡ value_line (value list.now)) }
+fn value_reply<G: Gate>(
+    alloc: Global,
+    list: EdgeList,
+    workers: u32,
+    gate: &G,
+) -> Result<Reply, NoMemory>
+    requires enough { 2 ≤ list.vertices }
+    requires workers { (1 ≤ workers) × (workers ≤ 64) }
+    ensures text { IfOk result (λ reply. text_of reply ≡ value_line (value list)) }
     ensures printable { IfOk result IsPrintable }
 {
-    let value = plain_value(alloc, list)?;
+    let graph = with_rows(alloc, list)?;
+    let value = least_weight(alloc, &graph, workers, gate)?;
     let text = format!(in alloc; "value {value}\n")?;
     Ok(Reply::Text(text))
 }
@@ -73,20 +88,20 @@ fn check_vertices(job: Job, n: u32) -> Result<(), Stop>
 fn reply_on_cuts<G: Gate>(
     alloc: Global,
     command: Command,
-    list: &EdgeList,
+    list: EdgeList,
     gate: &G,
 ) -> Result<Reply, Stop>
-    requires enough { 2 ≤ list.now.vertices }
-    requires in_range { IsInRange command.job list.now.vertices }
+    requires enough { 2 ≤ list.vertices }
+    requires in_range { IsInRange command.job list.vertices }
     requires job { command.job ≢ Job.Value }
     requires reading { IsReading command.job }
     requires workers { (1 ≤ command.workers) × (command.workers ≤ 64) }
-    ensures text { IfOk result (λ reply. IsAnswerOf command.job list.now (text_of reply)) }
+    ensures text { IfOk result (λ reply. IsAnswerOf command.job list (text_of reply)) }
     ensures printable { IfOk result IsPrintable }
-    ensures stop { IfErr result (IsStopFor command.job list.now) }
+    ensures stop { IfErr result (IsStopFor command.job list) }
 {
     laws::connected_is_one_component();
-    let graph = Graph::build(alloc, list)?;
+    let graph = with_rows(alloc, list)?;
     let components = graph.components(alloc)?;
     if components >= 2 {
         let reply = disconnected(alloc, components)?;
@@ -100,14 +115,14 @@ fn reply_on_cuts<G: Gate>(
 pub fn answer<G: Gate>(
     alloc: Global,
     command: Command,
-    list: &EdgeList,
+    list: EdgeList,
     gate: &G,
 ) -> Result<Reply, Stop>
     requires workers { (1 ≤ command.workers) × (command.workers ≤ 64) }
     requires reading { IsReading command.job }
-    ensures text { IfOk result (λ reply. IsAnswerOf command.job list.now (text_of reply)) }
+    ensures text { IfOk result (λ reply. IsAnswerOf command.job list (text_of reply)) }
     ensures printable { IfOk result IsPrintable }
-    ensures stop { IfErr result (IsStopFor command.job list.now) }
+    ensures stop { IfErr result (IsStopFor command.job list) }
 {
     if let Err(stop) = check_vertices(command.job, list.n()) {
         return Err(stop);
@@ -117,7 +132,7 @@ pub fn answer<G: Gate>(
         return Ok(reply);
     }
     if let Job::Value = command.job {
-        let reply = value_reply(alloc, list)?;
+        let reply = value_reply(alloc, list, command.workers, gate)?;
         return Ok(reply);
     }
     reply_on_cuts(alloc, command, list, gate)

@@ -99,7 +99,7 @@ fn reading_reply<S: Source, G: Gate>(
     ensures words { result ≢ Err Stop.BadWords }
 {
     let graph = take_in(alloc, source)?;
-    answer(alloc, command, &graph.edges, gate)
+    answer(alloc, command, graph.edges, gate)
 }
 
 // What a command answers. A trial leaves the source as it is.
@@ -160,8 +160,8 @@ fn reply<S: Source, G: Gate>(
 /// the text of the reply to `out` or the line that tells why there is none to `err`, and answers how it ended. The job
 /// `trial` makes its graph and reads nothing.
 ///
-/// The jobs take O(n^3 + m) steps and a table of n^2 weights for the value of the graph. Beside that the job `cactus`
-/// takes a flow for each split of the graph.
+/// Memory is in proportion to the graph and the text. The value takes a sweep of flows, each of which is local on most
+/// graphs; beside that the jobs on all minimum cuts take a sweep and a flow for each split of the graph.
 pub fn run<S: Source, K: Sink, E: Sink, G: Gate>(
     alloc: Global,
     words: &[String],

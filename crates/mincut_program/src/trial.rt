@@ -52,8 +52,7 @@ fn describe(alloc: Global, graph: &Graph, solved: &Solved) -> Result<String, NoM
 /// The text for the graph that is made for a number: its numbers of vertices and edges, its value, the number of its
 /// minimum cuts and the greatest balance of one.
 ///
-/// It is refused only where memory is wanting. It takes O(n^3) steps and a table of n^2 weights for the value, and
-/// besides a list of all minimum cuts.
+/// It is refused only where memory is wanting. It makes a list of all minimum cuts, for their number.
 pub fn trial_reply<G: Gate>(
     alloc: Global,
     number: u32,
