@@ -44,8 +44,10 @@ fn copy_of(alloc: Global, graph: &Graph) -> Result<Graph, NoMemory>
 /// The value of a connected graph of two or more vertices, and the cactus of its minimum cuts.
 ///
 /// The value comes from rounds of contraction and a sweep of flows. Apart from it there are at most 2n contractions and
-/// chains, each with one sweep, one flow and a graph of what is left; memory is in proportion to n + m. The workers and the
-/// gate are handed to the search for the value. It is refused only where memory is wanting.
+/// chains, each with one sweep, one flow and a graph of what is left. Each open chain keeps a number for each vertex of its
+/// graph, so on a long thin graph, which is opened once for nearly each vertex, time and memory grow with the square of n;
+/// else memory is in proportion to n + m. The workers and the gate are handed to the search for the value. It is refused
+/// only where memory is wanting.
 pub fn solve<G: Gate>(
     alloc: Global,
     graph: &Graph,

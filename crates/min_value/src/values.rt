@@ -78,7 +78,7 @@ fn value_by_rounds<G: Gate>(
 }
 
 /// The value by a sweep of flows, which are local on most graphs. Where they go along each row more than four times on the
-/// average, scans contract the graph first.
+/// average, scans contract the graph first. A vertex without edges is a cut of weight 0, and no flow is needed then.
 fn value_by_sweep(alloc: Global, graph: &Graph) -> Result<u64, NoMemory>
     requires { 2 ≤ graph.now.vertices }
     ensures { IfOk result (λ weight. weight ≡ value graph.now) }
@@ -86,6 +86,9 @@ fn value_by_sweep(alloc: Global, graph: &Graph) -> Result<u64, NoMemory>
     // known by this call: the graph is an edge list, so no weight is above 2^61
     let _n = graph.n();
     let bound = least_degree(graph);
+    if bound == 0 {
+        return Ok(0);
+    }
     let swept = least_weight_within(alloc, graph, bound, graph.edges().saturating_mul(8))?;
     match swept {
         Swept::Whole(weight) => Ok(weight),

@@ -160,8 +160,9 @@ fn reply<S: Source, G: Gate>(
 /// the text of the reply to `out` or the line that tells why there is none to `err`, and answers how it ended. The job
 /// `trial` makes its graph and reads nothing.
 ///
-/// Memory is in proportion to the graph and the text. The value takes a sweep of flows, each of which is local on most
-/// graphs; beside that the jobs on all minimum cuts take a sweep and a flow for each split of the graph.
+/// The value takes memory in proportion to the graph and a sweep of flows, each of which is local on most graphs. Beside that
+/// the jobs on all minimum cuts take a sweep and a flow for each split of the graph, and a number for each vertex of a graph
+/// that is split and not yet put together.
 pub fn run<S: Source, K: Sink, E: Sink, G: Gate>(
     alloc: Global,
     words: &[String],

@@ -23,3 +23,8 @@ returns-in_ok-weight-in-Part c =
     let told = subst (TellsLeast g c.least_degree-bound.result c.saturating_mul.result) c.in-Part.is c.in_ok-swept.ensures in
     let low : value g ≤ c.least_degree-bound.result = value-le_fair g c.least_degree-bound.result c.least_degree-bound.ensures in
     omega (arith, told.0, low, c.in_ok-weight-in-Part.ensures)
+
+pub returns-then-bound-eq0 : goal.returns-then-bound-eq0
+returns-then-bound-eq0 c =
+    let low : value c.args.graph.now ≤ c.least_degree-bound.result = value-le_fair c.args.graph.now c.least_degree-bound.result c.least_degree-bound.ensures in
+    omega (arith, low, c.if-bound-eq0.true)
