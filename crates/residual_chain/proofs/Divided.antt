@@ -7,10 +7,10 @@ use Rattle.cut_definitions.specs.Chain.{SameOn, one_part}
 use Rattle.residual_chain.specs.Residuals.{IsClosed}
 use Rattle.residual_chain.specs.Search.{mark_of, unmarked}
 use Rattle.residual_chain.specs.Parts.{marked, marked_upto}
-use Rattle.residual_chain.specs.Paths.{SearchArcs, LeadsOn, IsAmong, HasGiven}
+use Rattle.residual_chain.specs.Paths.{SearchArcs, HasArcs, LeadsOn, IsAmong, HasGiven}
 use Rattle.residual_chain.specs.Split.{IsToSplit, IsSplitOff}
 use Rattle.residual_chain.proofs.Growing.{IsClosed-agree, upto_same, upto_new, upto_all, upto_yes, upto_marked}
-use Rattle.residual_chain.proofs.Stacked.{HasArcs, IsPath, IsInside}
+use Rattle.residual_chain.proofs.Stacked.{IsPath, IsInside}
 
 -- the parts given so far to vertices that had no mark
 pub record IsDivided (n first : ℕ) (goes : ℕ → ℕ → Bool) (old outside : List ℕ) (parts : ℕ) (part_of : List ℕ) : Type 0 where

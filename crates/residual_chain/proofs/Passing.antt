@@ -5,17 +5,13 @@ use Rattle.std.proofs.lemmas.Bool.{cases_eq}
 use Rattle.std.proofs.lemmas.Nat.{mul-add-lt}
 use Rattle.std.proofs.lemmas.List.Sums.{count_by-le-length}
 use Rattle.std.proofs.lemmas.List.{get_or-set_same}
-use Rattle.cut_definitions.specs.Graph.{Graph}
 use Rattle.weighted_graph.specs.declared.graph.Arc.{Arc}
-use Rattle.weighted_graph.specs.Rows.{row_of}
-use Rattle.max_flow.specs.Flow.{FlowState, arc_at}
-use Rattle.residual_chain.specs.Residuals.{leads}
-use Rattle.residual_chain.specs.declared.direction.Direction.{Direction}
-use Rattle.residual_chain.specs.Search.{mark_of, unmarked, steps, IsShown}
-use Rattle.residual_chain.specs.Paths.{SearchArcs, arcs_of_search, IsLook, HasGiven}
+use Rattle.max_flow.specs.Flow.{arc_at}
+use Rattle.residual_chain.specs.Search.{mark_of, unmarked}
+use Rattle.residual_chain.specs.Paths.{SearchArcs, HasArcs, arcs_in_rows, IsLook, HasGiven}
 use Rattle.residual_chain.specs.Split.{IsToSplit, IsSplitOff}
 use Rattle.residual_chain.proofs.Marking.{mark-set_same, mark-set_other, unmarked-set}
-use Rattle.residual_chain.proofs.Stacked.{HasArcs, HasArcs-shown, IsPath, IsPath-start, IsPath-look}
+use Rattle.residual_chain.proofs.Stacked.{IsPath, IsPath-start, IsPath-look}
 use Rattle.residual_chain.proofs.Pushed.{IsPushable, IsPath-push, IsPath-back, IsPath-off}
 use Rattle.residual_chain.proofs.Divided.{IsDivided, IsDivided-start, IsDivided-next, IsInside-divided, IsSplitOff-end}
 
@@ -162,17 +158,14 @@ pub record IsSeen (n first : ℕ) (arcs : SearchArcs) (goes : ℕ → ℕ → Bo
   pub short : place ≤ arcs.size (slice_index stack current)
   pub border_in : slice_index borders (left - 1) ≤ current
 
-pub seen_at : (g : Graph) (f : FlowState) (d : Direction) → {first : ℕ} → {old outside : List ℕ} → {start parts : ℕ} → {part_of marks stack back next borders : List ℕ} → {height depth current place left : ℕ} →
-    IsShown g f → IsToSplit g.vertices (steps d (leads g f)) first old outside → length outside ≡ g.vertices → g.vertices ≤ length next →
-    IsPassing g.vertices first (arcs_of_search g f d) (steps d (leads g f)) old outside start parts part_of marks stack back next borders height depth current → 0 < height →
-    IsLook (arcs_of_search g f d) (slice_index stack current) (slice_index next current) part_of marks borders depth place left →
-    IsSeen g.vertices first (arcs_of_search g f d) (steps d (leads g f)) old outside start parts part_of marks stack back next borders height current place left
-seen_at g f d {first} {old} {outside} {start} {parts} {part_of} {marks} {stack} {back} {next} {borders} {height} {depth} {current} {place} {left} shown to_split long next_long h some look =
-    let n = g.vertices in
-    let arcs = arcs_of_search g f d in
-    let goes = steps d (leads g f) in
+pub seen_at : {n : ℕ} → {arcs : SearchArcs} → {goes : ℕ → ℕ → Bool} → {first : ℕ} → {old outside : List ℕ} → {start parts : ℕ} → {part_of marks stack back next borders : List ℕ} → {height depth current place left : ℕ} →
+    HasArcs n arcs goes → IsToSplit n goes first old outside → length outside ≡ n → n ≤ length next →
+    IsPassing n first arcs goes old outside start parts part_of marks stack back next borders height depth current → 0 < height →
+    IsLook arcs (slice_index stack current) (slice_index next current) part_of marks borders depth place left →
+    IsSeen n first arcs goes old outside start parts part_of marks stack back next borders height current place left
+seen_at {n} {arcs} {goes} {first} {old} {outside} {start} {parts} {part_of} {marks} {stack} {back} {next} {borders} {height} {depth} {current} {place} {left} has to_split long next_long h some look =
     let fits = height_fits n first arcs goes old outside start parts part_of marks stack back next borders height depth current h long in
-    let p = IsPassing-look n first arcs goes old outside start parts part_of marks stack back next borders height depth current place left (HasArcs-shown g f d shown) to_split long next_long h some look in
+    let p = IsPassing-look n first arcs goes old outside start parts part_of marks stack back next borders height depth current place left has to_split long next_long h some look in
     let deep = depth_fits n arcs goes outside part_of marks stack back (set next current place) borders height left current p.path some in
     let in' = h.path.current_in some in
     record {
@@ -197,26 +190,25 @@ pub record IsNewArc (n : ℕ) (goes : ℕ → ℕ → Bool) (part_of marks : Lis
   pub step : IsTrue (goes v w)
   pub room : height < n
 
-pub new_arc : (g : Graph) (f : FlowState) (d : Direction) → {first : ℕ} → {old outside : List ℕ} → {start parts : ℕ} → {part_of marks stack back next borders : List ℕ} → {height depth current place left : ℕ} →
-    IsShown g f → IsSeen g.vertices first (arcs_of_search g f d) (steps d (leads g f)) old outside start parts part_of marks stack back next borders height current place left →
-    IsLook (arcs_of_search g f d) (slice_index stack current) (slice_index next current) part_of marks borders depth place left →
-    (row : List Arc) → row ≡ row_of g (slice_index stack current) → place < length row →
-    IsNewArc g.vertices (steps d (leads g f)) part_of marks (slice_index stack current) (arc_at row place).to height
-new_arc g f d {first} {old} {outside} {start} {parts} {part_of} {marks} {stack} {back} {next} {borders} {height} {depth} {current} {place} {left} shown seen look row is below =
+pub new_arc : (rows : ℕ → List Arc) (open_at : ℕ → ℕ → Bool) → {n : ℕ} → {goes : ℕ → ℕ → Bool} → {first : ℕ} → {old outside : List ℕ} → {start parts : ℕ} → {part_of marks stack back next borders : List ℕ} → {height depth current place left : ℕ} →
+    HasArcs n (arcs_in_rows rows open_at) goes → IsSeen n first (arcs_in_rows rows open_at) goes old outside start parts part_of marks stack back next borders height current place left →
+    IsLook (arcs_in_rows rows open_at) (slice_index stack current) (slice_index next current) part_of marks borders depth place left →
+    (row : List Arc) → row ≡ rows (slice_index stack current) → place < length row →
+    IsNewArc n goes part_of marks (slice_index stack current) (arc_at row place).to height
+new_arc rows open_at {n} {goes} {first} {old} {outside} {start} {parts} {part_of} {marks} {stack} {back} {next} {borders} {height} {depth} {current} {place} {left} has seen look row is below =
     let v = slice_index stack current in
-    let arcs = arcs_of_search g f d in
-    let has = HasArcs-shown g f d shown in
+    let arcs = arcs_in_rows rows open_at in
     let in_row : place < arcs.size v = subst (λ (r : List Arc). place < length r) is below in
     let one = has.from_one v place seen.current_one seen.current_n in_row in
     let to_n = has.to_n v place seen.current_one seen.current_n in_row in
     let on = look.stops in_row in
     let none = look.new in_row in
-    let there : IsNewArc g.vertices (steps d (leads g f)) part_of marks v (arcs.to v place) height = record {
+    let there : IsNewArc n goes part_of marks v (arcs.to v place) height = record {
       from_one = one;
       to_n = to_n;
       no_mark = none;
       no_part = on.no_part;
       step = has.sound v place seen.current_one seen.current_n in_row on.open_there;
-      room = omega (arith, seen.fits, one_unmarked g.vertices marks (arcs.to v place) seen.passing.path.long one to_n none);
+      room = omega (arith, seen.fits, one_unmarked n marks (arcs.to v place) seen.passing.path.long one to_n none);
     } in
-    subst (λ (r : List Arc). IsNewArc g.vertices (steps d (leads g f)) part_of marks v (arc_at r place).to height) (sym is) there
+    subst (λ (r : List Arc). IsNewArc n goes part_of marks v (arc_at r place).to height) (sym is) there

@@ -6,10 +6,10 @@ use Rattle.cut_definitions.specs.Weight.{HasVertex}
 use Rattle.cut_definitions.specs.Chain.{SameOn, one_part}
 use Rattle.residual_chain.specs.Search.{mark_of}
 use Rattle.residual_chain.specs.Parts.{marked, marked_upto}
-use Rattle.residual_chain.specs.Paths.{SearchArcs}
+use Rattle.residual_chain.specs.Paths.{SearchArcs, HasArcs}
 use Rattle.residual_chain.specs.Split.{IsToSplit, IsSplitOff, IsSplit}
 use Rattle.residual_chain.proofs.Growing.{IsClosed-agree, upto_same, upto_new, upto_all}
-use Rattle.residual_chain.proofs.Stacked.{HasArcs, IsPath-start}
+use Rattle.residual_chain.proofs.Stacked.{IsPath-start}
 use Rattle.residual_chain.proofs.Divided.{IsDivided-start, IsSplitOff-end}
 
 -- nothing is divided yet

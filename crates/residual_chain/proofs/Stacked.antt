@@ -3,52 +3,10 @@ use Rattle.std.proofs.Common.{◌≡◌, ℕ, ◌+◌, ◌-◌, ◌<◌, ◌≤�
 use Rattle.std.specs.Prelude.{◌≢◌, slice_index, IsTrue}
 use Rattle.std.proofs.lemmas.Bool.{cases_eq, cases_lt}
 use Rattle.std.proofs.lemmas.List.{get_or-set_same, get_or-set_other}
-use Rattle.cut_definitions.specs.Graph.{Graph}
 use Rattle.cut_definitions.specs.Weight.{VertexSet}
-use Rattle.max_flow.specs.Flow.{FlowState}
-use Rattle.residual_chain.specs.Residuals.{leads, IsClosed}
-use Rattle.residual_chain.specs.declared.direction.Direction.{Direction}
-use Rattle.residual_chain.specs.declared.direction.Direction.TheVariants.{Along, Against}
-use Rattle.residual_chain.specs.Search.{mark_of, steps, IsShown}
-use Rattle.residual_chain.specs.Paths.{SearchArcs, arcs_of_search, IsAscending, LeadsOn, IsLook}
-
--- ---- arcs
-
--- an open arc of a row leads from one vertex to another
-pub record IsArc (arcs : SearchArcs) (v w : ℕ) : Type 0 where
-  pub place : ℕ
-  pub in_row : place < arcs.size v
-  pub to : arcs.to v place ≡ w
-  pub open_there : IsTrue (arcs.open_at v place)
-
--- the open arcs are the steps of the search
-pub record HasArcs (n : ℕ) (arcs : SearchArcs) (goes : ℕ → ℕ → Bool) : Type 0 where
-  pub from_one : (v p : ℕ) → 1 ≤ v → v ≤ n → p < arcs.size v → 1 ≤ arcs.to v p
-  pub to_n : (v p : ℕ) → 1 ≤ v → v ≤ n → p < arcs.size v → arcs.to v p ≤ n
-  pub sound : (v p : ℕ) → 1 ≤ v → v ≤ n → p < arcs.size v → IsTrue (arcs.open_at v p) → IsTrue (goes v (arcs.to v p))
-  pub complete : (v w : ℕ) → 1 ≤ v → v ≤ n → IsTrue (goes v w) → IsArc arcs v w
-  pub step_from_one : (u v : ℕ) → IsTrue (goes u v) → (1 ≤ u) × (1 ≤ v)
-  pub step_to_n : (u v : ℕ) → IsTrue (goes u v) → (u ≤ n) × (v ≤ n)
-
-steps_from_one : (g : Graph) (f : FlowState) → IsShown g f → (d : Direction) (u v : ℕ) → steps d (leads g f) u v ≡ true → (1 ≤ u) × (1 ≤ v)
-steps_from_one g f shown Along u v h = shown.from_one u v h
-steps_from_one g f shown Against u v h = let p = shown.from_one v u h in (p.1, p.0)
-
-steps_to_n : (g : Graph) (f : FlowState) → IsShown g f → (d : Direction) (u v : ℕ) → steps d (leads g f) u v ≡ true → (u ≤ g.vertices) × (v ≤ g.vertices)
-steps_to_n g f shown Along u v h = shown.to_n u v h
-steps_to_n g f shown Against u v h = let p = shown.to_n v u h in (p.1, p.0)
-
-pub HasArcs-shown : (g : Graph) (f : FlowState) (d : Direction) → IsShown g f → HasArcs g.vertices (arcs_of_search g f d) (steps d (leads g f))
-HasArcs-shown g f d shown = record {
-  from_one = λ v p a b l. (shown.rows d v a b).from_one p l;
-  to_n = λ v p a b l. (shown.rows d v a b).to_n p l;
-  sound = λ v p a b l o. (shown.rows d v a b).sound p l o;
-  complete = λ v w a b g'.
-      let o = (shown.rows d v a b).complete w g' in
-      record { place = o.place; in_row = o.in_row; to = o.to; open_there = o.open_there };
-  step_from_one = steps_from_one g f shown d;
-  step_to_n = steps_to_n g f shown d;
-}
+use Rattle.residual_chain.specs.Residuals.{IsClosed}
+use Rattle.residual_chain.specs.Search.{mark_of}
+use Rattle.residual_chain.specs.Paths.{SearchArcs, HasArcs, IsAscending, LeadsOn, IsLook}
 
 -- ---- the path
 

@@ -10,6 +10,8 @@
 //! edge is a step of the recursion over all minimum cuts (Karzanov and Timofeev, 1986; Nagamochi, Nakao and Ibaraki,
 //! 2000). They are found here in O(n + m): the last part by one search against the arcs, those between the first and the
 //! last by path-based searches that look at each arc once (Gabow, 2000), and the runs in one pass over the edges.
+//!
+//! `walk` is one of these searches, along the steps of any `StepArcs`.
 #![tactic(auto)]
 
 mod across;
@@ -19,16 +21,22 @@ mod look;
 mod open_arcs;
 mod parts;
 mod path;
+mod path_memory;
 mod run;
 mod runs;
 mod search;
 mod split;
-mod walk;
+mod step_arcs;
+mod walking;
 mod weights;
 
 pub use across::chain;
 pub use chain_of_cuts::Chain;
+pub use direction::Direction;
+pub use path_memory::PathMemory;
 pub use run::Run;
+pub use step_arcs::StepArcs;
+pub use walking::walk;
 
 #[cfg(test)]
 mod tests;

@@ -1,15 +1,16 @@
 //! The parts of a chain, one after another.
 
-ghost use Rattle.std.specs.Prelude.{◌≡◌, ◌≢◌, ℕ, ◌+◌, ◌<◌, ◌≤◌, List, length, IfOk, IsSome, MatchOption};
+ghost use Rattle.std.specs.Prelude.{◌≡◌, ◌≢◌, ℕ, ◌+◌, ◌<◌, ◌≤◌, List, length, IfOk, OnOk, IsSome, MatchOption};
 ghost use Rattle.cut_definitions.specs.Chain.{IsChain, IsJoined};
 ghost use Rattle.cut_definitions.specs.Graph.{IsEdgeList};
-ghost use Rattle.residual_chain.specs.Residuals.{first_end};
-ghost use Rattle.residual_chain.specs.Search.{mark_of};
+ghost use Rattle.residual_chain.specs.Residuals.{first_end, leads};
+ghost use Rattle.residual_chain.specs.Search.{mark_of, steps, Reaches, IsSearchable};
 ghost use Rattle.residual_chain.specs.Flow.{ShowsMinimumCuts};
 ghost use Rattle.residual_chain.specs.Parts.{IsSourcePart, IsFilled};
 
 use crate::direction::Direction;
 use crate::open_arcs::OpenArcs;
+use crate::path_memory::PathMemory;
 use crate::search::reach;
 use crate::split::split;
 use cut_definitions::NoMemory;
@@ -41,6 +42,31 @@ fn fill_rest(part_of: &mut [u32], number: u32)
     }
 }
 
+/// Marks what leads to `t` through vertices without a mark. The memory that it takes is given back at its end.
+fn mark_last(
+    alloc: Global,
+    graph: &Graph,
+    flow: &Flow,
+    t: u32,
+    marks: &mut [u32],
+) -> Result<(), NoMemory>
+    requires from_one { 1 ≤ t }
+    requires to_n { t ≤ graph.now.vertices }
+    requires searchable { IsSearchable graph.now flow.now }
+    requires marks { length marks.old ≡ graph.now.vertices }
+    requires unmarked { mark_of marks.old t ≡ 0 }
+    ensures { OnOk result (Reaches graph.now.vertices (steps Direction.Against (leads graph.now flow.now)) t 1 marks.old marks.new) }
+{
+    let mut queue = vec![in alloc; 0; graph.n() as usize + 1]?;
+    let against = OpenArcs {
+        graph,
+        flow,
+        direction: Direction::Against,
+    };
+    reach(against, t, 1, marks, queue.as_mut_slice());
+    Ok(())
+}
+
 /// Finds the parts after the first, and says how many there are in all.
 ///
 /// The last part is what leads to `t`. No open arc leads to it from the other vertices without a part, and these are
@@ -62,34 +88,16 @@ pub fn find_parts(
 {
     let n = graph.n() as usize;
     let mut marks = vec![in alloc; 0; n]?;
-    let mut stack = vec![in alloc; 0; n + 1]?;
-    let mut back = vec![in alloc; 0; n]?;
-    let mut next = vec![in alloc; 0; n]?;
-    let mut borders = vec![in alloc; 0; n]?;
     let marks = marks.as_mut_slice();
-    let stack = stack.as_mut_slice();
     marks.copy_from_slice(part_of);
-    let against = OpenArcs {
-        graph,
-        flow,
-        direction: Direction::Against,
-    };
-    reach(against, t, 1, marks, stack);
+    mark_last(alloc, graph, flow, t, marks)?;
+    let mut memory = PathMemory::new(alloc, graph.n())?;
     let along = OpenArcs {
         graph,
         flow,
         direction: Direction::Along,
     };
-    let last = split(
-        along,
-        1,
-        part_of,
-        marks,
-        stack,
-        back.as_mut_slice(),
-        next.as_mut_slice(),
-        borders.as_mut_slice(),
-    );
+    let last = split(along, 1, part_of, marks, &mut memory);
     fill_rest(part_of, last + 1);
     Ok(last + 1)
 }

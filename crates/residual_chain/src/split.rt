@@ -6,7 +6,8 @@ ghost use Rattle.residual_chain.specs.Search.{steps, IsShown};
 ghost use Rattle.residual_chain.specs.Split.{IsToSplit, IsSplit};
 
 use crate::open_arcs::OpenArcs;
-use crate::walk::walk;
+use crate::path_memory::PathMemory;
+use crate::walking::walk;
 
 /// Divides the vertices without a mark into parts, and answers the number of the last part.
 ///
@@ -18,37 +19,21 @@ pub fn split(
     parts: u32,
     part_of: &mut [u32],
     marks: &mut [u32],
-    stack: &mut [u32],
-    back: &mut [u32],
-    next: &mut [usize],
-    borders: &mut [u32],
+    memory: &mut PathMemory,
 ) -> u32
     requires vertices { arcs.flow.now.vertices ≡ arcs.graph.now.vertices }
     requires best { IsSome arcs.flow.now.best }
     requires shown { IsShown arcs.graph.now arcs.flow.now }
     requires part_of { length part_of.old ≡ arcs.graph.now.vertices }
     requires marks { length marks.old ≡ arcs.graph.now.vertices }
-    requires stack { arcs.graph.now.vertices ≤ length stack.old }
-    requires back { arcs.graph.now.vertices ≤ length back.old }
-    requires next { arcs.graph.now.vertices ≤ length next.old }
-    requires borders { arcs.graph.now.vertices ≤ length borders.old }
+    requires memory { arcs.graph.now.vertices ≤ memory.old }
     requires split { IsToSplit arcs.graph.now.vertices (steps arcs.direction (leads arcs.graph.now arcs.flow.now)) parts part_of.old marks.old }
     ensures { IsSplit arcs.entry.graph.now.vertices (steps arcs.entry.direction (leads arcs.entry.graph.now arcs.entry.flow.now)) parts result part_of.old marks.old part_of.new }
 {
     let mut parts = parts;
     for before in 0..arcs.graph.n() {
         if marks[before as usize] == 0 {
-            parts = walk(
-                arcs,
-                before + 1,
-                parts,
-                part_of,
-                marks,
-                stack,
-                back,
-                next,
-                borders,
-            );
+            parts = walk(&arcs, before + 1, parts, part_of, marks, memory);
         }
     }
     parts

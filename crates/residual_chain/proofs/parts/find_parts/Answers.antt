@@ -14,9 +14,9 @@ split-last-requires-clause-split c =
     let t = c.args.t in
     let part_of = c.args.part_of.now in
     let first = IsGrowing-first g f s t part_of c.requires.edge_list.is_graph c.requires.joined c.requires.flow c.requires.first in
-    let reached : Reaches g.vertices (steps Against (leads g f)) t 1 part_of c.reach.new.marks =
-    subst (λ (m : List ℕ). Reaches g.vertices (steps Against (leads g f)) t 1 m c.reach.new.marks) c.copy_from_slice.ensures.after c.reach.ensures in
-    IsToSplit-reached g f s t part_of c.reach.new.marks c.requires.edge_list.few_vertices c.requires.flow first reached
+    let reached : Reaches g.vertices (steps Against (leads g f)) t 1 part_of c.mark_last.new.marks =
+    subst (λ (m : List ℕ). Reaches g.vertices (steps Against (leads g f)) t 1 m c.mark_last.new.marks) c.copy_from_slice.ensures.after c.in_ok-mark_last.ensures in
+    IsToSplit-reached g f s t part_of c.mark_last.new.marks c.requires.edge_list.few_vertices c.requires.flow first reached
 
 pub returns : goal.returns
 returns c =
@@ -28,11 +28,11 @@ returns c =
     let joined = c.requires.joined in
     let flow = c.requires.flow in
     let part_of = c.args.part_of.now in
-    let marks = c.reach.new.marks in
+    let marks = c.mark_last.new.marks in
     let after = c.split-last.new.part_of in
     let last = c.split-last.result in
     let first = IsGrowing-first g f s t part_of ok joined flow c.requires.first in
     let reached : Reaches g.vertices (steps Against (leads g f)) t 1 part_of marks =
-    subst (λ (m : List ℕ). Reaches g.vertices (steps Against (leads g f)) t 1 m marks) c.copy_from_slice.ensures.after c.reach.ensures in
+    subst (λ (m : List ℕ). Reaches g.vertices (steps Against (leads g f)) t 1 m marks) c.copy_from_slice.ensures.after c.in_ok-mark_last.ensures in
     let grown = IsGrowing-split g f s t last part_of marks after ok joined flow first reached c.split-last.ensures in
     IsChain-filled g f s t last after c.fill_rest.new.part_of ok joined flow grown (AllLeadTo-split g f t last part_of marks after reached c.split-last.ensures) c.fill_rest.ensures

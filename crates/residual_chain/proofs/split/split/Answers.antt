@@ -1,11 +1,11 @@
 -- What is left can be divided on, from one vertex after another.
-use Rattle.std.proofs.Common.{◌≡◌, ℕ, ◌+◌, ◌-◌, ◌<◌, ◌≤◌, ⊎_elim, List, subst, arith}
+use Rattle.std.proofs.Common.{◌≡◌, ℕ, ◌+◌, ◌-◌, ◌<◌, ◌≤◌, ⊎_elim, List, refl, ◌∙◌, subst, arith}
 use Rattle.std.specs.Prelude.{◌≢◌, slice_index}
 use Rattle.std.proofs.lemmas.Bool.{cases_lt}
 use Rattle.residual_chain.specs.Residuals.{leads}
 use Rattle.residual_chain.specs.Search.{mark_of, steps}
 use Rattle.residual_chain.specs.Paths.{arcs_of_search}
-use Rattle.residual_chain.proofs.Stacked.{HasArcs-shown}
+use Rattle.residual_chain.specs.Arcs.{HasArcs-shown}
 use Rattle.residual_chain.proofs.Splitting.{IsSplitOff-start, IsToSplit-after, IsSplitOff-then, IsSplit-all}
 use Rattle.residual_chain.proofs.split.split.Goals as goal
 use Rattle.residual_chain.proofs.split.split.Goals.{then-marks-before-eq0, else-marks-before-eq0}
@@ -26,6 +26,7 @@ loop-before-init c =
     record {
       so_far = IsSplitOff-start g.vertices c.args.parts (arcs_of_search g f d) (steps d (leads g f)) c.args.part_of.now c.args.marks.now (HasArcs-shown g f d c.requires.shown)
           c.requires.part_of c.requires.marks c.requires.split;
+      memory = refl;
       marked = λ v a b. absurd (omega arith);
     }
 
@@ -48,17 +49,18 @@ loop-before-preserved c =
     elim c.if-marks-before-eq0.branch [
       | then-marks-before-eq0 w ↦
           let more = w.walk-parts.ensures.split_off in
-          rw (w.parts-is, w.part_of-is, w.marks-is)
+          rw (w.parts-is, w.part_of-is, w.marks-is, w.memory-is)
           (record {
             so_far = IsSplitOff-then g.vertices (arcs_of_search g f d) (steps d (leads g f)) c.args.parts l.parts w.walk-parts.result c.args.part_of.now c.args.marks.now l.part_of l.marks
                 w.walk-parts.new.part_of w.walk-parts.new.marks (HasArcs-shown g f d c.requires.shown) l.invariant.so_far more;
+            memory = w.walk-parts.ensures.memory ∙ l.invariant.memory;
             marked = marked_next w.walk-parts.new.marks l.before
                 (λ v a b. more.still_marked v a (omega (arith, c.loop-before-test.true, c.n-before-end.ensures.value)) (l.invariant.marked v a b))
                 (subst (λ (k : ℕ). slice_index w.walk-parts.new.marks k ≢ 0) before_is w.walk-parts.ensures.start_marked);
           })
       | else-marks-before-eq0 w ↦
-          rw (w.parts-is, w.part_of-is, w.marks-is)
-          (record { so_far = l.invariant.so_far; marked = marked_next l.marks l.before l.invariant.marked w.if-marks-before-eq0.false })
+          rw (w.parts-is, w.part_of-is, w.marks-is, w.memory-is)
+          (record { so_far = l.invariant.so_far; memory = l.invariant.memory; marked = marked_next l.marks l.before l.invariant.marked w.if-marks-before-eq0.false })
     ]
 
 pub returns : goal.returns
