@@ -16,6 +16,7 @@
 #![tactic(auto)]
 
 mod cutting;
+pub mod laws;
 mod pulling;
 pub mod regions;
 mod searching;

@@ -3,7 +3,7 @@
 ghost use Rattle.std.specs.Prelude.{◌≡◌, ◌≢◌, ◌↔◌, ◌+◌, ◌-◌, ◌^◌, ◌<◌, ◌≤◌, ◌⊎◌, ℕ, None, IfOk, IfSome, length, slice_index, slice_set};
 ghost use Rattle.std.specs.List.{All, AllPairs};
 ghost use Rattle.max_flow.specs.Outcome.{IfBest};
-ghost use Rattle.region_flow.specs.Regions.{RegionState, IsRegionFlow};
+ghost use Rattle.region_flow.specs.Regions.{RegionState, IsRegionFlow, IsOpenAt};
 ghost use Rattle.region_flow.specs.Inflow.{IsStopReached, ShowsLeast};
 ghost use Rattle.region_flow.specs.CutOff.{MayBeCutOff, relabelled};
 
@@ -54,12 +54,13 @@ impl Model for RegionFlow {
 }
 
 impl RegionFlow {
-    /// A flow in a graph in which no vertex has entered the source, and all are in region 1.
+    /// A flow in a graph in which no vertex has entered the source, and all are in region 1 and not fed.
     ///
     /// It takes time and memory O(n + m), and all the memory that the flow ever takes. Want of memory is its only refusal.
     pub fn new(alloc: Global, graph: &Graph) -> Result<RegionFlow, NoMemory>
         ensures flow { IfOk result (IsRegionFlow graph.now) }
         ensures one { IfOk result (λ f. (v : ℕ) → 1 ≤ v → v ≤ graph.now.vertices → slice_index f.labels v ≡ 1) }
+        ensures dry { IfOk result (λ f. (v : ℕ) → slice_index f.feed v ≡ 0) }
     {
         let size = graph.n() as usize + 1;
         let none = Arc {
@@ -123,8 +124,8 @@ impl RegionFlow {
         &self.order[..self.count as usize]
     }
 
-    /// Lets a vertex outside the source enter it: its neighbours in its region are fed what it can send them. It takes one
-    /// step for each arc, and no memory.
+    /// Lets a vertex outside the source enter it: its neighbours in its region are fed what it can send them, and no other
+    /// vertex outside the source is fed anything else than before. It takes one step for each arc, and no memory.
     pub fn enter(&mut self, graph: &Graph, t: u32)
         requires flow { IsRegionFlow graph.now self.old }
         requires to_n { t ≤ graph.now.vertices }
@@ -133,13 +134,15 @@ impl RegionFlow {
         ensures labels { self.new.labels ≡ slice_set self.old.labels t 0 }
         ensures toward { self.new.toward ≡ self.old.toward }
         ensures found { self.new.found ≡ self.old.found }
+        ensures fed { (v : ℕ) → 1 ≤ slice_index self.new.labels v → (slice_index self.new.feed v ≡ slice_index self.old.feed v) ⊎ IsOpenAt graph.now self.new.labels v }
     {
         let region = self.labels[t as usize];
         self.cut_off(graph, &[t], region, 0);
     }
 
     /// Cuts different vertices off from their region, and gives them a label that no vertex has; or lets them enter the
-    /// source, by the label 0. It takes one step for each of their arcs, and no memory.
+    /// source, by the label 0. Outside the source the feed changes only at vertices that an edge joins to another region or
+    /// to the source. It takes one step for each of their arcs, and no memory.
     pub fn cut_off(&mut self, graph: &Graph, moved: &[u32], region: u32, fresh: u32)
         requires flow { IsRegionFlow graph.now self.old }
         requires may { MayBeCutOff self.old.labels moved.now region fresh }
@@ -147,6 +150,7 @@ impl RegionFlow {
         ensures labels { (v : ℕ) → slice_index self.new.labels v ≡ relabelled self.old.labels moved.now fresh v }
         ensures toward { self.new.toward ≡ self.old.toward }
         ensures found { self.new.found ≡ self.old.found }
+        ensures fed { (v : ℕ) → 1 ≤ slice_index self.new.labels v → (slice_index self.new.feed v ≡ slice_index self.old.feed v) ⊎ IsOpenAt graph.now self.new.labels v }
     {
         cut_off(
             graph,
@@ -168,6 +172,7 @@ impl RegionFlow {
         ensures flow { IsRegionFlow graph.now self.new }
         ensures labels { self.new.labels ≡ self.old.labels }
         ensures grown { slice_index self.old.feed t ≤ slice_index self.new.feed t }
+        ensures others { (v : ℕ) → v ≢ t → slice_index self.new.feed v ≤ slice_index self.old.feed v }
         ensures shows { slice_index self.new.feed t ≡ slice_index self.old.feed t → ShowsLeast graph.now t (slice_index self.new.feed t) self.new }
     {
         let _n = graph.n();
@@ -196,7 +201,9 @@ impl RegionFlow {
         requires outside { 1 ≤ slice_index self.old.labels t }
         ensures flow { IsRegionFlow graph.now self.new }
         ensures labels { self.new.labels ≡ self.old.labels }
+        ensures others { (v : ℕ) → v ≢ t → slice_index self.new.feed v ≤ slice_index self.old.feed v }
         ensures stopped { IfSome result (λ outcome. (outcome ≡ Outcome.AtLeast) ↔ IsStopReached graph.now self.new.labels t stop) }
+        ensures reached { IfSome result (λ outcome. outcome ≡ Outcome.AtLeast → stop ≤ slice_index self.new.feed t) }
         ensures best { IfSome result (λ outcome. IfBest outcome (λ amount. ShowsLeast graph.now t amount self.new)) }
         ensures cut_short { result ≡ None → most < 2 ^ 64 - 1 }
     {
@@ -216,15 +223,18 @@ impl RegionFlow {
     /// The least weight of a set inside the region of `t` with `t`, if it is below the stop.
     ///
     /// `AtLeast` comes just where each such set weighs at least the stop. After `Best` the vertices that were found are the
-    /// least such set whose weight is least, and `t` is fed just that weight. It moves feed inside the region alone, looks
-    /// at no arc that leaves it, and takes no memory.
+    /// least such set whose weight is least, and `t` is fed just that weight. After `AtLeast` it is fed the stop or more. No
+    /// other vertex is fed more than before. It moves feed inside the region alone, and takes no memory. Each search goes
+    /// at most once along the rows of the vertices that it finds.
     pub fn flow(&mut self, graph: &Graph, t: u32, stop: u64) -> Outcome
         requires flow { IsRegionFlow graph.now self.old }
         requires to_n { t ≤ graph.now.vertices }
         requires outside { 1 ≤ slice_index self.old.labels t }
         ensures flow { IsRegionFlow graph.now self.new }
         ensures labels { self.new.labels ≡ self.old.labels }
+        ensures others { (v : ℕ) → v ≢ t → slice_index self.new.feed v ≤ slice_index self.old.feed v }
         ensures stopped { (result ≡ Outcome.AtLeast) ↔ IsStopReached graph.now self.new.labels t stop }
+        ensures reached { result ≡ Outcome.AtLeast → stop ≤ slice_index self.new.feed t }
         ensures best { IfBest result (λ amount. ShowsLeast graph.now t amount self.new) }
     {
         match self.flow_within(graph, t, stop, usize::MAX) {

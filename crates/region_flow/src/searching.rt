@@ -1,12 +1,12 @@
 //! Searches against the arcs, from a vertex that is to be fed, and pulls what is found.
 
-ghost use Rattle.std.specs.Prelude.{◌≡◌, ◌↔◌, ◌+◌, ◌<◌, ◌≤◌, ◌^◌, ◌⊎◌, ℕ, IsTrue, length, slice_index};
+ghost use Rattle.std.specs.Prelude.{◌≡◌, ◌≢◌, ◌↔◌, ◌+◌, ◌<◌, ◌≤◌, ◌^◌, ◌⊎◌, ℕ, IsTrue, length, slice_index};
 ghost use Rattle.cut_definitions.specs.Graph.{IsEdgeList};
 ghost use Rattle.weighted_graph.specs.RowLaws.{IsArcAt};
 ghost use Rattle.region_flow.specs.Regions.{IsFlowIn};
 ghost use Rattle.region_flow.specs.Tree.{IsTree, IsReady, IsCalm, IsFollowed, Extends, StaysCalm, IsExpandedCalmly, IsSearchedCalmly};
 
-use crate::pulling::pull;
+use crate::pulling::{is_used_up, pull};
 use crate::tree::{Link, leads_on, put};
 use weighted_graph::{Arc, Graph};
 
@@ -36,6 +36,7 @@ fn visit(
     ensures tree { IsTree graph.now labels.now marks.new order.new links.new result }
     ensures extends { Extends marks.old order.old count marks.new order.new result }
     ensures grown { slice_index feed.old (slice_index order.old 0) ≤ slice_index feed.new (slice_index order.old 0) }
+    ensures others { (v : ℕ) → v ≢ slice_index order.old 0 → slice_index feed.new v ≤ slice_index feed.old v }
     ensures calm { IsCalm feed.old toward.old order.old links.old count →
         slice_index feed.new (slice_index order.old 0) ≡ slice_index feed.old (slice_index order.old 0) →
         StaysCalm feed.new toward.old toward.new order.new links.new result }
@@ -61,7 +62,8 @@ fn visit(
     after
 }
 
-/// Follows the arcs of the row of the vertex at a place, until the root has what it wants.
+/// Follows the arcs of the row of the vertex at a place, until the root has what it wants or the vertex can send it
+/// nothing more.
 fn expand(
     graph: &Graph,
     labels: &[u32],
@@ -83,6 +85,7 @@ fn expand(
     ensures tree { IsTree graph.now labels.now marks.new order.new links.new result }
     ensures extends { Extends marks.old order.old count marks.new order.new result }
     ensures grown { slice_index feed.old (slice_index order.old 0) ≤ slice_index feed.new (slice_index order.old 0) }
+    ensures others { (v : ℕ) → v ≢ slice_index order.old 0 → slice_index feed.new v ≤ slice_index feed.old v }
     ensures calm { IsCalm feed.old toward.old order.old links.old count →
         slice_index feed.new (slice_index order.old 0) ≡ slice_index feed.old (slice_index order.old 0) →
         IsExpandedCalmly graph.now labels.now feed.new toward.old toward.new marks.new order.new links.new result (slice_index order.old place) }
@@ -92,7 +95,7 @@ fn expand(
     let row = graph.row(v);
     let mut count = count;
     for arc in row {
-        if feed[root] >= stop {
+        if feed[root] >= stop || is_used_up(graph, labels, toward, order, links, place) {
             return count;
         }
         count = visit(
@@ -144,6 +147,7 @@ pub fn search(
     ensures tree { IsTree graph.now labels.now marks.new order.new links.new result }
     ensures first { slice_index order.new 0 ≡ t }
     ensures grown { slice_index feed.old t ≤ slice_index feed.new t }
+    ensures others { (v : ℕ) → v ≢ t → slice_index feed.new v ≤ slice_index feed.old v }
     ensures calm { slice_index feed.new t ≡ slice_index feed.old t →
         IsSearchedCalmly graph.now labels.now feed.new toward.new marks.new order.new links.new result }
 {
