@@ -1,122 +1,275 @@
--- What a graph is split into.
-use Rattle.std.proofs.Common.{◌≡◌, ℕ, ◌+◌, ◌-◌, ◌<◌, ◌≤◌, ⊎_elim, Bool, true, false, ◌||◌, ◌&&◌, ◌==◌, List, [], ◌∷◌, ◌++◌, length, get_or, refl, sym, ◌∙◌, ap, subst, arith}
-use Rattle.std.specs.Prelude.{if◌then◌else◌, nat_le, ◌≢◌, ◌^◌}
-use Rattle.std.specs.List.{range_with_len}
-use Rattle.std.proofs.lemmas.Bool.{eq-eqb}
-use Rattle.std.proofs.lemmas.List.{get_or_default}
-use Rattle.std.proofs.lemmas.List.FromFn.{length-range_with_len}
+-- What a split of a region, and a vertex that enters, do to a tree of minimum cuts.
+use Rattle.std.proofs.Common.{◌≡◌, ℕ, ◌+◌, ◌-◌, ◌<◌, ◌≤◌, ◌⊎◌, inl, inr, ⊎_elim, Bool, true, false, not, ◌&&◌, ◌||◌, leb, eqb, ltb, List, get_or, refl, sym, ◌∙◌, subst, ap, arith}
+use Rattle.std.specs.Prelude.{◌≢◌}
+use Rattle.std.proofs.lemmas.Bool.{cases_lt, cases_eq, cases_Bool, ltb-true, eqb-true, eq-eqb, ne_eqb, and_parts, false≢true}
+use Rattle.std.proofs.lemmas.Bool.Decides.{nat_tests}
+use Rattle.std.proofs.lemmas.List.{get_or-set_other}
 use Rattle.cut_definitions.specs.Graph.{Graph, IsGraph}
-use Rattle.cut_definitions.specs.Weight.{weight, IsCut}
-use Rattle.cut_definitions.specs.Cuts.{has, value, mincuts}
-use Rattle.cut_definitions.specs.Components.{IsConnected}
-use Rattle.cut_definitions.specs.Scan.{single}
-use Rattle.cut_definitions.specs.Contraction.{label, class}
-use Rattle.cut_definitions.proofs.Bridge.{IsCut-has, value-le_cut}
-use Rattle.cut_definitions.proofs.Values.{value_is_weight, Contains-mincuts, IsSide-from_mincuts}
-use Rattle.weighted_graph.proofs.RowLaws.{degree-le}
-use Rattle.residual_chain.specs.Chain.{ChainView}
-use Rattle.residual_chain.specs.Search.{mark_of}
-use Rattle.cactus_tree.specs.Spread.{class_of_first}
-use Rattle.cactus_tree.specs.Rooted.{Rooted, sides_of}
-use Rattle.cactus_merge.specs.declared.part.PartCactus.{PartCactus}
-use Rattle.cactus_merge.specs.Assembled.{SameMembers}
-use Rattle.cactus_solver.specs.Light.{HasNoneBelow, HasLightSides, IsLightChain, IsContracted}
-use Rattle.cactus_solver.specs.Parts.{inner_number, AreInnerNumbers, IsPartGraph, IsAdded, AreParts, IsSettled}
-use Rattle.cactus_solver.specs.Opened.{IsOpenedBy, IsOpened, work}
-use Rattle.cactus_solver.specs.declared.open_chain.Task.{Task}
-use Rattle.cactus_solver.specs.declared.open_chain.OpenChain.{OpenChain}
-use Rattle.cactus_solver.proofs.Counting.{number_of, number_all, next_numbered, two_without}
-use Rattle.cactus_solver.proofs.Stacking.{work-push}
+use Rattle.cut_definitions.specs.Weight.{VertexSet, weight, complement, HasVertex, IsMinimumCut}
+use Rattle.cut_definitions.specs.Chain.{SameOn, IsInOnePart, first_parts, parts_between}
+use Rattle.cut_definitions.proofs.WeightLaws.{IsMinimumCut-from_le, weight-complement}
+use Rattle.cut_definitions.proofs.Bridge.{weight-agree}
+use Rattle.cut_definitions.proofs.Vertices.{all_or_one, IsMinimumCut-agree}
+use Rattle.cut_definitions.proofs.ChainLaws.{leb_yes}
+use Rattle.cut_definitions.proofs.ChainLists.{IsMinimumCut-complement}
+use Rattle.region_flow.specs.Inflow.{IsAround}
+use Rattle.cactus_solver.specs.Parted.{IsLaterParts, IsLightInterval, later_parts}
+use Rattle.cactus_solver.specs.TreeSets.{TreeSets, IsTreeSide, IsInRegion}
+use Rattle.cactus_solver.specs.Hung.{IsGrown, IsRegrouped, IsPartAlone}
+use Rattle.cactus_solver.specs.Laws.{region_of, IsStepSide, LawOfSplitting, LawOfEntering, LawOfStart, LawOfEnd, LawOfParts}
+use Rattle.cactus_solver.proofs.RegionLaws.{region_cover, step_side_minimum}
+use Rattle.cactus_solver.proofs.Hanging.{hanging}
 
--- ---- the inner numbers
+-- ---- the old sides
 
-inner_le : (e : Bool) (m k : ℕ) → m ≤ k → (if e then 0 else m) ≤ k
-inner_le true m k h = omega arith
-inner_le false m k h = h
+old_side : (n : ℕ) (tree tree' : TreeSets) → IsGrown n tree tree' → (x : VertexSet) → IsTreeSide n tree x → IsTreeSide n tree' x
+old_side n tree tree' grown x s = record {
+  first = s.first;
+  last = s.last;
+  from_one = s.from_one;
+  ordered = s.ordered;
+  below_count = omega (arith, s.below_count, grown.more);
+  in_cycle = λ i l u. grown.follows_kept i (omega (arith, u, s.below_count)) ∙ s.in_cycle i l u;
+  under = record {
+    each = λ v a b h. let r = s.under.each v a b h in (r.0, r.1, r.2, grown.under_kept r.0 (omega (arith, r.2, s.below_count)) v a b ∙ r.3);
+    all = λ i v l u a b h. s.under.all i v l u a b (sym (grown.under_kept i (omega (arith, u, s.below_count)) v a b) ∙ h);
+  };
+}
 
-pub numbers_within : (bound : ℕ) (g : Graph) (c : ChainView) → IsLightChain bound g c → (numbers : List ℕ) → AreInnerNumbers c numbers → (k d : ℕ) → k < length numbers → get_or numbers k d ≤ c.parts
-numbers_within bound g c chain numbers h k d l =
-    let at : k + 1 - 1 ≡ k = omega arith in
-    let v : k + 1 ≤ length c.numbers = omega (arith, l, h.long) in
-    let is : get_or numbers k d ≡ inner_number c (k + 1) = get_or_default numbers k d 0 l ∙ sym (ap (λ (i : ℕ). get_or numbers i 0) at) ∙ h.each (k + 1) (omega arith) v in
-    let le : inner_number c (k + 1) ≤ c.parts = inner_le (k + 1 == c.s || k + 1 == c.t) (mark_of c.numbers (k + 1)) c.parts (chain.across.cuts.numbered.to_count (k + 1) (omega arith) (omega (arith, v, chain.across.each_vertex))) in
-    omega (arith, is, le)
+side_of_old : (n : ℕ) (tree tree' : TreeSets) → IsGrown n tree tree' → (x : VertexSet) → (s : IsTreeSide n tree' x) → s.last < tree.count → IsTreeSide n tree x
+side_of_old n tree tree' grown x s below = record {
+  first = s.first;
+  last = s.last;
+  from_one = s.from_one;
+  ordered = s.ordered;
+  below_count = below;
+  in_cycle = λ i l u. sym (grown.follows_kept i (omega (arith, u, below))) ∙ s.in_cycle i l u;
+  under = record {
+    each = λ v a b h. let r = s.under.each v a b h in (r.0, r.1, r.2, sym (grown.under_kept r.0 (omega (arith, r.2, below)) v a b) ∙ r.3);
+    all = λ i v l u a b h. s.under.all i v l u a b (grown.under_kept i (omega (arith, u, below)) v a b ∙ h);
+  };
+}
 
-pub few_own : (numbers : List ℕ) (number : ℕ) → length (class_of_first numbers (length numbers) number) ≤ length numbers
-few_own numbers number = (let r = number_all (class numbers number) (range_with_len 1 (length numbers)) in omega (arith, r, length-range_with_len 1 (length numbers)))
+-- ---- a set inside one part
 
-inner_end : (e : Bool) (m : ℕ) → e ≡ true → (if e then 0 else m) ≡ 0
-inner_end e m h = ap (λ (b : Bool). if b then 0 else m) h
+all_or_not : (x p : Bool) → (not x || p) ≡ true → x ≡ true → p ≡ true
+all_or_not x p h k = grind arith
 
-left_true : (a b : Bool) → a ≡ true → (a || b) ≡ true
-left_true a b h = grind arith
+one_fails : (x p : Bool) → not (not x || p) ≡ true → (x && not p) ≡ true
+one_fails x p h = grind arith
 
-right_true : (a b : Bool) → b ≡ true → (a || b) ≡ true
-right_true a b h = grind arith
+not_above : (k : ℕ) → not (ltb 0 k) ≡ true → k ≡ 0
+not_above k h = grind (arith, nat_tests)
 
-pub all_but_ends : (bound : ℕ) (g : Graph) (c : ChainView) → IsLightChain bound g c → (numbers : List ℕ) → AreInnerNumbers c numbers → (place : ℕ) →
-    number_of (λ v. nat_le 1 (label numbers v) && nat_le (label numbers v) place) (range_with_len 1 (length numbers)) + 2 ≤ g.vertices
-all_but_ends bound g c chain numbers h place =
-    let num = chain.across.cuts.numbered in
-    let long : length numbers ≡ g.vertices = h.long ∙ chain.across.each_vertex in
-    let s_one = chain.across.from_s in
-    let some : 1 ≤ length c.numbers = omega (arith, chain.across.each_vertex, chain.two) in
-    let apart : 1 ≢ c.t = λ e. (let m : mark_of c.numbers 1 ≡ mark_of c.numbers c.t = ap (mark_of c.numbers) e in omega (arith, m, num.s_first, num.t_last, num.two)) in
-    let at_s : label numbers 1 ≡ 0 = h.each 1 (omega arith) some ∙ inner_end (1 == c.s || 1 == c.t) (mark_of c.numbers 1) (left_true (1 == c.s) (1 == c.t) (eq-eqb 1 c.s (sym s_one))) in
-    let at_t : label numbers c.t ≡ 0 = h.each c.t num.t_from_one (omega (arith, num.t_to_n, chain.across.each_vertex)) ∙ inner_end (c.t == c.s || c.t == c.t) (mark_of c.numbers c.t) (right_true (c.t == c.s) (c.t == c.t) (eq-eqb c.t c.t refl)) in
-    let r = two_without (label numbers) place (length numbers) 1 c.t (omega arith) (omega (arith, long, chain.two)) num.t_from_one (omega (arith, num.t_to_n, long)) apart at_s at_t in
-    omega (arith, r, long)
+same_tests : (a b : Bool) → (a ≡ true → b ≡ true) → (b ≡ true → a ≡ true) → a ≡ b
+same_tests true b h k = sym (h refl)
+same_tests false true h k = k refl
+same_tests false false h k = refl
 
--- ---- the work of one part more
+between_is : (i p : ℕ) → (leb i p && leb p i) ≡ eqb p i
+between_is i p = grind (arith, nat_tests)
 
-pub work_added : (bound : ℕ) (g : Graph) (c : ChainView) (own : List ℕ) (parts : List PartCactus) (tasks : List Task) (new_parts : List PartCactus) (new_tasks : List Task) → HasNoneBelow bound g →
-    IsAdded g c own parts tasks new_parts new_tasks → work new_tasks ≤ work tasks + length own
-work_added bound g c own parts tasks new_parts new_tasks low added = ⊎_elim
-    (λ (s : IsSettled c (length parts + 1) own × (new_tasks ≡ tasks)). (let e : work new_tasks ≡ work tasks = ap work s.1 in omega (arith, e)))
-    (λ (s : (h : Graph) × (new_tasks ≡ tasks ++ record { part = length parts; graph = h } ∷ []) × (1 ≤ length own) × ((b : ℕ) → HasNoneBelow b g → IsPartGraph b g own h)).
-    let t : Task = record { part = length parts; graph = s.0 } in
-    let e : work new_tasks ≡ work tasks + (s.0.vertices - 1) = ap work s.1 ∙ work-push tasks t in
-    omega (arith, e, (s.3 bound low).one_more))
-    added.settled
+-- the only vertex of an inner part, as a set that is a minimum cut
+alone_side : (g : Graph) → IsGraph g → (count : ℕ) (part : ℕ → ℕ) (v : ℕ) → 1 ≤ v → v ≤ g.vertices → IsPartAlone g.vertices count part v →
+    (x : VertexSet) → IsMinimumCut g x → x v ≡ true → IsInOnePart g.vertices part x → IsLightInterval g count part x
+alone_side g ok count part v v1 vn alone x hx xv one =
+    let n = g.vertices in
+    let i = part v in
+    let same : SameOn n x (parts_between part i i) = λ u a b. same_tests (x u) (leb i (part u) && leb (part u) i)
+    (λ h. between_is i (part u) ∙ eq-eqb (part u) i (one.inside u a b h ∙ sym (one.inside v v1 vn xv)))
+    (λ h. let e : u ≡ v = alone.alone u a b (eqb-true (part u) i (sym (between_is i (part u)) ∙ h)) in subst (λ (k : ℕ). x k ≡ true) (sym e) xv) in
+    record {
+      first = i;
+      last = i;
+      light = record {
+        from_two = alone.from_two;
+        ordered = omega arith;
+        below_count = alone.inner;
+        minimum = IsMinimumCut-agree g ok x (parts_between part i i) same hx;
+      };
+      same = same;
+    }
 
-pub work_upto : (numbers : List ℕ) (place : ℕ) (old new : ℕ) → old ≤ number_of (λ v. nat_le 1 (label numbers v) && nat_le (label numbers v) place) (range_with_len 1 (length numbers)) →
-    new ≤ old + length (class_of_first numbers (length numbers) (place + 1)) → new ≤ number_of (λ v. nat_le 1 (label numbers v) && nat_le (label numbers v) (place + 1)) (range_with_len 1 (length numbers))
-work_upto numbers place old new h k = (let e = next_numbered (label numbers) place (range_with_len 1 (length numbers)) in omega (arith, e, h, k))
+one_part_left : (g : Graph) → IsGraph g → (labels labels' : List ℕ) (region t count : ℕ) (part : ℕ → ℕ) → IsRegrouped g.vertices labels labels' region t count part →
+    (x : VertexSet) → IsMinimumCut g x → ((v : ℕ) → 1 ≤ v → v ≤ g.vertices → x v ≡ true → get_or labels v 0 ≡ region) →
+    IsInOnePart g.vertices part x → x t ≡ false → IsLightInterval g count part x ⊎ IsInRegion g.vertices labels' x
+one_part_left g ok labels labels' region t count part re x hx inside one out =
+    let n = g.vertices in
+    ⊎_elim
+    (λ (every : (v : ℕ) → 1 ≤ v → v ≤ n → (not (x v) || ltb 0 (get_or labels' v 0)) ≡ true).
+    let w = hx.is_cut.some_in in
+    let above : (v : ℕ) → 1 ≤ v → v ≤ n → x v ≡ true → 1 ≤ get_or labels' v 0 = λ v a b h.
+    let l = ltb-true 0 (get_or labels' v 0) (all_or_not (x v) (ltb 0 (get_or labels' v 0)) (every v a b) h) in omega arith in
+    inr (record {
+      region = get_or labels' w.vertex 0;
+      outside = above w.vertex w.from_one w.to_n w.is_in;
+      labelled = λ v a b h. re.shared v w.vertex a b w.from_one w.to_n (inside v a b h) (inside w.vertex w.from_one w.to_n w.is_in)
+          (one.inside v a b h ∙ sym (one.inside w.vertex w.from_one w.to_n w.is_in)) (above v a b h) (above w.vertex w.from_one w.to_n w.is_in);
+    }))
+    (λ (h : HasVertex n (λ v. not (not (x v) || ltb 0 (get_or labels' v 0)))).
+    let v = h.vertex in
+    let split = and_parts (x v) (not (ltb 0 (get_or labels' v 0))) (one_fails (x v) (ltb 0 (get_or labels' v 0)) h.is_in) in
+    ⊎_elim
+    (λ (e : v ≡ t). absurd (false≢true (sym out ∙ subst (λ (k : ℕ). x k ≡ true) e split.0)))
+    (λ (alone : IsPartAlone n count part v). inl (alone_side g ok count part v h.from_one h.to_n alone x hx split.0 one))
+    (re.entered v h.from_one h.to_n (inside v h.from_one h.to_n split.0) (not_above (get_or labels' v 0) split.1)))
+    (all_or_one n (λ v. not (x v) || ltb 0 (get_or labels' v 0)))
 
--- ---- an open chain
+-- ---- the split
 
-pub opened : (bound : ℕ) (g : Graph) (labels : List ℕ) (h : Graph) (chain : ChainView) → IsGraph h → IsContracted bound g labels h → IsLightChain bound h chain →
-    (o : OpenChain) → o.labels ≡ labels → o.chain ≡ chain → length o.parts.items ≡ chain.parts → AreParts bound h chain o.parts.items o.tasks.items → IsOpened bound g o
-opened bound g labels h chain ok contracted light o labels_are chain_is as_many parts =
-    let r : IsOpenedBy bound g labels chain o.parts.items o.tasks.items = record { inner = h; is_graph = ok; contracted = contracted; light = light; as_many = as_many; all = parts } in
-    subst (λ (ls : List ℕ). IsOpenedBy bound g ls o.chain o.parts.items o.tasks.items) (sym labels_are)
-    (subst (λ (c : ChainView). IsOpenedBy bound g labels c o.parts.items o.tasks.items) (sym chain_is) r)
+pub splitting : LawOfSplitting
+splitting g labels labels' tree tree' region t count part at ok cuts one root ch grown hung re =
+    let n = g.vertices in
+    let step = hanging g (region_of labels region) t count part at tree.count tree' ok ch hung grown.some in
+    let new_side : (x : VertexSet) → IsStepSide g count part x → IsTreeSide n tree' x = λ x h. ((step x).0 h).0 in
+    let apart : region_of labels region 1 ≡ false = ne_eqb (get_or labels 1 0) region (λ e. absurd (omega (arith, e, root, one))) in
+    record {
+      sound = λ x s. ⊎_elim
+          (λ (l : s.first < tree.count). ⊎_elim
+          (λ (l' : s.last < tree.count). cuts.sound x (side_of_old n tree tree' grown x s l'))
+          (λ (l' : tree.count ≤ s.last). absurd (false≢true (sym hung.apart ∙ s.in_cycle tree.count l l')))
+          (cases_lt s.last tree.count))
+          (λ (l : tree.count ≤ s.first). step_side_minimum g (region_of labels region) t count part ok ch x ((step x).1 (s, l)))
+          (cases_lt s.first tree.count);
+      complete = λ x hx out. ⊎_elim
+          (λ s. inl (old_side n tree tree' grown x s))
+          (λ (r : IsInRegion n labels x). ⊎_elim
+          (λ (e : r.region ≡ region).
+          let inside : (v : ℕ) → 1 ≤ v → v ≤ n → x v ≡ true → get_or labels v 0 ≡ region = λ v a b h. r.labelled v a b h ∙ e in
+          ⊎_elim
+          (λ h. inl (new_side x h))
+          (λ (h : IsInOnePart n part x × (x t ≡ false)). ⊎_elim
+          (λ k. inl (new_side x (inr k)))
+          (λ k. inr k)
+          (one_part_left g ok labels labels' region t count part re x hx inside h.0 h.1))
+          (region_cover g (region_of labels region) t count part ok apart ch x hx (λ v a b h. eq-eqb (get_or labels v 0) region (inside v a b h))))
+          (λ (ne : r.region ≢ region). inr (record {
+            region = r.region;
+            outside = r.outside;
+            labelled = λ v a b h. re.kept v a b (λ e. ne (sym (r.labelled v a b h) ∙ e)) ∙ r.labelled v a b h;
+          }))
+          (cases_eq r.region region))
+          (cuts.complete x hx out);
+    }
 
--- ---- the whole graph
+-- ---- a vertex enters
 
-pub value_positive : (g : Graph) → 2 ≤ g.vertices → IsConnected g → 1 ≤ value g
-value_positive g two connected =
-    let best = value_is_weight g two in
-    let far : 1 ≤ weight g (has best.0) = connected (has best.0) (IsCut-has g.vertices best.0 best.1) in
-    omega (arith, far, best.2)
+and_both : (a b : Bool) → a ≡ true → b ≡ true → (a && b) ≡ true
+and_both a b h k = grind arith
 
-pub value_small : (g : Graph) → IsGraph g → 2 ≤ g.vertices → value g ≤ 2 ^ 61
-value_small g ok two =
-    let cut : IsCut g.vertices (single 1) = record {
-      some_in = record { vertex = 1; from_one = omega arith; to_n = omega (arith, two); is_in = refl };
-      some_out = record { vertex = 2; from_one = omega arith; to_n = two; is_in = refl };
-    } in
-    let le = value-le_cut g ok (single 1) cut in
-    omega (arith, le, degree-le g ok 1)
+and_second : (a b : Bool) → (a && b) ≡ true → b ≡ true
+and_second a b h = grind arith
 
-pub none_below_value : (g : Graph) → IsGraph g → HasNoneBelow (value g) g
-none_below_value g ok s cut = value-le_cut g ok s cut
+and_drop : (a b : Bool) → (a ≡ true → b ≡ true) → (a && b) ≡ a
+and_drop true b h = h refl
+and_drop false b h = refl
 
-pub light_are_mincuts : (g : Graph) (c : Rooted) → HasLightSides (value g) g c → SameMembers (sides_of c) (mincuts g)
-light_are_mincuts g c h x = (
-  λ there. (let light = (h.exact x).0 there in Contains-mincuts g x light.side light.weighs),
-  λ min. (let is = IsSide-from_mincuts g x min in (h.exact x).1 (record { side = is.0; weighs = is.1 })),
+-- a set inside a region weighs what its vertices of that label weigh
+trimmed : (g : Graph) → IsGraph g → (labels : List ℕ) (region : ℕ) (x : VertexSet) → ((v : ℕ) → 1 ≤ v → v ≤ g.vertices → x v ≡ true → get_or labels v 0 ≡ region) →
+    weight g (λ v. x v && eqb (get_or labels v 0) region) ≡ weight g x
+trimmed g ok labels region x inside = weight-agree g ok (λ v. x v && eqb (get_or labels v 0) region) x
+    (λ v a b. and_drop (x v) (eqb (get_or labels v 0) region) (λ h. eq-eqb (get_or labels v 0) region (inside v a b h)))
+
+trimmed_around : (labels : List ℕ) (t : ℕ) (x : VertexSet) → 1 ≤ get_or labels t 0 → x t ≡ true → IsAround labels t (λ v. x v && eqb (get_or labels v 0) (get_or labels t 0))
+trimmed_around labels t x one there = record {
+  there = and_both (x t) (eqb (get_or labels t 0) (get_or labels t 0)) there (eq-eqb (get_or labels t 0) (get_or labels t 0) refl);
+  inside = record {
+    outside = one;
+    labelled = λ v h. eqb-true (get_or labels v 0) (get_or labels t 0) (and_second (x v) (eqb (get_or labels v 0) (get_or labels t 0)) h);
+  };
+}
+
+pub entering : LawOfEntering
+entering g labels tree t amount ok cuts one to_n outside some hs weighs stop = record {
+  sound = cuts.sound;
+  complete = λ x hx out. ⊎_elim
+      (λ s. inl s)
+      (λ (r : IsInRegion g.vertices labels x). ⊎_elim
+      (λ (there : x t ≡ true).
+      let e : get_or labels t 0 ≡ r.region = r.labelled t one to_n there in
+      let inside : (v : ℕ) → 1 ≤ v → v ≤ g.vertices → x v ≡ true → get_or labels v 0 ≡ get_or labels t 0 = λ v a b h. r.labelled v a b h ∙ sym e in
+      let least : weight g x ≤ weight g some = hx.least some hs.is_cut in
+      absurd (omega (arith, stop (λ v. x v && eqb (get_or labels v 0) (get_or labels t 0)) (trimmed_around labels t x outside there), trimmed g ok labels (get_or labels t 0) x inside, least, weighs)))
+      (λ (lacks : x t ≡ false). inr (record {
+        region = r.region;
+        outside = r.outside;
+        labelled = λ v a b h.
+            let ne : v ≢ t = λ q. false≢true (sym lacks ∙ subst (λ (k : ℕ). x k ≡ true) q h) in
+            get_or-set_other labels t v 0 0 ne ∙ r.labelled v a b h;
+      }))
+      (cases_Bool (x t)))
+      (cuts.complete x hx out);
+}
+
+-- ---- the start and the end
+
+pub start : LawOfStart
+start g labels tree single all = record {
+  sound = λ x s. absurd (omega (arith, s.from_one, s.ordered, s.below_count, single));
+  complete = λ x hx out. inr (record {
+    region = 1;
+    outside = omega arith;
+    labelled = λ v a b h.
+        let ne : v ≢ 1 = λ q. false≢true (sym out ∙ subst (λ (k : ℕ). x k ≡ true) q h) in
+        all v (omega (arith, a, ne)) b;
+  });
+}
+
+pub end : LawOfEnd
+end g labels tree cuts none x out = (
+  λ s. cuts.sound x s,
+  λ hx. ⊎_elim
+      (λ s. s)
+      (λ (r : IsInRegion g.vertices labels x).
+      let w = hx.is_cut.some_in in
+      absurd (omega (arith, r.labelled w.vertex w.from_one w.to_n w.is_in, none w.vertex w.from_one w.to_n, r.outside)))
+      (cuts.complete x hx out),
 )
 
-pub connected_by_value : (g : Graph) → IsGraph g → 1 ≤ value g → IsConnected g
-connected_by_value g ok some s cut = (let le = value-le_cut g ok s cut in omega (arith, le, some))
+-- ---- the parts as a chain
+
+leb_not : (l p : ℕ) → p < l → not (leb l p) ≡ true
+leb_not l p h = grind (arith, nat_tests)
+
+first_is : (l p : ℕ) → leb p l ≡ not (leb (l + 1) p)
+first_is l p = grind (arith, nat_tests)
+
+turned : (a b : Bool) → not a ≡ b → a ≡ not b
+turned a b h = grind arith
+
+pub parts : LawOfParts
+parts g labels t count amount part ok one some hs weighs light =
+    let n = g.vertices in
+    let num = light.numbered in
+    let region = get_or labels t 0 in
+    let later_minimum : (i : ℕ) → 2 ≤ i → i ≤ count → IsMinimumCut g (later_parts part i) = λ i two le.
+    IsMinimumCut-from_le g some (later_parts part i) hs (record {
+      some_in = record { vertex = t; from_one = num.t_from_one; to_n = num.t_to_n; is_in = leb_yes i (part t) (omega (arith, num.t_last)) };
+      some_out = record { vertex = 1; from_one = num.s_from_one; to_n = num.s_to_n; is_in = leb_not i (part 1) (omega (arith, num.s_first)) };
+    }) (omega (arith, light.light i two le, weighs)) in
+    record {
+      numbered = num;
+      outside = λ v a b h. light.outside v a b (λ e. absurd (false≢true (sym h ∙ eq-eqb (get_or labels v 0) region e)));
+      minimum = λ i low lt. IsMinimumCut-agree g ok (complement (later_parts part (i + 1))) (first_parts part i) (λ v a b. sym (first_is i (part v)))
+          (IsMinimumCut-complement g (later_parts part (i + 1)) (later_minimum (i + 1) (omega arith) (omega arith)));
+      no_other = λ x hx has_one lacks within.
+          let d : VertexSet = λ v. not (x v) && eqb (get_or labels v 0) region in
+          let there : not (x t) ≡ true = ap not lacks in
+          let inside : (v : ℕ) → 1 ≤ v → v ≤ n → not (x v) ≡ true → get_or labels v 0 ≡ region = λ v a b h. eqb-true (get_or labels v 0) region (within v a b h) in
+          let around = trimmed_around labels t (complement x) one there in
+          let same_weight = trimmed g ok labels region (complement x) inside in
+          let le : weight g x ≤ weight g some = hx.least some hs.is_cut in
+          let ge : weight g some ≤ weight g x = hs.least x hx.is_cut in
+          let p : IsLaterParts n count part d = light.no_other d around (omega (arith, same_weight, weight-complement g x, le, ge, weighs)) in
+          let i = p.first - 1 in
+          let e : i + 1 ≡ p.first = omega (arith, p.from_two) in
+          record {
+            last = i;
+            from_one = omega (arith, p.from_two);
+            below_count = omega (arith, p.from_two, p.to_count);
+            same = λ v a b.
+                let q : not (x v) ≡ leb (i + 1) (part v) =
+                sym (and_drop (not (x v)) (eqb (get_or labels v 0) region) (λ h. within v a b h)) ∙ subst (λ (k : ℕ). d v ≡ leb k (part v)) (sym e) (p.same v a b) in
+                turned (x v) (leb (i + 1) (part v)) q ∙ sym (first_is i (part v));
+          };
+    }

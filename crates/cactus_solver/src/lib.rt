@@ -1,30 +1,40 @@
 //! All minimum cuts of a connected graph, as a cactus.
 //!
-//! `solve` finds the value of the graph, and then the sides of that weight by splitting. A graph is first swept: what tests
-//! of a preflow show is contracted into vertex 1, many vertices at once, and a vertex that is a side alone, and in no other
-//! side, is cut off: labels give it a class of its own above the vertices of the contracted graph, which that graph knows
-//! nothing of. Then, where every cut between vertex 1 and a neighbour is heavier, the two are contracted, and the graph is
-//! swept again; else the chain of the cuts between them parts the vertices, and each part is solved in the graph in which
-//! all else is one vertex. What was found is assembled to one cactus; each class that is cut off becomes a node of its own
-//! there, over a bridge from the root, and then each class is made the vertices that it has. Contracts say of a cactus that
-//! its sides are just the sides of a graph that weigh a bound, which no cut undercuts.
+//! `solve` finds the value, contracts what lies in no minimum cut, and sweeps over the regions of a flow: vertex 1 has
+//! entered the source, and all others are one region, in the root of a tree. A vertex that an edge joins to the outside of
+//! its region is the next to enter. Before it does, the sets around it inside its region that weigh the value are found:
+//! they are nested, and part the region. The parts are listed from both sides, all but one; each gets a node of its own in
+//! the tree, over a bridge or in a cycle, and a region of its own, and the part that is not listed keeps the region. At the
+//! end all vertices have entered, and the sides of the tree are the minimum cuts. No graph of a part is ever built.
 //!
-//! The recursion by the chain across an edge is that of Karzanov and Timofeev (1986), and of Nagamochi, Nakao and Ibaraki
-//! (2000); the assembly follows Fleischer (1999). Open chains stand on a stack of their own, so a deep recursion does not
-//! run out of the program's stack. The vertices but one of all graphs of a split are fewer than those of its graph.
+//! The parts are the chain across an edge of Karzanov and Timofeev (1986) and of Nagamochi, Nakao and Ibaraki (2000), as
+//! closed sets of a flow (Picard and Queyranne, 1980); the source that grows is that of Hao and Orlin (1994).
 #![tactic(auto)]
 
-mod across;
-mod compose;
-mod contract;
-mod cut_off;
-mod open_chain;
+mod between;
+mod fronts;
+mod halts;
+mod hang_parts;
+mod homes;
+mod hub;
+mod into_cactus;
+mod kind;
+mod near;
 mod parts;
+mod race;
+mod region;
+mod region_arcs;
+mod regroup;
+mod search;
+mod settling;
+mod side;
+mod side_listing;
 mod solver;
+mod split;
+mod splitter;
 mod sweep;
-mod work;
+pub mod tree;
+mod way;
+mod weights;
 
 pub use solver::{Solved, solve};
-
-#[cfg(test)]
-mod tests;

@@ -1,78 +1,239 @@
-//! The graphs of the parts of a chain.
+//! The parts of a region, as a split lists them.
 
-ghost use Rattle.std.specs.Prelude.{List, ◌≡◌, ◌==◌, ◌≤◌, ◌<◌, ◌+◌, ℕ, IfOk, OnOk, length};
-ghost use Rattle.std.specs.List.{filter, range_with_len};
-ghost use Rattle.cut_definitions.specs.Contraction.{label, class, relabel, IsLabels};
-ghost use Rattle.cut_definitions.specs.Cuts.{IsAscendingWithin};
-ghost use Rattle.residual_chain.specs.Chain.{ChainView, IsChainShape};
-ghost use Rattle.cactus_tree.specs.Spread.{group_at};
-ghost use Rattle.cactus_solver.specs.Light.{HasNoneBelow};
-ghost use Rattle.cactus_solver.specs.Parts.{inner_number, AreInnerNumbers, ArePartLabels, IsPartGraph};
+ghost use Rattle.std.specs.Prelude.{◌≡◌, ◌≢◌, ◌≤◌, ◌<◌, ◌+◌, ℕ, All, IfOk, IfErr, IsTrue, length, map, replicate, slice_index, slice_index_or, slice_set};
+ghost use Rattle.std.specs.List.Sorted.{IsNonDecreasingBy, IsPermutation};
+ghost use Rattle.cactus_solver.specs.Listed.{part_list, AreAllPlaced, AreRuns, IsPartList, IsZeroEmpty};
 
 use cut_definitions::NoMemory;
-use residual_chain::Chain;
 use std::alloc::Global;
-use weighted_graph::{Graph, Labels};
+use std::marker::Model;
 
-/// The number of the part of a vertex, and 0 at the ends of the chain.
-fn inner_number(chain: &Chain, v: u32) -> u32
-    requires from_one { 1 ≤ v }
-    requires to_n { v ≤ length chain.now.numbers }
-    ensures { result ≡ inner_number chain.now v }
+/// A vertex with the number of its part.
+#[derive(Clone, Copy)]
+struct Placed {
+    number: u32,
+    vertex: u32,
+}
+
+/// The parts of a region, all of them or all but one, each with the list of its vertices.
+///
+/// Vertices are put one after another, in any order; the lists are made when that is finished.
+#[derive(Drop)]
+pub struct Parts {
+    count: u32,
+    // the number of the part that is not listed, 0 where all are
+    unlisted: u32,
+    // for each vertex the number of its part, 0 where it is not listed
+    numbers: Vec<u32>,
+    // the vertices that were put
+    placed: Vec<Placed>,
+    list: Vec<u32>,
+    // where the list of each part starts and ends, by its number
+    starts: Vec<usize>,
+    ends: Vec<usize>,
+}
+
+impl Model for Parts {
+    ghost use Rattle.cactus_solver.specs.Listed.{PartsState, AreKept};
+
+    ghost Value = { PartsState };
+
+    ghost view = { λ p. record {
+      count = p.count;
+      unlisted = p.unlisted;
+      numbers = p.numbers.items;
+      list = p.list.items;
+      starts = p.starts.items;
+      ends = p.ends.items;
+    } };
+
+    ghost invariant = { λ p. AreKept p.count p.numbers.items p.placed.items p.list.items p.starts.items p.ends.items };
+}
+
+/// Forgets the numbers of the vertices that were put.
+fn clear_numbers(numbers: &mut [u32], placed: &[Placed])
+    requires { AreAllPlaced numbers.old placed.now }
+    ensures { (v : ℕ) → slice_index numbers.new v ≡ 0 }
 {
-    if v == chain.s() || v == chain.t() {
-        0
-    } else {
-        chain.part_of(v)
+    for p in placed {
+        numbers[p.vertex as usize] = 0;
     }
 }
 
-/// The numbers of the parts of all vertices, and 0 at the ends of the chain.
-pub fn inner_numbers(alloc: Global, chain: &Chain) -> Result<Vec<u32>, NoMemory>
-    ensures { IfOk result (λ v. AreInnerNumbers chain.now v.items) }
+/// Whether the numbers never fall.
+fn is_ascending(placed: &[Placed]) -> bool
+    ensures { IsTrue result → IsNonDecreasingBy (λ (p : Placed). p.number) placed.now }
 {
-    let mut numbers = Vec::new(alloc);
-    'vertices: for v in 0..chain.n() {
-        numbers.push(inner_number(chain, v + 1))?;
-    }
-    Ok(numbers)
-}
-
-/// The list at a place, once more; empty past the end.
-pub fn group_of(alloc: Global, groups: &[Vec<u32>], place: u32) -> Result<Vec<u32>, NoMemory>
-    ensures { IfOk result (λ v. v.items ≡ group_at groups.now place) }
-{
-    match groups.get(place as usize) {
-        Some(group) => {
-            let list = Vec::from_slice(alloc, group.as_slice())?;
-            Ok(list)
+    for k in 1..placed.len() {
+        if placed[k].number < placed[k - 1].number {
+            return false;
         }
-        None => Ok(Vec::new(alloc)),
     }
+    true
 }
 
-/// Writes the label of each vertex of a list, from 2 on.
-fn label_listed(labels: &mut [u32], own: &[u32])
-    requires few { length labels.old ≤ 4194304 }
-    requires own { IsAscendingWithin 2 (length labels.old) own.now }
-    requires ones { (v : ℕ) → 1 ≤ v → v ≤ length labels.old → label labels.old v ≡ 1 }
-    ensures { ArePartLabels (length labels.old) own.now labels.new }
+/// Sorts vertices by their numbers.
+fn sort_by_number(placed: &mut [Placed])
+    ensures moved { IsPermutation placed.old placed.new }
+    ensures ascends { IsNonDecreasingBy (λ (p : Placed). p.number) placed.new }
 {
-    'listed: for j in 0..own.len() {
-        let v = own[j];
-        labels[v as usize - 1] = j as u32 + 2;
+    // a split that finds the parts in their order needs no sort
+    if is_ascending(placed) {
+        return;
     }
+    placed.sort_unstable_by_key(|p| p.number);
 }
 
-/// The graph in which one vertex stands for all but those of an ascending list: these are 2 and so on, in order.
-pub fn part_graph(alloc: Global, graph: &Graph, own: &[u32]) -> Result<Graph, NoMemory>
-    requires some { 1 ≤ graph.now.vertices }
-    requires own { IsAscendingWithin 2 graph.now.vertices own.now }
-    ensures { IfOk result (λ h. (bound : ℕ) → HasNoneBelow bound graph.now → IsPartGraph bound graph.now own.now h) }
+/// Lists the vertices in their order.
+fn list_vertices(placed: &[Placed], list: &mut Vec<u32>) -> Result<(), NoMemory>
+    ensures { IfOk result (λ _. list.new.items ≡ map (λ (p : Placed). p.vertex) placed.now) }
 {
-    let mut list = vec![in alloc; 1u32; graph.n() as usize]?;
-    label_listed(list.as_mut_slice(), own);
-    let labels = Labels::from_list(list);
-    let part = graph.relabel(alloc, &labels)?;
-    Ok(part)
+    list.clear();
+    for p in placed {
+        list.push(p.vertex)?;
+    }
+    Ok(())
+}
+
+/// Where the vertices with a number end, from a place on.
+fn end_of(placed: &[Placed], start: usize, number: u32) -> usize
+    requires { start ≤ length placed.now }
+    ensures ordered { start ≤ result }
+    ensures within { result ≤ length placed.now }
+    ensures inside { (k : ℕ) (d : Placed) → start ≤ k → k < result → (slice_index_or placed.now k d).number ≡ number }
+    ensures next { (d : Placed) → result < length placed.now → (slice_index_or placed.now result d).number ≢ number }
+{
+    let mut end = start;
+    while end < placed.len() && placed[end].number == number {
+        end += 1;
+    }
+    end
+}
+
+/// Writes where each number starts and ends among vertices that are sorted by number.
+fn lay_out(
+    placed: &[Placed],
+    count: u32,
+    starts: &mut Vec<usize>,
+    ends: &mut Vec<usize>,
+) -> Result<(), NoMemory>
+    requires ascends { IsNonDecreasingBy (λ (p : Placed). p.number) placed.now }
+    requires from_one { All (λ (p : Placed). 1 ≤ p.number) placed.now }
+    requires zero { IsZeroEmpty starts.old.items ends.old.items }
+    ensures runs { IfOk result (λ _. AreRuns placed.now count starts.new.items ends.new.items) }
+    ensures zero { IsZeroEmpty starts.new.items ends.new.items }
+{
+    starts.truncate(1);
+    ends.truncate(1);
+    let mut place = 0;
+    for before in 0..count {
+        let end = end_of(placed, place, before + 1);
+        starts.push(place)?;
+        ends.push(end)?;
+        place = end;
+    }
+    Ok(())
+}
+
+impl Parts {
+    /// No parts, for vertices 1 to n. It takes memory for a number for each vertex.
+    pub fn new(alloc: Global, n: u32) -> Result<Parts, NoMemory>
+        ensures numbers { IfOk result (λ p. p.numbers ≡ replicate (n + 1) 0) }
+        ensures count { IfOk result (λ p. p.count ≡ 0) }
+        ensures unlisted { IfOk result (λ p. p.unlisted ≡ 0) }
+    {
+        let numbers = vec![in alloc; 0u32; n as usize + 1]?;
+        let starts = vec![in alloc; 0usize; 1]?;
+        let ends = vec![in alloc; 0usize; 1]?;
+        Ok(Parts {
+            count: 0,
+            unlisted: 0,
+            numbers,
+            placed: Vec::new(alloc),
+            list: Vec::new(alloc),
+            starts,
+            ends,
+        })
+    }
+
+    /// Forgets all parts, and keeps the memory. It takes a step for each vertex that was put.
+    pub fn begin(&mut self)
+        ensures none { (v : ℕ) → slice_index self.new.numbers v ≡ 0 }
+        ensures long { length self.new.numbers ≡ length self.old.numbers }
+        ensures count { self.new.count ≡ 0 }
+        ensures unlisted { self.new.unlisted ≡ 0 }
+    {
+        clear_numbers(self.numbers.as_mut_slice(), &self.placed);
+        self.placed.clear();
+        self.list.clear();
+        self.count = 0;
+        self.unlisted = 0;
+    }
+
+    /// Puts a vertex into a part, by the number of that, from 1 on. Nothing changes where there is no memory.
+    pub fn put(&mut self, v: u32, number: u32) -> Result<(), NoMemory>
+        requires from_one { 1 ≤ number }
+        requires within { v < length self.old.numbers }
+        requires free { slice_index self.old.numbers v ≡ 0 }
+        ensures numbers { IfOk result (λ _. self.new.numbers ≡ slice_set self.old.numbers v number) }
+        ensures same { IfErr result (λ _. self.new ≡ self.old) }
+    {
+        self.placed.push(Placed { number, vertex: v })?;
+        self.numbers[v as usize] = number;
+        Ok(())
+    }
+
+    /// Makes the lists of the parts 1 to `count` from the vertices that were put.
+    ///
+    /// With m vertices it takes m log m + `count` steps, m + `count` where they were put in the order of their numbers, and memory
+    /// only where it had not so much before. Where there is none, the numbers are kept, and no part has a list.
+    pub fn finish(&mut self, count: u32, unlisted: u32) -> Result<(), NoMemory>
+        requires from_one { 1 ≤ count }
+        requires to_count { (v : ℕ) → slice_index self.old.numbers v ≤ count }
+        ensures numbers { self.new.numbers ≡ self.old.numbers }
+        ensures count { IfOk result (λ _. self.new.count ≡ count) }
+        ensures unlisted { IfOk result (λ _. self.new.unlisted ≡ unlisted) }
+        ensures lists { IfOk result (λ _. (i : ℕ) → 1 ≤ i → i ≤ count → IsPartList self.new.numbers i (part_list self.new i)) }
+        ensures none { IfErr result (λ _. self.new.count ≡ 0) }
+    {
+        self.count = 0;
+        sort_by_number(self.placed.as_mut_slice());
+        list_vertices(&self.placed, &mut self.list)?;
+        lay_out(&self.placed, count, &mut self.starts, &mut self.ends)?;
+        self.count = count;
+        self.unlisted = unlisted;
+        Ok(())
+    }
+
+    /// How many parts there are.
+    pub fn count(&self) -> u32
+        ensures { result ≡ self.now.count }
+    {
+        self.count
+    }
+
+    /// The number of the part that is not listed, 0 where all are.
+    pub fn unlisted(&self) -> u32
+        ensures { result ≡ self.now.unlisted }
+    {
+        self.unlisted
+    }
+
+    /// The number of the part of a vertex, 0 where it is not listed.
+    pub fn number(&self, v: u32) -> u32
+        requires { v < length self.now.numbers }
+        ensures { result ≡ slice_index self.now.numbers v }
+    {
+        self.numbers[v as usize]
+    }
+
+    /// The vertices of a part, each once; none of the part that is not listed.
+    pub fn part(&self, i: u32) -> &[u32]
+        requires { i ≤ self.now.count }
+        ensures { result.now ≡ part_list self.now i }
+    {
+        let start = self.starts[i as usize];
+        let end = self.ends[i as usize];
+        &self.list[start..end]
+    }
 }

@@ -1,49 +1,242 @@
-//! Contraction of a graph as far as the tests of a preflow go.
+//! The sweep over regions.
 
-ghost use Rattle.std.specs.Prelude.{◌≡◌, ◌≤◌, ◌^◌, IfOk};
-ghost use Rattle.cut_definitions.specs.Graph.{IsGraph};
-ghost use Rattle.cactus_solver.specs.Light.{HasNoneBelow, IsContracted};
+ghost use Rattle.std.specs.Prelude.{◌≡◌, ◌+◌, ◌≤◌, ℕ, true, false, IfOk, OnOk, length, slice_index, slice_set};
+ghost use Rattle.cut_definitions.specs.Components.{IsConnected};
+ghost use Rattle.cut_definitions.specs.Cuts.{mincuts, value as least_value};
+ghost use Rattle.region_flow.specs.Inflow.{IsStopReached};
+ghost use Rattle.region_flow.specs.Regions.{IsOpenAt};
+ghost use Rattle.cactus_tree.specs.Rooted.{sides_of};
+ghost use Rattle.cactus_solver.specs.Fronts.{AreFew, HasEnds, KeepsAll};
+ghost use Rattle.cactus_solver.specs.Listed.{AreListed, IsPartList, part_in, part_list};
+ghost use Rattle.cactus_solver.specs.Parted.{AreLightParts};
+ghost use Rattle.cactus_solver.specs.Solved.{SameMembers};
+ghost use Rattle.cactus_solver.specs.UnderWay.{IsLeastWeight, IsUnderWay};
 
-mod gather;
-mod labelling;
-
-use crate::contract::identity;
+use crate::fronts::Fronts;
+use crate::hang_parts::hang_parts;
+use crate::homes::Homes;
+use crate::into_cactus::cactus_of_tree;
+use crate::parts::Parts;
+use crate::regroup::regroup;
+use crate::splitter::Splitter;
+use crate::tree::FlatTree;
+use crate::weights::weigh_parts;
+use cactus_tree::Cactus;
 use cut_definitions::NoMemory;
-use gather::gather;
-use labelling::{classes_of, kept};
+use region_flow::RegionFlow;
 use std::alloc::Global;
-use weighted_graph::{Graph, Labels};
+use weighted_graph::Graph;
 
-/// A contracted graph, and the class of each vertex of the graph that it was; a class above its vertices is cut off alone.
+/// The vertex from which the sweep starts.
+const ROOT: u32 = 1;
+
+/// Regions that are left, the tree of the minimum cuts that lie in none of them, and memory for the steps.
 #[derive(Drop)]
-pub struct Swept {
-    pub labels: Labels,
-    pub graph: Graph,
+pub struct Sweep {
+    flow: RegionFlow,
+    fronts: Fronts,
+    splitter: Splitter,
+    parts: Parts,
+    tree: FlatTree,
+    homes: Homes,
+
+    // for each part its node, and what lies between it and all later parts, and the next
+    nodes: Vec<usize>,
+    later: Vec<u64>,
+    next: Vec<u64>,
+
+    // no region had this label yet, nor a greater one
+    fresh: u32,
 }
 
-/// Contracts what the tests of a preflow from vertex 1 show: the vertices that no side that weighs the bound parts from it,
-/// all at once, and each that is a side alone and in no other, which gets a class of its own above the vertices of the
-/// contracted graph. O(n + m) steps, and one sort of the edges where there is something to contract; memory in proportion
-/// to n + m.
-pub fn sweep(alloc: Global, graph: Graph, bound: u64) -> Result<Swept, NoMemory>
-    requires some { 1 ≤ graph.vertices }
-    requires positive { 1 ≤ bound }
-    requires small { bound ≤ 2 ^ 61 }
-    requires none_below { HasNoneBelow bound graph }
-    ensures contracted { IfOk result (λ s. IsContracted bound graph s.labels s.graph) }
-    ensures is_graph { IfOk result (λ s. IsGraph s.graph) }
-    ensures none_below { IfOk result (λ s. HasNoneBelow bound s.graph) }
-    ensures smaller { IfOk result (λ s. s.graph.vertices ≤ graph.vertices) }
+/// Puts the open ends of the rows of all vertices that are listed.
+fn put_listed(
+    graph: &Graph,
+    flow: &RegionFlow,
+    fronts: &mut Fronts,
+    parts: &Parts,
+) -> Result<(), NoMemory>
+    requires labels { length flow.now.labels ≡ graph.now.vertices + 1 }
+    requires few { AreFew graph.now.vertices flow.now.labels }
+    requires vertices { fronts.old.vertices ≡ graph.now.vertices }
+    requires numbers { length parts.now.numbers ≡ graph.now.vertices + 1 }
+    requires lists { (i : ℕ) → 1 ≤ i → i ≤ parts.now.count → IsPartList parts.now.numbers i (part_list parts.now i) }
+    ensures vertices { fronts.new.vertices ≡ fronts.old.vertices }
+    ensures kept { KeepsAll fronts.old fronts.new }
+    ensures ends { OnOk result ((v : ℕ) → 1 ≤ slice_index parts.now.numbers v → slice_index parts.now.numbers v ≤ parts.now.count → HasEnds graph.now flow.now.labels fronts.new v) }
 {
-    let fates = gather(alloc, &graph, bound)?;
-    if kept(fates.as_slice()) + 1 == graph.n() {
-        // nothing was found, and the graph need not be made anew
-        let labels = identity(alloc, graph.n())?;
-        return Ok(Swept { labels, graph });
+    for before in 0..parts.count() {
+        fronts.put_all_ends(graph, flow, parts.part(before + 1))?;
     }
-    let classes = classes_of(alloc, fates.as_slice())?;
-    let inner = Labels::from_list(classes.inner);
-    let labels = Labels::from_list(classes.outer);
-    let graph = graph.relabel(alloc, &inner)?;
-    Ok(Swept { labels, graph })
+    Ok(())
+}
+
+impl Sweep {
+    /// Vertex 1 has entered, and all others are in one region.
+    fn new(alloc: Global, graph: &Graph) -> Result<Sweep, NoMemory>
+        requires { 1 ≤ graph.now.vertices }
+        ensures { IfOk result (IsUnderWay graph.now) }
+    {
+        let n = graph.n();
+        let mut flow = RegionFlow::new(alloc, graph)?;
+        flow.enter(graph, ROOT);
+        let mut fronts = Fronts::new(alloc, n)?;
+        fronts.put_ends(graph, &flow, ROOT)?;
+        let splitter = Splitter::new(alloc, n)?;
+        let parts = Parts::new(alloc, n)?;
+        let tree = FlatTree::new(alloc)?;
+        let homes = Homes::new(alloc, n)?;
+        let size = n as usize + 2;
+        let nodes = vec![in alloc; 0usize; size]?;
+        let later = vec![in alloc; 0u64; size]?;
+        let next = vec![in alloc; 0u64; size]?;
+        Ok(Sweep {
+            flow,
+            fronts,
+            splitter,
+            parts,
+            tree,
+            homes,
+            nodes,
+            later,
+            next,
+            fresh: 2,
+        })
+    }
+
+    /// Lists the parts of the region of `t`, if a set around `t` in its region weighs just the value.
+    fn find_parts(&mut self, graph: &Graph, t: u32, value: u64) -> Result<bool, NoMemory>
+        requires under_way { IsUnderWay graph.now self.old }
+        requires connected { IsConnected graph.now }
+        requires least { IsLeastWeight graph.now value }
+        requires open { IsOpenAt graph.now self.old.flow.labels t }
+        ensures under_way { OnOk result (IsUnderWay graph.now self.new) }
+        ensures labels { self.new.flow.labels ≡ self.old.flow.labels }
+        ensures none { IfOk result (λ some. some ≡ false → IsStopReached graph.now self.new.flow.labels t (value + 1)) }
+        ensures listed { IfOk result (λ some. some ≡ true → AreListed graph.now.vertices self.new.flow.labels (slice_index self.new.flow.labels t) self.new.parts) }
+        ensures light { IfOk result (λ some. some ≡ true →
+            AreLightParts graph.now self.new.flow.labels t self.new.parts.count value (part_in self.new.parts self.new.flow.labels (slice_index self.new.flow.labels t))) }
+    {
+        // no set around `t` weighs less, so it is fed the value
+        let _fed = self.flow.flow(graph, t, value);
+        if self.flow.feed(t) > value {
+            return Ok(false);
+        }
+        self.splitter
+            .split(graph, &self.flow, &mut self.fronts, t, &mut self.parts)
+    }
+
+    /// Lets a vertex enter around which no set in its region weighs the value.
+    fn enter_alone(&mut self, graph: &Graph, t: u32) -> Result<(), NoMemory>
+        requires under_way { IsUnderWay graph.now self.old }
+        requires open { IsOpenAt graph.now self.old.flow.labels t }
+        requires heavy { (amount : ℕ) × IsLeastWeight graph.now amount × IsStopReached graph.now self.old.flow.labels t (amount + 1) }
+        ensures under_way { OnOk result (IsUnderWay graph.now self.new) }
+        ensures labels { self.new.flow.labels ≡ slice_set self.old.flow.labels t 0 }
+    {
+        let _n = graph.n();
+        let region = self.flow.label(t);
+        let node = self.homes.of_region(region);
+        self.homes.enter(t, node);
+        self.flow.enter(graph, t);
+        self.fronts.put_ends(graph, &self.flow, t)?;
+        Ok(())
+    }
+
+    /// Hangs the parts that are listed into the tree, gives them regions of their own, and lets `t` enter.
+    fn split_region(&mut self, graph: &Graph, t: u32, value: u64) -> Result<(), NoMemory>
+        requires under_way { IsUnderWay graph.now self.old }
+        requires open { IsOpenAt graph.now self.old.flow.labels t }
+        requires least { IsLeastWeight graph.now value }
+        requires listed { AreListed graph.now.vertices self.old.flow.labels (slice_index self.old.flow.labels t) self.old.parts }
+        requires light { AreLightParts graph.now self.old.flow.labels t self.old.parts.count value (part_in self.old.parts self.old.flow.labels (slice_index self.old.flow.labels t)) }
+        ensures under_way { OnOk result (IsUnderWay graph.now self.new) }
+        ensures entered { OnOk result (slice_index self.new.flow.labels t ≡ 0) }
+        ensures stay { OnOk result ((v : ℕ) → slice_index self.old.flow.labels v ≡ 0 → slice_index self.new.flow.labels v ≡ 0) }
+    {
+        let _n = graph.n();
+        let region = self.flow.label(t);
+        let node = self.homes.of_region(region);
+        let later = self.later.as_mut_slice();
+        let next = self.next.as_mut_slice();
+        weigh_parts(graph, &self.flow, region, &self.parts, later, next);
+        let count = self.parts.count();
+        let nodes = self.nodes.as_mut_slice();
+        hang_parts(&mut self.tree, count, later, next, value, node, nodes)?;
+        self.fresh = regroup(
+            graph,
+            &mut self.flow,
+            &self.parts,
+            &mut self.homes,
+            nodes,
+            t,
+            region,
+            self.fresh,
+        );
+        put_listed(graph, &self.flow, &mut self.fronts, &self.parts)?;
+        self.fronts.put_ends(graph, &self.flow, t)?;
+        Ok(())
+    }
+
+    /// Lets `t` enter, and before that splits its region where a minimum cut inside it has `t`.
+    fn step(&mut self, graph: &Graph, t: u32, value: u64) -> Result<(), NoMemory>
+        requires under_way { IsUnderWay graph.now self.old }
+        requires connected { IsConnected graph.now }
+        requires least { IsLeastWeight graph.now value }
+        requires open { IsOpenAt graph.now self.old.flow.labels t }
+        ensures under_way { OnOk result (IsUnderWay graph.now self.new) }
+        ensures entered { OnOk result (slice_index self.new.flow.labels t ≡ 0) }
+        ensures stay { OnOk result ((v : ℕ) → slice_index self.old.flow.labels v ≡ 0 → slice_index self.new.flow.labels v ≡ 0) }
+    {
+        if self.find_parts(graph, t, value)? {
+            return self.split_region(graph, t, value);
+        }
+        self.enter_alone(graph, t)
+    }
+
+    /// Goes on until all vertices have entered.
+    fn run(&mut self, graph: &Graph, value: u64) -> Result<(), NoMemory>
+        requires under_way { IsUnderWay graph.now self.old }
+        requires connected { IsConnected graph.now }
+        requires least { IsLeastWeight graph.now value }
+        ensures under_way { OnOk result (IsUnderWay graph.now self.new) }
+        ensures all { OnOk result ((v : ℕ) → slice_index self.new.flow.labels v ≡ 0) }
+    {
+        'steps: while let Some(t) = self.fronts.next(graph, &self.flow) {
+            self.step(graph, t, value)?;
+        }
+        Ok(())
+    }
+
+    /// The cactus of the tree, once all vertices have entered.
+    fn into_cactus(self, alloc: Global, graph: &Graph) -> Result<Cactus, NoMemory>
+        requires some { 1 ≤ graph.now.vertices }
+        requires under_way { IsUnderWay graph.now self }
+        requires all { (v : ℕ) → slice_index self.flow.labels v ≡ 0 }
+        ensures n { IfOk result (λ c. c.vertices ≡ graph.now.vertices) }
+        ensures sides { IfOk result (λ c. SameMembers (sides_of c) (mincuts graph.now)) }
+    {
+        let n = graph.n();
+        let tree = self.tree;
+        let homes = self.homes;
+        let nodes = homes.entered();
+        cactus_of_tree(alloc, tree, nodes, n)
+    }
+}
+
+/// The cactus of the minimum cuts of a connected graph of two or more vertices, whose value is given.
+///
+/// Its sides are just the minimum cuts, and some may be sides twice. It is refused only where memory is wanting.
+pub fn cactus_of(alloc: Global, graph: &Graph, value: u64) -> Result<Cactus, NoMemory>
+    requires connected { IsConnected graph.now }
+    requires enough { 2 ≤ graph.now.vertices }
+    requires value { value ≡ least_value graph.now }
+    ensures n { IfOk result (λ c. c.vertices ≡ graph.now.vertices) }
+    ensures sides { IfOk result (λ c. SameMembers (sides_of c) (mincuts graph.now)) }
+{
+    // known by this call: the graph is an edge list
+    let _n = graph.n();
+    let mut sweep = Sweep::new(alloc, graph)?;
+    sweep.run(graph, value)?;
+    sweep.into_cactus(alloc, graph)
 }

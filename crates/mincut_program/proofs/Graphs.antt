@@ -9,14 +9,14 @@ use Rattle.cut_definitions.specs.Graph.{Graph, IsEdgeList}
 use Rattle.cut_definitions.specs.Cuts.{has, value, mincuts}
 use Rattle.cut_definitions.proofs.Values.{value_is_weight, Contains-mincuts}
 use Rattle.cactus_tree.specs.Trees.{blocks}
-use Rattle.cactus_solver.proofs.Single.{no_sides}
+use Rattle.mincut_program.proofs.Single.{no_sides}
 use Rattle.cut_definitions.proofs.Running.{weight-le_total}
 use Rattle.cactus_tree.specs.Flat.{Flat}
 use Rattle.cactus_tree.specs.Rooted.{Rooted, IsCactus, sides_of}
 use Rattle.cactus_tree.specs.FlatCuts.{HasSides}
 use Rattle.cactus_tree.specs.Flattened.{flat_of}
 use Rattle.cactus_tree.specs.FlatLaws.{LawOfFlatForm, LawOfFlatSides}
-use Rattle.cactus_merge.specs.Assembled.{SameMembers}
+use Rattle.cactus_solver.specs.Solved.{SameMembers}
 use Rattle.cactus_text.specs.Text.{cactus_text, line}
 use Rattle.mincut_program.specs.Jobs.{StandsFor, IsCactusText, IsBalancedText, IsTextFor, IsListed, IsInRange, IsAnswerOf, IsStopFor, asked_cuts}
 use Rattle.mincut_program.specs.Solving.{IsSolved, IsListReply, IsListStop, cuts_for}

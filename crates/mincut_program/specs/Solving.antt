@@ -4,7 +4,7 @@ use Rattle.std.specs.List.{filter}
 use Rattle.cut_definitions.specs.Graph.{Graph}
 use Rattle.cut_definitions.specs.Cuts.{value, mincuts}
 use Rattle.cactus_tree.specs.Rooted.{sides_of}
-use Rattle.cactus_merge.specs.Assembled.{SameMembers}
+use Rattle.cactus_solver.specs.Solved.{SameMembers}
 use Rattle.cactus_solver.specs.declared.solver.Solved.{Solved}
 use Rattle.cut_listing.specs.Asks.{lets}
 use Rattle.cut_listing.specs.declared.ask.Ask.{Ask}

@@ -1,24 +1,26 @@
-use Rattle.std.proofs.Common.{ℕ, sym, subst, arith}
-use Rattle.cut_definitions.specs.Graph.{Graph}
-use Rattle.cut_definitions.specs.Cuts.{value}
-use Rattle.cactus_solver.specs.Light.{HasNoneBelow, HasLightSides}
-use Rattle.cactus_solver.proofs.Splitting.{value_positive, value_small, none_below_value, light_are_mincuts}
+-- The smaller graph is connected too, and its minimum cuts are those of the graph.
+use Rattle.std.proofs.Common.{List, ℕ, sym, ◌∙◌, subst, arith}
+use Rattle.cut_definitions.specs.Cuts.{mincuts}
+use Rattle.cactus_tree.specs.Rooted.{sides_of}
+use Rattle.cactus_solver.specs.Solved.{SameMembers}
+use Rattle.cactus_solver.proofs.Members.{are_classes, lifted_members, still_connected, still_two}
 use Rattle.cactus_solver.proofs.solver.solve.Goals as goal
 
-pub light_cactus-requires-clause-positive : goal.light_cactus-requires-clause-positive
-light_cactus-requires-clause-positive g c = omega (arith, c.in_ok-value.ensures, value_positive c.args.graph.now c.requires.enough c.requires.connected)
+pub cactus_of-requires-clause-connected : goal.cactus_of-requires-clause-connected
+cactus_of-requires-clause-connected g c =
+    still_connected c.args.graph.now c.in_ok-kernel.kernel.graph c.n-n.ensures.edge_list.is_graph c.n-small.ensures.edge_list.is_graph c.requires.enough c.requires.connected c.in_ok-kernel.ensures.kernel_value
 
-pub light_cactus-requires-clause-small : goal.light_cactus-requires-clause-small
-light_cactus-requires-clause-small g c = omega (arith, c.in_ok-value.ensures, value_small c.args.graph.now c.copy_of.ensures.is_graph c.requires.enough)
+pub cactus_of-requires-clause-enough : goal.cactus_of-requires-clause-enough
+cactus_of-requires-clause-enough g c = still_two c.args.graph.now c.in_ok-kernel.kernel.graph c.in_ok-kernel.kernel.labels c.requires.enough c.in_ok-kernel.ensures.minimum_cuts
 
-pub light_cactus-requires-clause-none_below : goal.light_cactus-requires-clause-none_below
-light_cactus-requires-clause-none_below g c =
-    let h = c.args.graph.now in
-    subst (HasNoneBelow c.in_ok-value.value) (sym c.in_ok-own.ensures.value) (subst (λ (b : ℕ). HasNoneBelow b h) (sym c.in_ok-value.ensures) (none_below_value h c.copy_of.ensures.is_graph))
+pub spread-requires : goal.spread-requires
+spread-requires g c =
+    let k = c.in_ok-kernel.ensures in
+    rw (c.n-n.ensures.value, c.as_slice.ensures.value)
+    (are_classes c.args.graph.now c.in_ok-kernel.kernel.labels c.in_ok-small.small.vertices k.labels (k.counted ∙ sym c.in_ok-small.ensures.n) (omega (arith, c.requires.enough)))
 
 pub returns-clause-sides : goal.returns-clause-sides
 returns-clause-sides g c =
-    let h = c.args.graph.now in
-    let k = c.in_ok-cactus.cactus in
-    let light : HasLightSides (value h) h k = subst (λ (b : ℕ). HasLightSides b h k) c.in_ok-value.ensures (subst (λ (x : Graph). HasLightSides c.in_ok-value.value x k) c.in_ok-own.ensures.value c.in_ok-cactus.ensures) in
-    light_are_mincuts h k light
+    let k = c.in_ok-kernel.kernel in
+    let same = lifted_members c.args.graph.now k.graph k.labels (sides_of c.in_ok-small.small) c.in_ok-kernel.ensures.minimum_cuts c.in_ok-small.ensures.sides in
+    subst (λ (l : List (List ℕ)). SameMembers l (mincuts c.args.graph.now)) (sym (rw c.as_slice.ensures.value at c.in_ok-cactus.ensures.sides)) same

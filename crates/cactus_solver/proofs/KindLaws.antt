@@ -1,0 +1,22 @@
+-- Which neighbouring parts are minimum cuts, by their weights.
+use Rattle.std.proofs.Common.{◌≡◌, ℕ, ◌+◌, ◌&&◌, leb, eqb, arith}
+use Rattle.std.proofs.lemmas.Bool.Decides.{nat_tests}
+use Rattle.cut_definitions.specs.Chain.{one_part, parts_between}
+use Rattle.cut_definitions.proofs.Bridge.{weight-agree}
+use Rattle.cactus_solver.specs.Kinds.{LawOfKinds}
+use Rattle.cactus_solver.proofs.Listing.{light_intervals, pairs}
+
+one_between : (i p : ℕ) → (leb i p && leb p i) ≡ eqb p i
+one_between i p = grind (arith, nat_tests)
+
+pub kinds : LawOfKinds
+kinds g region t count amount part ok ch some hs weighs i two lt =
+    let light = light_intervals g region t count amount part ch some hs weighs in
+    let same = weight-agree g ok (parts_between part i i) (one_part part i) (λ v a b. one_between i (part v)) in
+    let alone = light i i two (omega arith) lt in
+    let pair = pairs g part i ok in (
+      (λ h. let e = alone.0 h in omega (arith, e, same), λ e. alone.1 (omega (arith, e, same))),
+      λ next.
+          let both = light i (i + 1) two (omega arith) next in
+          (λ h. let e = both.0 h in omega (arith, e, pair), λ e. both.1 (omega (arith, e, pair))),
+    )

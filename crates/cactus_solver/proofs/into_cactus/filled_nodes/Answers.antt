@@ -1,0 +1,22 @@
+use Rattle.std.proofs.Common.{◌≡◌, ◌+◌, ◌∙◌, List, ap, sym, subst, length}
+use Rattle.std.specs.Prelude.{slice_index}
+use Rattle.cactus_tree.specs.declared.tree.Node.{Node}
+use Rattle.cactus_solver.specs.Forest.{AddsVertex, AreFrom, IsChangedAt, IsPlaced}
+use Rattle.cactus_solver.proofs.ForestBlocks.{written}
+use Rattle.cactus_solver.proofs.ForestChanges.{changed_length}
+use Rattle.cactus_solver.proofs.ForestFilling.{placed_more}
+use Rattle.cactus_solver.proofs.into_cactus.filled_nodes.Goals as goal
+
+pub vertices-preserved : goal.vertices-preserved
+vertices-preserved c =
+    let old = c.vertices.nodes.items in
+    let new = c.put.new.nodes in
+    let homes = slice_index c.args.homes.now in
+    let v = c.vertices.before in
+    let one : IsChangedAt (homes (v + 1)) (AddsVertex (v + 1)) old new = subst (λ (l : List Node). IsChangedAt (homes (v + 1)) (AddsVertex (v + 1)) l new) c.as_mut_slice.ensures.value c.in_ok-put.ensures in
+    let same : length new ≡ length old = changed_length (homes (v + 1)) (AddsVertex (v + 1)) old new one in
+    let is = written new old c.vertices.nodes.len (sym c.as_mut_slice.ensures.len ∙ ap length c.as_mut_slice.ensures.value) same in
+    record {
+      len = ap length is ∙ same ∙ c.vertices.invariant.len;
+      placed = subst (AreFrom (IsPlaced (v + 1) homes) 0) (sym is) (placed_more homes v old new one c.vertices.invariant.placed);
+    }

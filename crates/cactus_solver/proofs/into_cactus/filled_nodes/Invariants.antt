@@ -1,0 +1,10 @@
+use Rattle.std.proofs.Common.{◌≡◌, length}
+use Rattle.std.specs.Prelude.{slice_index}
+use Rattle.cactus_solver.specs.Forest.{AreFrom, IsPlaced}
+use Rattle.cactus_solver.proofs.into_cactus.filled_nodes.Given as goal
+
+abbrev pub invariant-vertices : goal.invariant-vertices
+invariant-vertices l = record {
+  len : length l.nodes.items ≡ l.count;
+  placed : AreFrom (IsPlaced l.before (slice_index l.homes)) 0 l.nodes.items;
+}
