@@ -1,7 +1,9 @@
+use crate::command::{Command, Job, read_words};
 use crate::program::run;
 use crate::status::Status;
-use outside::{MemorySink, MemorySource, OpenGate};
+use outside::{Gate, MemorySink, MemorySource, OpenGate};
 use std::alloc::Global;
+use std::sync::atomic::{AtomicU64, Ordering};
 use std::test::Fail;
 
 const TRIANGLE: &[u8] = b"3 3\n2 3\n1 3\n1 2\n";
@@ -32,11 +34,28 @@ const HONEST: Script = Script {
     tells: &[],
 };
 
-fn run_on(alloc: Global, words: &[&str], text: &[u8], script: &Script) -> Result<Outcome, Fail> {
+// A gate that counts how often a worker passes.
+#[derive(Drop)]
+struct CountingGate {
+    passes: AtomicU64,
+}
+
+impl Gate for CountingGate {
+    fn pass(&self, _worker: u32) {
+        self.passes.fetch_add(1, Ordering::SeqCst);
+    }
+}
+
+fn strings_of(alloc: Global, words: &[&str]) -> Result<Vec<String>, Fail> {
     let mut strings = Vec::new(alloc);
     for word in words {
         strings.push(String::from_str(alloc, word)?)?;
     }
+    Ok(strings)
+}
+
+fn run_on(alloc: Global, words: &[&str], text: &[u8], script: &Script) -> Result<Outcome, Fail> {
+    let strings = strings_of(alloc, words)?;
     let mut source = MemorySource::new(
         text.to_vec(alloc)?,
         script.cuts.to_vec(alloc)?,
@@ -166,7 +185,9 @@ fn cuts_are_listed(rt: HostRuntime) -> Result<(), Fail> {
     ] {
         let words: Vec<&str> = line.split('|').collect(rt.alloc())?;
         let outcome = run_on(rt.alloc(), &words, text, &HONEST)?;
-        assert_eq!(rt; outcome.out.taken(), lines.as_bytes(), "{line}");
+        assert_eq!(rt; outcome.status, Status::Ok, "{line}");
+        assert_eq!(rt; outcome.out.taken(), lines.as_bytes());
+        assert_eq!(rt; outcome.err.taken(), b"".as_slice());
     }
     let single = [1; 20];
     let script = Script {
@@ -327,6 +348,8 @@ fn other_words_are_refused_unread(rt: HostRuntime) -> Result<(), Fail> {
     }
     let outcome = run_on(rt.alloc(), &[], TRIANGLE, &unread)?;
     assert_eq!(rt; outcome.status, Status::BadWords);
+    assert_eq!(rt; outcome.out.taken(), b"".as_slice());
+    assert_eq!(rt; outcome.err.taken(), USAGE);
     Ok(())
 }
 
@@ -420,5 +443,38 @@ fn failed_writes_are_told(rt: HostRuntime) -> Result<(), Fail> {
     assert_eq!(rt; outcome.status, Status::WriteFault);
     assert_eq!(rt; outcome.out.taken(), b"".as_slice());
     assert_eq!(rt; outcome.err.taken(), b"".as_slice());
+    Ok(())
+}
+
+// How often a worker passes the gate in an honest run.
+fn passes_of(alloc: Global, words: &[&str], text: &[u8]) -> Result<u64, Fail> {
+    let strings = strings_of(alloc, words)?;
+    let mut source = MemorySource::new(text.to_vec(alloc)?, Vec::new(alloc), Vec::new(alloc));
+    let mut out = MemorySink::new(alloc, 1_000, Vec::new(alloc))?;
+    let mut err = MemorySink::new(alloc, 100, Vec::new(alloc))?;
+    let gate = CountingGate {
+        passes: AtomicU64::new(0),
+    };
+    let _status = run(alloc, &strings, &mut source, &mut out, &mut err, &gate);
+    Ok(gate.passes.load(Ordering::SeqCst))
+}
+
+// The cactus is made of a kernel, which takes further rounds.
+#[test]
+fn a_kernel_is_made(rt: HostRuntime) -> Result<(), Fail> {
+    let value = passes_of(rt.alloc(), &["value", "--workers", "1"], TWO_CYCLES)?;
+    let cactus = passes_of(rt.alloc(), &["cactus", "--workers", "1"], TWO_CYCLES)?;
+    assert!(rt; 1 <= value && value < cactus, "{value} and {cactus}");
+    Ok(())
+}
+
+#[test]
+fn numbers_may_begin_with_zeros(rt: HostRuntime) -> Result<(), Fail> {
+    let words = strings_of(rt.alloc(), &["part", "007", "2"])?;
+    let command = Command {
+        job: Job::Part(7, 2),
+        workers: 4,
+    };
+    assert_eq!(rt; read_words(rt.alloc(), &words), Ok(command));
     Ok(())
 }

@@ -9,30 +9,13 @@ use scan_forest::{Scan, Scanned};
 use std::test::Fail;
 use weighted_graph::Graph;
 
-const FIRST: Scanned = Scanned {
-    vertex: 1,
-    prefix_weight: 6,
-    all: false,
-};
-
-const SECOND: Scanned = Scanned {
-    vertex: 2,
-    prefix_weight: 5,
-    all: false,
-};
-
-const THIRD: Scanned = Scanned {
-    vertex: 3,
-    prefix_weight: 0,
-    all: true,
-};
-
-// What is left when vertex 2 was dropped.
-const WITHOUT: Scanned = Scanned {
-    vertex: 3,
-    prefix_weight: 9,
-    all: false,
-};
+fn scanned(vertex: u32, prefix_weight: u64, all: bool) -> Scanned {
+    Scanned {
+        vertex,
+        prefix_weight,
+        all,
+    }
+}
 
 // Whether this is what the scan answers next.
 fn is_next(graph: &Graph, scan: &mut Scan, wanted: Option<Scanned>) -> bool
@@ -56,12 +39,12 @@ fn a_capped_scan_of_a_triangle(rt: HostRuntime) -> Result<(), Fail> {
     let graph = uneven_triangle(rt.alloc())?;
     let mut scan = Scan::new(rt.alloc(), &graph)?;
     scan.start(1, 6);
-    assert!(rt; is_next(&graph, &mut scan, Some(FIRST)));
+    assert!(rt; is_next(&graph, &mut scan, Some(scanned(1, 6, false))));
     assert!(rt; has_links(&graph, &scan, 5, 1));
     assert!(rt; scan.peek(&graph) == Some(2));
-    assert!(rt; is_next(&graph, &mut scan, Some(SECOND)));
+    assert!(rt; is_next(&graph, &mut scan, Some(scanned(2, 5, false))));
     assert!(rt; has_links(&graph, &scan, 0, 5));
-    assert!(rt; is_next(&graph, &mut scan, Some(THIRD)));
+    assert!(rt; is_next(&graph, &mut scan, Some(scanned(3, 0, true))));
     assert!(rt; is_next(&graph, &mut scan, None));
     Ok(())
 }
@@ -73,10 +56,22 @@ fn a_dropped_vertex_is_passed_over(rt: HostRuntime) -> Result<(), Fail> {
     let mut scan = Scan::new(rt.alloc(), &graph)?;
     scan.start(1, 3);
     scan.drop_vertex(2);
-    assert!(rt; is_next(&graph, &mut scan, Some(FIRST)));
+    assert!(rt; is_next(&graph, &mut scan, Some(scanned(1, 6, false))));
     assert!(rt; has_links(&graph, &scan, 0, 1));
-    assert!(rt; is_next(&graph, &mut scan, Some(WITHOUT)));
+    assert!(rt; is_next(&graph, &mut scan, Some(scanned(3, 9, false))));
     assert!(rt; is_next(&graph, &mut scan, None));
+    Ok(())
+}
+
+// Vertex 2 weighs more toward 3 than vertex 1 does, but both reach the cap.
+#[test]
+fn the_least_of_a_tie_comes_first(rt: HostRuntime) -> Result<(), Fail> {
+    let graph = uneven_triangle(rt.alloc())?;
+    let mut scan = Scan::new(rt.alloc(), &graph)?;
+    scan.start(3, 1);
+    assert!(rt; is_next(&graph, &mut scan, Some(scanned(3, 5, false))));
+    assert!(rt; is_next(&graph, &mut scan, Some(scanned(1, 9, false))));
+    assert!(rt; is_next(&graph, &mut scan, Some(scanned(2, 0, true))));
     Ok(())
 }
 

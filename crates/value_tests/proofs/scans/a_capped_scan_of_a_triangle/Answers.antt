@@ -1,5 +1,3 @@
-use Rattle.std.proofs.Common.{sym, subst}
-use Rattle.scan_forest.specs.Scan.{ScanState, StandsFor}
 use Rattle.value_tests.proofs.scans.a_capped_scan_of_a_triangle.Goals as goal
 
 pub is_next-requires : goal.is_next-requires
