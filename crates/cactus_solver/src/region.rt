@@ -9,7 +9,7 @@ use region_flow::RegionFlow;
 use weighted_graph::Graph;
 
 /// How many arcs one search of a race looks at before the other goes on.
-pub const STEP: usize = 8;
+pub const STEP: usize = 24;
 
 /// The region of a vertex `t` that an edge joins to the outside, in a flow.
 #[derive(Clone, Copy)]

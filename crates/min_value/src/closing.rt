@@ -5,16 +5,16 @@ ghost use Rattle.cut_definitions.specs.Cuts.{has, value as least_value};
 ghost use Rattle.weighted_graph.specs.Marks.{MarksAreSafe};
 ghost use Rattle.scan_forest.specs.Scan.{StandsFor};
 ghost use Rattle.round_workers.specs.Round.{SomeIsMarked};
-ghost use Rattle.min_value.specs.Kernels.{NoneIsCertified, IsLight};
+ghost use Rattle.min_value.specs.Kernels.{NoneIsCertified, IsKept, IsLight};
 
-use crate::kept_graph::round_at_value;
+use crate::kept_graph::{contract_safely, round_at_value};
 use cut_definitions::NoMemory;
 use mark_board::Marks;
 use outside::Gate;
 use round_workers::mark_links;
 use scan_forest::Scan;
 use std::alloc::Global;
-use weighted_graph::Graph;
+use weighted_graph::{Graph, Labels};
 
 /// Whether some edge of a graph is marked. It goes over the edges up to the first that is. (`Marks::is_empty` does not tell
 /// that there is one of this graph.)
@@ -33,7 +33,12 @@ fn is_some_marked(graph: &Graph, marks: &Marks) -> bool
 
 /// Scans the whole graph from vertex 1 with the cap value + 1, marks each edge whose link reaches it, and answers whether
 /// there is one. Where there is none, each vertex had at most the value to those scanned before it, so the graph is light.
-fn mark_by_whole_scan(graph: &Graph, scan: &mut Scan, value: u64, marks: &mut Marks) -> bool
+pub(crate) fn mark_by_whole_scan(
+    graph: &Graph,
+    scan: &mut Scan,
+    value: u64,
+    marks: &mut Marks,
+) -> bool
     requires stands { StandsFor scan.old graph.now }
     requires enough { 1 ≤ graph.now.vertices }
     requires value { value ≤ 2 ^ 62 }
@@ -85,4 +90,41 @@ pub(crate) fn find_marks<G: Gate>(
         return Ok(None);
     }
     Ok(Some(marks))
+}
+
+/// A whole scan, and the contraction of the edges that it marks.
+fn scan_once(alloc: Global, graph: &Graph, value: u64) -> Result<(Graph, Labels), NoMemory>
+    requires enough { 2 ≤ graph.now.vertices }
+    requires value { value ≡ least_value graph.now }
+    ensures { IfOk result (λ r. IsKept graph.now value r.0 r.1) }
+{
+    // known by this call: the graph is an edge list
+    let _n = graph.n();
+    let mut marks = Marks::none(alloc, graph.edges())?;
+    let mut scan = Scan::new(alloc, graph)?;
+    mark_by_whole_scan(graph, &mut scan, value, &mut marks);
+    let (small, labels) = contract_safely(alloc, graph, value, &marks)?;
+    Ok((small, labels))
+}
+
+/// Whole scans and their contractions, as long as each takes away a tenth of the vertices. It answers what is left and the
+/// labels that lead there. There are O(log n) scans, each of O((n + m) log n).
+pub(crate) fn contract_by_scans(
+    alloc: Global,
+    graph: &Graph,
+    value: u64,
+) -> Result<(Graph, Labels), NoMemory>
+    requires enough { 2 ≤ graph.now.vertices }
+    requires value { value ≡ least_value graph.now }
+    ensures { IfOk result (λ r. IsKept graph.now value r.0 r.1) }
+{
+    let (mut small, mut labels) = scan_once(alloc, graph, value)?;
+    let mut shrinks = u64::from(small.n()) * 10 <= u64::from(graph.n()) * 9;
+    'scans: while shrinks {
+        let (smaller, next) = scan_once(alloc, &small, value)?;
+        labels = labels.compose(alloc, &next)?;
+        shrinks = u64::from(smaller.n()) * 10 <= u64::from(small.n()) * 9;
+        small = smaller;
+    }
+    Ok((small, labels))
 }

@@ -6,9 +6,9 @@ ghost use Rattle.cut_definitions.specs.Contraction.{classes};
 ghost use Rattle.weighted_graph.specs.ContractionLaws.{IsLabelled};
 ghost use Rattle.min_value.specs.Kernels.{KeepsAllMinimumCuts, NoneIsCertified, IsLight};
 
-use crate::closing::find_marks;
+use crate::closing::{contract_by_scans, find_marks};
 use crate::kept_graph::{Kernel, contract_by_rounds, contract_safely};
-use crate::values::value;
+use crate::values::{FEW_EDGES, value};
 use cut_definitions::NoMemory;
 use outside::Gate;
 use std::alloc::Global;
@@ -52,12 +52,13 @@ pub fn kernel<G: Gate>(
     })
 }
 
-/// A smaller graph with the same value whose minimum cuts, lifted by the labels, are exactly those of the graph, by rounds
-/// with slack 1 as long as each takes away a tenth of the vertices.
+/// A smaller graph with the same value whose minimum cuts, lifted by the labels, are exactly those of the graph.
 ///
-/// It is a kernel that is not closed: edges may be left that a certificate or a link shows to lie in no minimum cut. The
-/// graph has two or more vertices, and the value is its value. A round costs O((n + m) log n) and the certificates. The number of
-/// workers is 1 to 64. It is refused only where memory is wanting.
+/// On a graph of at most 1,024 edges it goes by rounds with slack 1, on a larger one by whole scans with slack 1, as long
+/// as each takes away a tenth of the vertices. It is a kernel that is not closed: edges may be left that a certificate or a
+/// link shows to lie in no minimum cut. The graph has two or more vertices, and the value is its value. It costs
+/// O((n + m) log n), and on a small graph the certificates. The number of workers is 1 to 64. It is refused only where memory
+/// is wanting.
 pub fn reduce<G: Gate>(
     alloc: Global,
     graph: &Graph,
@@ -74,7 +75,11 @@ pub fn reduce<G: Gate>(
     ensures minimum_cuts { IfOk result (λ k. KeepsAllMinimumCuts graph.now k.graph k.labels) }
     ensures counted { IfOk result (λ k. classes k.labels ≡ k.graph.vertices) }
 {
-    let (small, labels) = contract_by_rounds(alloc, graph, value, workers, gate)?;
+    let (small, labels) = if graph.edges() <= FEW_EDGES {
+        contract_by_rounds(alloc, graph, value, workers, gate)?
+    } else {
+        contract_by_scans(alloc, graph, value)?
+    };
     Ok(Kernel {
         value,
         graph: small,

@@ -15,7 +15,7 @@ use std::alloc::Global;
 use weighted_graph::Graph;
 
 // Rounds, whose certificates look at each edge, are for graphs of at most so many edges.
-const FEW_EDGES: usize = 1024;
+pub(crate) const FEW_EDGES: usize = 1024;
 
 /// The least degree of a vertex, which is the weight of a cut.
 fn least_degree(graph: &Graph) -> u64
