@@ -4,9 +4,10 @@ use Rattle.cut_definitions.specs.Graph.{Graph}
 use Rattle.cut_definitions.specs.Cuts.{has, IsAscendingWithin}
 use Rattle.cut_definitions.specs.Weight.{VertexSet, weight, IsCut}
 
--- every cut weighs at least 1
-abbrev pub IsConnected : Graph → Type 0
-IsConnected g = (s : VertexSet) → IsCut g.vertices s → 1 ≤ weight g s
+-- there is a vertex, and every cut weighs at least 1
+pub record IsConnected (g : Graph) : Type 0 where
+  pub some_vertex : 1 ≤ g.vertices
+  pub each_cut : (s : VertexSet) → IsCut g.vertices s → 1 ≤ weight g s
 
 -- no set of weight 0 parts two vertices
 abbrev pub AreJoined : Graph → ℕ → ℕ → Type 0

@@ -2,7 +2,8 @@
 use Rattle.std.specs.Prelude.{ℕ, ◌≡◌, ◌+◌, ◌*◌, ◌<◌, ◌≤◌, ◌⊎◌, ◌↔◌, false, List, length, IsTrue, ◌-◌, map}
 use Rattle.std.specs.List.{Contains, range_with_len}
 use Rattle.cut_definitions.specs.Graph.{Graph, IsGraph}
-use Rattle.cut_definitions.specs.Weight.{VertexSet, weight, between, both, either, minus, neither, HasVertex, IsMinimumCut}
+use Rattle.cut_definitions.specs.Weight.{VertexSet, weight, between, both, either, minus, neither, HasVertex, IsCut, IsMinimumCut}
+use Rattle.cut_definitions.specs.Cuts.{mincuts, side_of}
 use Rattle.cut_definitions.specs.Contraction.{IsLabels, RespectsClasses, KeepsMinimumCuts}
 use Rattle.cut_definitions.specs.Chain.{IsWithin, IsChain, IsFirstList, sets_across, IsInnerInterval, IsInOnePart, IsMinimumInterval, IsJoined, chain_of, first_list}
 
@@ -21,6 +22,10 @@ pub record CornersAreMinimum (g : Graph) (s t : VertexSet) : Type 0 where
   pub union : IsMinimumCut g (either s t)
   pub none_joins_sides : between g (minus s t) (minus t s) ≡ 0
   pub none_joins_ends : between g (both s t) (neither s t) ≡ 0
+
+-- a cut is a minimum cut just where its side is in the list of the minimum cuts
+abbrev pub LawOfMinimumSides : Type 0
+LawOfMinimumSides = (g : Graph) → IsGraph g → (s : VertexSet) → IsCut g.vertices s → IsMinimumCut g s ↔ Contains (mincuts g) (side_of g.vertices s)
 
 -- w(S) + w(T) = w(S and T) + w(S or T) + 2 c(S minus T, T minus S)
 abbrev pub LawOfBothAndEither : Type 0
@@ -42,6 +47,11 @@ abbrev pub LawOfNesting : Type 0
 LawOfNesting = (g : Graph) (s t : ℕ) → IsGraph g → IsJoined g s t → (x y : VertexSet) →
     IsMinimumCut g x → IsMinimumCut g y → IsTrue (x s) → IsTrue (y s) → x t ≡ false → y t ≡ false →
     IsWithin g.vertices x y ⊎ IsWithin g.vertices y x
+
+-- where an edge joins s and t and some minimum cut parts them, those that do are the first parts of a numbering of the vertices
+abbrev pub LawOfChainAcross : Type 0
+LawOfChainAcross = (g : Graph) (s t : ℕ) → IsGraph g → IsJoined g s t → (x : VertexSet) → IsMinimumCut g x → IsTrue (x s) → x t ≡ false →
+    (count : ℕ) × (part : ℕ → ℕ) × IsChain g s t count part
 
 -- a minimum cut without s and t that has vertices of two parts is an interval of inner parts
 abbrev pub LawOfIntervals : Type 0

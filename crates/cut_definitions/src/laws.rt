@@ -1,6 +1,6 @@
 //! Laws of cuts. Each function does nothing, and its contract is a law.
 
-ghost use Rattle.cut_definitions.specs.Laws.{LawOfBothAndEither, LawOfChain, LawOfContraction, LawOfCover, LawOfCrossing, LawOfDifferences, LawOfIntervals, LawOfJoinedIntervals, LawOfMembers, LawOfNeighbours, LawOfNesting, LawOfSubintervals};
+ghost use Rattle.cut_definitions.specs.Laws.{LawOfBothAndEither, LawOfChain, LawOfChainAcross, LawOfContraction, LawOfCover, LawOfCrossing, LawOfDifferences, LawOfIntervals, LawOfJoinedIntervals, LawOfMembers, LawOfMinimumSides, LawOfNeighbours, LawOfNesting, LawOfSubintervals};
 
 /// The weights of two sets against those of their intersection and union.
 pub fn both_and_either()
@@ -20,6 +20,16 @@ pub fn crossing()
 /// Minimum cuts across an edge are nested.
 pub fn nesting()
     ensures { LawOfNesting }
+{}
+
+/// The minimum cuts across an edge are a chain.
+pub fn chain_across()
+    ensures { LawOfChainAcross }
+{}
+
+/// Minimum cuts as sets and as sides.
+pub fn minimum_sides()
+    ensures { LawOfMinimumSides }
 {}
 
 /// A minimum cut that meets two parts of a chain.

@@ -47,10 +47,13 @@ law_of_contracted_weights g ok labels h s = weight-relabel g ok labels (fits_gra
 
 pub law_of_contracted_connection : LawOfContractedConnection
 unfolding relabel
-law_of_contracted_connection g ok labels h connected s cut =
-    let far : 1 ≤ weight g (lifted labels s) = connected (lifted labels s) (IsCut-lifted g labels h s cut) in
-    let same : weight (relabel g labels) s ≡ weight g (lifted labels s) = law_of_contracted_weights g ok labels h s in
-    rw same far
+law_of_contracted_connection g ok labels h connected = record {
+  some_vertex = let long : 1 ≤ length labels = omega (arith, h.long, connected.some_vertex) in
+      omega (arith, label_from_one labels h.are_labels 1 (omega arith) long, label_to_classes labels 1 (omega arith) long);
+  each_cut = λ s cut. let far : 1 ≤ weight g (lifted labels s) = connected.each_cut (lifted labels s) (IsCut-lifted g labels h s cut) in
+      let same : weight (relabel g labels) s ≡ weight g (lifted labels s) = law_of_contracted_weights g ok labels h s in
+      rw same far;
+}
 
 -- ---- a lifted side is a side
 

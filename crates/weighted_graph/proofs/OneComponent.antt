@@ -41,24 +41,35 @@ joined_to_one g count h one is (suc m) v le low high s none =
     joined_to_one g count h one is m u.0 (omega (arith, u.2)) u.1 (omega (arith, u.2)) s none ∙ u.3 s none)
     (cases_eq 1 v)
 
+-- a component has a vertex
+has_vertex : (g : Graph) (count : ℕ) (h : HasComponents g count) → count ≡ 1 → 1 ≤ g.vertices
+has_vertex g count h is = first_within g.vertices h.firsts h.ascending (sym h.counted ∙ is)
+  where
+    first_within : (n : ℕ) (xs : List ℕ) → IsAscendingWithin 1 n xs → length xs ≡ 1 → 1 ≤ n
+    first_within n [] a one = absurd (omega arith)
+    first_within n (x ∷ xs) a one = omega (arith, a.0, a.1)
+
 connected_from_one : (g : Graph) (count : ℕ) (h : HasComponents g count) → 1 ≤ g.vertices → count ≡ 1 → IsConnected g
-connected_from_one g count h one is s cut =
-    let p = cut.some_in in
-    let q = cut.some_out in
-    let joined = joined_to_one g count h one is g.vertices in
-    ⊎_elim
-    (λ (l : weight g s < 1).
-    let none : weight g s ≡ 0 = omega arith in
-    let at_p : s 1 ≡ s p.vertex = joined p.vertex p.to_n p.from_one p.to_n s none in
-    let at_q : s 1 ≡ s q.vertex = joined q.vertex q.to_n q.from_one q.to_n s none in
-    absurd (apart (s p.vertex) (s q.vertex) (sym at_p ∙ at_q) p.is_in q.is_in))
-    (λ (g : 1 ≤ weight g s). g)
-    (cases_lt (weight g s) 1)
+connected_from_one g count h one is = record { some_vertex = one; each_cut = λ s cut. far s cut }
   where
     apart : (a b : Bool) → a ≡ b → a ≡ true → not b ≡ true → ⊥
     apart true true e p q = false≢true q
     apart true false e p q = false≢true (sym e)
     apart false b e p q = false≢true p
+
+    far : (s : VertexSet) → IsCut g.vertices s → 1 ≤ weight g s
+    far s cut =
+        let p = cut.some_in in
+        let q = cut.some_out in
+        let joined = joined_to_one g count h one is g.vertices in
+        ⊎_elim
+        (λ (l : weight g s < 1).
+        let none : weight g s ≡ 0 = omega arith in
+        let at_p : s 1 ≡ s p.vertex = joined p.vertex p.to_n p.from_one p.to_n s none in
+        let at_q : s 1 ≡ s q.vertex = joined q.vertex q.to_n q.from_one q.to_n s none in
+        absurd (apart (s p.vertex) (s q.vertex) (sym at_p ∙ at_q) p.is_in q.is_in))
+        (λ (g : 1 ≤ weight g s). g)
+        (cases_lt (weight g s) 1)
 
 -- a set that parts two vertices is a cut
 cut_from_parts : (n : ℕ) (s : VertexSet) (u v : ℕ) → 1 ≤ u → u ≤ n → 1 ≤ v → v ≤ n → s u ≡ true → s v ≡ false → IsCut n s
@@ -69,7 +80,7 @@ cut_from_parts n s u v u1 un v1 vn a b = record {
 
 joined_from_connected : (g : Graph) → IsConnected g → (u v : ℕ) → 1 ≤ u → u ≤ g.vertices → 1 ≤ v → v ≤ g.vertices → AreJoined g u v
 joined_from_connected g h u v u1 un v1 vn s none =
-    let no : IsCut g.vertices s → ⊥ = λ cut. (let far : 1 ≤ weight g s = h s cut in omega arith) in
+    let no : IsCut g.vertices s → ⊥ = λ cut. (let far : 1 ≤ weight g s = h.each_cut s cut in omega arith) in
     same (s u) (s v) (λ a b. no (cut_from_parts g.vertices s u v u1 un v1 vn a b)) (λ a b. no (cut_from_parts g.vertices s v u v1 vn u1 un b a))
   where
     same : (a b : Bool) → (a ≡ true → b ≡ false → ⊥) → (a ≡ false → b ≡ true → ⊥) → a ≡ b
@@ -92,4 +103,4 @@ one_from_connected g count h one connected =
     h.counted ∙ ap length alone
 
 pub law_of_one_component : LawOfOneComponent
-law_of_one_component g count one h = (connected_from_one g count h one, one_from_connected g count h one)
+law_of_one_component g count h = (λ is. connected_from_one g count h (has_vertex g count h is) is, λ connected. one_from_connected g count h connected.some_vertex connected)

@@ -3,20 +3,18 @@
 ghost use Rattle.std.specs.Prelude.{◌≡◌, ℕ, ◌↔◌, IsTrue, ◌≤◌, ◌^◌, All, IfOk, length};
 ghost use Rattle.std.specs.List.{sum_by, flat_map};
 ghost use Rattle.std.specs.List.Sorted.{IsPermutation};
+ghost use Rattle.cut_definitions.specs.Contraction.{relabel};
 ghost use Rattle.cut_definitions.specs.declared.edge_list.Edge.{Edge};
 ghost use Rattle.cut_definitions.specs.Graph.{IsEdgeWithin, IsEdgeList};
 ghost use Rattle.weighted_graph.specs.Merging.{between_classes, pair_weight, AscendByEnds, IsSortedByEnds};
 
+use crate::graph::Graph;
 use crate::labels::Labels;
 use cut_definitions::{Edge, EdgeList};
 use std::alloc::{AllocError, Global};
 
 /// The edges between the classes of their ends, but for those within a class.
-pub(crate) fn class_edges(
-    alloc: Global,
-    edges: &[Edge],
-    labels: &Labels,
-) -> Result<Vec<Edge>, AllocError>
+fn class_edges(alloc: Global, edges: &[Edge], labels: &Labels) -> Result<Vec<Edge>, AllocError>
     requires within { All (IsEdgeWithin (length labels.now)) edges.now }
     ensures { IfOk result (λ es. es.items ≡ flat_map (between_classes labels.now) edges.now) }
 {
@@ -36,7 +34,7 @@ pub(crate) fn class_edges(
 }
 
 /// Sorts edges by their ends.
-pub(crate) fn sort_by_ends(edges: &mut [Edge])
+fn sort_by_ends(edges: &mut [Edge])
     ensures permutation { IsPermutation edges.old edges.new }
     ensures sorted { IsSortedByEnds edges.new }
 {
@@ -51,7 +49,7 @@ fn have_same_ends(d: Edge, e: Edge) -> bool
 }
 
 /// The sorted edges with those of equal ends made one.
-pub(crate) fn merge(alloc: Global, n: u32, sorted: &[Edge]) -> Result<EdgeList, AllocError>
+fn merge(alloc: Global, n: u32, sorted: &[Edge]) -> Result<EdgeList, AllocError>
     requires within { All (IsEdgeWithin n) sorted.now }
     requires ascending { AscendByEnds sorted.now }
     requires few_vertices { n ≤ 4194304 }
@@ -76,5 +74,22 @@ pub(crate) fn merge(alloc: Global, n: u32, sorted: &[Edge]) -> Result<EdgeList, 
         }
     }
     merged.push(current)?;
+    Ok(merged)
+}
+
+/// The edges of the graph on the classes of labels. What is taken on the way is given back.
+pub(crate) fn merged_edges(
+    alloc: Global,
+    graph: &Graph,
+    labels: &Labels,
+) -> Result<EdgeList, AllocError>
+    requires { length labels.now ≡ graph.now.vertices }
+    ensures { IfOk result (λ l. l ≡ relabel graph.now labels.now) }
+{
+    let classes = labels.classes();
+    let mut between = class_edges(alloc, graph.edge_list(), labels)?;
+    let sorted = between.as_mut_slice();
+    sort_by_ends(sorted);
+    let merged = merge(alloc, classes, sorted)?;
     Ok(merged)
 }

@@ -54,7 +54,7 @@ fn two_components(rt: HostRuntime) -> Result<(), Fail> {
     let mut list = EdgeList::new(alloc, 4);
     list.push(Edge { u: 1, v: 2, w: 1 })?;
     list.push(Edge { u: 3, v: 4, w: 1 })?;
-    let graph = Graph::build(alloc, &list)?;
+    let graph = Graph::from_list(alloc, list)?;
     assert_eq!(rt; graph.components(alloc)?, 2);
     assert_eq!(rt; graph.weight(2, 3), 0);
     Ok(())
