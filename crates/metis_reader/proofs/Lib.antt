@@ -35,3 +35,5 @@ pub mod PlainRows
 pub mod PlainEdges
 pub mod FirstForm
 pub mod FirstFormExamples
+pub mod PlainWords
+pub mod PlainSteps

@@ -83,6 +83,7 @@ impl Body {
     }
 
     /// Memory for all that a file with this header may say.
+    #[inline(never)]
     pub fn new(alloc: Global, header: Header) -> Result<Body, AllocError>
         ensures { IfOk result (λ b. (b.header ≡ header) × (b.numbers.items ≡ []) × (greater_of b ≡ []) × (lesser_of b ≡ []) × (b.total ≡ 0)) }
     {
@@ -136,6 +137,7 @@ impl Body {
     }
 
     /// The neighbour that the word names.
+    #[inline(always)]
     pub fn neighbour(&self, word: Word) -> Result<u32, FaultKind>
         ensures can_enter { IfOk result (CanEnter self.now) }
         ensures exact { (header : profile.Header) (done : List VertexLine) (all : List Entry) (v : Piece) → BodyShows self.now header done all → IsWord word v.bytes
@@ -155,6 +157,7 @@ impl Body {
     }
 
     /// The edge's weight that the word is.
+    #[inline(always)]
     pub fn weight(&self, word: Word) -> Result<u64, FaultKind>
         ensures exact { (header : profile.Header) (done : List VertexLine) (all : List Entry) (w : Piece) → BodyShows self.now header done all → IsWord word w.bytes
             → header.has_edge_weights ≡ true → Judges result (edge_weight_faults all w) (λ n. n ≡ value w) }
@@ -172,6 +175,7 @@ impl Body {
     }
 
     /// Takes an entry of the present vertex line.
+    #[inline(always)]
     pub fn enter(&mut self, neighbour: u32, w: u64)
         requires line { length self.old.numbers.items < self.old.header.vertices }
         requires can_enter { CanEnter self.old neighbour }

@@ -96,6 +96,7 @@ impl Parser {
     }
 
     /// Takes the next word of the line.
+    #[inline(always)]
     pub fn word(&mut self, word: Word) -> Result<(), FaultKind>
         ensures { (s : State) (p : Piece) → Shows self.old.due self.old.header self.old.body s → IsWord word p.bytes
             → MatchResult result (λ _. (word_faults s p ≡ []) × Shows self.new.due self.new.header self.new.body (after_word s p)) (λ kind. BeginsWith kind (word_faults s p)) }

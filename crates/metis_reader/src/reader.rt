@@ -103,6 +103,7 @@ impl Reader {
     }
 
     // Takes the end of a word, if there is one.
+    #[inline(always)]
     fn end_word(&mut self, word: Word) -> Result<(), ReadRefusal>
         ensures same_line { self.new.line ≡ self.old.line }
         ensures same_refusal { self.new.refusal ≡ self.old.refusal }
@@ -119,6 +120,7 @@ impl Reader {
     }
 
     // Takes the end of a line that is no comment.
+    #[inline(always)]
     fn end_line(&mut self, word: Word) -> Result<(), ReadRefusal>
         ensures line { OnOk result (self.old.line < 2 ^ 64 - 1 → self.new.line ≡ suc self.old.line) }
         ensures same_refusal { self.new.refusal ≡ self.old.refusal }
@@ -189,6 +191,53 @@ impl Reader {
         Ok((LinePart::Words, word.with(byte)))
     }
 
+    // Takes the words from a place on that are digits, each with the blank or line feed that ends it, as nearly all words are. It
+    // takes none where a word or a comment is begun. It tells how far the present line was read then, and where those words end.
+    #[inline(never)]
+    fn plain_words(
+        &mut self,
+        part: LinePart,
+        word: Word,
+        piece: &[u8],
+        from: usize,
+    ) -> Result<(LinePart, usize), ReadRefusal>
+        requires { from ≤ length piece.now }
+        ensures same_refusal { self.new.refusal ≡ self.old.refusal }
+        ensures within { IfOk result (λ next. (from ≤ next.1) × (next.1 ≤ length piece.now)) }
+        ensures exact { (r : Reading) → (bytes_findings r (take from piece.now) ≡ []) × Holds self.old.parser self.old.line part word (reading_from r (take from piece.now)) → suc r.ended + length piece.now < 2 ^ 64 - 1
+            → MatchResult result (λ next. (bytes_findings r (take next.1 piece.now) ≡ []) × Holds self.new.parser self.new.line next.0 word (reading_from r (take next.1 piece.now))) (λ refusal. RefusedFirst refusal (bytes_findings r piece.now) (BytesEndHeader r piece.now)) }
+    {
+        if !word.is_empty() || part == LinePart::Comment {
+            return Ok((part, from));
+        }
+        let mut part = part;
+        let mut place = from;
+        while place < piece.len() {
+            let (plain, end) = Word::NONE.with_digits(piece, place);
+            if end >= piece.len() {
+                return Ok((part, place));
+            }
+            if is_blank(piece[end]) {
+                match self.end_word(plain) {
+                    Ok(()) => {}
+                    Err(refusal) => return Err(refusal),
+                }
+                part = LinePart::Words;
+                place = end + 1;
+            } else if piece[end] == LINE_FEED {
+                match self.end_line(plain) {
+                    Ok(()) => {}
+                    Err(refusal) => return Err(refusal),
+                }
+                part = LinePart::Start;
+                place = end + 1;
+            } else {
+                return Ok((part, place));
+            }
+        }
+        Ok((part, place))
+    }
+
     // Takes bytes of which there may still be so many.
     fn take(&mut self, piece: &[u8]) -> Result<(), ReadRefusal>
         ensures same_refusal { self.new.refusal ≡ self.old.refusal }
@@ -205,11 +254,15 @@ impl Reader {
                 word = longer;
                 i = end;
             } else {
-                match self.byte(now, longer, piece[end]) {
-                    Ok(next) => {
-                        part = next.0;
+                let next = match self.byte(now, longer, piece[end]) {
+                    Ok(next) => next,
+                    Err(refusal) => return Err(refusal),
+                };
+                match self.plain_words(next.0, next.1, piece, end + 1) {
+                    Ok(behind) => {
+                        part = behind.0;
                         word = next.1;
-                        i = end + 1;
+                        i = behind.1;
                     }
                     Err(refusal) => return Err(refusal),
                 }
