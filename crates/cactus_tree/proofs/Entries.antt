@@ -135,11 +135,11 @@ wanted_is [] = refl
 wanted_is (b ∷ bs) = omega (arith, length-append (nodes_of b) (flat_map nodes_of bs), used_case (out-Block b), wanted_is bs)
 
 -- ---- one more entry at the end
-read_push : (sets : List ℕ → VertexSet) (es : List Entry) (e : Entry) (rs : List Read) → read_entries sets (es ++ e ∷ []) rs ≡ read_entries sets es (read_entry sets e rs)
+pub read_push : (sets : List ℕ → VertexSet) (es : List Entry) (e : Entry) (rs : List Read) → read_entries sets (es ++ e ∷ []) rs ≡ read_entries sets es (read_entry sets e rs)
 read_push sets [] e rs = refl
 read_push sets (x ∷ xs) e rs = ap (read_entry sets x) (read_push sets xs e rs)
 
-left_push : (es : List Entry) (e : Entry) (k : ℕ) → left (es ++ e ∷ []) k ≡ left es (k - wanted (joints_of e) + 1)
+pub left_push : (es : List Entry) (e : Entry) (k : ℕ) → left (es ++ e ∷ []) k ≡ left es (k - wanted (joints_of e) + 1)
 left_push [] e k = refl
 left_push (x ∷ xs) e k = ap (λ m. m - wanted (joints_of x) + 1) (left_push xs e k)
 
@@ -147,7 +147,7 @@ ready_push : (es : List Entry) (e : Entry) (k : ℕ) → wanted (joints_of e) �
 ready_push [] e k w h = (w, tt)
 ready_push (x ∷ xs) e k w h = (subst (λ m. wanted (joints_of x) ≤ m) (sym (left_push xs e k)) h.0, ready_push xs e k w h.1)
 
-ready_pop : (es : List Entry) (e : Entry) (k : ℕ) → IsReady (es ++ e ∷ []) k → (wanted (joints_of e) ≤ k) × IsReady es (k - wanted (joints_of e) + 1)
+pub ready_pop : (es : List Entry) (e : Entry) (k : ℕ) → IsReady (es ++ e ∷ []) k → (wanted (joints_of e) ≤ k) × IsReady es (k - wanted (joints_of e) + 1)
 ready_pop [] e k h = (h.0, tt)
 ready_pop (x ∷ xs) e k h =
     let rest = ready_pop xs e k h.1 in

@@ -15,7 +15,7 @@ abbrev Numbers : Type 0
 Numbers = List ℕ
 
 -- the sizes of a tree among those of others
-abbrev among : Numbers → Numbers → Numbers → Numbers
+abbrev pub among : Numbers → Numbers → Numbers → Numbers
 among a s b = a ++ (s ++ b)
 
 -- an outline fits a layout and the sizes of the subtrees, wherever these stand
@@ -41,10 +41,10 @@ pub data AreOutlined : List Outline → List Layout → List Numbers → Type 0 
   more : (o : Outline) (os : List Outline) (q : Layout) (qs : List Layout) (s : Numbers) (ss : List Numbers) → IsOutlined o q s → AreOutlined os qs ss → AreOutlined (o ∷ os) (q ∷ qs) (s ∷ ss)
 
 -- ---- lists among others
-head_among : (a s t b : Numbers) → among a s (t ++ b) ≡ among a (s ++ t) b
+pub head_among : (a s t b : Numbers) → among a s (t ++ b) ≡ among a (s ++ t) b
 head_among a s t b = ap (λ l. a ++ l) (sym (append_assoc s t b))
 
-tail_among : (a s t b : Numbers) → among (a ++ s) t b ≡ among a (s ++ t) b
+pub tail_among : (a s t b : Numbers) → among (a ++ s) t b ≡ among a (s ++ t) b
 tail_among a s t b = append_assoc a s (t ++ b) ∙ head_among a s t b
 
 hops_along : (s : Numbers) (count from from' to to' : ℕ) → from ≡ from' → to ≡ to' → Hops s count from to → Hops s count from' to'

@@ -73,16 +73,16 @@ set_placed ls low r h =
     ∙ ap has (elements_concat ls r.from r.to (omega (arith, h.some)) h.to_high)
 
 -- ---- borders at places
-map_take : {X Y : Type 0} (f : X → Y) (k : ℕ) (xs : List X) → take k (map f xs) ≡ map f (take k xs)
+pub map_take : {X Y : Type 0} (f : X → Y) (k : ℕ) (xs : List X) → take k (map f xs) ≡ map f (take k xs)
 map_take f zero xs = refl
 map_take f (suc k) [] = refl
 map_take f (suc k) (x ∷ xs) = ap (λ l. f x ∷ l) (map_take f k xs)
 
-to_placed : (places : List ℕ) (from : ℕ) (bs : List Border) → ranges_to (slice_index places from) (map (placed places) bs) ≡ map (range_placed places) (ranges_to from bs)
+pub to_placed : (places : List ℕ) (from : ℕ) (bs : List Border) → ranges_to (slice_index places from) (map (placed places) bs) ≡ map (range_placed places) (ranges_to from bs)
 to_placed places from [] = refl
 to_placed places from (b ∷ bs) = ap (λ l. (let r : Range = record { from = slice_index places from; to = slice_index places b.place } in r) ∷ l) (to_placed places from bs)
 
-between_placed : (places : List ℕ) (bs : List Border) → ranges_between (map (placed places) bs) ≡ map (range_placed places) (ranges_between bs)
+pub between_placed : (places : List ℕ) (bs : List Border) → ranges_between (map (placed places) bs) ≡ map (range_placed places) (ranges_between bs)
 between_placed places [] = refl
 between_placed places (b ∷ bs) =
     ap (λ l. ranges_to (slice_index places b.place) l ++ ranges_between (map (placed places) bs)) (map_take (placed places) b.following bs)

@@ -46,16 +46,16 @@ joined_map : {X : Type 0} (f : X → Numbers) (xs : List X) → joined (map f xs
 joined_map f [] = refl
 joined_map f (x ∷ xs) = ap (λ l. f x ++ l) (joined_map f xs)
 
-abbrev with_size : Numbers → Numbers
+abbrev pub with_size : Numbers → Numbers
 with_size l = (length l + 1) ∷ l
 
-sizes_out : (x : Node) → sizes x ≡ with_size (flat_map block_sizes (blocks x))
+pub sizes_out : (x : Node) → sizes x ≡ with_size (flat_map block_sizes (blocks x))
 unfolding sizes block_sizes
 sizes_out x = fold_out-Node Numbers Numbers Numbers Numbers sizes_block_step sizes_blocks_step sizes_children_step sizes_node_step x
     ∙ ap with_size (fold_out-Blocks Numbers Numbers Numbers Numbers sizes_block_step sizes_blocks_step sizes_children_step sizes_node_step (out-Node x).blocks
     ∙ joined_map (fold-Block Numbers Numbers Numbers Numbers sizes_block_step sizes_blocks_step sizes_children_step sizes_node_step) (blocks x))
 
-sizes_bridge : (child : Box Node Global) → block_sizes (Bridge child) ≡ sizes child.value
+pub sizes_bridge : (child : Box Node Global) → block_sizes (Bridge child) ≡ sizes child.value
 unfolding sizes block_sizes
 sizes_bridge child = ap (fold-Block Numbers Numbers Numbers Numbers sizes_block_step sizes_blocks_step sizes_children_step sizes_node_step) (sym (rolls-Bridge child))
     ∙ fold-roll-Block Numbers Numbers Numbers Numbers sizes_block_step sizes_blocks_step sizes_children_step sizes_node_step (Open.Bridge child)

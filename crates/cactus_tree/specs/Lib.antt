@@ -14,7 +14,13 @@ pub mod CutRanges
 pub mod Outlines
 pub mod Heads
 pub mod Borders
+pub mod Repeats
 pub mod Places
 pub mod Walking
 pub mod FlatLaws
 pub mod Tasks
+pub mod Different
+pub mod Numbers
+pub mod Trims
+pub mod Formula
+pub mod NormalLaws

@@ -1,6 +1,7 @@
 -- What is known of the borders of a tree, and what a walk keeps of its place among them.
-use Rattle.std.specs.Prelude.{ℕ, ◌+◌, ◌≡◌, ◌≤◌, ◌<◌, ⊤, List, [], ◌∷◌, map, drop, length}
-use Rattle.cactus_tree.specs.Borders.{ranges_between, border_at}
+use Rattle.std.specs.Prelude.{ℕ, ◌+◌, ◌≡◌, ◌≤◌, ◌<◌, ⊤, Bool, List, [], ◌∷◌, map, drop, length}
+use Rattle.cactus_tree.specs.Borders.{border_at}
+use Rattle.cactus_tree.specs.Repeats.{ranges_left}
 use Rattle.cactus_tree.specs.Places.{side_at}
 use Rattle.cactus_tree.specs.declared.walk.borders.Border.{Border}
 
@@ -14,10 +15,10 @@ abbrev pub AreChained : List Border → Type 0
 AreChained [] = ⊤
 AreChained (b ∷ bs) = (0 < b.following → (b.place ≤ (border_at bs 0).place) × (b.following ≡ (border_at bs 0).following + 1)) × AreChained bs
 
--- the sides from a border on, without those of its cuts that were given
-abbrev pub sides_left : ℕ → List ℕ → List Border → ℕ → ℕ → List (List ℕ)
-sides_left n order borders first given = map (side_at n order) (drop given (ranges_between (drop first borders)))
+-- the sides from a border on, without those of its cuts that end at the first borders behind it, which were passed
+abbrev pub sides_left : ℕ → List ℕ → List Border → List Bool → ℕ → ℕ → List (List ℕ)
+sides_left n order borders repeats first passed = map (side_at n order) (ranges_left (drop first borders) (drop first repeats) passed)
 
 -- a cut that begins at the border is still to be given
 abbrev pub IsStart : List Border → ℕ → ℕ → Type 0
-IsStart borders first given = first < length borders → given < (border_at borders first).following
+IsStart borders first passed = first < length borders → passed < (border_at borders first).following

@@ -1,6 +1,6 @@
 //! The rooted cactus over the vertices 1 to n.
 
-ghost use Rattle.std.specs.Prelude.{◌≡◌, ◌≤◌, ◌-◌, ◌^◌, [], IfOk, length, map, min};
+ghost use Rattle.std.specs.Prelude.{◌≡◌, ◌≤◌, ◌+◌, ◌-◌, ◌^◌, [], IfOk, length, map, min, true};
 ghost use Rattle.std.specs.List.{range_with_len};
 ghost use Rattle.cactus_tree.specs.Trees.{blocks, vertices};
 ghost use Rattle.cactus_tree.specs.Entered.{entered};
@@ -10,8 +10,14 @@ ghost use Rattle.cactus_tree.specs.Spread.{AreClasses, spread_set};
 ghost use Rattle.cactus_tree.specs.Widths.{widths};
 ghost use Rattle.cut_definitions.specs.Contraction.{lift};
 ghost use Rattle.cactus_tree.specs.Normal.{is_normal};
+ghost use Rattle.cactus_tree.specs.Different.{HasDifferent, HasNoEmptySide, HaveSameSides};
+ghost use Rattle.cactus_tree.specs.Formula.{census};
+ghost use Rattle.cactus_tree.specs.Numbers.{number, total, triangle};
 
-use crate::tree::{Blocks, Node, blocks_are_normal, count_node, spread_node};
+use crate::tree::{
+    Blocks, Node, blocks_are_normal, count_cuts, count_node, entries_of, number_of, put_trimmed,
+    spread_node,
+};
 use crate::vertex_list::VertexList;
 use std::alloc::{AllocError, Global};
 use std::marker::Model;
@@ -115,6 +121,57 @@ impl Cactus {
     {
         blocks_are_normal(&self.root.blocks)
     }
+
+    /// The cactus without what can be spared: normal, with the same set of sides.
+    ///
+    /// No side of the cactus may be empty. A bridge to an empty node with one other block gives way to that block, and in
+    /// a cycle an empty node with a bridge alone gives way to the node below that bridge; the rest of the tree keeps its
+    /// form. The tree is taken over and its nodes are moved. One step for each node and block, in loops, so that a deep
+    /// tree does not run out of stack. It takes memory in proportion to the nodes, and is refused only where that is
+    /// wanting; the cactus is dropped then.
+    pub fn normal(self, alloc: Global) -> Result<Cactus, AllocError>
+        requires { HasNoEmptySide self }
+        ensures n { IfOk result (λ c. c.vertices ≡ self.vertices) }
+        ensures normal { IfOk result (λ c. is_normal c.root ≡ true) }
+        ensures sides { IfOk result (λ c. HaveSameSides c self) }
+    {
+        let n = self.n();
+        let entries = entries_of(alloc, self.into_root())?;
+        let root = put_trimmed(alloc, entries)?;
+        Ok(Cactus::from_root(n, root))
+    }
+
+    /// The number of the different sides of the cuts of a normal cactus over at most 4,194,304 vertices.
+    ///
+    /// It is the number of the bridges and, for each cycle of k nodes, k (k - 1) / 2, less the number of the empty nodes
+    /// that lie in exactly two blocks, both cycles: there alone two cuts have one side. One step for each node and block;
+    /// it takes no memory, and calls itself once for each level of the tree. Where a tree may be deep, `count_within`
+    /// answers the same by loops.
+    pub fn count(&self) -> u64
+        requires normal { is_normal self.now.root ≡ true }
+        requires few { self.now.vertices ≤ 4194304 }
+        ensures number { result ≡ number self.now.root }
+        ensures blocks { result + (census self.now.root).empties ≡ (census self.now.root).bridges + total (map triangle (widths self.now.root)) }
+        ensures sides { HasDifferent result (sides_of self.now) }
+    {
+        number_of(self.root())
+    }
+
+    /// The same number as by `count`, by a loop with a stack, so that a deep tree does not run out of stack.
+    ///
+    /// One step for each node and block. It takes memory for the nodes on the stack, at most 8 bytes a node, and is
+    /// refused only where that is wanting.
+    pub fn count_within(&self, alloc: Global) -> Result<u64, AllocError>
+        requires normal { is_normal self.now.root ≡ true }
+        requires few { self.now.vertices ≤ 4194304 }
+        ensures number { IfOk result (λ k. k ≡ number self.now.root) }
+        ensures blocks { IfOk result (λ k. k + (census self.now.root).empties ≡ (census self.now.root).bridges + total (map triangle (widths self.now.root))) }
+        ensures sides { IfOk result (λ k. HasDifferent k (sides_of self.now)) }
+    {
+        let number = count_cuts(alloc, self.root())?;
+        Ok(number)
+    }
+
     /// Puts in place of each vertex of the cactus the vertices of 1 to n that have it as their class.
     ///
     /// Each side becomes the set of the vertices whose class is in it, and the tree keeps its form. It takes memory in

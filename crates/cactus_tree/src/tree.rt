@@ -9,17 +9,21 @@ use std::alloc::{AllocError, Global};
 mod count;
 mod entries;
 mod normal;
+mod number;
 mod order;
 mod outline;
 mod rename;
 mod spread;
+mod trim;
 
 pub use count::count_node;
 pub use normal::blocks_are_normal;
-pub use order::{in_order, vertices_in_order};
+pub use number::{count_cuts, number_of};
+pub use order::{InOrder, in_order, vertices_in_order};
 pub use outline::{Entry, outline_of, sizes_along, subtree_sizes};
 pub use rename::rename_node;
 pub use spread::{gather, spread_node};
+pub use trim::{entries_of, put_trimmed};
 
 /// A node: its vertices, and the blocks below it.
 #[cycle(tree)]
@@ -81,6 +85,14 @@ impl Blocks {
         }
     }
 
+    /// The empty list with room for so many blocks. For none it takes no memory.
+    pub fn with_capacity(alloc: Global, count: usize) -> Result<Blocks, AllocError>
+        ensures { IfOk result (λ b. blocks_in b ≡ []) }
+    {
+        let items = Vec::with_capacity(alloc, count)?;
+        Ok(Blocks { items })
+    }
+
     /// Appends a block. Where memory is wanting the list stays as it was, and the block is dropped.
     pub fn push(&mut self, item: Block) -> Result<(), AllocError>
         ensures ok { OnOk result (blocks_in self.new ≡ blocks_in self.old ++ item ∷ []) }
@@ -124,6 +136,14 @@ impl Children {
         }
     }
 
+    /// The empty list with room for so many nodes. For none it takes no memory.
+    pub fn with_capacity(alloc: Global, count: usize) -> Result<Children, AllocError>
+        ensures { IfOk result (λ c. nodes_in c ≡ []) }
+    {
+        let items = Vec::with_capacity(alloc, count)?;
+        Ok(Children { items })
+    }
+
     /// Appends a node. Where memory is wanting the list stays as it was, and the node is dropped.
     pub fn push(&mut self, item: Node) -> Result<(), AllocError>
         ensures ok { OnOk result (nodes_in self.new ≡ nodes_in self.old ++ item ∷ []) }
@@ -141,11 +161,13 @@ impl Children {
         self.items.pop()
     }
 
-    /// Takes the nodes from the place `at` on out of the list, in order, and gives them as a list of their own.
+    /// Takes the nodes from the place `at` on out of the list, in order, and gives them as a list of their own. It takes
+    /// memory for that list; where it is wanting the list stays as it was.
     pub fn split_off(&mut self, at: usize) -> Result<Children, AllocError>
         requires { at ≤ length (nodes_in self.old) }
         ensures front { OnOk result (nodes_in self.new ≡ take at (nodes_in self.old)) }
         ensures back { IfOk result (λ c. nodes_in c ≡ drop at (nodes_in self.old)) }
+        ensures err { OnErr result (nodes_in self.new ≡ nodes_in self.old) }
     {
         let items = self.items.split_off(at)?;
         Ok(Children { items })

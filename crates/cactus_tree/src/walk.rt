@@ -1,22 +1,28 @@
 //! A walk over the sides of the cuts of a cactus.
 
-ghost use Rattle.std.specs.Prelude.{◌≡◌, [], ◌∷◌, true, false, IfOk};
+ghost use Rattle.std.specs.Prelude.{◌≡◌, ◌↔◌, ◌≤◌, ℕ, List, [], ◌∷◌, true, false, length, IfOk};
+ghost use Rattle.std.specs.List.{Contains};
+ghost use Rattle.cactus_tree.specs.Different.{AreDifferent};
+ghost use Rattle.cactus_tree.specs.Normal.{is_normal};
 ghost use Rattle.cactus_tree.specs.Rooted.{sides_of};
 
 mod borders;
 mod places;
+mod repeats;
 mod shown;
 
 use crate::cactus::Cactus;
 pub use borders::{Border, next_start};
+use places::kept_places;
 pub use places::{CutPlaces, cut_places};
+use repeats::{next_kept, passed_over};
 use shown::change_side;
 pub use shown::{Span, put_range};
 use std::alloc::{AllocError, Global};
 use std::marker::Model;
 use vertex_set::Side;
 
-/// The sides of the cuts of a cactus, one after another: each cut in the order of the tree.
+/// The sides of the cuts of a cactus, one after another, in the order of the tree; of a normal cactus each side once.
 ///
 /// It borrows nothing: it keeps the vertices in the order in which the tree is entered, where each side is one range.
 /// Contracts see a walk as n and the list of the sides still to come, each an ascending list.
@@ -27,10 +33,12 @@ pub struct Walk {
     order: Vec<u32>,
     /// The borders of all blocks, in the order of the tree, as places of `order`.
     borders: Vec<Border>,
+    /// For each border, whether the cut from it to the next one is left out, since another cut has its side.
+    repeats: Vec<bool>,
     /// The border at which the next cut begins.
     first: usize,
-    /// How many cuts that begin there have been given.
-    given: usize,
+    /// How many of the borders behind that one have been passed; the next cut ends at the one after these.
+    passed: usize,
     /// The places of the vertices of the last side that was given.
     span: Span,
     /// The last side that was given.
@@ -51,7 +59,7 @@ impl Model for Walk {
 
     ghost Value = { SidesToCome };
 
-    ghost view = { λ w. record { vertices = w.n; to_come = sides_left w.n w.order.items w.borders.items w.first w.given } };
+    ghost view = { λ w. record { vertices = w.n; to_come = sides_left w.n w.order.items w.borders.items w.repeats.items w.first w.passed } };
 
     ghost invariant = { λ w. record {
       all : w.all ≡ listed w.n (λ v. true);
@@ -60,22 +68,29 @@ impl Model for Walk {
       once : AreOnce w.n w.order.items;
       vertices : All (IsVertex w.n) w.order.items;
       borders : AreBorders (length w.order.items) w.borders.items;
-      start : IsStart w.borders.items w.first w.given;
+      repeats : length w.repeats.items ≡ length w.borders.items;
+      start : IsStart w.borders.items w.first w.passed;
     } };
 }
 
 impl Walk {
-    /// The walk over all cuts of a cactus, in the order of the tree: a cut that stands twice comes twice.
+    /// The walk over the sides of a cactus: it gives each of them, in no more steps than there are cuts, and each once where
+    /// the cactus is normal.
     ///
-    /// One step for each node and vertex, in loops, so that a deep tree does not run out of stack. It takes memory in
-    /// proportion to the nodes and to n, and is refused only where that is wanting.
+    /// The cuts come in the order of the tree. Where a node has no vertex and one block below it, a cycle, its cut alone in
+    /// the block above it is left out, since that cycle has a cut with the same side. One step for each node and vertex, in
+    /// loops, so that a deep tree does not run out of stack. It takes memory in proportion to the nodes and to n, and is
+    /// refused only where that is wanting.
     pub fn new(alloc: Global, cactus: &Cactus) -> Result<Walk, AllocError>
         ensures n { IfOk result (λ w. w.vertices ≡ cactus.now.vertices) }
-        ensures sides { IfOk result (λ w. w.to_come ≡ sides_of cactus.now) }
+        ensures sides { IfOk result (λ w. (side : List ℕ) → Contains w.to_come side ↔ Contains (sides_of cactus.now) side) }
+        ensures few { IfOk result (λ w. length w.to_come ≤ length (sides_of cactus.now)) }
+        ensures different { is_normal cactus.now.root ≡ true → IfOk result (λ w. AreDifferent w.to_come) }
     {
         let n = cactus.n();
-        let places = cut_places(alloc, cactus)?;
-        let first = next_start(&places.borders, 0);
+        let places = kept_places(alloc, cactus)?;
+        let first = next_kept(&places.borders, &places.repeats, 0);
+        let passed = passed_over(&places.repeats, first);
         let side = Side::empty(alloc, n)?;
         let mut all = Side::empty(alloc, n)?;
         all.flip();
@@ -83,8 +98,9 @@ impl Walk {
             n,
             order: places.order,
             borders: places.borders,
+            repeats: places.repeats,
             first,
-            given: 0,
+            passed,
             span: Span { from: 0, to: 0 },
             side,
             all,
@@ -109,7 +125,7 @@ impl Walk {
             return false;
         }
         let start = self.borders[self.first];
-        let end = self.borders[self.first + self.given + 1];
+        let end = self.borders[self.first + self.passed + 1];
         let span = Span {
             from: start.place,
             to: end.place,
@@ -118,10 +134,10 @@ impl Walk {
         self.span = span;
         room.take_out(&self.all);
         room.join_in(&self.side);
-        self.given += 1;
-        if self.given >= start.following {
-            self.first = next_start(&self.borders, self.first + 1);
-            self.given = 0;
+        self.passed += 1;
+        if self.passed >= start.following {
+            self.first = next_kept(&self.borders, &self.repeats, self.first + 1);
+            self.passed = passed_over(&self.repeats, self.first);
         }
         true
     }

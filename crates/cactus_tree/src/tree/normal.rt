@@ -21,7 +21,8 @@ fn is_well_placed(node: &Node, above_is_cycle: bool) -> bool
     }
 }
 
-fn is_cycle(block: &Block) -> bool
+/// Whether a block is a cycle.
+pub fn is_cycle(block: &Block) -> bool
     ensures { result ≡ (block_shape block.now).is_cycle }
 {
     match block {

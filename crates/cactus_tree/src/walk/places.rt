@@ -1,16 +1,21 @@
 //! The cuts of a cactus as ranges of one list: the vertices in the order of entering, and the borders of the blocks.
 
-ghost use Rattle.std.specs.Prelude.{◌≡◌, IfOk, length, map};
-ghost use Rattle.std.specs.List.{All, concat};
+ghost use Rattle.std.specs.Prelude.{◌≡◌, ◌↔◌, ◌≤◌, List, ℕ, IfOk, length, map, true};
+ghost use Rattle.std.specs.List.{All, Contains, concat};
 ghost use Rattle.cactus_tree.specs.Borders.{ranges_between};
+ghost use Rattle.cactus_tree.specs.Different.{AreDifferent};
 ghost use Rattle.cactus_tree.specs.Entered.{entered};
-ghost use Rattle.cactus_tree.specs.Places.{AreOnce, IsVertex, side_at};
-ghost use Rattle.cactus_tree.specs.Rooted.{sides_of};
+ghost use Rattle.cactus_tree.specs.Normal.{is_normal};
+ghost use Rattle.cactus_tree.specs.Outlines.{outlined, sizes};
+ghost use Rattle.cactus_tree.specs.Places.{AreOnce, IsVertex, places_from, side_at};
+ghost use Rattle.cactus_tree.specs.Repeats.{ranges_kept};
+ghost use Rattle.cactus_tree.specs.Rooted.{IsCactus, sides_of};
 ghost use Rattle.cactus_tree.specs.Walking.{AreBorders, AreChained};
 
 use super::borders::{Border, borders_of};
+use super::repeats::repeats_of;
 use crate::cactus::Cactus;
-use crate::tree::{in_order, outline_of, sizes_along};
+use crate::tree::{Entry, InOrder, in_order, outline_of, sizes_along};
 use std::alloc::{AllocError, Global};
 
 /// The vertices of a cactus in an order in which the side of each cut is one range, and the places at which these ranges
@@ -21,6 +26,43 @@ pub struct CutPlaces {
     pub order: Vec<u32>,
     /// The borders of all blocks, in the order of the tree, as places of `order`, counted from 0.
     pub borders: Vec<Border>,
+}
+
+/// The same, with the cuts that a walk leaves out.
+#[derive(Drop)]
+pub struct KeptPlaces {
+    /// All vertices, in the order in which the tree is entered.
+    pub order: Vec<u32>,
+    /// The borders of all blocks, in the order of the tree, as places of `order`, counted from 0.
+    pub borders: Vec<Border>,
+    /// For each border, whether the cut from it to the next one is left out, since another cut has its side.
+    pub repeats: Vec<bool>,
+}
+
+/// A tree laid out in the order of entering: its vertices, its nodes, and the sizes of its subtrees.
+#[derive(Drop)]
+struct Laid {
+    listing: InOrder,
+    entries: Vec<Entry>,
+    sizes: Vec<usize>,
+}
+
+fn lay_out(alloc: Global, cactus: &Cactus) -> Result<Laid, AllocError>
+    ensures cactus { IfOk result (λ l. IsCactus cactus.now.vertices cactus.now.root) }
+    ensures vertices { IfOk result (λ l. l.listing.vertices.items ≡ concat (entered cactus.now.root)) }
+    ensures places { IfOk result (λ l. l.listing.places.items ≡ places_from 0 (entered cactus.now.root)) }
+    ensures entries { IfOk result (λ l. l.entries.items ≡ outlined cactus.now.root) }
+    ensures sizes { IfOk result (λ l. l.sizes.items ≡ sizes cactus.now.root) }
+{
+    let root = cactus.root();
+    let listing = in_order(alloc, root)?;
+    let entries = outline_of(alloc, root)?;
+    let sizes = sizes_along(alloc, &entries)?;
+    Ok(Laid {
+        listing,
+        entries,
+        sizes,
+    })
 }
 
 /// The places of all cuts of a cactus.
@@ -41,13 +83,32 @@ pub fn cut_places(alloc: Global, cactus: &Cactus) -> Result<CutPlaces, AllocErro
     ensures chained { IfOk result (λ p. AreChained p.borders.items) }
     ensures sides { IfOk result (λ p. map (side_at cactus.now.vertices p.order.items) (ranges_between p.borders.items) ≡ sides_of cactus.now) }
 {
-    let root = cactus.root();
-    let listing = in_order(alloc, root)?;
-    let entries = outline_of(alloc, root)?;
-    let sizes = sizes_along(alloc, &entries)?;
-    let borders = borders_of(alloc, &entries, &sizes, &listing.places)?;
+    let laid = lay_out(alloc, cactus)?;
+    let borders = borders_of(alloc, &laid.entries, &laid.sizes, &laid.listing.places)?;
     Ok(CutPlaces {
-        order: listing.vertices,
+        order: laid.listing.vertices,
         borders,
+    })
+}
+
+/// The places of the cuts that a walk gives: each side of the cactus, and where it is normal each once.
+///
+/// As `cut_places`, with one step and one byte more for each border.
+pub fn kept_places(alloc: Global, cactus: &Cactus) -> Result<KeptPlaces, AllocError>
+    ensures vertices { IfOk result (λ p. All (IsVertex cactus.now.vertices) p.order.items) }
+    ensures once { IfOk result (λ p. AreOnce cactus.now.vertices p.order.items) }
+    ensures borders { IfOk result (λ p. AreBorders (length p.order.items) p.borders.items) }
+    ensures repeats { IfOk result (λ p. length p.repeats.items ≡ length p.borders.items) }
+    ensures sides { IfOk result (λ p. (side : List ℕ) → Contains (map (side_at cactus.now.vertices p.order.items) (ranges_kept p.borders.items p.repeats.items)) side ↔ Contains (sides_of cactus.now) side) }
+    ensures few { IfOk result (λ p. length (ranges_kept p.borders.items p.repeats.items) ≤ length (sides_of cactus.now)) }
+    ensures different { is_normal cactus.now.root ≡ true → IfOk result (λ p. AreDifferent (map (side_at cactus.now.vertices p.order.items) (ranges_kept p.borders.items p.repeats.items))) }
+{
+    let laid = lay_out(alloc, cactus)?;
+    let borders = borders_of(alloc, &laid.entries, &laid.sizes, &laid.listing.places)?;
+    let repeats = repeats_of(alloc, &laid.entries, &laid.sizes, &laid.listing.places)?;
+    Ok(KeptPlaces {
+        order: laid.listing.vertices,
+        borders,
+        repeats,
     })
 }
