@@ -1,6 +1,6 @@
 -- Lists of lists in strict order: their members determine them, and the least different ones of a list do not depend on
 -- the greater ones.
-use Rattle.std.proofs.Common.{◌≡◌, ℕ, zero, suc, ◌<◌, ◌≤◌, Bool, true, false, List, [], ◌∷◌, ◌++◌, ◌⊎◌, inl, inr, length, take, drop, get_or, refl, sym, ◌∙◌, ap, subst, arith, true≢false}
+use Rattle.std.proofs.Common.{◌≡◌, ℕ, zero, suc, ◌≤◌, Bool, true, List, [], ◌∷◌, ◌++◌, ◌⊎◌, inl, inr, length, take, refl, sym, ◌∙◌, ap, subst, arith, true≢false}
 use Rattle.std.specs.declared.cmp.Ordering.{Ordering}
 use Rattle.std.specs.declared.cmp.Ordering.TheVariants.{Less, Equal, Greater}
 use Rattle.std.specs.Ordering.{nat_cmp, is_lt, ordering_reverse}
@@ -8,13 +8,13 @@ use Rattle.std.specs.Cmp.Lexicographic.{slice_cmp}
 use Rattle.std.specs.List.{All, Contains, filter}
 use Rattle.std.specs.List.Sorted.{IsStrictlySortedBy}
 use Rattle.std.proofs.lemmas.Cmp.{nat_list_cmp_total, tied_itself}
-use Rattle.std.proofs.lemmas.List.{take-take}
-use Rattle.std.proofs.lemmas.List.Elements.{All-nil, All-take, All-weaker, All-contains, All-contains_itself, All-from_recursion, recursion_from_All, Contains-append_left, Contains-append_right, Contains-append_cases}
+use Rattle.std.proofs.lemmas.List.Elements.{All-nil, All-take, All-weaker, All-contains, All-contains_itself, All-from_recursion, recursion_from_All, Contains-append_left, Contains-append_cases}
 use Rattle.std.proofs.lemmas.List.Kept.{IsStrictlySortedBy-filter}
 use Rattle.std.proofs.lemmas.Map.Keys.{sorted_head, sorted_tail}
 use Rattle.std.proofs.lemmas.Map.Lookups.{exact_bytes}
 use Rattle.cut_definitions.proofs.Lists.{Contains-here, Contains-there, Contains-cons_cases, Contains-nil, Contains-filter, Contains-from_filter}
-use Rattle.cut_listing.specs.Listings.{IsAscending, IsListing, AgreeTo, put, put_by, different}
+use Rattle.cactus_tree.specs.Different.{AreDifferent}
+use Rattle.cut_listing.specs.Listings.{IsAscending, IsListing, put, put_by, different}
 
 abbrev Lists : Type 0
 Lists = List (List ℕ)
@@ -189,47 +189,7 @@ different_filter p xs = sym (is_different (filter p xs) (filter p (different xs)
     (λ s c. let d = Contains-from_filter p (different xs) s c in Contains-filter p xs s (different_from xs s d.0) d.1)
     (λ s c. let d = Contains-from_filter p xs s c in Contains-filter p (different xs) s (different_to xs s d.0) d.1))
 
--- ---- the least of them
-less_take : (count : ℕ) (y : List ℕ) (ys : Lists) → take count (y ∷ ys) ≡ take count (y ∷ take count ys)
-less_take zero y ys = refl
-less_take (suc count) y ys = ap (λ t. y ∷ t) (sym (take-take count (suc count) ys (omega arith)))
-
-put_take_of : (count : ℕ) (x y : List ℕ) (ys : Lists) (o : Ordering) → take count (put x ys) ≡ take count (put x (take count ys))
-    → take (suc count) (put_by o x y ys (put x ys)) ≡ take (suc count) (put_by o x y (take count ys) (put x (take count ys)))
-put_take_of count x y ys Less h = ap (λ t. x ∷ t) (less_take count y ys)
-put_take_of count x y ys Equal h = ap (λ t. y ∷ t) (sym (take-take count count ys (omega arith)))
-put_take_of count x y ys Greater h = ap (λ t. y ∷ t) h
-
-put_take : (count : ℕ) (x : List ℕ) (ys : Lists) → take count (put x ys) ≡ take count (put x (take count ys))
-put_take zero x ys = refl
-put_take (suc count) x [] = refl
-put_take (suc count) x (y ∷ ys) = put_take_of count x y ys (cmp x y) (put_take count x ys)
-
-put_agree : (count : ℕ) (x : List ℕ) (xs ys : Lists) → take count xs ≡ take count ys → take count (put x xs) ≡ take count (put x ys)
-put_agree count x xs ys h = put_take count x xs ∙ ap (λ t. take count (put x t)) h ∙ sym (put_take count x ys)
-
-agree_behind : (count : ℕ) (front xs ys : Lists) → AgreeTo count xs ys → AgreeTo count (front ++ xs) (front ++ ys)
-agree_behind count [] xs ys h = h
-agree_behind count (x ∷ front) xs ys h = put_agree count x (different (front ++ xs)) (different (front ++ ys)) (agree_behind count front xs ys h)
-
-swapped : (xs ys : Lists) (s : List ℕ) → Contains (xs ++ ys) s → Contains (ys ++ xs) s
-swapped xs ys s c = elim (Contains-append_cases xs ys s c) [ inl d ↦ Contains-append_right ys xs s d | inr d ↦ Contains-append_left ys xs s d ]
-
-different_swap : (xs ys : Lists) → different (xs ++ ys) ≡ different (ys ++ xs)
-different_swap xs ys = same_different (xs ++ ys) (ys ++ xs) (swapped xs ys) (swapped ys xs)
-
--- what agrees, agrees with more behind it
-pub agree_before : (count : ℕ) (xs ys more : List (List ℕ)) → AgreeTo count xs ys → AgreeTo count (xs ++ more) (ys ++ more)
-agree_before count xs ys more h = ap (take count) (different_swap xs more) ∙ agree_behind count more xs ys h ∙ ap (take count) (different_swap more ys)
-
--- the least ones agree with all
-pub agree_least : (count : ℕ) (xs ys : List (List ℕ)) → xs ≡ take count (different ys) → AgreeTo count xs ys
-agree_least count xs ys e =
-    ap (λ l. take count (different l)) e
-    ∙ ap (take count) (different_itself (take count (different ys)) (ascending_take count (different ys) (different_ascending ys)))
-    ∙ take-take count count (different ys) (omega arith)
-
--- ---- going on behind one of an ascending list
+-- ---- a test that passes all
 pass_all : (p : List ℕ → Bool) (xs : Lists) → ((s : List ℕ) → Contains xs s → p s ≡ true) → filter p xs ≡ xs
 pass_all p [] h = refl
 pass_all p (x ∷ xs) h = rw (h x (Contains-here x xs)) (ap (λ l. x ∷ l) (pass_all p xs (λ s c. h s (Contains-there x xs s c))))
@@ -237,20 +197,23 @@ pass_all p (x ∷ xs) h = rw (h x (Contains-here x xs)) (ap (λ l. x ∷ l) (pas
 pub pass_true : (xs : List (List ℕ)) → filter (λ (s : List ℕ). true) xs ≡ xs
 pass_true xs = pass_all (λ s. true) xs (λ s c. refl)
 
-not_less_of : (o : Ordering) → (o ≡ Less → ⊥) → is_lt o ≡ false
-not_less_of Less h = absurd (h refl)
-not_less_of Equal h = refl
-not_less_of Greater h = refl
+-- ---- no more are different than another list has that has them all
+different_most : (xs : Lists) → length (different xs) ≤ length xs
+different_most [] = omega arith
+different_most (x ∷ xs) = omega (arith, length_put_most x (different xs), different_most xs)
 
-not_before : (x m : List ℕ) → cmp x m ≡ Less → is_lt (cmp m x) ≡ false
-not_before x m h = not_less_of (cmp m x) (λ e. less_itself x (less_on x m x h e))
+different_grows : (front xs : Lists) → length (different xs) ≤ length (different (front ++ xs))
+different_grows [] xs = omega arith
+different_grows (x ∷ front) xs = omega (arith, length_put_least x (different (front ++ xs)), different_grows front xs)
 
-pub behind : (xs : List (List ℕ)) (place : ℕ) (d : List ℕ) → IsAscending xs → place < length xs → filter (λ s. is_lt (slice_cmp nat_cmp (get_or xs place d) s)) xs ≡ drop (suc place) xs
-behind [] place d up h = absurd (omega arith)
-behind (x ∷ xs) zero d up h =
-    let own : is_lt (cmp x x) ≡ false = not_less_of (cmp x x) (less_itself x) in
-    rw own (pass_all (λ s. is_lt (cmp x s)) xs (λ s c. ap is_lt (after_head x xs s up c)))
-behind (x ∷ xs) (suc place) d up h =
-    let l : place < length xs = omega arith in
-    let first : is_lt (cmp (get_or xs place d) x) ≡ false = not_before x (get_or xs place d) (all_after x xs up place d l) in
-    rw first (behind xs place d (sorted_tail cmp x xs up) l)
+pub no_more_different : (xs all : List (List ℕ)) → ((s : List ℕ) → Contains xs s → Contains all s) → length (different xs) ≤ length all
+no_more_different xs all h =
+    let same : different (all ++ xs) ≡ different all = same_different (all ++ xs) all
+    (λ s c. elim (Contains-append_cases all xs s c) [ inl d ↦ d | inr d ↦ h s d ])
+    (λ s c. Contains-append_left all xs s c) in
+    omega (arith, different_grows all xs, ap length same, different_most all)
+
+-- ---- as many are different as a list of different ones has
+pub all_different : (xs : List (List ℕ)) → AreDifferent xs → length (different xs) ≡ length xs
+all_different [] d = refl
+all_different (x ∷ xs) d = put_fresh x (different xs) (λ c. d.0 (different_from xs x c)) ∙ ap suc (all_different xs d.1)

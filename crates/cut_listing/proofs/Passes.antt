@@ -1,13 +1,16 @@
--- One pass after another over the sides of a cactus.
-use Rattle.std.proofs.Common.{◌≡◌, ℕ, zero, suc, ◌==◌, ◌||◌, ◌⊎◌, inl, inr, true≢false, ◌+◌, ◌*◌, ◌/◌, ◌<◌, ◌≤◌, Bool, true, List, [], ◌∷◌, ◌++◌, length, take, drop, get_or, refl, sym, ◌∙◌, ap, subst, arith}
-use Rattle.std.specs.Ordering.{nat_cmp, is_lt}
-use Rattle.std.specs.Cmp.Lexicographic.{slice_cmp}
-use Rattle.std.specs.List.{All, filter, flat_map, range_with_len}
+-- Gathering the sides of a walk, and how many are allowed.
+use Rattle.std.proofs.Common.{◌≡◌, ℕ, zero, suc, ◌==◌, ◌||◌, ◌⊎◌, inl, inr, true≢false, ◌+◌, ◌*◌, ◌/◌, ◌<◌, ◌≤◌, Bool, true, List, [], ◌∷◌, ◌++◌, get_or, sym, ◌∙◌, ap, subst, arith}
+use Rattle.std.specs.Prelude.{◌↔◌}
+use Rattle.std.specs.List.{All, Contains, filter, flat_map, range_with_len}
 use Rattle.std.proofs.Math.Nat.{div-mul-le_self}
 use Rattle.std.proofs.lemmas.Nat.{mul-le, le-div}
 use Rattle.std.proofs.lemmas.Bool.{cases_Bool, eqb-true}
-use Rattle.std.proofs.lemmas.List.{append-nil, append_assoc, length-append, length-drop, length-take, take_all, get_or-take, get_or-drop, get_or_push}
-use Rattle.std.proofs.lemmas.List.Elements.{All-head, All-map, filter-append}
+use Rattle.std.proofs.lemmas.List.{append_assoc}
+use Rattle.std.proofs.lemmas.List.Elements.{All-contains, All-head, All-map, filter-append}
+use Rattle.cut_definitions.proofs.Lists.{Contains-filter, Contains-from_filter}
+use Rattle.cactus_tree.specs.Different.{AreDifferent}
+use Rattle.cut_listing.specs.Listings.{different}
+use Rattle.cut_listing.proofs.Listed.{all_from, same_different}
 use Rattle.cut_definitions.specs.Weight.{VertexSet}
 use Rattle.cut_definitions.specs.Cuts.{IsAscendingWithin}
 use Rattle.cut_definitions.proofs.Bridge.{IsAscendingWithin-filter}
@@ -20,8 +23,6 @@ use Rattle.cactus_tree.specs.Rooted.{IsCactus}
 use Rattle.cactus_tree.specs.Trees.{vertices, blocks}
 use Rattle.cactus_tree.proofs.Groups.{contains_has}
 use Rattle.cactus_tree.proofs.Orders.{entered_out}
-use Rattle.cut_listing.specs.Listings.{IsAscending, AgreeTo, different}
-use Rattle.cut_listing.proofs.Listed.{agree_before, behind, different_filter}
 
 abbrev Lists : Type 0
 Lists = List (List ℕ)
@@ -31,58 +32,33 @@ at_most_or_more zero b = inl (omega arith)
 at_most_or_more (suc a) zero = inr (omega arith)
 at_most_or_more (suc a) (suc b) = elim (at_most_or_more a b) [ inl l ↦ inl (omega arith) | inr m ↦ inr (omega arith) ]
 
--- ---- one pass
+-- ---- the sides
 pub sides_ascend : (c : Rooted) → All (IsAscendingWithin 1 c.vertices) (sides_of c)
 sides_ascend c = All-map (IsAscendingWithin 1 c.vertices) (λ (s : VertexSet). filter s (range_with_len 1 c.vertices)) (cuts c.root)
     (λ k d l. IsAscendingWithin-filter c.vertices 1 c.vertices (get_or (cuts c.root) k d) (omega arith))
 
-filter_both : (p q : List ℕ → Bool) (m : List ℕ) (rest : Lists) → filter p (filter q (m ∷ rest)) ≡ filter p (filter q (m ∷ [])) ++ filter p (filter q rest)
-filter_both p q m rest = ap (filter p) (filter-append q (m ∷ []) rest) ∙ filter-append p (filter q (m ∷ [])) (filter q rest)
+-- the sides that a walk gives
+pub given_ascend : (c : Rooted) (to_come : List (List ℕ)) → ((s : List ℕ) → Contains to_come s ↔ Contains (sides_of c) s) → All (IsAscendingWithin 1 c.vertices) to_come
+given_ascend c to_come same = all_from (IsAscendingWithin 1 c.vertices) to_come (λ s h. All-contains (IsAscendingWithin 1 c.vertices) (sides_of c) s (sides_ascend c) ((same s).0 h))
 
--- a step of a pass: the first of the sides still to come was gathered, if it is to be
-pub gathered : (count : ℕ) (p q : List ℕ → Bool) (old new to_come rest whole : List (List ℕ)) (m : List ℕ) → to_come ≡ m ∷ rest
-    → AgreeTo count new (old ++ filter p (filter q (m ∷ [])))
-    → AgreeTo count (old ++ filter p (filter q to_come)) whole
-    → AgreeTo count (new ++ filter p (filter q rest)) whole
-gathered count p q old new to_come rest whole m e step before =
-    agree_before count new (old ++ filter p (filter q (m ∷ []))) (filter p (filter q rest)) step
-    ∙ ap (λ l. take count (different l)) (append_assoc old (filter p (filter q (m ∷ []))) (filter p (filter q rest)) ∙ ap (λ l. old ++ l) (sym (ap (λ l. filter p (filter q l)) e ∙ filter_both p q m rest)))
-    ∙ before
+pub given_asked : (q : List ℕ → Bool) (xs ys : List (List ℕ)) → ((s : List ℕ) → Contains xs s ↔ Contains ys s) → different (filter q xs) ≡ different (filter q ys)
+given_asked q xs ys same = same_different (filter q xs) (filter q ys)
+    (λ s h. let d = Contains-from_filter q xs s h in Contains-filter q ys s ((same s).0 d.0) d.1)
+    (λ s h. let d = Contains-from_filter q ys s h in Contains-filter q xs s ((same s).1 d.0) d.1)
 
--- the end of a pass
-pub pass_done : (count : ℕ) (p q : List ℕ → Bool) (found kept to_come sides : List (List ℕ)) → to_come ≡ [] → kept ≡ take count (different found)
-    → AgreeTo count (found ++ filter p (filter q to_come)) (filter p (filter q sides))
-    → kept ≡ take count (filter p (different (filter q sides)))
-pass_done count p q found kept to_come sides e least agrees =
-    least ∙ ap (λ l. take count (different l)) (sym (append-nil found)) ∙ ap (λ l. take count (different (found ++ filter p (filter q l)))) (sym e) ∙ agrees
-    ∙ ap (take count) (different_filter p (filter q sides))
+pub asked_differ : (q : List ℕ → Bool) (xs : List (List ℕ)) → AreDifferent xs → AreDifferent (filter q xs)
+asked_differ q [] d = tt
+asked_differ q (x ∷ xs) d = elim (cases_Bool (q x)) [
+  | inl is ↦ rw is ((λ c. d.0 (Contains-from_filter q xs x c).0), asked_differ q xs d.1)
+  | inr out ↦ rw out (asked_differ q xs d.1)
+]
 
--- ---- the next pass
-pub next_pass : (all found rest : List (List ℕ)) (m : List ℕ) (count counted size : ℕ) → IsAscending all → found ≡ take count (drop counted all) → found ≡ rest ++ m ∷ [] → length found ≡ size
-    → filter (λ s. is_lt (slice_cmp nat_cmp m s)) all ≡ drop (counted + size) all
-next_pass all found rest m count counted size up e f l =
-    let places : length found ≡ length rest + 1 = ap length f ∙ length-append rest (m ∷ []) in
-    let taken : length found ≡ length (take count (drop counted all)) = ap length e in
-    let within : (length rest < count) × (counted + length rest < length all) =
-    (omega (arith, places, taken, length-take count (drop counted all), length-drop counted all), omega (arith, places, taken, length-take count (drop counted all), length-drop counted all)) in
-    let last : get_or all (counted + length rest) [] ≡ m =
-    sym (get_or-drop counted all (length rest) []) ∙ sym (get_or-take count (drop counted all) (length rest) [] within.0) ∙ ap (λ xs. get_or xs (length rest) []) (sym e ∙ f) ∙ get_or_push rest m [] (length rest) refl in
-    let next : suc (counted + length rest) ≡ counted + size = omega (arith, places, l) in
-    ap (λ t. filter (λ s. is_lt (slice_cmp nat_cmp t s)) all) (sym last)
-    ∙ behind all (counted + length rest) [] up within.1
-    ∙ ap (λ k. drop k all) next
+-- a step of the walk: the first of the sides still to come was gathered, if it is asked for
+pub gathered : (q : List ℕ → Bool) (old new to_come rest : List (List ℕ)) (m : List ℕ) → to_come ≡ m ∷ rest → new ≡ old ++ filter q (m ∷ []) → new ++ filter q rest ≡ old ++ filter q to_come
+gathered q old new to_come rest m e f =
+    ap (λ l. l ++ filter q rest) f ∙ append_assoc old (filter q (m ∷ [])) (filter q rest) ∙ ap (λ l. old ++ l) (sym (ap (filter q) e ∙ filter-append q (m ∷ []) rest))
 
--- what is found goes no further than all
-pub counted_within : (all found : List (List ℕ)) (count counted size : ℕ) → counted ≤ length all → found ≡ take count (drop counted all) → length found ≡ size → counted + size ≤ length all
-counted_within all found count counted size h e l = omega (arith, h, l, ap length e, length-take count (drop counted all), length-drop counted all)
-
--- ---- all passes
-pub least_is_all : (all found : List (List ℕ)) (most : ℕ) → found ≡ take (most + 1) all → length found ≤ most → found ≡ all
-least_is_all all found most e h = e ∙ take_all (most + 1) all (omega (arith, h, ap length e, length-take (most + 1) all))
-
-pub least_not_all : (all found : List (List ℕ)) (most : ℕ) → found ≡ take (most + 1) all → most < length found → most < length all
-least_not_all all found most e h = omega (arith, h, ap length e, length-take (most + 1) all)
-
+-- ---- how many are allowed
 pub few_fit : (count largest n size : ℕ) → count ≤ largest / n → size ≡ n → count * size ≤ largest
 few_fit count largest n size h f =
     let grown : count * n ≤ (largest / n) * n = mul-le count n (largest / n) n h (omega arith) in

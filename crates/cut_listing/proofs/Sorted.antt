@@ -1,24 +1,26 @@
--- Sides over one n, sorted and without repeats, are the different ones of those that were sorted.
-use Rattle.std.proofs.Common.{◌≡◌, ℕ, true, List, [], ◌∷◌, take, get_or, refl, sym, ◌∙◌, ap, subst, true≢false}
+-- Sides over one n, sorted, are their listing, where they are different.
+use Rattle.std.proofs.Common.{◌≡◌, ℕ, suc, ◌≤◌, Bool, cond, true, inl, inr, List, [], ◌∷◌, length, get_or, refl, sym, ◌∙◌, ap, subst, arith, true≢false}
 use Rattle.std.specs.declared.cmp.Ordering.{Ordering}
 use Rattle.std.specs.declared.cmp.Ordering.TheVariants.{Less, Equal, Greater}
 use Rattle.std.specs.Ordering.{nat_cmp, is_lt, is_eq, eq_by_cmp, ordering_then}
 use Rattle.std.specs.Cmp.{IsTotalOrder}
 use Rattle.std.specs.Cmp.Lexicographic.{slice_cmp}
-use Rattle.std.specs.List.{All, Contains, dedup}
+use Rattle.std.specs.List.{All, Contains, dedup, dedup_from}
+use Rattle.std.proofs.lemmas.Bool.{cases_Bool}
 use Rattle.std.specs.List.Sorted.{IsStrictlySortedBy, IsPermutation, IsSorted}
 use Rattle.std.proofs.lemmas.Cmp.{nat_list_cmp_total, nat_cmp_total, then_total, on_total, tied_itself, eq_by_cmp_equiv}
-use Rattle.std.proofs.lemmas.List.{take-map}
-use Rattle.std.proofs.lemmas.List.Elements.{All-head, All-tail, All-take, All-map, All-from_recursion}
+use Rattle.std.proofs.lemmas.List.{length-map}
+use Rattle.std.proofs.lemmas.List.Elements.{All-head, All-tail, All-map, All-from_recursion}
 use Rattle.std.proofs.lemmas.List.Filters.{All-dedup}
 use Rattle.std.proofs.lemmas.List.Kept.{Contains-dedup, Contains-from_dedup, IsStrictlySortedBy-dedup}
-use Rattle.std.proofs.lemmas.List.Sorted.{All-permutation, Contains-permutation, IsPermutation-sym}
+use Rattle.std.proofs.lemmas.List.Sorted.{All-permutation, Contains-permutation, IsPermutation-sym, length_permutation}
 use Rattle.std.proofs.lemmas.Map.Keys.{sorted_head, sorted_tail}
 use Rattle.std.proofs.lemmas.Map.Lookups.{exact_bytes, exact_unsigned}
 use Rattle.cut_definitions.proofs.Lists.{Contains-map, Contains-from_map}
 use Rattle.vertex_set.specs.Side.{VertexList}
+use Rattle.cactus_tree.specs.Different.{AreDifferent}
 use Rattle.cut_listing.specs.Listings.{IsAscending, members_of, different}
-use Rattle.cut_listing.proofs.Listed.{ascending_cons, ascending_nil, is_different}
+use Rattle.cut_listing.proofs.Listed.{all_different, ascending_cons, ascending_nil, is_different}
 
 -- what `Side::compare` answers
 abbrev pub side_cmp : VertexList → VertexList → Ordering
@@ -62,11 +64,6 @@ members_ascending n (x ∷ xs) over up =
     (λ k d l. sym (then_same (slice_cmp nat_cmp x.members (get_or xs k d).members) x.vertices (get_or xs k d).vertices (own ∙ sym (rest k d l))) ∙ later k d l))
     (members_ascending n xs rest (sorted_tail side_cmp x xs up))
 
-pub over_n : (n count : ℕ) (old sorted left kept : List VertexList) → All (λ (s : VertexList). s.vertices ≡ n) old → IsPermutation old sorted → left ≡ dedup (eq_by_cmp side_cmp) sorted → kept ≡ take count left → All (λ (s : VertexList). s.vertices ≡ n) kept
-over_n n count old sorted left kept over moved e f =
-    let at_left = subst (All (λ (s : VertexList). s.vertices ≡ n)) (sym e) (All-dedup (eq_by_cmp side_cmp) (λ (s : VertexList). s.vertices ≡ n) sorted (All-permutation (λ (s : VertexList). s.vertices ≡ n) old sorted moved over)) in
-    subst (All (λ (s : VertexList). s.vertices ≡ n)) (sym f) (All-take (λ (s : VertexList). s.vertices ≡ n) count left at_left)
-
 no_repeats : (n : ℕ) (old sorted : List VertexList) → All (λ (s : VertexList). s.vertices ≡ n) old → IsPermutation old sorted → IsSorted side_cmp sorted → members_of (dedup (eq_by_cmp side_cmp) sorted) ≡ different (members_of old)
 no_repeats n old sorted over moved up =
     let left = dedup (eq_by_cmp side_cmp) sorted in
@@ -79,6 +76,39 @@ no_repeats n old sorted over moved up =
     subst (Contains (members_of left)) x.2 (Contains-map (λ (s : VertexList). s.members) left x.0
     (Contains-dedup (eq_by_cmp_equiv side_total) (λ a b e. one_side a b (from_is_eq (side_cmp a b) e)) sorted x.0 (Contains-permutation old sorted x.0 moved x.1))))
 
-pub least_kept : (n count : ℕ) (old sorted left kept : List VertexList) → All (λ (s : VertexList). s.vertices ≡ n) old → IsPermutation old sorted → IsSorted side_cmp sorted → left ≡ dedup (eq_by_cmp side_cmp) sorted → kept ≡ take count left → members_of kept ≡ take count (different (members_of old))
-least_kept n count old sorted left kept over moved up e f =
-    ap members_of f ∙ sym (take-map (λ (s : VertexList). s.members) count left) ∙ ap (λ l. take count (members_of l)) e ∙ ap (take count) (no_repeats n old sorted over moved up)
+-- ---- no repeats to drop
+shorter : {X : Type 0} (E : X → X → Bool) (k : X) (xs : List X) → length (dedup_from E k xs) ≤ suc (length xs)
+shorter E k [] = omega arith
+shorter E k (x ∷ xs) = elim (cases_Bool (E x k)) [
+  | inl is ↦ rw is (omega (arith, shorter E k xs))
+  | inr other ↦ rw other (omega (arith, shorter E x xs))
+]
+
+all_kept : {X : Type 0} (E : X → X → Bool) (k : X) (xs : List X) → suc (length xs) ≤ length (dedup_from E k xs) → dedup_from E k xs ≡ k ∷ xs
+all_kept E k [] h = refl
+all_kept E k (x ∷ xs) h = elim (cases_Bool (E x k)) [
+  | inl is ↦ (
+      let e : dedup_from E k (x ∷ xs) ≡ dedup_from E k xs = ap (λ b. cond b (dedup_from E k xs) (k ∷ dedup_from E x xs)) is in
+      absurd (omega (arith, h, ap length e, shorter E k xs)))
+  | inr other ↦ (
+      let e : dedup_from E k (x ∷ xs) ≡ k ∷ dedup_from E x xs = ap (λ b. cond b (dedup_from E k xs) (k ∷ dedup_from E x xs)) other in
+      e ∙ ap (λ l. k ∷ l) (all_kept E x xs (omega (arith, h, ap length e))))
+]
+
+none_dropped : {X : Type 0} (E : X → X → Bool) (xs : List X) → length xs ≤ length (dedup E xs) → dedup E xs ≡ xs
+none_dropped E [] h = refl
+none_dropped E (x ∷ xs) h = all_kept E x xs h
+
+pub all_sorted : (n : ℕ) (old sorted : List VertexList) → All (λ (s : VertexList). s.vertices ≡ n) old → AreDifferent (members_of old) → IsPermutation old sorted → IsSorted side_cmp sorted → members_of sorted ≡ different (members_of old)
+all_sorted n old sorted over differ moved up =
+    let left = dedup (eq_by_cmp side_cmp) sorted in
+    let same : members_of left ≡ different (members_of old) = no_repeats n old sorted over moved up in
+    let many : length sorted ≤ length left = omega (
+      arith,
+      ap length same,
+      all_different (members_of old) differ,
+      length-map left (λ (s : VertexList). s.members),
+      length-map old (λ (s : VertexList). s.members),
+      length_permutation old sorted moved,
+    ) in
+    sym (ap members_of (none_dropped (eq_by_cmp side_cmp) sorted many)) ∙ same

@@ -3,6 +3,7 @@ use Rattle.std.specs.Prelude.{ℕ, Bool, ◌≡◌, ◌↔◌, List, length}
 use Rattle.std.specs.List.{Contains, filter}
 use Rattle.cut_definitions.specs.Graph.{Graph}
 use Rattle.cut_definitions.specs.Cuts.{sides, mincuts}
+use Rattle.cactus_tree.specs.Different.{HasDifferent}
 use Rattle.cactus_tree.specs.Rooted.{Rooted, sides_of}
 use Rattle.cut_listing.specs.declared.ask.Ask.{Ask}
 use Rattle.cut_listing.specs.Asks.{lets}
@@ -28,3 +29,9 @@ abbrev pub LawOfCount : Type 0
 LawOfCount = (g : Graph) (cactus : Rooted) (ask : Ask) (count : ℕ) →
     ((side : List ℕ) → Contains (sides_of cactus) side ↔ Contains (mincuts g) side) →
     HaveDifferent (asked_sides ask cactus) count → count ≡ length (filter (lets ask) (mincuts g))
+
+-- where the sides of a cactus are the minimum cuts of a graph, the number of its different sides is theirs
+abbrev pub LawOfNumber : Type 0
+LawOfNumber = (g : Graph) (cactus : Rooted) (count : ℕ) →
+    ((side : List ℕ) → Contains (sides_of cactus) side ↔ Contains (mincuts g) side) →
+    HasDifferent count (sides_of cactus) → count ≡ length (mincuts g)

@@ -1,3 +1,5 @@
 pub mod Asks
 pub mod Listings
 pub mod Laws
+pub mod Parting
+pub mod Standing

@@ -1,12 +1,11 @@
 -- Listings: the different lists of several, each once, in the order of lists.
-use Rattle.std.specs.Prelude.{ℕ, Bool, true, ◌≡◌, ◌↔◌, ◌*◌, ◌<◌, ◌≤◌, Option, Some, None, List, [], ◌∷◌, length, map, take}
+use Rattle.std.specs.Prelude.{ℕ, ◌≡◌, ◌↔◌, ◌*◌, ◌<◌, ◌≤◌, List, [], ◌∷◌, length, map}
 use Rattle.std.specs.List.{All, Contains, filter}
 use Rattle.std.specs.List.Sorted.{IsStrictlySortedBy}
-use Rattle.std.specs.Ordering.{nat_cmp, is_lt}
+use Rattle.std.specs.Ordering.{nat_cmp}
 use Rattle.std.specs.Cmp.Lexicographic.{slice_cmp}
 use Rattle.std.specs.declared.cmp.Ordering.{Ordering}
 use Rattle.std.specs.declared.cmp.Ordering.TheVariants.{Less, Equal, Greater}
-use Rattle.std.specs.Borrow.{Bor}
 use Rattle.cactus_tree.specs.Rooted.{Rooted, sides_of}
 use Rattle.vertex_set.specs.Side.{VertexList}
 use Rattle.cut_listing.specs.declared.ask.Ask.{Ask}
@@ -62,12 +61,3 @@ put x (y ∷ ys) = put_by (slice_cmp nat_cmp x y) x y ys (put x ys)
 abbrev pub different : List (List ℕ) → List (List ℕ)
 different [] = []
 different (x ∷ xs) = put x (different xs)
-
--- whether a side comes after another, where there is one
-abbrev pub is_after : Option (Bor VertexList) → List ℕ → Bool
-is_after None side = true
-is_after (Some bound) side = is_lt (slice_cmp nat_cmp bound.now.members side)
-
--- two lists agree in the least `count` of their different members
-abbrev pub AgreeTo : ℕ → List (List ℕ) → List (List ℕ) → Type 0
-AgreeTo count xs ys = take count (different xs) ≡ take count (different ys)

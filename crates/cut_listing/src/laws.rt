@@ -1,6 +1,6 @@
 //! Laws of listings. Each function does nothing, and its contract is a law.
 
-ghost use Rattle.cut_listing.specs.Laws.{LawOfCount, LawOfMinimumCuts, LawOfOneListing, LawOfSides};
+ghost use Rattle.cut_listing.specs.Laws.{LawOfCount, LawOfMinimumCuts, LawOfNumber, LawOfOneListing, LawOfSides};
 
 /// There is one listing of some sides.
 pub fn one_listing()
@@ -20,4 +20,9 @@ pub fn minimum_cuts_in_order()
 /// The number of the different sides of such a cactus.
 pub fn count_of_minimum_cuts()
     ensures { LawOfCount }
+{}
+
+/// The number of the different sides of such a cactus, as its tree counts them.
+pub fn number_of_minimum_cuts()
+    ensures { LawOfNumber }
 {}

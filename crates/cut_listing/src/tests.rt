@@ -1,4 +1,4 @@
-ghost use Rattle.std.specs.Prelude.{◌≡◌, [], ◌∷◌, ◌++◌, IfOk, length, map};
+ghost use Rattle.std.specs.Prelude.{◌≡◌, ◌≤◌, [], ◌∷◌, ◌++◌, IfOk, length, map};
 ghost use Rattle.std.specs.List.{flat_map};
 ghost use Rattle.cactus_tree.specs.Entered.{entered};
 ghost use Rattle.cactus_tree.specs.Trees.{nodes_in};
@@ -45,17 +45,6 @@ fn leaves(alloc: Global, own: &[u32]) -> Result<Children, AllocError>
     Ok(nodes)
 }
 
-// The node with a bridge more, down to a child.
-fn with_bridge(alloc: Global, node: Node, child: Node) -> Result<Node, AllocError>
-    ensures entered { IfOk result (λ x. entered x ≡ entered node ++ entered child) }
-    ensures widths { IfOk result (λ x. widths x ≡ widths node ++ widths child) }
-{
-    let mut node = node;
-    let child = Box::new(alloc, child)?;
-    node.blocks.push(Block::Bridge(child))?;
-    Ok(node)
-}
-
 // The node with a cycle more, through some nodes.
 fn with_cycle(node: Node, ring: Children) -> Result<Node, AllocError>
     ensures entered { IfOk result (λ x. entered x ≡ entered node ++ flat_map entered (nodes_in ring)) }
@@ -76,16 +65,31 @@ fn one_ring(alloc: Global) -> Result<Cactus, AllocError>
     Ok(Cactus::from_root(4, tree))
 }
 
-// The cactus of 1, with a bridge down to an empty node, and from there one down to 2: both have the side 2.
-fn two_bridges(alloc: Global) -> Result<Cactus, AllocError>
-    ensures { IfOk result (λ c. c.vertices ≡ 2) }
+// The two nodes of a cycle.
+fn pair(alloc: Global, first: Node, second: Node) -> Result<Children, AllocError>
+    ensures count { IfOk result (λ c. length (nodes_in c) ≡ 2) }
+    ensures entered { IfOk result (λ c. flat_map entered (nodes_in c) ≡ entered first ++ entered second) }
+    ensures widths { IfOk result (λ c. flat_map widths (nodes_in c) ≡ widths first ++ widths second) }
 {
-    let root = leaf(alloc, &[1])?;
+    let mut nodes = Children::new(alloc);
+    nodes.push(first)?;
+    nodes.push(second)?;
+    Ok(nodes)
+}
+
+// The cactus of 1, with a cycle through an empty node and 2; the empty node has a cycle through 3 and 4. Both cycles have
+// the side 3, 4.
+fn two_rings(alloc: Global) -> Result<Cactus, AllocError>
+    ensures { IfOk result (λ c. c.vertices ≡ 4) }
+{
     let middle = leaf(alloc, &[])?;
-    let lowest = leaf(alloc, &[2])?;
-    let lower = with_bridge(alloc, middle, lowest)?;
-    let tree = with_bridge(alloc, root, lower)?;
-    Ok(Cactus::from_root(2, tree))
+    let inner = leaves(alloc, &[3, 4])?;
+    let upper = with_cycle(middle, inner)?;
+    let two = leaf(alloc, &[2])?;
+    let ring = pair(alloc, upper, two)?;
+    let root = leaf(alloc, &[1])?;
+    let tree = with_cycle(root, ring)?;
+    Ok(Cactus::from_root(4, tree))
 }
 
 // Whether the side has these vertices and no other.
@@ -103,10 +107,19 @@ fn has_at(sides: &[Side], at: usize, vertices: &[u32]) -> bool {
     at < sides.len() && has_exactly(&sides[at], vertices)
 }
 
-// The sides that an ask lets through, by a closure that tests it.
-fn listed(alloc: Global, cactus: &Cactus, ask: Ask) -> Result<Vec<Side>, Fail>
-    requires { IsAskWithin cactus.now.vertices ask }
+// The sides that an ask lets through, by a closure that tests it, where their number times n is no larger than allowed.
+fn listed_within(
+    alloc: Global,
+    cactus: &Cactus,
+    ask: Ask,
+    largest: u64,
+) -> Result<Result<Vec<Side>, ListRefusal>, Fail>
+    requires ask { IsAskWithin cactus.now.vertices ask }
+    requires few { cactus.now.vertices ≤ 4194304 }
 {
+    if !cactus.is_normal() {
+        return Err(Fail::from("not normal"));
+    }
     let keep = Box::new(
         alloc,
         move |side: &Side|
@@ -119,7 +132,14 @@ fn listed(alloc: Global, cactus: &Cactus, ask: Ask) -> Result<Vec<Side>, Fail>
         },
     )?;
     let lister = Lister::new(cactus.n(), ask, keep);
-    match lister.list(alloc, cactus) {
+    Ok(lister.list_within(alloc, cactus, largest))
+}
+
+fn listed(alloc: Global, cactus: &Cactus, ask: Ask) -> Result<Vec<Side>, Fail>
+    requires ask { IsAskWithin cactus.now.vertices ask }
+    requires few { cactus.now.vertices ≤ 4194304 }
+{
+    match listed_within(alloc, cactus, ask, 1000)? {
         Ok(sides) => Ok(sides),
         Err(_) => Err(Fail::from("no listing")),
     }
@@ -156,10 +176,14 @@ fn all_sides_of_a_ring(rt: HostRuntime) -> Result<(), Fail> {
 #[test]
 fn a_repeat_comes_once(rt: HostRuntime) -> Result<(), Fail> {
     let alloc = rt.alloc();
-    let cactus = two_bridges(alloc)?;
+    let cactus = two_rings(alloc)?;
     let sides = listed(alloc, &cactus, Ask::All)?;
-    assert_eq!(rt; sides.len(), 1);
+    assert_eq!(rt; sides.len(), 5);
     assert!(rt; has_at(&sides, 0, &[2]));
+    assert!(rt; has_at(&sides, 1, &[2, 3, 4]));
+    assert!(rt; has_at(&sides, 2, &[3]));
+    assert!(rt; has_at(&sides, 3, &[3, 4]));
+    assert!(rt; has_at(&sides, 4, &[4]));
     Ok(())
 }
 
@@ -171,15 +195,20 @@ fn one_node_has_no_side(rt: HostRuntime) -> Result<(), Fail> {
     Ok(())
 }
 
+// Whether a listing is refused, with the number of its sides and n.
+fn is_too_large(listing: Result<Vec<Side>, ListRefusal>, cuts: u64, n: u32) -> bool {
+    listing.err() == Some(ListRefusal::TooLarge { cuts, n })
+}
+
 #[test]
 fn too_many_sides_are_counted(rt: HostRuntime) -> Result<(), Fail> {
     let alloc = rt.alloc();
-    let cactus = one_ring(alloc)?;
-    let lister = Lister::new(4, Ask::All, Box::new(alloc, |_side: &Side| true)?);
-    for largest in [0, 4, 11, 23] {
-        let refused = lister.list_within(alloc, &cactus, largest).err();
-        assert_eq!(rt; refused, Some(ListRefusal::TooLarge { cuts: 6, n: 4 }));
-    }
-    assert!(rt; lister.list_within(alloc, &cactus, 24).is_ok());
+    let cactus = two_rings(alloc)?;
+    let all = listed_within(alloc, &cactus, Ask::All, 19)?;
+    assert!(rt; is_too_large(all, 5, 4));
+    let parting = listed_within(alloc, &cactus, Ask::Parting(2, 3), 11)?;
+    assert!(rt; is_too_large(parting, 3, 4));
+    assert!(rt; listed_within(alloc, &cactus, Ask::All, 20)?.is_ok());
+    assert!(rt; listed_within(alloc, &cactus, Ask::Parting(2, 3), 12)?.is_ok());
     Ok(())
 }
