@@ -1,5 +1,5 @@
 -- Searches around both lists from a hub, what they show of what is left between, and how much that is.
-use Rattle.std.proofs.Common.{◌≡◌, ℕ, zero, suc, ◌+◌, ◌<◌, ◌≤◌, ◌⊎◌, inl, inr, ⊎_elim, Bool, true, false, not, ◌&&◌, ◌||◌, ltb, leb, List, [], length, get_or, refl, sym, ◌∙◌, subst, ap, arith}
+use Rattle.std.proofs.Common.{◌≡◌, ℕ, zero, suc, ◌+◌, ◌<◌, ◌≤◌, ◌⊎◌, inl, inr, ⊎_elim, Bool, true, false, not, ◌&&◌, ltb, leb, List, [], length, get_or, refl, sym, ◌∙◌, subst, ap, arith}
 use Rattle.std.specs.Prelude.{◌≢◌, ◌==◌, if◌then◌else◌, Some, Result, Ok, Err, IfOk}
 use Rattle.std.specs.List.{Contains}
 use Rattle.std.proofs.lemmas.Bool.{cases_eq, cases_Bool, eq-eqb, eqb-true}
@@ -204,12 +204,6 @@ inner_settled g f t mid new hub same stays h some v at = settled_on Inner g f t 
     (h (subst (λ (x : ListingState). 1 ≤ x.count) same some) v (subst (λ (x : ListingState). Contains x.border v) same at))
 
 -- ---- what is left
-
--- a vertex that is said to be listed is listed on one side
-pub listed_either : (a b : ℕ) → (ltb 0 a || ltb 0 b) ≡ true → (1 ≤ a) ⊎ (1 ≤ b)
-listed_either (suc a) b h = inl (omega arith)
-listed_either zero (suc b) h = inr (omega arith)
-listed_either zero zero h = cc
 
 -- where all around both lists is settled for a hub, no member is left between
 pub none_left : (g : Graph) (f : RegionState) (t : ℕ) (s : Splitter) (hub : Hub) → IsBetween g f t s → IsHub g f t s hub → (1 ≤ s.inner.count → IsInnerSettled g f t hub s) →

@@ -83,7 +83,7 @@ border g ok connected x y hx hy sub some =
       some_in = some;
       some_out = record { vertex = out.vertex; from_one = out.from_one; to_n = out.to_n; is_in = minus_out (x out.vertex) (y out.vertex) out.is_in };
     } in
-    let one : 1 ≤ weight g d = connected d cut in
+    let one : 1 ≤ weight g d = connected.each_cut d cut in
     let le : weight g y ≤ weight g x = hy.least x hx.is_cut in
     some_term (λ e. joins x d e.u e.v) g.edges (omega (arith, same, apart, one, le))
 

@@ -23,7 +23,7 @@ first_in a b c h k = grind arith
 second_in : (a b c : Bool) → a ≡ (b || c) → c ≡ true → a ≡ true
 second_in a b c h k = grind arith
 
-same_tests : (a b : Bool) → (a ≡ true → b ≡ true) → (b ≡ true → a ≡ true) → a ≡ b
+pub same_tests : (a b : Bool) → (a ≡ true → b ≡ true) → (b ≡ true → a ≡ true) → a ≡ b
 same_tests true b h k = sym (h refl)
 same_tests false true h k = k refl
 same_tests false false h k = refl
@@ -61,7 +61,7 @@ under_before n under i last x y z same rest lt union = record {
       (cases_eq j i);
 }
 
-under_after : (n : ℕ) (under : ℕ → VertexSet) (first last : ℕ) (x y z : VertexSet) → IsUnder n under first last y → SameOn n (under (last + 1)) z → first ≤ last →
+pub under_after : (n : ℕ) (under : ℕ → VertexSet) (first last : ℕ) (x y z : VertexSet) → IsUnder n under first last y → SameOn n (under (last + 1)) z → first ≤ last →
     ((v : ℕ) → x v ≡ (y v || z v)) → IsUnder n under first (last + 1) x
 under_after n under first last x y z rest same le union = record {
   each = λ v a b h. ⊎_elim

@@ -3,6 +3,7 @@ pub mod Hanging
 pub mod Splitting
 pub mod Growing
 pub mod Listing
+pub mod Lifting
 pub mod Making
 pub mod Sweeps
 pub mod Finding
@@ -18,6 +19,7 @@ pub mod Regrouping
 pub mod Regrouped
 pub mod Weighing
 pub mod PartWeights
+pub mod Passing
 pub mod Linking
 pub mod RegionSteps
 pub mod Reaching

@@ -49,7 +49,7 @@ open_vertices g labels ok connected root shut v v1 vn = ⊎_elim
       some_in = record { vertex = v; from_one = v1; to_n = vn; is_in = eq-eqb r r refl };
       some_out = record { vertex = 1; from_one = omega arith; to_n = omega (arith, v1, vn); is_in = not_false_is (s 1) (ne_eqb (get_or labels 1 0) r (λ e. absurd (omega (arith, e, root, l)))) };
     } in
-    let found = some_term (λ e. parts s e.u e.v) g.edges (connected s cut) in
+    let found = some_term (λ e. parts s e.u e.v) g.edges (connected.each_cut s cut) in
     let e = found.0 in
     let rows = stands g ok e found.1 in
     let range : IsEdgeWithin g.vertices e = All-contains (IsEdgeWithin g.vertices) g.edges e ok.in_range found.1 in

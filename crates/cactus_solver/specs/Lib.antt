@@ -1,4 +1,5 @@
 pub mod Parted
+pub mod Passed
 pub mod TreeSets
 pub mod Hung
 pub mod Growing
@@ -33,4 +34,5 @@ pub mod Solved
 pub mod Listing
 pub mod Split
 pub mod Between
+pub mod Finished
 pub mod Settling

@@ -1,6 +1,6 @@
 //! What is left between the lists of the two sides.
 
-ghost use Rattle.std.specs.Prelude.{◌≡◌, ◌≢◌, ◌+◌, ◌<◌, ◌≤◌, ◌⊎◌, ℕ, true, false, None, IfOk, IfSome, OnOk, IsTrue, IsFalse, length, slice_index};
+ghost use Rattle.std.specs.Prelude.{◌≡◌, ◌≢◌, ◌+◌, ◌<◌, ◌≤◌, ◌⊎◌, ℕ, true, false, None, IfOk, IfSome, OnOk, IsTrue, IsFalse, length, slice_get, slice_index};
 ghost use Rattle.std.specs.List.{Contains};
 ghost use Rattle.region_flow.specs.Regions.{IsRegionFlow};
 ghost use Rattle.cactus_solver.specs.declared.side.Side.TheVariants.{Outer};
@@ -9,12 +9,14 @@ ghost use Rattle.cactus_solver.specs.Found.{IsNoneFound};
 ghost use Rattle.cactus_solver.specs.Fronts.{list_at};
 ghost use Rattle.cactus_solver.specs.Hubs.{HaveBegun};
 ghost use Rattle.cactus_solver.specs.Parted.{AreLightParts};
+ghost use Rattle.cactus_solver.specs.Passed.{ArePassed, IsLeft, IsPassed};
 ghost use Rattle.cactus_solver.specs.Regional.{IsNoneBetween, two_sided};
 ghost use Rattle.cactus_solver.specs.Between.{IsInnerSettled, IsOuterSettled, parts_between};
 ghost use Rattle.cactus_solver.specs.Split.{AreAtFront, GoesOnSettling, IsBetween, IsFurther, IsHub, IsSearching, StaysListed, inner_set, outer_of, outer_set};
 
 use crate::fronts::Fronts;
 use crate::hub::Hub;
+use crate::passed::Passed;
 use crate::region::Region;
 use crate::side::Side;
 use crate::splitter::Splitter;
@@ -30,11 +32,13 @@ pub enum Between {
 }
 
 impl Splitter {
-    /// The hub of what is left between the lists; none where no vertex that is left is beside the list from `t`.
-    fn choose_hub(&self, region: Region<'_>) -> Option<Hub>
+    /// The hub of what is left between the lists; none where no vertex that is left is beside the list from `t`. All that is
+    /// beside it before the first such vertex was passed.
+    fn choose_hub(&self, region: Region<'_>, passed: Passed) -> Option<Hub>
         requires between { IsBetween region.graph.now region.flow.now region.t self.now }
-        requires labels { length region.flow.now.labels ≡ region.graph.now.vertices + 1 }
         requires some { 1 ≤ self.now.inner.count + self.now.outer.count }
+        requires passed { IsPassed region.flow.now region.t self.now self.now.inner.border passed.inner }
+        requires left { IfSome (slice_get self.now.inner.border passed.inner) (IsLeft region.flow.now region.t self.now) }
         ensures hub { IfSome result (IsHub region.entry.graph.now region.entry.flow.now region.entry.t self.now) }
         ensures none { result ≡ None → (1 ≤ self.now.inner.count) × (1 ≤ self.now.outer.count)
             × ((v : ℕ) → Contains self.now.inner.border v → slice_index region.entry.flow.now.labels v ≡ slice_index region.entry.flow.now.labels region.entry.t →
@@ -46,33 +50,36 @@ impl Splitter {
         if self.inner.count() == 0 {
             return Some(Hub::At(region.t));
         }
-        for v in self.inner.border() {
-            if region.flow.label(*v) == region.label() && !self.is_listed(*v) {
-                return Some(Hub::At(*v));
-            }
-        }
-        None
+        let v = self.beside(Side::Inner, passed.inner)?;
+        Some(Hub::At(v))
     }
 
     /// Settles all around the list from the outside. Answers false where the search of the hub ended first.
-    fn settle_outer(&mut self, region: Region<'_>, fronts: &mut Fronts) -> Result<bool, NoMemory>
+    fn settle_outer(
+        &mut self,
+        region: Region<'_>,
+        fronts: &mut Fronts,
+        passed: Passed,
+    ) -> Result<bool, NoMemory>
         requires flow { IsRegionFlow region.graph.now region.flow.now }
         requires searching { IsSearching Outer region.graph.now region.flow.now region.t self.old }
         requires near { IsNoneFound region.graph.now.vertices self.old.near }
         requires front { AreAtFront region.graph.now region.flow.now region.t fronts.old }
         requires begun { HaveBegun region.flow.now region.t (list_at fronts.old.lists (slice_index region.flow.now.labels region.t)) self.old.hub }
         requires unread { self.old.hub.place ≡ 0 }
+        requires passed { ArePassed region.flow.now region.t fronts.old self.old passed }
         ensures searching { OnOk result (IsSearching Outer region.entry.graph.now region.entry.flow.now region.entry.t self.new) }
         ensures near { OnOk result (IsNoneFound region.entry.graph.now.vertices self.new.near) }
         ensures goes_on { OnOk result (GoesOnSettling Outer self.old self.new) }
         ensures front { AreAtFront region.entry.graph.now region.entry.flow.now region.entry.t fronts.new }
+        ensures passed { OnOk result (ArePassed region.entry.flow.now region.entry.t fronts.new self.new passed) }
         ensures settled { IfOk result (λ done. IsTrue done → IsOuterSettled region.entry.graph.now region.entry.flow.now region.entry.t self.new.hub.hub self.new) }
         ensures ended { IfOk result (λ done. IsFalse done → self.new.hub.search.place ≡ self.new.hub.search.count) }
     {
-        if !self.settle_front(region, fronts)? {
+        if !self.settle_front(region, fronts, passed.front)? {
             return Ok(false);
         }
-        self.settle_border(region, fronts, Side::Outer)
+        self.settle_border(region, fronts, Side::Outer, passed.outer)
     }
 
     /// Searches around the list from `t`, where it has a part, from a hub. Answers false where more is listed instead.
@@ -81,15 +88,18 @@ impl Splitter {
         region: Region<'_>,
         fronts: &mut Fronts,
         hub: Hub,
+        passed: Passed,
     ) -> Result<bool, NoMemory>
         requires flow { IsRegionFlow region.graph.now region.flow.now }
         requires between { IsBetween region.graph.now region.flow.now region.t self.old }
         requires near { IsNoneFound region.graph.now.vertices self.old.near }
         requires front { AreAtFront region.graph.now region.flow.now region.t fronts.old }
         requires hub { IsHub region.graph.now region.flow.now region.t self.old hub }
+        requires passed { ArePassed region.flow.now region.t fronts.old self.old passed }
         ensures between { OnOk result (IsBetween region.entry.graph.now region.entry.flow.now region.entry.t self.new) }
         ensures near { OnOk result (IsNoneFound region.entry.graph.now.vertices self.new.near) }
         ensures front { AreAtFront region.entry.graph.now region.entry.flow.now region.entry.t fronts.new }
+        ensures passed { OnOk result (ArePassed region.entry.flow.now region.entry.t fronts.new self.new passed) }
         ensures stays { OnOk result (StaysListed self.old self.new) }
         ensures some { OnOk result ((1 ≤ self.old.inner.count → 1 ≤ self.new.inner.count) × (1 ≤ self.old.outer.count → 1 ≤ self.new.outer.count)) }
         ensures hub { IfOk result (λ done. IsTrue done → IsHub region.entry.graph.now region.entry.flow.now region.entry.t self.new hub) }
@@ -101,7 +111,7 @@ impl Splitter {
         }
         self.forget();
         self.hub.start(hub);
-        let done = self.settle_border(region, fronts, Side::Inner)?;
+        let done = self.settle_border(region, fronts, Side::Inner, passed.inner)?;
         if self.is_hub_listed(hub) {
             return Ok(false);
         }
@@ -118,15 +128,18 @@ impl Splitter {
         region: Region<'_>,
         fronts: &mut Fronts,
         hub: Hub,
+        passed: Passed,
     ) -> Result<bool, NoMemory>
         requires flow { IsRegionFlow region.graph.now region.flow.now }
         requires between { IsBetween region.graph.now region.flow.now region.t self.old }
         requires near { IsNoneFound region.graph.now.vertices self.old.near }
         requires front { AreAtFront region.graph.now region.flow.now region.t fronts.old }
         requires hub { IsHub region.graph.now region.flow.now region.t self.old hub }
+        requires passed { ArePassed region.flow.now region.t fronts.old self.old passed }
         ensures between { OnOk result (IsBetween region.entry.graph.now region.entry.flow.now region.entry.t self.new) }
         ensures near { OnOk result (IsNoneFound region.entry.graph.now.vertices self.new.near) }
         ensures front { AreAtFront region.entry.graph.now region.entry.flow.now region.entry.t fronts.new }
+        ensures passed { OnOk result (ArePassed region.entry.flow.now region.entry.t fronts.new self.new passed) }
         ensures stays { OnOk result (StaysListed self.old self.new) }
         ensures some { OnOk result ((1 ≤ self.old.inner.count → 1 ≤ self.new.inner.count) × (1 ≤ self.old.outer.count → 1 ≤ self.new.outer.count)) }
         ensures hub { IfOk result (λ done. IsTrue done → IsHub region.entry.graph.now region.entry.flow.now region.entry.t self.new hub) }
@@ -139,7 +152,7 @@ impl Splitter {
         }
         self.forget();
         self.hub.start(hub);
-        let done = self.settle_outer(region, fronts)?;
+        let done = self.settle_outer(region, fronts, passed)?;
         if self.is_hub_listed(hub) {
             return Ok(false);
         }
@@ -157,15 +170,18 @@ impl Splitter {
         region: Region<'_>,
         fronts: &mut Fronts,
         hub: Hub,
+        passed: Passed,
     ) -> Result<bool, NoMemory>
         requires flow { IsRegionFlow region.graph.now region.flow.now }
         requires between { IsBetween region.graph.now region.flow.now region.t self.old }
         requires near { IsNoneFound region.graph.now.vertices self.old.near }
         requires front { AreAtFront region.graph.now region.flow.now region.t fronts.old }
         requires hub { IsHub region.graph.now region.flow.now region.t self.old hub }
+        requires passed { ArePassed region.flow.now region.t fronts.old self.old passed }
         ensures between { OnOk result (IsBetween region.entry.graph.now region.entry.flow.now region.entry.t self.new) }
         ensures near { OnOk result (IsNoneFound region.entry.graph.now.vertices self.new.near) }
         ensures front { AreAtFront region.entry.graph.now region.entry.flow.now region.entry.t fronts.new }
+        ensures passed { OnOk result (ArePassed region.entry.flow.now region.entry.t fronts.new self.new passed) }
         ensures stays { OnOk result (StaysListed self.old self.new) }
         ensures counts { OnOk result ((self.old.inner.count ≤ self.new.inner.count) × (self.old.outer.count ≤ self.new.outer.count)) }
         ensures some { OnOk result ((1 ≤ self.old.inner.count → 1 ≤ self.new.inner.count) × (1 ≤ self.old.outer.count → 1 ≤ self.new.outer.count)) }
@@ -174,10 +190,10 @@ impl Splitter {
             (slice_index region.entry.flow.now.feed region.entry.t) (inner_set self.new) (outer_set region.entry.flow.now region.entry.t self.new)) }
         ensures further { IfOk result (λ done. IsFalse done → IsFurther self.old self.new) }
     {
-        if !self.search_inner(region, fronts, hub)? {
+        if !self.search_inner(region, fronts, hub, passed)? {
             return Ok(false);
         }
-        self.search_outer(region, fronts, hub)
+        self.search_outer(region, fronts, hub, passed)
     }
 
     /// Lists parts from both sides, until nothing is left between the lists but one part.
@@ -200,11 +216,17 @@ impl Splitter {
         ensures all { IfOk result (λ b. b ≡ Between.Nothing → (v : ℕ) → 1 ≤ v → v ≤ region.entry.graph.now.vertices →
             slice_index self.new.inner.turns v ≡ 0 → 1 ≤ outer_of region.entry.flow.now region.entry.t self.new v) }
     {
+        let mut passed = Passed {
+            inner: 0,
+            outer: 0,
+            front: 0,
+        };
         'hubs: loop {
-            let Some(hub) = self.choose_hub(region) else {
+            passed = self.pass(region, fronts, passed);
+            let Some(hub) = self.choose_hub(region, passed) else {
                 return Ok(Between::Nothing);
             };
-            if self.search_around(region, fronts, hub)? {
+            if self.search_around(region, fronts, hub, passed)? {
                 return Ok(Between::One);
             }
         }

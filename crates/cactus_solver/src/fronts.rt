@@ -63,7 +63,7 @@ fn empty_lists(alloc: Global, count: usize) -> Result<Vec<Vec<u32>>, NoMemory>
     ensures count { IfOk result (λ lists. length (lists_of lists.items) ≡ count) }
     ensures empty { IfOk result (λ lists. (region : ℕ) → list_at (lists_of lists.items) region ≡ []) }
 {
-    let mut lists: Vec<Vec<u32>> = Vec::new(alloc);
+    let mut lists: Vec<Vec<u32>> = Vec::with_capacity(alloc, count)?;
     'lists: for _list in 0..count {
         lists.push(Vec::new(alloc))?;
     }

@@ -41,11 +41,11 @@ impl Homes {
         self.regions[label as usize]
     }
 
-    /// The node that each vertex has entered.
-    pub fn entered(&self) -> &[usize]
-        ensures { result.now ≡ self.now.entered }
+    /// The node that each vertex has entered, taken over.
+    pub fn into_entered(self) -> Vec<usize>
+        ensures { result.items ≡ self.entered }
     {
-        self.entered.as_slice()
+        self.entered
     }
 
     /// Puts a vertex that enters into a node.

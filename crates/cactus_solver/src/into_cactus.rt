@@ -3,30 +3,85 @@
 ghost use Rattle.std.specs.Prelude.{ℕ, ◌≡◌, ◌↔◌, ◌+◌, ◌-◌, ◌<◌, ◌≤◌, ◌++◌, [], false, true, IfOk, OnOk, length, reverse, slice_index, take, drop};
 ghost use Rattle.std.specs.List.{All, Contains, filter, range_with_len};
 ghost use Rattle.cut_definitions.specs.Weight.{VertexSet};
-ghost use Rattle.cactus_tree.specs.Trees.{nodes_in};
+ghost use Rattle.cactus_tree.specs.Trees.{blocks, nodes_in, vertices};
 ghost use Rattle.cactus_tree.specs.Rooted.{sides_of};
+ghost use Rattle.cactus_solver.specs.Finished.{arrays_of};
 ghost use Rattle.cactus_solver.specs.Flat.{AreNodes, is_follower, sets_of};
 ghost use Rattle.cactus_solver.specs.Forest.{AddsBlock, AddsVertex, AreFrom, IsBlockOf, IsChangedAt, IsForest, IsPlaced};
 ghost use Rattle.cactus_solver.specs.TreeSets.{IsTreeSide};
 
+use crate::homed_tree::HomedTree;
 use crate::tree::FlatTree;
 use cactus_tree::{Block, Blocks, Cactus, Children, Node, VertexList};
 use cut_definitions::NoMemory;
 use std::alloc::Global;
 
-/// Nodes without vertices and blocks.
-fn empty_nodes(alloc: Global, count: usize) -> Result<Vec<Node>, NoMemory>
-    ensures len { IfOk result (λ nodes. length nodes.items ≡ count) }
+/// How often each number below a count is in a list.
+fn tally(alloc: Global, count: usize, numbers: &[usize]) -> Result<Vec<u32>, NoMemory>
+    requires { All (λ number. number < count) numbers.now }
+    ensures { IfOk result (λ times. length times.items ≡ count) }
+{
+    let mut times = vec![in alloc; 0u32; count]?;
+    let counts = times.as_mut_slice();
+    for number in numbers {
+        counts[*number] = counts[*number].saturating_add(1);
+    }
+    Ok(times)
+}
+
+/// How many blocks hang below each node: one for each node that follows no other.
+fn blocks_below(alloc: Global, tree: &FlatTree) -> Result<Vec<u32>, NoMemory>
+    requires { (i : ℕ) → 1 ≤ i → i < length tree.now.uppers → slice_index tree.now.uppers i < i }
+    ensures { IfOk result (λ times. length times.items ≡ length tree.now.uppers) }
+{
+    let mut times = vec![in alloc; 0u32; tree.len()]?;
+    let counts = times.as_mut_slice();
+    for node in 1..tree.len() {
+        if !tree.is_follower(node) {
+            let upper = tree.upper(node);
+            counts[upper] = counts[upper].saturating_add(1);
+        }
+    }
+    Ok(times)
+}
+
+/// A node without vertices and blocks, with room for so many of them.
+fn empty_node(alloc: Global, members: u32, children: u32) -> Result<Node, NoMemory>
+    ensures vertices { IfOk result (λ x. vertices x ≡ []) }
+    ensures blocks { IfOk result (λ x. blocks x ≡ []) }
+{
+    let vertices = Vec::with_capacity(alloc, members as usize)?;
+    let blocks = Blocks::with_capacity(alloc, children as usize)?;
+    Ok(Node {
+        vertices: VertexList::from_vec(vertices),
+        blocks,
+    })
+}
+
+/// Nodes without vertices and blocks, each with room for so many of them.
+fn empty_nodes(alloc: Global, vertices: &[u32], blocks: &[u32]) -> Result<Vec<Node>, NoMemory>
+    requires { length blocks.now ≡ length vertices.now }
+    ensures len { IfOk result (λ nodes. length nodes.items ≡ length vertices.now) }
     ensures empty { IfOk result (λ nodes. (homes : ℕ → ℕ) → AreFrom (IsPlaced 0 homes) 0 nodes.items) }
 {
-    let mut nodes = Vec::with_capacity(alloc, count)?;
-    'nodes: for _node in 0..count {
-        nodes.push(Node {
-            vertices: VertexList::new(alloc),
-            blocks: Blocks::new(alloc),
-        })?;
+    let mut nodes = Vec::with_capacity(alloc, vertices.len())?;
+    'nodes: for i in 0..vertices.len() {
+        let node = empty_node(alloc, vertices[i], blocks[i])?;
+        nodes.push(node)?;
     }
     Ok(nodes)
+}
+
+/// The nodes of a tree without vertices and blocks, with just the room that they need. (The root has one place too many.)
+fn bare_nodes(alloc: Global, tree: &FlatTree, homes: &[usize]) -> Result<Vec<Node>, NoMemory>
+    requires within { All (λ home. home < length tree.now.uppers) homes.now }
+    requires upper { (i : ℕ) → 1 ≤ i → i < length tree.now.uppers → slice_index tree.now.uppers i < i }
+    ensures len { IfOk result (λ nodes. length nodes.items ≡ length tree.now.uppers) }
+    ensures empty { IfOk result (λ nodes. (homes : ℕ → ℕ) → AreFrom (IsPlaced 0 homes) 0 nodes.items) }
+{
+    let vertices = tally(alloc, tree.len(), homes)?;
+    let blocks = blocks_below(alloc, tree)?;
+    empty_nodes(alloc, &vertices, &blocks)
 }
 
 /// Puts a vertex at the end of the list of a node.
@@ -39,13 +94,19 @@ fn put(nodes: &mut [Node], home: usize, vertex: u32) -> Result<(), NoMemory>
 }
 
 /// The nodes with their vertices, ascending, and without blocks.
-fn filled_nodes(alloc: Global, count: usize, homes: &[usize], n: u32) -> Result<Vec<Node>, NoMemory>
-    requires homes { length homes.now ≡ n + 1 }
-    requires within { All (λ home. home < count) homes.now }
-    ensures len { IfOk result (λ nodes. length nodes.items ≡ count) }
-    ensures placed { IfOk result (λ nodes. AreFrom (IsPlaced n (slice_index homes.now)) 0 nodes.items) }
+fn filled_nodes(
+    alloc: Global,
+    tree: &FlatTree,
+    homes: Vec<usize>,
+    n: u32,
+) -> Result<Vec<Node>, NoMemory>
+    requires homes { length homes.items ≡ n + 1 }
+    requires within { All (λ home. home < length tree.now.uppers) homes.items }
+    requires upper { (i : ℕ) → 1 ≤ i → i < length tree.now.uppers → slice_index tree.now.uppers i < i }
+    ensures len { IfOk result (λ nodes. length nodes.items ≡ length tree.now.uppers) }
+    ensures placed { IfOk result (λ nodes. AreFrom (IsPlaced n (slice_index homes.items)) 0 nodes.items) }
 {
-    let mut nodes = empty_nodes(alloc, count)?;
+    let mut nodes = bare_nodes(alloc, tree, &homes)?;
     'vertices: for before in 0..n {
         let vertex = before + 1;
         put(nodes.as_mut_slice(), homes[vertex as usize], vertex)?;
@@ -59,7 +120,7 @@ fn take_cycle(alloc: Global, nodes: &mut Vec<Node>, first: usize) -> Result<Chil
     ensures rest { OnOk result (nodes.new.items ≡ take first nodes.old.items) }
     ensures taken { IfOk result (λ cycle. nodes_in cycle ≡ reverse (drop first nodes.old.items)) }
 {
-    let mut cycle = Children::new(alloc);
+    let mut cycle = Children::with_capacity(alloc, nodes.len() - first)?;
     'taken: while nodes.len() > first {
         let node = nodes.pop().unwrap();
         cycle.push(node)?;
@@ -110,25 +171,20 @@ fn hang_from(
 
 /// The cactus of a finished tree over the vertices 1 to n, whose sides are those of the tree.
 ///
-/// Each vertex is in the node that is its home: `homes` has a node for each vertex, at its number, and that of vertex 1 is
-/// the root. Nodes that follow each other are in one cycle, and a node alone hangs by a bridge. It takes memory in proportion
-/// to the nodes and vertices, and is refused only where that is wanting. One step for each node and vertex, in loops, so
-/// that a deep tree does not run out of stack.
-pub fn cactus_of_tree(
-    alloc: Global,
-    tree: FlatTree,
-    homes: &[usize],
-    n: u32,
-) -> Result<Cactus, NoMemory>
+/// Nodes that follow each other are in one cycle, and a node alone hangs by a bridge; the node of vertex 1 is the root. Each
+/// list has just the room that it needs. It takes memory in proportion to the nodes and vertices, and is refused only where
+/// that is wanting. One step for each node and vertex, in loops, so that a deep tree does not run out of stack.
+pub fn cactus_of_tree(alloc: Global, tree: HomedTree, n: u32) -> Result<Cactus, NoMemory>
     requires some { 1 ≤ n }
-    requires homes { length homes.now ≡ n + 1 }
-    requires nodes { AreNodes (record { homes = λ v. slice_index homes.now v; links = tree }) }
-    requires one { slice_index homes.now 1 ≡ 0 }
+    requires homes { length tree.homes.items ≡ n + 1 }
+    requires nodes { AreNodes (arrays_of tree) }
+    requires one { slice_index tree.homes.items 1 ≡ 0 }
     ensures n { IfOk result (λ c. c.vertices ≡ n) }
-    ensures sides { IfOk result (λ c. (x : VertexSet) → Contains (sides_of c) (filter x (range_with_len 1 n)) ↔ IsTreeSide n (sets_of (record { homes = λ v. slice_index homes.now v; links = tree })) x) }
+    ensures sides { IfOk result (λ c. (x : VertexSet) → Contains (sides_of c) (filter x (range_with_len 1 n)) ↔ IsTreeSide n (sets_of (arrays_of tree)) x) }
 {
+    let HomedTree { tree, homes } = tree;
     let mut first = tree.len();
-    let mut nodes = filled_nodes(alloc, first, homes, n)?;
+    let mut nodes = filled_nodes(alloc, &tree, homes, n)?;
     'nodes: while first > 1 {
         first -= 1;
         if tree.is_follower(first) {

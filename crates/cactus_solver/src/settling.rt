@@ -8,6 +8,7 @@ ghost use Rattle.cactus_solver.specs.declared.side.Side.TheVariants.{Outer};
 ghost use Rattle.cactus_solver.specs.Found.{IsNoneFound, IsQuiet};
 ghost use Rattle.cactus_solver.specs.Fronts.{list_at};
 ghost use Rattle.cactus_solver.specs.Hubs.{HasAll, HaveBegun, KeepsFrontsFor};
+ghost use Rattle.cactus_solver.specs.Passed.{IsFrontPassed, IsPassed};
 ghost use Rattle.cactus_solver.specs.Settling.{IsBeside, HasMet};
 ghost use Rattle.cactus_solver.specs.Sided.{stops};
 ghost use Rattle.cactus_solver.specs.Split.{half_of, AreAtFront, GoesOnSettling, IsSearching, IsSettledIn};
@@ -150,18 +151,21 @@ impl Splitter {
         Ok(has_settled(race))
     }
 
-    /// Settles all vertices beside the list of a side. Answers false where the search of the hub ended first.
+    /// Settles all vertices beside the list of a side, where those before a place are listed. Answers false where the search
+    /// of the hub ended first.
     pub(crate) fn settle_border(
         &mut self,
         region: Region<'_>,
         fronts: &mut Fronts,
         side: Side,
+        from: usize,
     ) -> Result<bool, NoMemory>
         requires flow { IsRegionFlow region.graph.now region.flow.now }
         requires searching { IsSearching side region.graph.now region.flow.now region.t self.old }
         requires near { IsNoneFound region.graph.now.vertices self.old.near }
         requires front { AreAtFront region.graph.now region.flow.now region.t fronts.old }
         requires begun { HaveBegun region.flow.now region.t (list_at fronts.old.lists (slice_index region.flow.now.labels region.t)) self.old.hub }
+        requires passed { IsPassed region.flow.now region.t self.old (half_of side self.old).border from }
         ensures searching { OnOk result (IsSearching side region.entry.graph.now region.entry.flow.now region.entry.t self.new) }
         ensures near { OnOk result (IsNoneFound region.entry.graph.now.vertices self.new.near) }
         ensures goes_on { OnOk result (GoesOnSettling side self.old self.new) }
@@ -171,7 +175,7 @@ impl Splitter {
             IsSettledIn side region.entry.graph.now region.entry.flow.now region.entry.t self.new v) }
         ensures ended { IfOk result (λ done. IsFalse done → HasAll (list_at fronts.new.lists (slice_index region.entry.flow.now.labels region.entry.t)) self.new.hub) }
     {
-        let mut place = 0;
+        let mut place = from;
         'border: while let Some(v) = self.beside(side, place) {
             if !self.settle(region, fronts, side, v)? {
                 return Ok(false);
@@ -182,7 +186,7 @@ impl Splitter {
     }
 
     /// The vertex at a place beside the list of a side, counted from 0; none where there are no more.
-    fn beside(&self, side: Side, place: usize) -> Option<u32>
+    pub(crate) fn beside(&self, side: Side, place: usize) -> Option<u32>
         ensures at { result ≡ slice_get (half_of side self.now).border place }
         ensures next { IfSome result (λ v. place + 1 < 2 ^ 64) }
     {
@@ -193,12 +197,13 @@ impl Splitter {
         border.get(place).copied()
     }
 
-    /// Settles the open vertices of the region, which are beside what is outside it. Answers false where the search of the
-    /// hub ended first.
+    /// Settles the open vertices of the region, which are beside what is outside it, where those before a place of the front
+    /// are listed. Answers false where the search of the hub ended first.
     pub(crate) fn settle_front(
         &mut self,
         region: Region<'_>,
         fronts: &mut Fronts,
+        from: usize,
     ) -> Result<bool, NoMemory>
         requires flow { IsRegionFlow region.graph.now region.flow.now }
         requires searching { IsSearching Outer region.graph.now region.flow.now region.t self.old }
@@ -206,16 +211,18 @@ impl Splitter {
         requires front { AreAtFront region.graph.now region.flow.now region.t fronts.old }
         requires begun { HaveBegun region.flow.now region.t (list_at fronts.old.lists (slice_index region.flow.now.labels region.t)) self.old.hub }
         requires unread { self.old.hub.place ≡ 0 }
+        requires passed { IsFrontPassed region.flow.now region.t self.old (list_at fronts.old.lists (slice_index region.flow.now.labels region.t)) from }
         ensures searching { OnOk result (IsSearching Outer region.entry.graph.now region.entry.flow.now region.entry.t self.new) }
         ensures near { OnOk result (IsNoneFound region.entry.graph.now.vertices self.new.near) }
         ensures goes_on { OnOk result (GoesOnSettling Outer self.old self.new) }
         ensures fronts { AreAtFront region.entry.graph.now region.entry.flow.now region.entry.t fronts.new }
         ensures begun { OnOk result (HaveBegun region.entry.flow.now region.entry.t (list_at fronts.new.lists (slice_index region.entry.flow.now.labels region.entry.t)) self.new.hub) }
+        ensures passed { OnOk result (IsFrontPassed region.entry.flow.now region.entry.t self.new (list_at fronts.new.lists (slice_index region.entry.flow.now.labels region.entry.t)) from) }
         ensures settled { IfOk result (λ done. IsTrue done → (v : ℕ) → IsOpenAt region.entry.graph.now region.entry.flow.now.labels v →
             IsSettledIn Outer region.entry.graph.now region.entry.flow.now region.entry.t self.new v) }
         ensures ended { IfOk result (λ done. IsFalse done → HasAll (list_at fronts.new.lists (slice_index region.entry.flow.now.labels region.entry.t)) self.new.hub) }
     {
-        let mut place = 0;
+        let mut place = from;
         'front: while let Some(v) = fronts.read(region.flow, region.label(), place) {
             if !self.settle(region, fronts, Side::Outer, v)? {
                 return Ok(false);

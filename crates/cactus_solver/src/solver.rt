@@ -1,32 +1,76 @@
 //! The value of a graph and the cactus of its minimum cuts.
 
-ghost use Rattle.std.specs.Prelude.{◌≡◌, ◌≤◌, IfOk};
+ghost use Rattle.std.specs.Prelude.{◌≡◌, ◌≤◌, IfOk, true};
 ghost use Rattle.cut_definitions.specs.Components.{IsConnected};
-ghost use Rattle.cut_definitions.specs.Cuts.{value, mincuts};
+ghost use Rattle.cut_definitions.specs.Cuts.{value, value as least_value, mincuts};
+ghost use Rattle.cactus_tree.specs.Normal.{is_normal};
 ghost use Rattle.cactus_tree.specs.Rooted.{sides_of};
+ghost use Rattle.min_value.specs.Kernels.{IsKept};
+ghost use Rattle.cactus_solver.specs.Finished.{IsFinished};
 ghost use Rattle.cactus_solver.specs.Solved.{SameMembers};
 
-use crate::sweep::cactus_of;
+use crate::homed_tree::HomedTree;
+use crate::into_cactus::cactus_of_tree;
+use crate::sweep::tree_of;
 use cactus_tree::Cactus;
 use cut_definitions::NoMemory;
-use min_value::{reduce, value as least_weight};
+use min_value::{Kernel, reduce, value as least_weight};
 use outside::Gate;
 use std::alloc::Global;
 use weighted_graph::Graph;
 
-/// The value of a graph, and a cactus whose sides are just its minimum cuts.
+/// The value of a graph, and a normal cactus whose sides are just its minimum cuts.
 #[derive(Drop)]
 pub struct Solved {
     pub value: u64,
     pub cactus: Cactus,
 }
 
-/// The value of a connected graph of two or more vertices, and the cactus of its minimum cuts.
+/// The tree of the minimum cuts of a graph, by that of a smaller graph, which is given back.
+fn tree_by_kernel(alloc: Global, graph: &Graph, kernel: Kernel) -> Result<HomedTree, NoMemory>
+    requires connected { IsConnected graph.now }
+    requires enough { 2 ≤ graph.now.vertices }
+    requires kept { IsKept graph.now kernel.value kernel.graph kernel.labels }
+    ensures { IfOk result (IsFinished graph.now) }
+{
+    let Kernel {
+        value,
+        graph: small,
+        labels,
+    } = kernel;
+    // known by these calls: the graphs are edge lists
+    let _n = graph.n();
+    let _small = small.n();
+    let tree = tree_of(alloc, &small, value)?;
+    tree.spread(alloc, labels.as_slice())
+}
+
+/// The tree of the minimum cuts of a graph whose value is given: by a smaller graph, where edges can be contracted.
+fn tree_at_value<G: Gate>(
+    alloc: Global,
+    graph: &Graph,
+    value: u64,
+    workers: u32,
+    gate: &G,
+) -> Result<HomedTree, NoMemory>
+    requires connected { IsConnected graph.now }
+    requires enough { 2 ≤ graph.now.vertices }
+    requires value { value ≡ least_value graph.now }
+    requires workers { (1 ≤ workers) × (workers ≤ 64) }
+    ensures { IfOk result (IsFinished graph.now) }
+{
+    match reduce(alloc, graph, value, workers, gate)? {
+        Some(kernel) => tree_by_kernel(alloc, graph, kernel),
+        None => tree_of(alloc, graph, value),
+    }
+}
+
+/// The value of a connected graph of two or more vertices, and the cactus of its minimum cuts, in its normal form.
 ///
-/// The value comes from rounds of contraction and a sweep of flows. Then rounds contract edges that lie in no minimum cut,
-/// the sweep over regions makes the cactus of what is left, and each of its vertices is made those of the graph that it
-/// stands for. Memory is in proportion to n + m. The workers and the gate are handed to the search for the value and to the
-/// rounds. It is refused only where memory is wanting.
+/// The value comes from rounds of contraction and a sweep of flows. Then scans or rounds contract edges that lie in no minimum
+/// cut, where there are some, and the sweep over regions makes the tree of what is left. Each vertex of the graph is put into
+/// the node of its class, and the cactus is made of that, once all else is given back, and made normal. Memory is in proportion to n + m. The
+/// workers and the gate are handed to the search for the value and to the rounds. It is refused only where memory is wanting.
 pub fn solve<G: Gate>(
     alloc: Global,
     graph: &Graph,
@@ -39,13 +83,12 @@ pub fn solve<G: Gate>(
     ensures value { IfOk result (λ s. s.value ≡ value graph.now) }
     ensures n { IfOk result (λ s. s.cactus.vertices ≡ graph.now.vertices) }
     ensures sides { IfOk result (λ s. SameMembers (sides_of s.cactus) (mincuts graph.now)) }
+    ensures normal { IfOk result (λ s. is_normal s.cactus.root ≡ true) }
 {
     let n = graph.n();
     let value = least_weight(alloc, graph, workers, gate)?;
-    let kernel = reduce(alloc, graph, value, workers, gate)?;
-    // known by this call: the smaller graph is an edge list
-    let _small = kernel.graph.n();
-    let small = cactus_of(alloc, &kernel.graph, value)?;
-    let cactus = small.spread(alloc, n, kernel.labels.as_slice())?;
+    let tree = tree_at_value(alloc, graph, value, workers, gate)?;
+    let whole = cactus_of_tree(alloc, tree, n)?;
+    let cactus = whole.normal(alloc)?;
     Ok(Solved { value, cactus })
 }

@@ -2,26 +2,24 @@
 
 ghost use Rattle.std.specs.Prelude.{◌≡◌, ◌+◌, ◌≤◌, ℕ, true, false, IfOk, OnOk, length, slice_index, slice_set};
 ghost use Rattle.cut_definitions.specs.Components.{IsConnected};
-ghost use Rattle.cut_definitions.specs.Cuts.{mincuts, value as least_value};
+ghost use Rattle.cut_definitions.specs.Cuts.{value as least_value};
 ghost use Rattle.region_flow.specs.Inflow.{IsStopReached};
 ghost use Rattle.region_flow.specs.Regions.{IsOpenAt};
-ghost use Rattle.cactus_tree.specs.Rooted.{sides_of};
+ghost use Rattle.cactus_solver.specs.Finished.{IsFinished};
 ghost use Rattle.cactus_solver.specs.Fronts.{AreFew, HasEnds, KeepsAll};
 ghost use Rattle.cactus_solver.specs.Listed.{AreListed, IsPartList, part_in, part_list};
 ghost use Rattle.cactus_solver.specs.Parted.{AreLightParts};
-ghost use Rattle.cactus_solver.specs.Solved.{SameMembers};
 ghost use Rattle.cactus_solver.specs.UnderWay.{IsLeastWeight, IsUnderWay};
 
 use crate::fronts::Fronts;
 use crate::hang_parts::hang_parts;
+use crate::homed_tree::HomedTree;
 use crate::homes::Homes;
-use crate::into_cactus::cactus_of_tree;
 use crate::parts::Parts;
 use crate::regroup::regroup;
 use crate::splitter::Splitter;
 use crate::tree::FlatTree;
 use crate::weights::weigh_parts;
-use cactus_tree::Cactus;
 use cut_definitions::NoMemory;
 use region_flow::RegionFlow;
 use std::alloc::Global;
@@ -208,35 +206,34 @@ impl Sweep {
         Ok(())
     }
 
-    /// The cactus of the tree, once all vertices have entered.
-    fn into_cactus(self, alloc: Global, graph: &Graph) -> Result<Cactus, NoMemory>
+    /// The tree and the nodes of the vertices, once all have entered. All other memory of the sweep is given back.
+    fn into_tree(self, graph: &Graph) -> HomedTree
         requires some { 1 ≤ graph.now.vertices }
         requires under_way { IsUnderWay graph.now self }
         requires all { (v : ℕ) → slice_index self.flow.labels v ≡ 0 }
-        ensures n { IfOk result (λ c. c.vertices ≡ graph.now.vertices) }
-        ensures sides { IfOk result (λ c. SameMembers (sides_of c) (mincuts graph.now)) }
+        ensures { IsFinished graph.now result }
     {
-        let n = graph.n();
+        // known by this call: the graph is an edge list
+        let _n = graph.n();
         let tree = self.tree;
         let homes = self.homes;
-        let nodes = homes.entered();
-        cactus_of_tree(alloc, tree, nodes, n)
+        let homes = homes.into_entered();
+        HomedTree { tree, homes }
     }
 }
 
-/// The cactus of the minimum cuts of a connected graph of two or more vertices, whose value is given.
+/// The tree of the minimum cuts of a connected graph of two or more vertices, whose value is given.
 ///
 /// Its sides are just the minimum cuts, and some may be sides twice. It is refused only where memory is wanting.
-pub fn cactus_of(alloc: Global, graph: &Graph, value: u64) -> Result<Cactus, NoMemory>
+pub fn tree_of(alloc: Global, graph: &Graph, value: u64) -> Result<HomedTree, NoMemory>
     requires connected { IsConnected graph.now }
     requires enough { 2 ≤ graph.now.vertices }
     requires value { value ≡ least_value graph.now }
-    ensures n { IfOk result (λ c. c.vertices ≡ graph.now.vertices) }
-    ensures sides { IfOk result (λ c. SameMembers (sides_of c) (mincuts graph.now)) }
+    ensures { IfOk result (IsFinished graph.now) }
 {
     // known by this call: the graph is an edge list
     let _n = graph.n();
     let mut sweep = Sweep::new(alloc, graph)?;
     sweep.run(graph, value)?;
-    sweep.into_cactus(alloc, graph)
+    Ok(sweep.into_tree(graph))
 }

@@ -1,6 +1,6 @@
 -- Contractions that part no minimum cut, one after the other.
 use Rattle.std.proofs.Common.{◌≡◌, ℕ, ◌+◌, ◌-◌, ◌<◌, ◌≤◌, ⊎_elim, Bool, false, List, map, length, set, get_or, refl, sym, ◌∙◌, subst, ap, arith, get_or-set_other, get_or-set_same, length-set}
-use Rattle.std.specs.Prelude.{◌≢◌}
+use Rattle.std.specs.Prelude.{◌≢◌, Result, Ok, Err, Option, Some, None, IfOk, IfNone}
 use Rattle.std.specs.List.{Contains}
 use Rattle.std.proofs.lemmas.Bool.{cases_eq, cases_lt, false≢true}
 use Rattle.std.proofs.lemmas.List.{get_or_default, length-map}
@@ -172,3 +172,11 @@ fewer_vertices g ok marks labels small same some labelled are small_is =
     let fewer = fewer_classes labels labelled.are_labels e.u e.v ends.0 ends.1 (omega (arith, ends.2, labelled.long)) joined in
     let r : classes labels < g.vertices = omega (arith, labelled.long) in
     subst (λ (s : Graph). s.vertices < g.vertices) (sym small_is) r
+
+-- ---- results
+
+-- what holds anyway holds where nothing was found
+pub holds_for_none : {X E : Type 0} (r : Result (Option X) E) (P : Type 0) → P → IfOk r (λ found. IfNone found P)
+holds_for_none (Ok None) P p = p
+holds_for_none (Ok (Some x)) P p = tt
+holds_for_none (Err e) P p = tt

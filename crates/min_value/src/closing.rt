@@ -61,6 +61,30 @@ pub(crate) fn mark_by_whole_scan(
     some
 }
 
+/// The marks of a whole scan with slack 1, of edges that lie in no minimum cut; none where it marks nothing, and the graph
+/// is light then. It costs O((n + m) log n). The scan is gone once its marks are answered.
+pub(crate) fn marks_of_scan(
+    alloc: Global,
+    graph: &Graph,
+    value: u64,
+) -> Result<Option<Marks>, NoMemory>
+    requires enough { 2 ≤ graph.now.vertices }
+    requires value { value ≡ least_value graph.now }
+    ensures edges { IfOk result (λ found. IfSome found (λ marks. marks.edges ≡ length graph.now.edges)) }
+    ensures safe { IfOk result (λ found. IfSome found (λ marks. MarksAreSafe graph.now (has marks.marked) value 1)) }
+    ensures some { IfOk result (λ found. IfSome found (λ marks. SomeIsMarked marks)) }
+    ensures light { IfOk result (λ found. IfNone found (IsLight graph.now value)) }
+{
+    // known by this call: the graph is an edge list
+    let _n = graph.n();
+    let mut marks = Marks::none(alloc, graph.edges())?;
+    let mut scan = Scan::new(alloc, graph)?;
+    if !mark_by_whole_scan(graph, &mut scan, value, &mut marks) {
+        return Ok(None);
+    }
+    Ok(Some(marks))
+}
+
 /// Marks of edges that lie in no minimum cut: those of a round with slack 1 or, where it marks nothing, of a whole scan.
 /// None where that marks nothing either. The scan is of the very graph that the round marked nothing in.
 pub(crate) fn find_marks<G: Gate>(
@@ -79,52 +103,51 @@ pub(crate) fn find_marks<G: Gate>(
     ensures closed { IfOk result (λ found. IfNone found (NoneIsCertified graph.now (value + 1))) }
     ensures light { IfOk result (λ found. IfNone found (IsLight graph.now value)) }
 {
-    // known by this call: the graph is an edge list
-    let _n = graph.n();
-    let mut marks = round_at_value(alloc, graph, value, workers, gate)?;
+    let marks = round_at_value(alloc, graph, value, workers, gate)?;
     if is_some_marked(graph, &marks) {
         return Ok(Some(marks));
     }
-    let mut scan = Scan::new(alloc, graph)?;
-    if !mark_by_whole_scan(graph, &mut scan, value, &mut marks) {
-        return Ok(None);
-    }
-    Ok(Some(marks))
+    marks_of_scan(alloc, graph, value)
 }
 
-/// A whole scan, and the contraction of the edges that it marks.
-fn scan_once(alloc: Global, graph: &Graph, value: u64) -> Result<(Graph, Labels), NoMemory>
+/// A whole scan, and the contraction of the edges that it marks; none where it marks nothing.
+fn scan_once(alloc: Global, graph: &Graph, value: u64) -> Result<Option<(Graph, Labels)>, NoMemory>
     requires enough { 2 ≤ graph.now.vertices }
     requires value { value ≡ least_value graph.now }
-    ensures { IfOk result (λ r. IsKept graph.now value r.0 r.1) }
+    ensures kept { IfOk result (λ found. IfSome found (λ r. IsKept graph.now value r.0 r.1)) }
+    ensures light { IfOk result (λ found. IfNone found (IsLight graph.now value)) }
 {
-    // known by this call: the graph is an edge list
-    let _n = graph.n();
-    let mut marks = Marks::none(alloc, graph.edges())?;
-    let mut scan = Scan::new(alloc, graph)?;
-    mark_by_whole_scan(graph, &mut scan, value, &mut marks);
+    let Some(marks) = marks_of_scan(alloc, graph, value)? else {
+        return Ok(None);
+    };
     let (small, labels) = contract_safely(alloc, graph, value, &marks)?;
-    Ok((small, labels))
+    Ok(Some((small, labels)))
 }
 
 /// Whole scans and their contractions, as long as each takes away a tenth of the vertices. It answers what is left and the
-/// labels that lead there. There are O(log n) scans, each of O((n + m) log n).
+/// labels that lead there, or none where the first scan marks nothing, and the graph is light then. There are O(log n) scans,
+/// each of O((n + m) log n).
 pub(crate) fn contract_by_scans(
     alloc: Global,
     graph: &Graph,
     value: u64,
-) -> Result<(Graph, Labels), NoMemory>
+) -> Result<Option<(Graph, Labels)>, NoMemory>
     requires enough { 2 ≤ graph.now.vertices }
     requires value { value ≡ least_value graph.now }
-    ensures { IfOk result (λ r. IsKept graph.now value r.0 r.1) }
+    ensures kept { IfOk result (λ found. IfSome found (λ r. IsKept graph.now value r.0 r.1)) }
+    ensures light { IfOk result (λ found. IfNone found (IsLight graph.now value)) }
 {
-    let (mut small, mut labels) = scan_once(alloc, graph, value)?;
+    let Some((mut small, mut labels)) = scan_once(alloc, graph, value)? else {
+        return Ok(None);
+    };
     let mut shrinks = u64::from(small.n()) * 10 <= u64::from(graph.n()) * 9;
     'scans: while shrinks {
-        let (smaller, next) = scan_once(alloc, &small, value)?;
+        let Some((smaller, next)) = scan_once(alloc, &small, value)? else {
+            break;
+        };
         labels = labels.compose(alloc, &next)?;
         shrinks = u64::from(smaller.n()) * 10 <= u64::from(small.n()) * 9;
         small = smaller;
     }
-    Ok((small, labels))
+    Ok(Some((small, labels)))
 }

@@ -1,10 +1,10 @@
 //! The kernel of a graph: what is left where no edge is shown to lie in no minimum cut.
 
-ghost use Rattle.std.specs.Prelude.{◌≡◌, ◌+◌, ◌≤◌, IfOk};
+ghost use Rattle.std.specs.Prelude.{◌≡◌, ◌+◌, ◌≤◌, IfOk, IfSome, IfNone};
 ghost use Rattle.cut_definitions.specs.Cuts.{value as least_value};
 ghost use Rattle.cut_definitions.specs.Contraction.{classes};
 ghost use Rattle.weighted_graph.specs.ContractionLaws.{IsLabelled};
-ghost use Rattle.min_value.specs.Kernels.{KeepsAllMinimumCuts, NoneIsCertified, IsLight};
+ghost use Rattle.min_value.specs.Kernels.{IsKept, KeepsAllMinimumCuts, NoneIsCertified, IsLight};
 
 use crate::closing::{contract_by_scans, find_marks};
 use crate::kept_graph::{Kernel, contract_by_rounds, contract_safely};
@@ -52,7 +52,9 @@ pub fn kernel<G: Gate>(
     })
 }
 
-/// A smaller graph with the same value whose minimum cuts, lifted by the labels, are exactly those of the graph.
+/// A smaller graph with the same value whose minimum cuts, lifted by the labels, are exactly those of the graph; none where
+/// no edge was found that may be contracted, and the weights of the edges add up to at most the value for each vertex but
+/// one then. No second graph is made in that case.
 ///
 /// On a graph of at most 1,024 edges it goes by rounds with slack 1, on a larger one by whole scans with slack 1, as long
 /// as each takes away a tenth of the vertices. It is a kernel that is not closed: edges may be left that a certificate or a
@@ -65,24 +67,24 @@ pub fn reduce<G: Gate>(
     value: u64,
     workers: u32,
     gate: &G,
-) -> Result<Kernel, NoMemory>
+) -> Result<Option<Kernel>, NoMemory>
     requires enough { 2 ≤ graph.now.vertices }
     requires value { value ≡ least_value graph.now }
     requires workers { (1 ≤ workers) × (workers ≤ 64) }
-    ensures value { IfOk result (λ k. k.value ≡ least_value graph.now) }
-    ensures kernel_value { IfOk result (λ k. least_value k.graph ≡ least_value graph.now) }
-    ensures labels { IfOk result (λ k. IsLabelled graph.now k.labels) }
-    ensures minimum_cuts { IfOk result (λ k. KeepsAllMinimumCuts graph.now k.graph k.labels) }
-    ensures counted { IfOk result (λ k. classes k.labels ≡ k.graph.vertices) }
+    ensures kept { IfOk result (λ found. IfSome found (λ k. IsKept graph.now k.value k.graph k.labels)) }
+    ensures light { IfOk result (λ found. IfNone found (IsLight graph.now value)) }
 {
-    let (small, labels) = if graph.edges() <= FEW_EDGES {
-        contract_by_rounds(alloc, graph, value, workers, gate)?
+    let kept = if graph.edges() <= FEW_EDGES {
+        Some(contract_by_rounds(alloc, graph, value, workers, gate)?)
     } else {
         contract_by_scans(alloc, graph, value)?
     };
-    Ok(Kernel {
+    let Some((small, labels)) = kept else {
+        return Ok(None);
+    };
+    Ok(Some(Kernel {
         value,
         graph: small,
         labels,
-    })
+    }))
 }

@@ -3,6 +3,7 @@ use Rattle.std.specs.Prelude.{slice_index}
 use Rattle.std.specs.List.{Contains, filter, range_with_len}
 use Rattle.cactus_tree.specs.Rooted.{Rooted, sides_of}
 use Rattle.cactus_solver.specs.TreeSets.{IsTreeSide}
+use Rattle.cactus_solver.specs.Finished.{arrays_of}
 use Rattle.cactus_solver.specs.Flat.{NodeArrays, is_follower, sets_of}
 use Rattle.cactus_solver.specs.Forest.{AddsBlock, IsChangedAt, IsForest}
 use Rattle.cactus_solver.proofs.ForestFilling.{started}
@@ -12,9 +13,9 @@ use Rattle.cactus_solver.proofs.into_cactus.cactus_of_tree.Goals as goal
 
 pub nodes-init : goal.nodes-init
 nodes-init c =
-    let a : NodeArrays = record { homes = λ v. slice_index c.args.homes.now v; links = c.args.tree } in
+    let a : NodeArrays = arrays_of c.args.tree in
     let nodes = c.in_ok-nodes.nodes.items in
-    let many : length nodes ≡ length c.args.tree.uppers = c.in_ok-nodes.ensures.len ∙ c.len-first.ensures.uppers in
+    let many : length nodes ≡ length c.args.tree.tree.uppers = c.in_ok-nodes.ensures.len in
     record {
       low = omega (arith, c.len-first.ensures.uppers, c.requires.nodes.root);
       within = omega (arith, many, c.len-first.ensures.uppers);
@@ -25,18 +26,18 @@ nodes-init c =
 
 pub nodes-preserved : goal.nodes-preserved
 nodes-preserved c =
-    let a : NodeArrays = record { homes = λ v. slice_index c.args.homes.now v; links = c.args.tree } in
+    let a : NodeArrays = arrays_of c.args.tree in
     let i = c.nodes.invariant in
     let first = c.nodes.first - 1 in
     let nodes = c.nodes.nodes.items in
     let new = c.hang_from.new.nodes.items in
     let hung = c.in_ok-hang_from.ensures in
-    let lead : is_follower c.args.tree.follows first ≡ false = sym c.is_follower.ensures ∙ c.if-is_follower.false in
+    let lead : is_follower c.args.tree.tree.follows first ≡ false = sym c.is_follower.ensures ∙ c.if-is_follower.false in
     let one : 1 ≤ first = omega (arith, c.nodes-test.true) in
     let within : first < length nodes = omega (arith, i.within, c.nodes-test.true) in
-    let below : IsChangedAt (slice_index c.args.tree.uppers first) (AddsBlock hung.0) (take first nodes) new =
+    let below : IsChangedAt (slice_index c.args.tree.tree.uppers first) (AddsBlock hung.0) (take first nodes) new =
     subst (λ (k : ℕ). IsChangedAt k (AddsBlock hung.0) (take first nodes) new) c.upper.ensures hung.2 in
-    let few : length new ≡ first = hung_length (slice_index c.args.tree.uppers first) hung.0 first nodes new within below in
+    let few : length new ≡ first = hung_length (slice_index c.args.tree.tree.uppers first) hung.0 first nodes new within below in
     record {
       low = one;
       within = omega (arith, few);
@@ -47,7 +48,7 @@ nodes-preserved c =
 
 pub from_root-requires : goal.from_root-requires
 from_root-requires c =
-    let a : NodeArrays = record { homes = λ v. slice_index c.args.homes.now v; links = c.args.tree } in
+    let a : NodeArrays = arrays_of c.args.tree in
     let i = c.nodes.invariant in
     let root = c.unwrap-root.result in
     let left = root_left a c.nodes.nodes.items c.pop.new.self.items c.pop.result root c.nodes.first c.requires.nodes c.nodes-test.false i.low i.within i.few i.pending c.pop.ensures.items c.unwrap-root.ensures in
@@ -55,7 +56,7 @@ from_root-requires c =
 
 pub returns-clause-sides : goal.returns-clause-sides
 returns-clause-sides c = λ x.
-    let a : NodeArrays = record { homes = λ v. slice_index c.args.homes.now v; links = c.args.tree } in
+    let a : NodeArrays = arrays_of c.args.tree in
     let i = c.nodes.invariant in
     let root = c.unwrap-root.result in
     let left = root_left a c.nodes.nodes.items c.pop.new.self.items c.pop.result root c.nodes.first c.requires.nodes c.nodes-test.false i.low i.within i.few i.pending c.pop.ensures.items c.unwrap-root.ensures in

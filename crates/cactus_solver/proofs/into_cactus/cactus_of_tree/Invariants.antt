@@ -1,5 +1,6 @@
 use Rattle.std.proofs.Common.{◌≡◌, ℕ, ◌<◌, ◌≤◌, true, length}
 use Rattle.std.specs.Prelude.{slice_index}
+use Rattle.cactus_solver.specs.Finished.{arrays_of}
 use Rattle.cactus_solver.specs.Flat.{is_follower}
 use Rattle.cactus_solver.specs.Forest.{IsForest}
 use Rattle.cactus_solver.proofs.into_cactus.cactus_of_tree.Given as goal
@@ -8,9 +9,9 @@ abbrev pub invariant-nodes : goal.invariant-nodes
 invariant-nodes l = record {
   low : 1 ≤ l.first;
   within : l.first ≤ length l.nodes.items;
-  few : length l.nodes.items ≤ length l.fn.tree.uppers;
-  forest : IsForest l.fn.n (record { homes = λ v. slice_index l.fn.homes v; links = l.fn.tree }) l.nodes.items;
-  pending : (j : ℕ) → l.first ≤ j → j < length l.nodes.items → is_follower l.fn.tree.follows j ≡ true;
+  few : length l.nodes.items ≤ length l.fn.tree.tree.uppers;
+  forest : IsForest l.fn.n (arrays_of l.fn.tree) l.nodes.items;
+  pending : (j : ℕ) → l.first ≤ j → j < length l.nodes.items → is_follower l.fn.tree.tree.follows j ≡ true;
 }
 
 abbrev pub decreases-nodes : goal.decreases-nodes

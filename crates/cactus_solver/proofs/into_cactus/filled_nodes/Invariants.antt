@@ -5,6 +5,6 @@ use Rattle.cactus_solver.proofs.into_cactus.filled_nodes.Given as goal
 
 abbrev pub invariant-vertices : goal.invariant-vertices
 invariant-vertices l = record {
-  len : length l.nodes.items ≡ l.count;
-  placed : AreFrom (IsPlaced l.before (slice_index l.homes)) 0 l.nodes.items;
+  len : length l.nodes.items ≡ length l.tree.uppers;
+  placed : AreFrom (IsPlaced l.before (slice_index l.homes.items)) 0 l.nodes.items;
 }

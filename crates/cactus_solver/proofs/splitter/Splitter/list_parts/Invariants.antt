@@ -1,6 +1,7 @@
 -- The lists as they are between two hubs, and how much is left.
 use Rattle.std.proofs.Common.{◌+◌, ◌≤◌}
 use Rattle.cactus_solver.specs.Found.{IsNoneFound}
+use Rattle.cactus_solver.specs.Passed.{ArePassed}
 use Rattle.cactus_solver.specs.Split.{AreAtFront, IsBetween}
 use Rattle.cactus_solver.proofs.BetweenLemmas.{left_over}
 use Rattle.cactus_solver.proofs.splitter.Splitter.list_parts.Given as goal
@@ -11,6 +12,7 @@ invariant-hubs l = record {
   near : IsNoneFound l.region.graph.now.vertices l.self.near;
   front : AreAtFront l.region.graph.now l.region.flow.now l.region.t l.fronts;
   some : 1 ≤ l.self.inner.count + l.self.outer.count;
+  passed : ArePassed l.region.flow.now l.region.t l.fronts l.self l.passed;
 }
 
 abbrev pub decreases-hubs : goal.decreases-hubs

@@ -4,6 +4,7 @@ use Rattle.cactus_solver.specs.declared.hub.HubSearch.{HubSearch}
 use Rattle.cactus_solver.specs.declared.side.Side.TheVariants.{Inner, Outer}
 use Rattle.cactus_solver.specs.Listing.{ListingState}
 use Rattle.cactus_solver.proofs.BetweenLemmas.{front_kept, hub_further, hub_later, may_take_outer, outer_further, restarted, searching, settled_for, stays_from, stays_more, stays_same}
+use Rattle.cactus_solver.proofs.Passing.{all_same, all_settling, all_with, more_taken}
 use Rattle.cactus_solver.proofs.splitter.Splitter.search_inner.Goals as goal
 
 pub forget-requires-clause-within : goal.forget-requires-clause-within
@@ -85,3 +86,34 @@ returns-clause-stays c =
 pub returns-clause-further : goal.returns-clause-further
 returns-clause-further c = λ no. outer_further c.args.region.graph.now c.args.region.flow.now c.args.region.t c.args.self.now c.settle_border.new.self c.take_hub.new.self c.args.hub c.requires.hub c.in_ok-take_hub.ensures.some c.in_ok-take_hub.ensures.taken
     (λ h e. c.in_ok-done.ensures.goes_on.seen h (c.start.ensures.begun h e))
+
+pub settle_border-requires-clause-passed : goal.settle_border-requires-clause-passed
+settle_border-requires-clause-passed c =
+    (all_same c.args.region.flow.now c.args.region.t c.args.fronts.now c.args.self.now (restarted c.forget.new.self c.start.new.self) c.args.passed c.requires.passed c.forget.ensures.inner c.forget.ensures.outer).inner
+
+pub returns-then-is_hub_listed-clause-passed : goal.returns-then-is_hub_listed-clause-passed
+returns-then-is_hub_listed-clause-passed c =
+    let s = restarted c.forget.new.self c.start.new.self in
+    all_settling Inner c.args.region.flow.now c.args.region.t c.start.new.self.hub c.args.fronts.now c.settle_border.new.fronts s c.settle_border.new.self c.args.passed
+    (all_same c.args.region.flow.now c.args.region.t c.args.fronts.now c.args.self.now s c.args.passed c.requires.passed c.forget.ensures.inner c.forget.ensures.outer)
+    c.in_ok-done.ensures.goes_on (λ z. sym (ap (λ (x : ListingState). x.count) c.in_ok-done.ensures.goes_on.other) ∙ z)
+    (λ e. ap (λ (x : ListingState). x.count) c.forget.ensures.outer ∙ (c.requires.hub.outside (sym c.start.ensures.hub ∙ e)).0) c.settle_border.ensures.fronts
+
+pub returns-then-done-clause-passed : goal.returns-then-done-clause-passed
+returns-then-done-clause-passed c =
+    let s = restarted c.forget.new.self c.start.new.self in
+    all_settling Inner c.args.region.flow.now c.args.region.t c.start.new.self.hub c.args.fronts.now c.settle_border.new.fronts s c.settle_border.new.self c.args.passed
+    (all_same c.args.region.flow.now c.args.region.t c.args.fronts.now c.args.self.now s c.args.passed c.requires.passed c.forget.ensures.inner c.forget.ensures.outer)
+    c.in_ok-done.ensures.goes_on (λ z. sym (ap (λ (x : ListingState). x.count) c.in_ok-done.ensures.goes_on.other) ∙ z)
+    (λ e. ap (λ (x : ListingState). x.count) c.forget.ensures.outer ∙ (c.requires.hub.outside (sym c.start.ensures.hub ∙ e)).0) c.settle_border.ensures.fronts
+
+pub returns-clause-passed : goal.returns-clause-passed
+returns-clause-passed c =
+    let s = restarted c.forget.new.self c.start.new.self in
+    let passed =
+    all_settling Inner c.args.region.flow.now c.args.region.t c.start.new.self.hub c.args.fronts.now c.settle_border.new.fronts s c.settle_border.new.self c.args.passed
+    (all_same c.args.region.flow.now c.args.region.t c.args.fronts.now c.args.self.now s c.args.passed c.requires.passed c.forget.ensures.inner c.forget.ensures.outer)
+    c.in_ok-done.ensures.goes_on (λ z. sym (ap (λ (x : ListingState). x.count) c.in_ok-done.ensures.goes_on.other) ∙ z)
+    (λ e. ap (λ (x : ListingState). x.count) c.forget.ensures.outer ∙ (c.requires.hub.outside (sym c.start.ensures.hub ∙ e)).0) c.settle_border.ensures.fronts in
+    all_with c.args.region.flow.now c.args.region.t c.settle_border.new.fronts c.settle_border.new.self c.take_hub.new.self c.args.passed passed c.in_ok-take_hub.ensures.stays
+    (more_taken Outer c.settle_border.new.self c.take_hub.new.self c.in_ok-take_hub.ensures.same) (λ z. absurd (omega (arith, z, c.in_ok-take_hub.ensures.some)))

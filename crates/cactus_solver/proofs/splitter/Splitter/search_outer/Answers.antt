@@ -4,6 +4,7 @@ use Rattle.cactus_solver.specs.declared.hub.HubSearch.{HubSearch}
 use Rattle.cactus_solver.specs.declared.side.Side.TheVariants.{Inner, Outer}
 use Rattle.cactus_solver.specs.Listing.{ListingState}
 use Rattle.cactus_solver.proofs.BetweenLemmas.{hub_further, hub_later, inner_further, may_take_inner, restarted, searching, stays_from, stays_more}
+use Rattle.cactus_solver.proofs.Passing.{all_same, all_with, more_taken}
 use Rattle.cactus_solver.proofs.splitter.Splitter.search_outer.Goals as goal
 
 pub forget-requires-clause-within : goal.forget-requires-clause-within
@@ -70,3 +71,13 @@ returns-clause-stays c =
 pub returns-clause-further : goal.returns-clause-further
 returns-clause-further c = λ no. inner_further c.args.region.graph.now c.args.region.flow.now c.args.region.t c.args.self.now c.settle_outer.new.self c.take_hub.new.self c.args.hub c.requires.hub (omega (arith, c.count.ensures, c.if-count-eq0.false)) c.in_ok-take_hub.ensures.taken
     (λ h e. c.in_ok-done.ensures.goes_on.seen h (c.start.ensures.begun h e))
+
+pub settle_outer-requires-clause-passed : goal.settle_outer-requires-clause-passed
+settle_outer-requires-clause-passed c =
+    all_same c.args.region.flow.now c.args.region.t c.args.fronts.now c.args.self.now (restarted c.forget.new.self c.start.new.self) c.args.passed c.requires.passed c.forget.ensures.inner c.forget.ensures.outer
+
+pub returns-clause-passed : goal.returns-clause-passed
+returns-clause-passed c =
+    let taken = c.in_ok-take_hub.ensures in
+    all_with c.args.region.flow.now c.args.region.t c.settle_outer.new.fronts c.settle_outer.new.self c.take_hub.new.self c.args.passed c.in_ok-done.ensures.passed taken.stays
+    (more_taken Inner c.settle_outer.new.self c.take_hub.new.self taken.same) (λ z. sym (ap (λ (x : ListingState). x.count) taken.same.other) ∙ z)

@@ -1,9 +1,10 @@
 -- The vertices at the places before are settled.
-use Rattle.std.proofs.Common.{◌≡◌, ℕ, ◌-◌, ◌<◌, length, get_or}
+use Rattle.std.proofs.Common.{◌≡◌, ℕ, ◌-◌, ◌<◌, ◌≤◌, length, get_or}
 use Rattle.std.specs.Prelude.{Some, slice_get}
 use Rattle.cactus_solver.specs.declared.side.Side.TheVariants.{Outer}
 use Rattle.cactus_solver.specs.Found.{IsNoneFound}
 use Rattle.cactus_solver.specs.Fronts.{list_at}
+use Rattle.cactus_solver.specs.Passed.{IsFrontPassed}
 use Rattle.cactus_solver.specs.Split.{AreAtFront, GoesOnSettling, IsSearching, IsSettledIn}
 use Rattle.cactus_solver.proofs.splitter.Splitter.settle_front.Given as goal
 
@@ -15,6 +16,8 @@ invariant-front l = record {
   fronts : AreAtFront l.region.graph.now l.region.flow.now l.region.t l.fronts;
   settled : (i v : ℕ) → i < l.place → slice_get (list_at l.fronts.lists (get_or l.region.flow.now.labels l.region.t 0)) i ≡ Some v →
       IsSettledIn Outer l.region.graph.now l.region.flow.now l.region.t l.self v;
+  onward : l.from ≤ l.place;
+  passed : IsFrontPassed l.region.flow.now l.region.t l.self (list_at l.fronts.lists (get_or l.region.flow.now.labels l.region.t 0)) l.from;
 }
 
 abbrev pub decreases-front : goal.decreases-front

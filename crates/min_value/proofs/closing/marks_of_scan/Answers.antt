@@ -1,7 +1,7 @@
 use Rattle.std.proofs.Common.{◌+◌, arith}
 use Rattle.round_workers.proofs.Marking.{fair_small}
 use Rattle.min_value.proofs.Kept.{fair_is}
-use Rattle.min_value.proofs.closing.scan_once.Goals as goal
+use Rattle.min_value.proofs.closing.marks_of_scan.Goals as goal
 
 pub mark_by_whole_scan-requires-clause-value : goal.mark_by_whole_scan-requires-clause-value
 mark_by_whole_scan-requires-clause-value c =
