@@ -1,22 +1,23 @@
 #!/usr/bin/env python3
 """How fast the reader reads: MB/s and peak memory of a built program, beside a plain reader in Python.
 
-    bench/read.py PROGRAM [WORDS ..] [--sizes 10,50,260] [--order sorted|random] [--fault none|extra|unsymmetric]
+    bench/read.py [--program PATH] [--job value] [--sizes 10,50,260] [--order sorted|random] [--fault none|extra|unsymmetric]
                   [--no-python] [--keep FOLDER]
 
-It makes files of about the named numbers of MB, feeds each to the program on its standard input, and prints seconds and MB/s
-by the clock and by the processor, peak memory, and the bytes of it per edge once 24 bytes per vertex are taken off. With a fault at the last line (an extra word, or the last entry's weight changed) the
-program reads and judges everything and then refuses, so that no time of a job on the graph is counted.
+It makes files of about the named numbers of MB, feeds each to the program on its standard input, and prints seconds and MB/s by
+the clock and by the processor, peak memory, and the bytes of it per edge once 24 bytes per vertex are taken off. With a fault at
+the last line (an extra word, or the last entry's weight changed) the program reads and judges everything and then refuses, so
+that no time of a job on the graph is counted.
 """
 import argparse
 import os
 import random
-import subprocess
 import sys
 import tempfile
-import time
 
-
+HERE = os.path.dirname(os.path.abspath(__file__))
+sys.path.insert(0, os.path.join(HERE, os.pardir, 'tools'))
+import running  # noqa: E402
 
 
 def circulant(n, jumps):
@@ -66,18 +67,6 @@ def write_file(path, megabytes, order, fault, seed):
     return n, edges, os.path.getsize(path)
 
 
-def run_measured(command, path):
-    """Seconds by the clock, seconds of the processor, peak memory in bytes, status, the error output."""
-    with open(path, 'rb') as source:
-        start = time.perf_counter()
-        child = subprocess.Popen(command, stdin=source, stdout=subprocess.DEVNULL, stderr=subprocess.PIPE)
-        err = child.stderr.read()
-        _, status, usage = os.wait4(child.pid, 0)
-        seconds = time.perf_counter() - start
-        child.returncode = os.waitstatus_to_exitcode(status)
-    return seconds, usage.ru_utime + usage.ru_stime, usage.ru_maxrss * 1024, child.returncode, err.decode('utf-8', 'replace').strip()
-
-
 PLAIN = r'''
 import sys
 def main():
@@ -103,18 +92,8 @@ main()
 '''
 
 
-def main():
-    parser = argparse.ArgumentParser(description=__doc__, formatter_class=argparse.RawDescriptionHelpFormatter)
-    parser.add_argument('program')
-    parser.add_argument('words', nargs='*')
-    parser.add_argument('--sizes', default='10,50,260')
-    parser.add_argument('--order', default='random', choices=['sorted', 'random'])
-    parser.add_argument('--fault', default='unsymmetric', choices=['none', 'extra', 'unsymmetric'])
-    parser.add_argument('--no-python', action='store_true')
-    parser.add_argument('--keep')
-    parser.add_argument('--seed', type=int, default=1)
-    options = parser.parse_args()
-    folder = options.keep or tempfile.mkdtemp()
+def measure(program, options, scratch):
+    folder = options.keep or scratch
     print(f'{"MB":>7} {"vertices":>9} {"edges":>9} {"seconds":>8} {"MB/s":>7} {"cpu s":>7} {"MB/cpu s":>8} {"peak MB":>8} {"bytes/edge":>10} status')
     for size in options.sizes.split(','):
         path = os.path.join(folder, f'graph_{size}_{options.order}_{options.fault}.metis')
@@ -124,17 +103,33 @@ def main():
             n, edges, length = int(header[0]), int(header[1]), os.path.getsize(path)
         else:
             n, edges, length = write_file(path, float(size), options.order, options.fault, options.seed)
-        commands = [('program', [options.program] + options.words)]
+        commands = [('program', [program, options.job])]
         if not options.no_python and length <= 60e6:
             commands.append(('python', [sys.executable, '-c', PLAIN]))
         for name, command in commands:
-            seconds, cpu, peak, status, err = run_measured(command, path)
-            per_edge = (peak - 24 * n) / edges
-            print(f'{length / 1e6:7.1f} {n:9d} {edges:9d} {seconds:8.2f} {length / 1e6 / seconds:7.0f}'
-                  f' {cpu:7.2f} {length / 1e6 / cpu:8.0f} {peak / 1e6:8.0f}'
-                  f' {per_edge:10.1f} {name}: status {status} {err[:60]}')
+            run = running.run_measured(command, path, os.devnull)
+            per_edge = (run.peak - 24 * n) / edges
+            print(f'{length / 1e6:7.1f} {n:9d} {edges:9d} {run.wall:8.2f} {length / 1e6 / run.wall:7.0f}'
+                  f' {run.cpu:7.2f} {length / 1e6 / run.cpu:8.0f} {run.peak / 1e6:8.0f}'
+                  f' {per_edge:10.1f} {name}: status {run.status} {run.error[:60]}')
         if not options.keep:
             os.remove(path)
+
+
+def main():
+    parser = argparse.ArgumentParser(description=__doc__, formatter_class=argparse.RawDescriptionHelpFormatter)
+    running.add_program(parser)
+    parser.add_argument('--job', default='value', choices=running.PLAIN_JOBS)
+    parser.add_argument('--sizes', default='10,50,260')
+    parser.add_argument('--order', default='random', choices=['sorted', 'random'])
+    parser.add_argument('--fault', default='unsymmetric', choices=['none', 'extra', 'unsymmetric'])
+    parser.add_argument('--no-python', action='store_true')
+    parser.add_argument('--keep')
+    parser.add_argument('--seed', type=int, default=1)
+    options = parser.parse_args()
+    program = running.ready(options.program)
+    with tempfile.TemporaryDirectory() as folder:
+        measure(program, options, folder)
 
 
 if __name__ == '__main__':

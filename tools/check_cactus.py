@@ -1,23 +1,21 @@
 #!/usr/bin/env python3
 """The job `cactus` on random graphs, compared with the minimum cuts found by trying all sides.
 
-    tools/check_cactus.py [--program PATH] [--count 5000] [--seed 1] [--most 10] [--threads 4] [--workers 1,4,64] [--normal]
+    tools/check_cactus.py [--program PATH] [--count 5000] [--seed 1] [--most 10] [--threads 4] [--workers 1,4,64]
 
 The text is read by a strict reader of its own, each cut of the cactus is cut by removing its edges and asking what node 0
-still reaches, and the sides are compared with all minimum cuts; so is the value. With --normal the cactus must be normal
-too: every node without vertices lies in two cycles or in three blocks or more, and no side stands for more cuts than it may.
+still reaches, and the sides are compared with all minimum cuts; so is the value. The cactus must be normal too: every
+node without vertices lies in two cycles or in three blocks or more, and no side stands for more cuts than it may.
 Graphs of less than two vertices must give `no cut`, disconnected ones `disconnected C`. Exit status 1 on any difference.
 """
 import argparse
 import random
-import sys
-from collections import Counter
-from concurrent.futures import ThreadPoolExecutor
 
 import cuts_by_hand as hand
+import running
 
 
-def difference(text, graph, value, sides, normal):
+def difference(text, graph, value, sides):
     """(what differs or None, the cactus or None)"""
     try:
         cactus = hand.read_cactus(text.encode())
@@ -32,9 +30,9 @@ def difference(text, graph, value, sides, normal):
     if wanted != set(found):
         lost, extra = sorted(wanted - set(found)), sorted(set(found) - wanted)
         return f'minimum cuts that are not there: {lost[:5]}; sides that are no minimum cuts: {extra[:5]}', cactus
-    if normal and not hand.is_normal(cactus):
+    if not hand.is_normal(cactus):
         return 'the cactus is not normal', cactus
-    if normal and hand.count_of_normal(cactus) != len(sides):
+    if hand.count_of_normal(cactus) != len(sides):
         return f'{len(sides)} minimum cuts, and by the formula {hand.count_of_normal(cactus)}', cactus
     return None, cactus
 
@@ -54,17 +52,16 @@ def features(cactus, sides):
     names += ['nodes without vertices in two cycles only'] if [0, 2] in empty else []
     names += ['nodes without vertices in a cycle and elsewhere'] if any(b + c > 2 and c for b, c in empty) else []
     names += ['more nodes than vertices'] if len(cactus.nodes) > cactus.n else []
-    names += ['normal'] if hand.is_normal(cactus) else ['not normal']
     return names
 
 
-def check(program, seed, most, workers, normal):
-    """(kind, names to count, what differs or None) of one random graph."""
+def check(program, seed, options):
+    """(names to count, what differs or None) of one random graph."""
     rng = random.Random(seed)
-    kind, graph = hand.random_graph(rng, most)
+    kind, graph = hand.random_graph(rng, options.most)
     text = hand.metis_text(graph)
-    words = ['cactus'] + (['--workers', rng.choice(workers)] if workers else [])
-    status, out, err = hand.run_program(program, words, text)
+    words = ['cactus'] + running.worker_words(options, rng)
+    status, out, err = running.run_program(program, words, text)
     pieces = hand.components(graph)
     names, wrong = [], None
     if graph[0] < 2 or pieces > 1:
@@ -74,44 +71,21 @@ def check(program, seed, most, workers, normal):
             wrong = f'the text is {wanted!r}'
     elif status == 0:
         value, sides = hand.minimum_cuts(graph)
-        wrong, cactus = difference(out, graph, value, sides, normal)
+        wrong, cactus = difference(out, graph, value, sides)
         if cactus is not None:
             names = features(cactus, sides)
     if status != 0 or err:
         wrong = f'status {status}, standard error {err!r}'
     if wrong is not None:
         wrong = f'DIFFERS seed {seed}, {kind}, words {words}: {wrong}\n  graph  {text!r}\n  answer {out!r}'
-    return kind, names, wrong
+    return [f'graphs: {kind}'] + [f'answers: {name}' for name in names], wrong
 
 
 def main():
     parser = argparse.ArgumentParser(description=__doc__, formatter_class=argparse.RawDescriptionHelpFormatter)
-    parser.add_argument('--program', default=hand.DEFAULT_PROGRAM)
-    parser.add_argument('--count', type=int, default=5000)
-    parser.add_argument('--seed', type=int, default=1)
-    parser.add_argument('--most', type=int, default=10, help='most vertices of a graph, 6 to 14')
-    parser.add_argument('--threads', type=int, default=4)
-    parser.add_argument('--workers', default='', help='numbers of workers, one of which is taken at random for each graph')
-    parser.add_argument('--normal', action='store_true')
+    running.add_graphs(parser)
     options = parser.parse_args()
-    workers = [word for word in options.workers.split(',') if word]
-    first = options.seed * 1_000_003
-
-    def one(k):
-        return check(options.program, first + k, options.most, workers, options.normal)
-
-    with ThreadPoolExecutor(options.threads) as pool:
-        answers = list(pool.map(one, range(options.count)))
-    for title, counts in [('kinds of graphs', Counter(kind for kind, _, _ in answers)),
-                          ('answers', Counter(name for _, names, _ in answers for name in names))]:
-        print(title)
-        for name, count in counts.most_common():
-            print(f'{count:7d} {name}')
-    wrong = [text for _, _, text in answers if text is not None]
-    for text in wrong[:10]:
-        print(text)
-    print(f'{options.count} graphs, {len(wrong)} differ')
-    sys.exit(1 if wrong else 0)
+    running.judge_all(options, 'graphs', lambda program, k, seed: check(program, seed, options))
 
 
 if __name__ == '__main__':

@@ -5,8 +5,8 @@
     tools/check_cactus_text.py --compare FILE COMMAND [WORDS ..]
     tools/check_cactus_text.py --trial FILE
 
-The first form writes cases: right texts of random cactuses, and the same with one or two changes. With --program half of the
-texts are what `PATH cactus` prints for random graphs. The second form gives the file to the command on its standard input and
+The first form writes cases: right texts of random cactuses, and the same with one or two changes; half of the texts are what the
+program prints for random graphs. The second form gives the file to the command on its standard input and
 compares the numbers that it prints, one line for each case. The third form does so with a small program over `read` of the
 crate cactus_text, which it makes in a folder of its own and runs by `rt try`. Exit status 1 on any difference.
 
@@ -23,6 +23,7 @@ import tempfile
 from collections import Counter
 
 import cuts_by_hand as hand
+import running
 
 
 def random_cactus(rng):
@@ -57,7 +58,7 @@ def printed_text(rng, program):
     while True:
         graph = hand.random_graph(rng)[1]
         if graph[0] > 1 and hand.components(graph) == 1:
-            status, out, err = hand.run_program(program, ['cactus'], hand.metis_text(graph))
+            status, out, err = running.run_program(program, ['cactus'], hand.metis_text(graph))
             if status != 0:
                 sys.exit(f'the program ended with status {status}: {err}')
             return out.encode()
@@ -301,7 +302,7 @@ def make_cases(count, seed, program):
     rng = random.Random(seed)
     cases = []
     for k in range(count):
-        text = printed_text(rng, program) if program and k % 2 else random_cactus(rng).text().encode()
+        text = printed_text(rng, program) if k % 2 else random_cactus(rng).text().encode()
         name = 'none'
         if k % 10:
             name, text = changed(rng, text)
@@ -433,10 +434,10 @@ def main():
     mode.add_argument('--compare', metavar=('FILE', 'COMMAND'), nargs=argparse.REMAINDER)
     parser.add_argument('--count', type=int, default=2500)
     parser.add_argument('--seed', type=int, default=1)
-    parser.add_argument('--program', help='take half of the texts from what this program prints')
+    running.add_program(parser)
     options = parser.parse_args()
     if options.write is not None:
-        cases = make_cases(options.count, options.seed, options.program)
+        cases = make_cases(options.count, options.seed, running.ready(options.program))
         write_cases(options.write, cases)
         report(cases)
     elif options.trial is not None:

@@ -1,28 +1,27 @@
 #!/usr/bin/env python3
 """The jobs that list, count and choose minimum cuts, on random graphs, compared with all sides tried by hand.
 
-    tools/check_listing.py [--jobs cuts,part,count,balanced,trial] [--program PATH] [--count 5000] [--seed 1] [--most 10]
+    tools/check_listing.py [--jobs value,cuts,part,count,balanced,trial] [--program PATH] [--count 5000] [--seed 1] [--most 10]
                            [--threads 4] [--workers 1,4,64]
 
-Each graph is given to one of the named jobs, in turn. `value`, `cuts`, `part U V` (random pairs, equal ones and numbers out of
-range among them) and `count` have one right text, and it is compared whole. `balanced` may print any side of best balance.
-`trial N` reads nothing and is compared with the formulas of its graph. Exit status 1 on any difference.
+Each graph is given to one of the named jobs, in turn. `value`, `cuts`, `count` and `part U V` (random pairs, equal ones and numbers out of
+range among them) have one right text, and it is compared whole. `balanced` may print any side of best balance. `trial N` reads
+nothing and is compared with the formulas of its graph. Exit status 1 on any difference.
 """
 import argparse
 import random
-import sys
-from collections import Counter
-from concurrent.futures import ThreadPoolExecutor
 
 import cuts_by_hand as hand
+import running
 
-JOBS = ['value', 'cuts', 'part', 'count', 'balanced', 'trial']
+# The jobs whose texts are compared here; that of `cactus` is by `check_cactus.py`.
+JOBS = [job for job in running.JOBS if job != 'cactus']
 
 
 def words_of(rng, job, n):
     """The words of the command."""
     if job == 'trial':
-        return ['trial', str(rng.choice([12, 13, 15, 16, 2000, rng.randrange(12, 2001)]))]
+        return ['trial', str(rng.choice([12, 13, 15, 16, 2000, 4000, rng.randrange(12, 20001)]))]
     if job != 'part':
         return [job]
     out_of_range = [0, n + 1, n + 2, (1 << 64) - 1]
@@ -43,9 +42,7 @@ def listing(value, sides):
 
 
 def trial_text(number):
-    k = number // 4
-    cuts = k * (k - 1) // 2 + 2 * k
-    return lines(f'vertices {4 * k}', f'edges {5 * k}', 'value 4', f'count {cuts}', f'balance {4 * (k // 2)}')
+    return lines(*(f'{name} {fact}' for name, fact in hand.trial_facts(number).items()))
 
 
 def wanted(words, graph):
@@ -91,51 +88,31 @@ def kind_of_answer(words, right):
     return words[0] + ': an answer'
 
 
-def check(program, job, seed, most, workers):
-    """(name of the answer's kind, what differs or None) of one random graph."""
+def check(program, job, seed, options):
+    """(names to count, what differs or None) of one random graph."""
     rng = random.Random(seed)
-    kind, graph = hand.random_graph(rng, most)
+    kind, graph = hand.random_graph(rng, options.most)
     words = words_of(rng, job, graph[0])
     right = wanted(words, graph)
-    if workers:
-        words += ['--workers', rng.choice(workers)]
+    words += running.worker_words(options, rng)
     text = '' if job == 'trial' else hand.metis_text(graph)
-    status, out, err = hand.run_program(program, words, text)
+    status, out, err = running.run_program(program, words, text)
     wrong = None
     if status != right[0] or out not in right[1] or err != right[2]:
         wrong = f'DIFFERS seed {seed}, {kind}, words {words}\n  graph  {text!r}\n  right  {right}\n  answer {(status, out, err)}'
-    return kind_of_answer(words, right), wrong
+    return [kind_of_answer(words, right)], wrong
 
 
 def main():
     parser = argparse.ArgumentParser(description=__doc__, formatter_class=argparse.RawDescriptionHelpFormatter)
-    parser.add_argument('--program', default=hand.DEFAULT_PROGRAM)
-    parser.add_argument('--jobs', default='cuts,part', help='some of ' + ','.join(JOBS))
-    parser.add_argument('--count', type=int, default=5000)
-    parser.add_argument('--seed', type=int, default=1)
-    parser.add_argument('--most', type=int, default=10, help='most vertices of a graph, 6 to 14')
-    parser.add_argument('--threads', type=int, default=4)
-    parser.add_argument('--workers', default='', help='numbers of workers, one of which is taken at random for each graph')
+    running.add_graphs(parser)
+    parser.add_argument('--jobs', default=','.join(JOBS), help='some of ' + ','.join(JOBS))
     options = parser.parse_args()
     jobs = options.jobs.split(',')
     for job in jobs:
         if job not in JOBS:
-            parser.error(f'no job {job}')
-    workers = [word for word in options.workers.split(',') if word]
-    first = options.seed * 1_000_003
-
-    def one(k):
-        return check(options.program, jobs[k % len(jobs)], first + k, options.most, workers)
-
-    with ThreadPoolExecutor(options.threads) as pool:
-        answers = list(pool.map(one, range(options.count)))
-    for name, count in sorted(Counter(name for name, _ in answers).items()):
-        print(f'{count:7d} {name}')
-    wrong = [text for _, text in answers if text is not None]
-    for text in wrong[:10]:
-        print(text)
-    print(f'{options.count} graphs, {len(wrong)} differ')
-    sys.exit(1 if wrong else 0)
+            parser.error(f'no job {job}; there are {", ".join(JOBS)}')
+    running.judge_all(options, 'graphs', lambda program, k, seed: check(program, jobs[k % len(jobs)], seed, options))
 
 
 if __name__ == '__main__':

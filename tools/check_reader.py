@@ -1,21 +1,19 @@
 #!/usr/bin/env python3
 """Random METIS files, valid and broken, judged by an independent plain reader and compared with a built program.
 
-    tools/check_reader.py PROGRAM [WORDS ..] [--cases 20000] [--seed 1] [--jobs 4] [--no-value]
+    tools/check_reader.py [--program PATH] [--count 20000] [--seed 1] [--threads 4]
 
-The program reads the file on its standard input and answers with its status and its line on the error output: status 1 and
-`refused: KIND at line N` for the first fault, else status 0. With WORDS `value` (the default) the text `value V` is compared
-with the least cut found by trying all sets, on graphs of two to eight vertices; fewer vertices have the text `no cut`.
-Random chunks: the file comes through a pipe in pieces of random length.
+Each file is given to the job `value`. The program answers with its status and its line on the error output: status 1 and
+`refused: KIND at line N` for the first fault, else status 0, and then its text is compared with the least weight of a cut, found
+by trying all sides. The file comes through a pipe in pieces of random length. Exit status 1 on any difference.
 """
 import argparse
-import itertools
 import os
 import random
 import subprocess
-import sys
-import threading
-from concurrent.futures import ThreadPoolExecutor
+
+import cuts_by_hand as hand
+import running
 
 LIMIT_VERTICES = 4_194_304
 LIMIT_EDGES = 16_777_216
@@ -148,16 +146,6 @@ def read(text):
     if body is None:
         raise Fault('NoHeader', len(lines))
     return body.n, body.end(len(lines))
-
-
-def least_cut(n, edges):
-    best = None
-    for size in range(1, n):
-        for side in itertools.combinations(range(2, n + 1), size):
-            inside = set(side)
-            weight = sum(w for u, v, w in edges if (u in inside) != (v in inside))
-            best = weight if best is None else min(best, weight)
-    return best
 
 
 def number_text(rng, value):
@@ -294,57 +282,35 @@ def run(command, text, rng):
     return child.returncode, out.decode(), err.decode()
 
 
-def wanted(text, value):
-    """(status, text on out or None where it isn't compared, text on err, kind)"""
+def wanted(text):
+    """(status, text on out or None where it is not compared, text on err, kind)"""
     try:
         n, edges = read(text)
     except Fault as fault:
         return 1, '', f'refused: {fault.kind} at line {fault.line}\n', fault.kind
-    if not value or n > 9:
+    if n > 9:
         return 0, None, '', 'accepted'
-    return 0, 'no cut\n' if n < 2 else f'value {least_cut(n, edges)}\n', '', 'accepted'
+    return 0, 'no cut\n' if n < 2 else f'value {hand.minimum_cuts((n, edges))[0]}\n', '', 'accepted'
 
 
-def case(command, seed, value):
+def check(program, seed):
+    """(names to count, what differs or None) of one random file."""
     rng = random.Random(seed)
     text = valid_file(rng)
     if rng.random() < 0.65:
         text = broken(rng, text)
-    status, out, err, kind = wanted(text, value)
-    got = run(command, text, rng)
-    same = got[0] == status and got[2] == err and (out is None or got[1] == out)
-    return kind, None if same else (seed, text, (status, out, err), got)
+    status, out, err, kind = wanted(text)
+    got = run([program, 'value'], text, rng)
+    if got[0] == status and got[2] == err and out in (None, got[1]):
+        return [kind], None
+    return [kind], f'DIFFERS seed {seed}: {text!r}\n  wanted {(status, out, err)}\n  got    {got}'
 
 
 def main():
     parser = argparse.ArgumentParser(description=__doc__, formatter_class=argparse.RawDescriptionHelpFormatter)
-    parser.add_argument('program')
-    parser.add_argument('words', nargs='*', default=['value'])
-    parser.add_argument('--cases', type=int, default=20_000)
-    parser.add_argument('--seed', type=int, default=1)
-    parser.add_argument('--jobs', type=int, default=4)
-    parser.add_argument('--no-value', action='store_true')
+    running.add_cases(parser, 20_000)
     options = parser.parse_args()
-    command = [options.program] + options.words
-    kinds = {}
-    bad = []
-    lock = threading.Lock()
-
-    def one(k):
-        kind, wrong = case(command, options.seed * 1_000_003 + k, not options.no_value)
-        with lock:
-            kinds[kind] = kinds.get(kind, 0) + 1
-            if wrong is not None:
-                bad.append(wrong)
-
-    with ThreadPoolExecutor(options.jobs) as pool:
-        list(pool.map(one, range(options.cases)))
-    for kind, count in sorted(kinds.items()):
-        print(f'{count:7d} {kind}')
-    for seed, text, want, got in bad[:10]:
-        print(f'DIFFERS seed {seed}: {text!r}\n  wanted {want}\n  got    {got}')
-    print(f'{options.cases} cases, {len(bad)} differ')
-    sys.exit(1 if bad else 0)
+    running.judge_all(options, 'files', lambda program, k, seed: check(program, seed))
 
 
 if __name__ == '__main__':

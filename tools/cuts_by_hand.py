@@ -10,11 +10,8 @@ A graph is (n, edges): edges (u, v, w) with 1 <= u < v <= n, ascending. A side i
 without vertex 1. Nothing here uses the program.
 """
 import itertools
-import os
-import subprocess
 import sys
 
-DEFAULT_PROGRAM = os.path.normpath(os.path.join(os.path.dirname(os.path.abspath(__file__)), os.pardir, 'mincut'))
 MOST_VERTICES = 4_194_304
 MOST_VALUE = 1 << 62
 BELOW = 1 << 64
@@ -221,18 +218,23 @@ def random_graph(rng, most=10):
     return name, graph
 
 
-def metis_text(graph):
-    """The graph as METIS text, with weights only where some edge does not weigh 1."""
+def metis_lines(graph):
+    """The lines of the graph as METIS text, with weights only where some edge does not weigh 1. The ends of an edge may stand in
+    either order."""
     n, edges = graph
     weighted = any(w != 1 for _, _, w in edges)
     rows = [[] for _ in range(n)]
     for u, v, w in edges:
         rows[u - 1].append((v, w))
         rows[v - 1].append((u, w))
-    lines = [f'{n} {len(edges)}' + (' 001' if weighted else '')]
+    yield f'{n} {len(edges)}' + (' 001\n' if weighted else '\n')
     for row in rows:
-        lines.append(' '.join(f'{v} {w}' if weighted else str(v) for v, w in sorted(row)))
-    return '\n'.join(lines) + '\n'
+        row.sort()
+        yield ' '.join(f'{v} {w}' if weighted else str(v) for v, w in row) + '\n'
+
+
+def metis_text(graph):
+    return ''.join(metis_lines(graph))
 
 
 def read_metis(text):
@@ -285,6 +287,12 @@ def minimum_cuts(graph):
         if weight[mask] == best:
             found.append(mask)
     return best, sorted(tuple(v + 1 for v in range(n) if mask >> v & 1) for mask in found)
+
+
+def trial_facts(number):
+    """What the job `trial` prints of the graph that it makes: rings of four vertices, joined to a ring at opposite corners."""
+    k = number // 4
+    return {'vertices': 4 * k, 'edges': 5 * k, 'value': 4, 'count': k * (k - 1) // 2 + 2 * k, 'balance': 4 * (k // 2)}
 
 
 def balance(n, side):
@@ -444,17 +452,6 @@ def count_of_normal(cactus):
     """The number of different sides of a normal cactus, without making them."""
     shared = sum(1 for node, counts in zip(cactus.nodes, blocks_at(cactus)) if not node and counts == [0, 2])
     return len(cactus.bridges) + sum(len(cycle) * (len(cycle) - 1) // 2 for cycle in cactus.cycles) - shared
-
-
-# Running the program
-
-def run_program(program, words, text):
-    """(status, standard output, standard error) as texts; a program that takes two minutes is stopped."""
-    try:
-        child = subprocess.run([program, *words], input=text.encode(), stdout=subprocess.PIPE, stderr=subprocess.PIPE, timeout=120)
-    except subprocess.TimeoutExpired:
-        return None, '', 'no answer within two minutes'
-    return child.returncode, child.stdout.decode('utf-8', 'replace'), child.stderr.decode('utf-8', 'replace')
 
 
 # A few known graphs

@@ -14,7 +14,7 @@ use Rattle.mincut_program.specs.declared.stop.Stop.{Stop}
 use Rattle.mincut_program.specs.declared.stop.Stop.TheVariants.{ReadFailed}
 use Rattle.mincut_program.specs.Stops.{stop_of}
 use Rattle.mincut_program.specs.Words.{ReadsGraph}
-use Rattle.mincut_program.specs.Intake.{IsRead, IsCause}
+use Rattle.mincut_program.specs.Intake.{IsRead, IsOneRead, IsCause}
 
 pub read_none : (left : Option (List ℕ)) → IsRead left left []
 read_none None = tt
@@ -63,23 +63,29 @@ read_cause words command before now next m n k same rose bytes read kept none =
 pub finish_cause : (words : List (List ℕ)) → ReadsGraph words → (before now : Option (List ℕ)) (m n : ℕ) → n ≡ m → (bytes : List ℕ) → IsRead before now bytes → IsAtEnd now →
     (refusal : ReadRefusal) → ((f : TheFault) → refusal ≡ Fault f → graph_of bytes ≡ Err f) → IsCause words before now m n (stop_of refusal)
 finish_cause words command before now m n same bytes read end (Fault f) why = (command, same, record { bytes = bytes; read = read; why = inr (end, why f refl) })
-finish_cause words command before now m n same bytes read end NoMemory why = (same, inr (inr (inl end)))
+finish_cause words command before now m n same bytes read end NoMemory why = (same, inr (inr end))
 
 -- the cause of a refusal of a piece
-pub feed_cause : (words : List (List ℕ)) → ReadsGraph words → (before now : Option (List ℕ)) (m n : ℕ) → n ≡ m → (bytes piece : List ℕ) → fixed bytes ≡ None → IsRead before now (bytes ++ piece) →
+pub feed_cause : (words : List (List ℕ)) → ReadsGraph words → (before now : Option (List ℕ)) (m n : ℕ) → n ≡ m → (bytes piece : List ℕ) → IsOneRead piece → fixed bytes ≡ None → IsRead before now (bytes ++ piece) →
     (refusal : ReadRefusal) → ((f : TheFault) → refusal ≡ Fault f → fixed (bytes ++ piece) ≡ Some f) → (refusal ≡ NoMemory → HeaderEndsIn bytes piece) →
     IsCause words before now m n (stop_of refusal)
-feed_cause words command before now m n same bytes piece none read (Fault f) why header = (
+feed_cause words command before now m n same bytes piece one none read (Fault f) why header = (
   command,
   same,
   record {
     bytes = bytes ++ piece;
     read = read;
-    why = inl (record { earlier = bytes; piece = piece; parts = refl; none = none; fault_fixed = why f refl });
+    why = inl (record { earlier = bytes; piece = piece; one = one; parts = refl; none = none; fault_fixed = why f refl });
   },
 )
-feed_cause words command before now m n same bytes piece none read NoMemory why header =
-    (same, inr (inl (record { bytes = bytes; piece = piece; read = read; header = header refl })))
+feed_cause words command before now m n same bytes piece one none read NoMemory why header =
+    (same, inr (inl (record { bytes = bytes; piece = piece; one = one; read = read; header = header refl })))
+
+-- what one read gave is no longer than the room
+pub one_read : (room : List ℕ) (n : ℕ) → n ≤ length room → length room ≡ 65536 → IsOneRead (take n room)
+one_read room n fits size =
+    let all = length-take-le n room fits in
+    omega arith
 
 -- a reader takes fewer bytes after each piece
 pub fewer : (before now total : ℕ) (bytes room : List ℕ) (n : ℕ) → before + length bytes ≡ total → now + length (bytes ++ take n room) ≡ total → 0 < n → n ≤ length room →

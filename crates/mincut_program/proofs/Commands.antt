@@ -28,9 +28,9 @@ another_job : command_of (codes "Value" ∷ []) ≡ None
 unfolding clap_on_literals command_of
 another_job = refl
 
-a_job_not_built : command_of (codes "count" ∷ []) ≡ None
+the_number : command_of (codes "count" ∷ []) ≡ Some (record { job = job.Count; workers = 4 })
 unfolding clap_on_literals command_of
-a_job_not_built = refl
+the_number = refl
 
 a_value_too_many : command_of (codes "value" ∷ codes "3" ∷ []) ≡ None
 unfolding clap_on_literals command_of
@@ -60,7 +60,7 @@ a_trial : command_of (codes "trial" ∷ codes "012" ∷ []) ≡ Some (record { j
 unfolding clap_on_literals command_of
 a_trial = refl
 
-a_great_trial : command_of (codes "trial" ∷ codes "2000" ∷ []) ≡ Some (record { job = job.Trial 2000; workers = 4 })
+a_great_trial : command_of (codes "trial" ∷ codes "100000" ∷ []) ≡ Some (record { job = job.Trial 100000; workers = 4 })
 unfolding clap_on_literals command_of
 a_great_trial = refl
 
@@ -68,7 +68,7 @@ too_small_a_trial : command_of (codes "trial" ∷ codes "11" ∷ []) ≡ None
 unfolding clap_on_literals command_of
 too_small_a_trial = refl
 
-too_great_a_trial : command_of (codes "trial" ∷ codes "2001" ∷ []) ≡ None
+too_great_a_trial : command_of (codes "trial" ∷ codes "100001" ∷ []) ≡ None
 unfolding clap_on_literals command_of
 too_great_a_trial = refl
 

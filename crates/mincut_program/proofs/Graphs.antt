@@ -20,7 +20,7 @@ use Rattle.cactus_solver.specs.Solved.{SameMembers}
 use Rattle.cactus_text.specs.Text.{cactus_text, line}
 use Rattle.mincut_program.specs.Jobs.{StandsFor, IsCactusText, IsBalancedText, IsTextFor, IsListed, IsInRange, IsAnswerOf, IsStopFor, asked_cuts}
 use Rattle.mincut_program.specs.Solving.{IsSolved, IsListReply, IsListStop, cuts_for}
-use Rattle.mincut_program.specs.Listings.{listing_text, balanced_text}
+use Rattle.mincut_program.specs.Listings.{listing_text, count_text, balanced_text}
 use Rattle.mincut_program.specs.Trials.{trial_text, IsFactsText}
 use Rattle.graph_maker.specs.Made.{made_graph}
 use Rattle.mincut_program.specs.declared.stop.Stop.{Stop}
@@ -70,7 +70,7 @@ solved_text g c v form law is over same least = record {
 pub one_component : (g : Graph) (count : ℕ) → LawOfOneComponent → 2 ≤ g.vertices → HasComponents g count → (count ≡ 0) ↔ (g.vertices ≡ 0) → count < 2 → IsConnected g
 one_component g count law two counted none few =
     let some : (count ≡ 0) → ⊥ = λ is. omega (arith, none.0 is, two) in
-    (law g count (omega (arith, two)) counted).0 (omega (arith, some, few))
+    (law g count counted).0 (omega (arith, some, few))
 
 -- ---- what a solved graph is answered
 
@@ -177,18 +177,6 @@ list_stop g solved a n cuts m law s over r = record {
 
 -- ---- the facts of a solved graph
 
--- the number of the minimum cuts is the length of their list
-pub count_by_list : (g : Graph) (solved : Solved) (list : List VertexList) → LawOfMinimumCuts → IsSolved g solved → IsList (2 ^ 30) g.vertices ask.All solved.cactus list →
-    length list ≡ length (mincuts g)
-count_by_list g solved list law s l =
-    let same : members_of list ≡ cuts_for ask.All g = law g solved.cactus ask.All (members_of list) s.sides l.listing in
-    sym (length-map list (λ (x : VertexList). x.members)) ∙ ap (λ (xs : List (List ℕ)). length xs) (same ∙ all_let_through (mincuts g))
-
--- or the number that the refusal of the list names
-pub count_by_refusal : (g : Graph) (solved : Solved) (cuts n : ℕ) → LawOfCount → IsSolved g solved → IsRefusal (2 ^ 30) g.vertices ask.All solved.cactus (refusal.TooLarge cuts n) →
-    cuts ≡ length (mincuts g)
-count_by_refusal g solved cuts n law s r = law g solved.cactus ask.All cuts s.sides r.0 ∙ ap (λ (xs : List (List ℕ)). length xs) (all_let_through (mincuts g))
-
 -- the facts of a solved graph and of a best side
 pub facts_known : (g : Graph) (solved : Solved) (side : VertexList) (n m count b : ℕ) → IsSolved g solved → side.vertices ≡ solved.cactus.vertices →
     IsBest solved.cactus.vertices (sides_of solved.cactus) side.members → n ≡ g.vertices → m ≡ length g.edges → count ≡ length (mincuts g) → b ≡ balance side.vertices side.members →
@@ -214,6 +202,10 @@ line_before word rest other number same =
 
 last_line : (word : List ℕ) (number : ℕ) → word ++ ((32 ∷ decimal number) ++ (10 ∷ [])) ≡ line word (number ∷ [])
 last_line word number = line_before word [] [] number refl ∙ append-nil (line word (number ∷ []))
+
+-- the value and the number of the minimum cuts as they are formatted
+pub two_lines : (least count : ℕ) → codes "value " ++ (decimal least ++ ((10 ∷ codes "count ") ++ (decimal count ++ (10 ∷ [])))) ≡ count_text least count
+two_lines least count = line_before (codes "value") _ _ least (last_line (codes "count") count)
 
 -- the five lines as they are formatted
 abbrev pub formatted : ℕ → ℕ → ℕ → ℕ → ℕ → List ℕ

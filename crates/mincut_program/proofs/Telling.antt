@@ -17,10 +17,9 @@ use Rattle.mincut_program.specs.declared.notice.Notice.{Notice}
 use Rattle.mincut_program.specs.Notices.{notice_of, text_of}
 use Rattle.mincut_program.specs.declared.command.Command.{Command}
 use Rattle.mincut_program.specs.declared.command.Job.{Job}
-use Rattle.mincut_program.specs.declared.command.Job.TheVariants.{Value, Cactus, Cuts, Part, Balanced, Trial}
+use Rattle.mincut_program.specs.declared.command.Job.TheVariants.{Value, Cactus, Cuts, Part, Count, Balanced, Trial}
 use Rattle.mincut_program.specs.Jobs.{IsAnswerOf, IsStopFor, IsInRange, IsOutside, IsWithin, asked_cuts}
 use Rattle.mincut_program.specs.Words.{IsReading, ReadsGraph, command_of}
-use Rattle.mincut_program.specs.Texts.{out_of_memory_line}
 use Rattle.mincut_program.specs.Stops.{status_of, line_of}
 use Rattle.mincut_program.specs.Intake.{IsRefused, IsAnswer, IsJobAnswer, IsJobReply, IsStopped, IsReply, IsCause}
 use Rattle.mincut_program.specs.Answers.{Writes, Tells, TellsFault, TellsVertex, TellsTooLarge, TellingFailed}
@@ -91,6 +90,7 @@ reading_replied Value left bytes text reading from reply = subst (λ (o : Option
 reading_replied Cactus left bytes text reading from reply = subst (λ (o : Option (List ℕ)). IfSome o (λ bytes. IsJobAnswer Cactus bytes text)) from reply
 reading_replied Cuts left bytes text reading from reply = subst (λ (o : Option (List ℕ)). IfSome o (λ bytes. IsJobAnswer Cuts bytes text)) from reply
 reading_replied (Part u v) left bytes text reading from reply = subst (λ (o : Option (List ℕ)). IfSome o (λ bytes. IsJobAnswer (Part u v) bytes text)) from reply
+reading_replied Count left bytes text reading from reply = subst (λ (o : Option (List ℕ)). IfSome o (λ bytes. IsJobAnswer Count bytes text)) from reply
 reading_replied Balanced left bytes text reading from reply = subst (λ (o : Option (List ℕ)). IfSome o (λ bytes. IsJobAnswer Balanced bytes text)) from reply
 reading_replied (Trial number) left bytes text reading from reply = absurd reading
 
@@ -115,6 +115,7 @@ reading_of_outside (Part u v) n outside = tt
 reading_of_outside Value n outside = tt
 reading_of_outside Cactus n outside = tt
 reading_of_outside Cuts n outside = tt
+reading_of_outside Count n outside = tt
 reading_of_outside Balanced n outside = tt
 reading_of_outside (Trial number) n outside = absurd (outside tt)
 
@@ -123,6 +124,7 @@ reading_of_large (Part u v) g large = tt
 reading_of_large Value g large = tt
 reading_of_large Cactus g large = tt
 reading_of_large Cuts g large = tt
+reading_of_large Count g large = tt
 reading_of_large Balanced g large = tt
 reading_of_large (Trial number) g large = absurd (large (λ listed. absurd listed))
 
@@ -146,6 +148,7 @@ out_of_range : (job : Job) (n x : ℕ) → IsOutside job n x → IsInRange job n
 out_of_range Value n x outside inside = outside
 out_of_range Cactus n x outside inside = outside
 out_of_range Cuts n x outside inside = outside
+out_of_range Count n x outside inside = outside
 out_of_range Balanced n x outside inside = outside
 out_of_range (Trial number) n x outside inside = outside
 out_of_range (Part u v) n x outside inside = ⊎_elim (λ a. a.1 inside.0) (λ b. b.2 inside.1) outside
@@ -165,26 +168,10 @@ too_large_stops job g cuts n why within =
 pub too_large_reply : (job : Job) (g : Graph) (text : List ℕ) → LawOfOneComponent → IsAnswerOf job g text → 2 ≤ g.vertices → IsConnected g → (IsWithin job g → ⊥) → ⊥
 too_large_reply job g text law a two connected large =
     ⊎_elim (λ few. omega (arith, few.few, two))
-    (⊎_elim (λ apart. omega (arith, apart.several, (law g apart.count (omega (arith, two)) apart.components).1 connected)) (λ whole. large whole.within))
+    (⊎_elim (λ apart. omega (arith, apart.several, (law g apart.count apart.components).1 connected)) (λ whole. large whole.within))
     a.answer
 
 -- ---- what was told
-
--- the line of the stop was written, or that of want of memory
-abbrev pub Told : Stop → Option (List ℕ) → Option (List ℕ) → ℕ → ℕ → Status → Type 0
-Told s before after p q result =
-    Writes (status_of s) (line_of s) before after p q result
-    ⊎ ((s ≢ stop.BadWords) × (s ≢ stop.ReadFailed) × Writes status.OutOfMemory out_of_memory_line before after p q result)
-
--- memory may be wanting for the line of a fault: nothing more is read then
-memory_cause : (s : Stop) (words : List (List ℕ)) (left now : Option (List ℕ)) (m n : ℕ) → IsCause words left now m n s → s ≢ stop.BadWords → s ≢ stop.ReadFailed →
-    IsCause words left now m n stop.NoMemory
-memory_cause stop.BadWords words left now m n cause words_ok read_ok = absurd (words_ok refl)
-memory_cause (stop.Refused fault) words left now m n cause words_ok read_ok = (cause.1, inr (inr (inr (fault, cause.2))))
-memory_cause stop.ReadFailed words left now m n cause words_ok read_ok = absurd (read_ok refl)
-memory_cause stop.NoMemory words left now m n cause words_ok read_ok = cause
-memory_cause (stop.BadVertex x k) words left now m n cause words_ok read_ok = (cause.1, inr (inr (inl cause.2)))
-memory_cause (stop.TooLarge cuts k) words left now m n cause words_ok read_ok = (cause.1, inr (inr (inl cause.2)))
 
 -- a stop with its cause that was told, whole or in part
 pub record Telling (words : List (List ℕ)) (left now : Option (List ℕ)) (m n : ℕ) (before after : Option (List ℕ)) (p q : ℕ) (result : Status) : Type 0 where
@@ -193,12 +180,8 @@ pub record Telling (words : List (List ℕ)) (left now : Option (List ℕ)) (m n
   pub writes : Writes (status_of stop) (line_of stop) before after p q result
 
 pub telling : (s : Stop) (words : List (List ℕ)) (left now : Option (List ℕ)) (m n : ℕ) → IsCause words left now m n s →
-    (before after : Option (List ℕ)) (p q : ℕ) (result : Status) → Told s before after p q result → Telling words left now m n before after p q result
-telling s words left now m n cause before after p q result told =
-    ⊎_elim
-    (λ line. record { stop = s; cause = cause; writes = line })
-    (λ memory. record { stop = stop.NoMemory; cause = memory_cause s words left now m n cause memory.0 memory.1; writes = memory.2 })
-    told
+    (before after : Option (List ℕ)) (p q : ℕ) (result : Status) → Writes (status_of s) (line_of s) before after p q result → Telling words left now m n before after p q result
+telling s words left now m n cause before after p q result told = record { stop = s; cause = cause; writes = told }
 
 no_write_fault : (s : Stop) → status_of s ≡ status.WriteFault → ⊥
 no_write_fault stop.BadWords e = cc

@@ -15,12 +15,12 @@ chosen : {X : Type 0} (P : X → Type 0) (b : Bool) (x y : Option X) → IfSome 
 chosen P true x y p q = p
 chosen P false x y p q = q
 
-trial_within : (o : Option ℕ) → IfSome (trial_of (within 12 2000 o)) IsMakeable
+trial_within : (o : Option ℕ) → IfSome (trial_of (within 12 100000 o)) IsMakeable
 trial_within None = tt
-trial_within (Some n) = go (nat_le 12 n) (nat_le n 2000) refl refl
+trial_within (Some n) = go (nat_le 12 n) (nat_le n 100000) refl refl
   where
-    go : (a b : Bool) → nat_le 12 n ≡ a → nat_le n 2000 ≡ b → IfSome (trial_of (if a && b then Some n else None)) IsMakeable
-    go true true low high = (leb-true 12 n low, leb-true n 2000 high)
+    go : (a b : Bool) → nat_le 12 n ≡ a → nat_le n 100000 ≡ b → IfSome (trial_of (if a && b then Some n else None)) IsMakeable
+    go true true low high = (leb-true 12 n low, leb-true n 100000 high)
     go true false low high = tt
     go false b low high = tt
 
@@ -33,7 +33,8 @@ job_within : (name : Text) (values : List Text) → IfSome (job_of name values) 
 job_within name [] =
     chosen IsMakeable (bytes_eq name (codes "value")) _ _ tt
     (chosen IsMakeable (bytes_eq name (codes "cactus")) _ _ tt
-    (chosen IsMakeable (bytes_eq name (codes "cuts")) _ _ tt (chosen IsMakeable (bytes_eq name (codes "balanced")) _ _ tt tt)))
+    (chosen IsMakeable (bytes_eq name (codes "cuts")) _ _ tt
+    (chosen IsMakeable (bytes_eq name (codes "count")) _ _ tt (chosen IsMakeable (bytes_eq name (codes "balanced")) _ _ tt tt))))
 job_within name (first ∷ []) = chosen IsMakeable (bytes_eq name (codes "trial")) _ _ (trial_within (number_of first)) tt
 job_within name (first ∷ second ∷ []) = chosen IsMakeable (bytes_eq name (codes "part")) _ _ (part_within (number_of first) (number_of second)) tt
 job_within name (first ∷ second ∷ third ∷ more) = tt

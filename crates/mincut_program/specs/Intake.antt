@@ -1,5 +1,5 @@
 -- What was read of the bytes that the source had left, and what it gives.
-use Rattle.std.specs.Prelude.{◌≡◌, ◌⊎◌, ℕ, List, [], ◌++◌, Option, None, Some, Ok, Err, IfSome, MatchOption}
+use Rattle.std.specs.Prelude.{◌≡◌, ◌≤◌, ◌⊎◌, ℕ, List, [], ◌++◌, length, Option, None, Some, Ok, Err, IfSome, MatchOption}
 use Rattle.std.specs.Io.KnownBytes.{IsAtEnd}
 use Rattle.outside.specs.Faults.{Rose}
 use Rattle.cut_definitions.specs.Graph.{Graph}
@@ -20,15 +20,20 @@ use Rattle.mincut_program.specs.Notices.{notice_of, text_of}
 abbrev pub IsRead : Option (List ℕ) → Option (List ℕ) → List ℕ → Type 0
 IsRead before now bytes = IfSome before (λ all. (rest : List ℕ) × (now ≡ Some rest) × (all ≡ bytes ++ rest))
 
--- the last piece that was read fixes the fault: what was read before it fixes none
+-- what one read gives at most
+abbrev pub IsOneRead : List ℕ → Type 0
+IsOneRead piece = length piece ≤ 65536
+
+-- the last read fixes the fault: what was read before it fixes none
 pub record IsFixedLast (bytes : List ℕ) (fault : Fault) : Type 0 where
   pub earlier : List ℕ
   pub piece : List ℕ
+  pub one : IsOneRead piece
   pub parts : bytes ≡ earlier ++ piece
   pub none : fixed earlier ≡ None
   pub fault_fixed : fixed bytes ≡ Some fault
 
--- what was read fixes the fault with its last piece, or it is all there was, and this is its first fault
+-- what was read fixes the fault with its last read, or it is all there was, and this is its first fault
 pub record IsRefused (before now : Option (List ℕ)) (fault : Fault) : Type 0 where
   pub bytes : List ℕ
   pub read : IsRead before now bytes
@@ -40,16 +45,17 @@ pub record IsUnrefused (before now : Option (List ℕ)) : Type 0 where
   pub read : IsRead before now bytes
   pub none : fixed bytes ≡ None
 
--- the last piece that was read has the end of the header
+-- the last read has the end of the header
 pub record IsAtHeader (before now : Option (List ℕ)) : Type 0 where
   pub bytes : List ℕ
   pub piece : List ℕ
+  pub one : IsOneRead piece
   pub read : IsRead before now (bytes ++ piece)
   pub header : HeaderEndsIn bytes piece
 
--- where memory may be wanting: before anything is read, at the end of the header, and once nothing more is read
+-- where memory may be wanting: before anything is read, at the read that has the end of the header, and once all was read
 abbrev pub IsMemoryPlace : Option (List ℕ) → Option (List ℕ) → Type 0
-IsMemoryPlace before now = IsRead before now [] ⊎ (IsAtHeader before now ⊎ (IsAtEnd now ⊎ ((fault : Fault) × IsRefused before now fault)))
+IsMemoryPlace before now = IsRead before now [] ⊎ (IsAtHeader before now ⊎ IsAtEnd now)
 
 -- the job of the words has no text for the graph of the bytes
 pub record IsStopped (words : List (List ℕ)) (bytes : List ℕ) (stop : Stop) : Type 0 where

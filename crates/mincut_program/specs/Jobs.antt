@@ -10,10 +10,10 @@ use Rattle.cactus_tree.specs.Flat.{Flat}
 use Rattle.cactus_tree.specs.FlatCuts.{IsWellFormed, HasSides}
 use Rattle.cactus_text.specs.Text.{cactus_text}
 use Rattle.mincut_program.specs.declared.command.Job.{Job}
-use Rattle.mincut_program.specs.declared.command.Job.TheVariants.{Value, Cactus, Cuts, Part, Balanced, Trial}
+use Rattle.mincut_program.specs.declared.command.Job.TheVariants.{Value, Cactus, Cuts, Part, Count, Balanced, Trial}
 use Rattle.mincut_program.specs.declared.stop.Stop.{Stop}
 use Rattle.mincut_program.specs.declared.stop.Stop.TheVariants.{BadVertex, TooLarge, NoMemory}
-use Rattle.mincut_program.specs.Listings.{listing_text, balanced_text}
+use Rattle.mincut_program.specs.Listings.{listing_text, count_text, balanced_text}
 use Rattle.mincut_program.specs.Texts.{no_cut_line, disconnected_line, value_line}
 
 -- the cactus is over the vertices of the graph, and the sides of its cuts are just the minimum cuts
@@ -45,6 +45,7 @@ IsTextFor Value g text = text ≡ value_line (value g)
 IsTextFor Cactus g text = IsCactusText g text
 IsTextFor Cuts g text = text ≡ listing_text (value g) (asked_cuts Cuts g)
 IsTextFor (Part u v) g text = text ≡ listing_text (value g) (asked_cuts (Part u v) g)
+IsTextFor Count g text = text ≡ count_text (value g) (length (mincuts g))
 IsTextFor Balanced g text = IsBalancedText g text
 IsTextFor (Trial number) g text = ⊥
 

@@ -18,6 +18,10 @@ side_line (v ∷ vs) = decimal v ++ spaced vs ++ 10 ∷ []
 abbrev pub listing_text : ℕ → List (List ℕ) → List ℕ
 listing_text value sides = line (codes "value") (value ∷ []) ++ line (codes "cuts") (length sides ∷ []) ++ flat_map side_line sides
 
+-- the value and the number of the sides
+abbrev pub count_text : ℕ → ℕ → List ℕ
+count_text value count = line (codes "value") (value ∷ []) ++ line (codes "count") (count ∷ [])
+
 -- the value, the balance of a side, and the side
 abbrev pub balanced_text : ℕ → ℕ → List ℕ → List ℕ
 balanced_text value n side = line (codes "value") (value ∷ []) ++ line (codes "balance") (balance n side ∷ []) ++ line (codes "side") side

@@ -1,8 +1,9 @@
 -- What is known of a graph that is solved.
-use Rattle.std.specs.Prelude.{ℕ, ◌≡◌, ◌<◌, ◌≤◌, ◌*◌, ◌^◌, ⊤, List, length}
+use Rattle.std.specs.Prelude.{ℕ, ◌≡◌, ◌<◌, ◌≤◌, ◌*◌, ◌^◌, ⊤, List, length, true}
 use Rattle.std.specs.List.{filter}
 use Rattle.cut_definitions.specs.Graph.{Graph}
 use Rattle.cut_definitions.specs.Cuts.{value, mincuts}
+use Rattle.cactus_tree.specs.Normal.{is_normal}
 use Rattle.cactus_tree.specs.Rooted.{sides_of}
 use Rattle.cactus_solver.specs.Solved.{SameMembers}
 use Rattle.cactus_solver.specs.declared.solver.Solved.{Solved}
@@ -12,11 +13,12 @@ use Rattle.mincut_program.specs.Listings.{listing_text}
 use Rattle.mincut_program.specs.declared.stop.Stop.{Stop}
 use Rattle.mincut_program.specs.declared.stop.Stop.TheVariants.{TooLarge, NoMemory}
 
--- the value of the graph, and a cactus whose sides are just its minimum cuts
+-- the value of the graph, and a normal cactus whose sides are just its minimum cuts
 pub record IsSolved (g : Graph) (solved : Solved) : Type 0 where
   pub value : solved.value ≡ value g
   pub over : solved.cactus.vertices ≡ g.vertices
   pub sides : SameMembers (sides_of solved.cactus) (mincuts g)
+  pub normal : is_normal solved.cactus.root ≡ true
 
 -- the minimum cuts that are asked for
 abbrev pub cuts_for : Ask → Graph → List (List ℕ)

@@ -38,11 +38,11 @@ fn disconnected(alloc: Global, components: u32) -> Result<Reply, NoMemory>
     Ok(Reply::Text(text))
 }
 
-// The graph with rows. The list is let go, so its memory is free for what comes next.
+// The graph with rows, which takes the list over.
 fn with_rows(alloc: Global, list: EdgeList) -> Result<Graph, NoMemory>
     ensures { IfOk result (λ graph. graph ≡ list) }
 {
-    let graph = Graph::build(alloc, &list)?;
+    let graph = Graph::from_list(alloc, list)?;
     Ok(graph)
 }
 

@@ -2,8 +2,9 @@
 
 ghost use Rattle.std.specs.Prelude.{◌≡◌, ◌≢◌, ◌≤◌, ◌^◌, IfOk, IfErr, length};
 ghost use Rattle.cut_definitions.specs.Components.{IsConnected};
-ghost use Rattle.cut_definitions.specs.Cuts.{mincuts};
+ghost use Rattle.cut_definitions.specs.Cuts.{mincuts, value};
 ghost use Rattle.mincut_program.specs.Jobs.{IsAnswerOf, IsInRange, IsStopFor, IsCactusText, IsBalancedText};
+ghost use Rattle.mincut_program.specs.Listings.{count_text};
 ghost use Rattle.mincut_program.specs.Solving.{IsSolved, IsListReply, IsListStop};
 ghost use Rattle.mincut_program.specs.Words.{IsReading};
 ghost use Rattle.cut_listing.specs.Asks.{IsAskWithin};
@@ -16,7 +17,7 @@ use crate::stop::Stop;
 use balanced_cut::best;
 use cactus_solver::Solved;
 use cactus_tree::laws;
-use cut_listing::laws::{count_of_minimum_cuts, minimum_cuts_in_order};
+use cut_listing::laws::{count_of_minimum_cuts, minimum_cuts_in_order, number_of_minimum_cuts};
 use cut_listing::{Ask, ListRefusal, Lister};
 use std::alloc::{AllocError, Global};
 use vertex_set::Side;
@@ -71,18 +72,27 @@ fn listing_reply(alloc: Global, ask: Ask, graph: &Graph, solved: Solved) -> Resu
     }
 }
 
-/// The number of all minimum cuts of a solved graph.
+/// The number of all minimum cuts of a solved graph, from the tree of its cactus: one step for each node and block.
 pub fn count_of_cuts(alloc: Global, graph: &Graph, solved: &Solved) -> Result<u64, AllocError>
     requires { IsSolved graph.now solved.now }
     ensures { IfOk result (λ count. count ≡ length (mincuts graph.now)) }
 {
-    minimum_cuts_in_order();
-    count_of_minimum_cuts();
-    match asked_sides(alloc, Ask::All, graph, solved) {
-        Ok(sides) => Ok(sides.len() as u64),
-        Err(ListRefusal::TooLarge { cuts, .. }) => Ok(cuts),
-        Err(ListRefusal::NoMemory) => Err(AllocError),
-    }
+    number_of_minimum_cuts();
+    // known by this call: the graph has at most 4,194,304 vertices
+    let _n = graph.n();
+    solved.cactus.count_within(alloc)
+}
+
+// The number of all minimum cuts.
+fn count_reply(alloc: Global, graph: &Graph, solved: &Solved) -> Result<Reply, AllocError>
+    requires solved { IsSolved graph.now solved.now }
+    ensures text { IfOk result (λ reply. text_of reply ≡ count_text (value graph.now) (length (mincuts graph.now))) }
+    ensures printable { IfOk result IsPrintable }
+{
+    let value = solved.value;
+    let count = count_of_cuts(alloc, graph, solved)?;
+    let text = format!(in alloc; "value {value}\ncount {count}\n")?;
+    Ok(Reply::Text(text))
 }
 
 // A most balanced minimum cut.
@@ -114,6 +124,7 @@ pub fn cuts_reply(alloc: Global, job: Job, graph: &Graph, solved: Solved) -> Res
     match job {
         Job::Cuts => listing_reply(alloc, Ask::All, graph, solved),
         Job::Part(u, v) => listing_reply(alloc, Ask::Parting(u as u32, v as u32), graph, solved),
+        Job::Count => Ok(count_reply(alloc, graph, &solved)?),
         Job::Balanced => Ok(balanced_reply(alloc, graph, solved)?),
         Job::Cactus => Ok(cactus_reply(graph, solved)),
         Job::Value | Job::Trial(_) => unreachable!(),

@@ -11,8 +11,9 @@ const HELP: &str = "usage: mincut JOB [U V] [--workers N]\n\
     cactus: prints all minimum cuts as one cactus\n\
     cuts: lists the minimum cuts, each by its side without vertex 1\n\
     part: lists those that part the vertices U and V\n\
+    count: prints the number of all minimum cuts\n\
     balanced: prints a minimum cut whose smaller side is greatest\n\
-    trial: prints five facts about a graph that it makes for the number U of 12 to 2000\n\
+    trial: prints five facts about a graph that it makes for the number U of 12 to 100000\n\
     N, the number of workers, is 1 to 64, and 4 where it is not named\n";
 
 const VERSION: &str = "mincut 0.1.0\n";

@@ -8,7 +8,7 @@ ghost use Rattle.mincut_program.specs.Jobs.{IsInRange, IsWithin};
 ghost use Rattle.metis_reader.specs.declared.fault.Fault.{Fault};
 ghost use Rattle.metis_reader.specs.File.{graph_of};
 ghost use Rattle.mincut_program.specs.Words.{texts, command_of, AsksNothing, IsMakeable, IsReading, ReadsGraph};
-ghost use Rattle.mincut_program.specs.Texts.{usage_line, read_failed_line, out_of_memory_line};
+ghost use Rattle.mincut_program.specs.Texts.{usage_line};
 ghost use Rattle.mincut_program.specs.Intake.{IsCause, IsJobAnswer, IsJobReply, IsReply};
 ghost use Rattle.mincut_program.specs.Replies.{text_of, IsPrintable, TakesMemory};
 ghost use Rattle.mincut_program.specs.Stops.{status_of, line_of};
@@ -21,50 +21,20 @@ use crate::intake::take_in;
 use crate::notice::{Notice, notice_of};
 use crate::reply::{Reply, write_reply};
 use crate::status::Status;
-use crate::stop::{Stop, refused_line, too_large_text, vertex_text};
+use crate::stop::{Stop, line_for, status_for};
 use crate::trial::trial_reply;
 use cactus_text::PrintRefusal;
 use outside::{Gate, Sink, Source, write_whole};
 use std::alloc::Global;
 
-const USAGE_LINE: &str = "usage: mincut JOB [U V] [--workers N]\n";
-
-const READ_FAILED_LINE: &str = "read failed\n";
-
-const OUT_OF_MEMORY_LINE: &str = "out of memory\n";
-
-// Writes a text, and answers the status where all of it was taken.
-fn write_text<K: Sink>(sink: &mut K, text: &str, status: Status) -> Status
-    ensures { Writes status text.now (K.taken sink.old) (K.taken sink.new) (K.faults sink.old) (K.faults sink.new) result }
+// Tells why there is nothing to write to `out`. It takes no memory.
+fn tell<E: Sink>(err: &mut E, stop: Stop) -> Status
+    ensures { Writes (status_of stop) (line_of stop) (E.taken err.old) (E.taken err.new) (E.faults err.old) (E.faults err.new) result }
 {
-    match write_whole(sink, text.as_bytes()) {
-        Ok(()) => status,
+    let line = line_for(stop);
+    match write_whole(err, line.as_str().as_bytes()) {
+        Ok(()) => status_for(stop),
         Err(_) => Status::WriteFault,
-    }
-}
-
-// Tells why there is nothing to write to `out`. Memory is wanted for the line that names a fault alone.
-fn tell<E: Sink>(alloc: Global, err: &mut E, stop: Stop) -> Status
-    ensures { Writes (status_of stop) (line_of stop) (E.taken err.old) (E.taken err.new) (E.faults err.old) (E.faults err.new) result
-        ⊎ ((stop ≢ Stop.BadWords) × (stop ≢ Stop.ReadFailed)
-        × Writes Status.OutOfMemory out_of_memory_line (E.taken err.old) (E.taken err.new) (E.faults err.old) (E.faults err.new) result) }
-{
-    match stop {
-        Stop::BadWords => write_text(err, USAGE_LINE, Status::BadWords),
-        Stop::Refused(fault) => match refused_line(alloc, fault) {
-            Ok(line) => write_text(err, line.as_str(), Status::Refused),
-            Err(_) => write_text(err, OUT_OF_MEMORY_LINE, Status::OutOfMemory),
-        },
-        Stop::ReadFailed => write_text(err, READ_FAILED_LINE, Status::ReadFault),
-        Stop::NoMemory => write_text(err, OUT_OF_MEMORY_LINE, Status::OutOfMemory),
-        Stop::BadVertex { vertex, n } => match vertex_text(alloc, vertex, n) {
-            Ok(line) => write_text(err, line.as_str(), Status::BadVertex),
-            Err(_) => write_text(err, OUT_OF_MEMORY_LINE, Status::OutOfMemory),
-        },
-        Stop::TooLarge { cuts, n } => match too_large_text(alloc, cuts, n) {
-            Ok(line) => write_text(err, line.as_str(), Status::ListTooLarge),
-            Err(_) => write_text(err, OUT_OF_MEMORY_LINE, Status::OutOfMemory),
-        },
     }
 }
 
@@ -123,7 +93,7 @@ fn job_reply<S: Source, G: Gate>(
 {
     match command.job {
         Job::Trial(number) => Ok(trial_reply(alloc, number, command.workers, gate)?),
-        Job::Value | Job::Cactus | Job::Cuts | Job::Part(..) | Job::Balanced => {
+        Job::Value | Job::Cactus | Job::Cuts | Job::Part(..) | Job::Count | Job::Balanced => {
             reading_reply(alloc, command, source, gate)
         }
     }
@@ -179,7 +149,7 @@ pub fn run<S: Source, K: Sink, E: Sink, G: Gate>(
         ⊎ ((result ≡ Status.WriteFault) × Rose (E.faults err.old) (E.faults err.new)) }
     ensures unread { ¬ ReadsGraph (texts words.now) → source.new ≡ source.old }
 
-    // The line of a fault names the first fault of the bytes, and nothing is read once they fix it.
+    // The line of a fault names the first fault of the bytes, and no read follows the one with which they fix it.
     ensures refused { result ≡ Status.Refused → TellsFault (texts words.now) (S.left source.old) (S.left source.new)
         (S.faults source.old) (S.faults source.new) (E.taken err.old) (E.taken err.new) }
 
@@ -189,7 +159,8 @@ pub fn run<S: Source, K: Sink, E: Sink, G: Gate>(
     ensures too_large { result ≡ Status.ListTooLarge → TellsTooLarge (texts words.now) (S.left source.old) (S.left source.new)
         (S.faults source.old) (S.faults source.new) (E.taken err.old) (E.taken err.new) }
 
-    // A failed read is told where no fault was fixed before it, and memory is wanting at three places alone.
+    // A failed read is told where no fault was fixed before it. Memory is wanting before anything is read, at the read that has
+    // the end of the header, or once all was read, and nowhere else.
     ensures read_fault { result ≡ Status.ReadFault → Tells (texts words.now) (S.left source.old) (S.left source.new)
         (S.faults source.old) (S.faults source.new) (E.taken err.old) (E.taken err.new) Stop.ReadFailed }
     ensures memory { result ≡ Status.OutOfMemory → Tells (texts words.now) (S.left source.old) (S.left source.new)
@@ -251,8 +222,8 @@ pub fn run<S: Source, K: Sink, E: Sink, G: Gate>(
         Ok(reply) => match write_reply(alloc, out, &reply) {
             Ok(()) => Status::Ok,
             Err(PrintRefusal::SinkFailed) => Status::WriteFault,
-            Err(PrintRefusal::NoMemory) => tell(alloc, err, Stop::NoMemory),
+            Err(PrintRefusal::NoMemory) => tell(err, Stop::NoMemory),
         },
-        Err(stop) => tell(alloc, err, stop),
+        Err(stop) => tell(err, stop),
     }
 }

@@ -52,7 +52,7 @@ fn describe(alloc: Global, graph: &Graph, solved: &Solved) -> Result<String, NoM
 /// The text for the graph that is made for a number: its numbers of vertices and edges, its value, the number of its
 /// minimum cuts and the greatest balance of one.
 ///
-/// It is refused only where memory is wanting. It makes a list of all minimum cuts, for their number.
+/// It is refused only where memory is wanting.
 pub fn trial_reply<G: Gate>(
     alloc: Global,
     number: u32,
@@ -60,7 +60,7 @@ pub fn trial_reply<G: Gate>(
     gate: &G,
 ) -> Result<Reply, NoMemory>
     requires from { 12 ≤ number }
-    requires to { number ≤ 2000 }
+    requires to { number ≤ 100000 }
     requires workers { (1 ≤ workers) × (workers ≤ 64) }
     ensures text { IfOk result (λ reply. IsTrialText number (text_of reply)) }
     ensures printable { IfOk result IsPrintable }
@@ -68,7 +68,7 @@ pub fn trial_reply<G: Gate>(
 {
     connected_making();
     let list = make(alloc, number)?;
-    let graph = Graph::build(alloc, &list)?;
+    let graph = Graph::from_list(alloc, list)?;
     let solved = solve(alloc, &graph, workers, gate)?;
     let text = describe(alloc, &graph, &solved)?;
     Ok(Reply::Text(text))

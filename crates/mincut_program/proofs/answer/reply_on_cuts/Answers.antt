@@ -1,9 +1,20 @@
-use Rattle.std.proofs.Common.{subst, IfOk}
+use Rattle.std.proofs.Common.{◌≤◌, subst, sym, IfOk, arith}
 use Rattle.std.specs.Prelude.{IfErr}
 use Rattle.cut_definitions.specs.Graph.{Graph}
 use Rattle.mincut_program.specs.Jobs.{IsAnswerOf, IsStopFor}
 use Rattle.mincut_program.specs.Replies.{text_of}
+use Rattle.mincut_program.proofs.Graphs.{one_component}
 use Rattle.mincut_program.proofs.answer.reply_on_cuts.Goals as goal
+
+pub solve-requires-clause-connected : goal.solve-requires-clause-connected
+solve-requires-clause-connected g c κs lives =
+    one_component c.in_ok-graph.graph c.in_ok-components.components c.connected_is_one_component.ensures (subst (λ (l : Graph). 2 ≤ l.vertices) (sym c.in_ok-graph.ensures) c.requires.enough)
+    c.in_ok-components.ensures.counted c.in_ok-components.ensures.none (omega (arith, c.if-components-ge2.false))
+
+pub cuts_reply-requires-clause-connected : goal.cuts_reply-requires-clause-connected
+cuts_reply-requires-clause-connected g c =
+    one_component c.in_ok-graph.graph c.in_ok-components.components c.connected_is_one_component.ensures (subst (λ (l : Graph). 2 ≤ l.vertices) (sym c.in_ok-graph.ensures) c.requires.enough)
+    c.in_ok-components.ensures.counted c.in_ok-components.ensures.none (omega (arith, c.if-components-ge2.false))
 
 pub returns-clause-text : goal.returns-clause-text
 returns-clause-text g c = subst (λ (l : Graph). IfOk c.cuts_reply.result (λ reply. IsAnswerOf c.args.command.job l (text_of reply))) c.in_ok-graph.ensures c.cuts_reply.ensures.text

@@ -3,7 +3,7 @@ use Rattle.metis_reader.proofs.StillFed.{still_fed}
 use Rattle.mincut_program.specs.declared.stop.Stop.{Stop}
 use Rattle.mincut_program.specs.Words.{ReadsGraph}
 use Rattle.mincut_program.specs.Intake.{IsCause}
-use Rattle.mincut_program.proofs.Bytes.{read_none, read_more, read_nothing, read_cause, finish_cause, feed_cause, fewer, handed_on}
+use Rattle.mincut_program.proofs.Bytes.{read_none, read_more, read_nothing, read_cause, finish_cause, feed_cause, fewer, handed_on, one_read}
 use Rattle.mincut_program.proofs.intake.take_in.Goals as goal
 
 pub reading-init : goal.reading-init
@@ -42,6 +42,7 @@ returns-in_err-feed-in-Ok-clause-cause g c =
     let why : Stop → Type 0 = λ stop. (words : List (List ℕ)) → ReadsGraph words → IsCause words left now m n stop in
     handed_on why c.from_residual-in_err-feed-in-Ok.result c.in_err-feed-in-Ok.field-0.0 c.from_residual-in_err-feed-in-Ok.ensures.1
     (λ words command. feed_cause words command left now m n (c.in-Ok.ensures.cause.ok ∙ fed.1.faults) fed.0 _
+    (one_read c.read.new.room c.in-Ok.count c.in-Ok.ensures.bound.0 (omega arith))
     (still_fed c.reading.reader fed.0 fed.1.stands fed.1.accepted).none
     (read_more left (g.S.Source.left c.reading.source) now fed.0 _ fed.1.read c.in-Ok.ensures.bytes.0)
     c.in_err-feed-in-Ok.field-0.0

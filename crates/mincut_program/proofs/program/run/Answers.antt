@@ -16,7 +16,7 @@ returns-in-Ok-clause-write_fault g c is =
     let takes : TakesMemory c.in-Ok.reply = search rules in
     let kept : c.write_reply.new.out ≡ c.args.out.now = search rules in
     let cause : IsCause (texts c.args.words.now) (g.S.Source.left c.args.source.now) (g.S.Source.left c.reply.new.source)
-    (g.S.Source.faults c.args.source.now) (g.S.Source.faults c.reply.new.source) NoMemory = (c.in-Ok.ensures.same, inr (inr (inl (c.in-Ok.ensures.ready takes)))) in
+    (g.S.Source.faults c.args.source.now) (g.S.Source.faults c.reply.new.source) NoMemory = (c.in-Ok.ensures.same, inr (inr (c.in-Ok.ensures.ready takes))) in
     inr (
       telling_failed (texts c.args.words.now) (g.S.Source.left c.args.source.now) (g.S.Source.left c.reply.new.source)
           (g.S.Source.faults c.args.source.now) (g.S.Source.faults c.reply.new.source)

@@ -1,0 +1,23 @@
+//! Graphs as METIS text.
+
+pub const TRIANGLE: &[u8] = b"3 3\n2 3\n1 3\n1 2\n";
+
+pub const PATH: &[u8] = b"3 2 1\n2 5\n1 5 3 5\n2 5\n";
+
+pub const SQUARE: &[u8] = b"4 4\n2 4\n1 3\n2 4\n1 3\n";
+
+pub const COMPLETE: &[u8] = b"4 6\n2 3 4\n1 3 4\n1 2 4\n1 2 3\n";
+
+pub const HEAVY_PAIR: &[u8] = b"3 3 1\n2 5 3 1\n1 5 3 4\n1 1 2 4\n";
+
+pub const ONE_EDGE: &[u8] = b"2 1 1\n2 7\n1 7\n";
+
+/// A graph whose cactus has two cycles that meet in a node without vertices.
+pub const TWO_CYCLES: &[u8] =
+    b"6 8 1\n2 2 4 1 6 1\n1 2 3 2\n2 2 4 1 6 1\n1 1 3 1 5 2\n4 2 6 2\n1 1 3 1 5 2\n";
+
+pub const TWO_PIECES: &[u8] = b"4 2\n2\n1\n4\n3\n";
+
+pub const ONE_VERTEX: &[u8] = b"1 0\n\n";
+
+pub const NO_VERTEX: &[u8] = b"0 0\n";

@@ -1,0 +1,13 @@
+//! Tests of the program, over sources and sinks in memory.
+#![tactic(auto)]
+
+#[cfg(test)]
+mod answers;
+#[cfg(test)]
+mod failures;
+#[cfg(test)]
+mod graphs;
+#[cfg(test)]
+mod runs;
+#[cfg(test)]
+mod words;

@@ -1,0 +1,140 @@
+//! Runs of the program over a text in memory.
+
+use mincut_program::{Status, run};
+use outside::{Gate, MemorySink, MemorySource, OpenGate};
+use std::alloc::Global;
+use std::sync::atomic::{AtomicU64, Ordering};
+use std::test::Fail;
+
+/// Which calls fail, and how many bytes each read gives.
+#[derive(Clone, Copy)]
+pub struct Script<'a> {
+    pub cuts: &'a [usize],
+    pub reads: &'a [u64],
+    pub writes: &'a [u64],
+    pub tells: &'a [u64],
+}
+
+pub const HONEST: Script = Script {
+    cuts: &[],
+    reads: &[],
+    writes: &[],
+    tells: &[],
+};
+
+/// No byte can be read.
+pub const UNREADABLE: Script = Script {
+    cuts: &[],
+    reads: &[0],
+    writes: &[],
+    tells: &[],
+};
+
+/// What a run must answer, and write to `out` and to `err`.
+#[derive(Clone, Copy)]
+pub struct Wanted<'a> {
+    pub status: Status,
+    pub out: &'a str,
+    pub err: &'a str,
+}
+
+// A gate that counts how often a worker passes.
+#[derive(Drop)]
+struct CountingGate {
+    passes: AtomicU64,
+}
+
+impl Gate for CountingGate {
+    fn pass(&self, _worker: u32) {
+        self.passes.fetch_add(1, Ordering::SeqCst);
+    }
+}
+
+/// Words as the program gets them.
+pub fn strings_of(alloc: Global, words: &[&str]) -> Result<Vec<String>, Fail> {
+    let mut strings = Vec::new(alloc);
+    for word in words {
+        strings.push(String::from_str(alloc, word)?)?;
+    }
+    Ok(strings)
+}
+
+fn source_of(alloc: Global, text: &[u8], script: &Script) -> Result<MemorySource, Fail> {
+    let cuts = script.cuts.to_vec(alloc)?;
+    let reads = script.reads.to_vec(alloc)?;
+    Ok(MemorySource::new(text.to_vec(alloc)?, cuts, reads))
+}
+
+fn sink_of(alloc: Global, room: usize, failing: &[u64]) -> Result<MemorySink, Fail> {
+    let sink = MemorySink::new(alloc, room, failing.to_vec(alloc)?)?;
+    Ok(sink)
+}
+
+/// Whether a run by this script answers and writes just what is wanted.
+pub fn gives(
+    alloc: Global,
+    words: &[&str],
+    text: &[u8],
+    script: &Script,
+    wanted: &Wanted,
+) -> Result<bool, Fail> {
+    let strings = strings_of(alloc, words)?;
+    let mut source = source_of(alloc, text, script)?;
+    let mut out = sink_of(alloc, 1_000, script.writes)?;
+    let mut err = sink_of(alloc, 100, script.tells)?;
+    let status = run(alloc, &strings, &mut source, &mut out, &mut err, &OpenGate);
+    Ok(
+        status == wanted.status
+            && out.taken() == wanted.out.as_bytes()
+            && err.taken() == wanted.err.as_bytes(),
+    )
+}
+
+/// Whether an honest run answers `Ok`, writes this text, and tells nothing.
+pub fn answers(alloc: Global, words: &[&str], text: &[u8], out: &str) -> Result<bool, Fail> {
+    let wanted = Wanted {
+        status: Status::Ok,
+        out,
+        err: "",
+    };
+    gives(alloc, words, text, &HONEST, &wanted)
+}
+
+/// Whether an honest run answers `Ok`, and writes a text that begins with these lines.
+pub fn begins(alloc: Global, words: &[&str], text: &[u8], lines: &str) -> Result<bool, Fail> {
+    let strings = strings_of(alloc, words)?;
+    let mut source = source_of(alloc, text, &HONEST)?;
+    let mut out = sink_of(alloc, 1_000, &[])?;
+    let mut err = sink_of(alloc, 100, &[])?;
+    let status = run(alloc, &strings, &mut source, &mut out, &mut err, &OpenGate);
+    Ok(status == Status::Ok && out.taken().starts_with(lines.as_bytes()))
+}
+
+/// Whether an honest run answers this status, writes nothing, and tells this line.
+pub fn tells(
+    alloc: Global,
+    words: &[&str],
+    text: &[u8],
+    status: Status,
+    err: &str,
+) -> Result<bool, Fail> {
+    let wanted = Wanted {
+        status,
+        out: "",
+        err,
+    };
+    gives(alloc, words, text, &HONEST, &wanted)
+}
+
+/// How often a worker passes the gate in an honest run.
+pub fn passes_of(alloc: Global, words: &[&str], text: &[u8]) -> Result<u64, Fail> {
+    let strings = strings_of(alloc, words)?;
+    let mut source = source_of(alloc, text, &HONEST)?;
+    let mut out = sink_of(alloc, 1_000, &[])?;
+    let mut err = sink_of(alloc, 100, &[])?;
+    let gate = CountingGate {
+        passes: AtomicU64::new(0),
+    };
+    let _status = run(alloc, &strings, &mut source, &mut out, &mut err, &gate);
+    Ok(gate.passes.load(Ordering::SeqCst))
+}

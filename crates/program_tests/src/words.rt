@@ -1,0 +1,129 @@
+//! Which words are a command.
+
+use crate::graphs::TRIANGLE;
+use crate::runs::{UNREADABLE, Wanted, answers, gives, strings_of};
+use mincut_program::{Command, Job, Status, read_words};
+use std::alloc::Global;
+use std::test::Fail;
+
+const USAGE: &str = "usage: mincut JOB [U V] [--workers N]\n";
+
+const PLACES: &[&[&str]] = &[
+    &["value", "--workers", "8"],
+    &["--workers=8", "value"],
+    &["value", "--workers=064"],
+    &["--workers", "1", "value"],
+];
+
+#[test]
+fn the_option_stands_anywhere(rt: HostRuntime) -> Result<(), Fail> {
+    for words in PLACES {
+        assert!(rt; answers(rt.alloc(), words, TRIANGLE, "value 2\n")?);
+    }
+    Ok(())
+}
+
+const NO_COMMANDS: &[&[&str]] = &[
+    &["count", "3"],
+    &["Value"],
+    &["value", "3"],
+    &["part", "1"],
+    &["part", "1", "2", "3"],
+    &["part", "1", "x"],
+    &["cuts", "2"],
+    &["trial"],
+    &["trial", "11"],
+    &["trial", "100001"],
+    &["trial", "12", "13"],
+    &["value", "value"],
+    &["value", "--workers", "0"],
+    &["value", "--workers", "65"],
+    &["value", "--workers"],
+    &["value", "--workers", "8", "--workers", "9"],
+    &["value", "--threads", "8"],
+    &["value", "--help"],
+    &[""],
+    &[],
+];
+
+#[test]
+fn other_words_are_refused_unread(rt: HostRuntime) -> Result<(), Fail> {
+    let wanted = Wanted {
+        status: Status::BadWords,
+        out: "",
+        err: USAGE,
+    };
+    for words in NO_COMMANDS {
+        assert!(rt; gives(rt.alloc(), words, TRIANGLE, &UNREADABLE, &wanted)?);
+    }
+    Ok(())
+}
+
+const HELP: &str = "usage: mincut JOB [U V] [--workers N]\n\
+    reads a graph in METIS text from standard input\n\
+    JOB is one of\n\
+    value: prints the least weight of a cut\n\
+    cactus: prints all minimum cuts as one cactus\n\
+    cuts: lists the minimum cuts, each by its side without vertex 1\n\
+    part: lists those that part the vertices U and V\n\
+    count: prints the number of all minimum cuts\n\
+    balanced: prints a minimum cut whose smaller side is greatest\n\
+    trial: prints five facts about a graph that it makes for the number U of 12 to 100000\n\
+    N, the number of workers, is 1 to 64, and 4 where it is not named\n";
+
+const NOTICES: &[(&str, &str)] = &[
+    ("--help", HELP),
+    ("-h", HELP),
+    ("--version", "mincut 0.1.0\n"),
+    ("-V", "mincut 0.1.0\n"),
+];
+
+#[test]
+fn notices_are_printed_unread(rt: HostRuntime) -> Result<(), Fail> {
+    for (word, out) in NOTICES {
+        let wanted = Wanted {
+            status: Status::Ok,
+            out,
+            err: "",
+        };
+        assert!(rt;
+            gives(rt.alloc(), &[*word], TRIANGLE, &UNREADABLE, &wanted)?,
+            "{word}"
+        );
+    }
+    Ok(())
+}
+
+// Whether these words are this command.
+fn are(alloc: Global, words: &[&str], command: Command) -> Result<bool, Fail> {
+    let strings = strings_of(alloc, words)?;
+    Ok(read_words(alloc, &strings) == Ok(command))
+}
+
+#[test]
+fn numbers_may_begin_with_zeros(rt: HostRuntime) -> Result<(), Fail> {
+    let command = Command {
+        job: Job::Part(7, 2),
+        workers: 4,
+    };
+    assert!(rt; are(rt.alloc(), &["part", "007", "2"], command)?);
+    Ok(())
+}
+
+const CODES: [Status; 8] = [
+    Status::Ok,
+    Status::Refused,
+    Status::BadWords,
+    Status::ReadFault,
+    Status::WriteFault,
+    Status::OutOfMemory,
+    Status::ListTooLarge,
+    Status::BadVertex,
+];
+
+#[test]
+fn statuses_are_numbered(rt: HostRuntime) {
+    for i in 0..CODES.len() {
+        assert!(rt; CODES[i].code() as usize == i);
+    }
+}
