@@ -17,4 +17,3 @@ pub mod Tops
 pub mod Finals
 pub mod Parts
 pub mod Pushed
-pub mod Tested

@@ -13,6 +13,3 @@ mod part;
 
 pub use assembly::join;
 pub use part::{PartCactus, assemble};
-
-#[cfg(test)]
-mod tests;

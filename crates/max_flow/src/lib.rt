@@ -28,6 +28,3 @@ mod side;
 pub use flow::Flow;
 pub use outcome::{BestRun, Outcome};
 pub use preflow::{Beyond, Preflow};
-
-#[cfg(test)]
-mod tests;

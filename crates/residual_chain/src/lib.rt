@@ -37,6 +37,3 @@ pub use path_memory::PathMemory;
 pub use run::Run;
 pub use step_arcs::StepArcs;
 pub use walking::walk;
-
-#[cfg(test)]
-mod tests;

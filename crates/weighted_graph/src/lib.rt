@@ -15,6 +15,3 @@ mod row_index;
 
 pub use graph::{Arc, Graph};
 pub use labels::Labels;
-
-#[cfg(test)]
-mod tests;

@@ -1,7 +1,7 @@
 use Rattle.std.proofs.Common.{◌≡◌, length}
 use Rattle.std.specs.List.{filter, range_with_len}
 use Rattle.cactus_merge.specs.Assembled.{is_own}
-use Rattle.cactus_merge.proofs.tests.own_list.Given as goal
+use Rattle.solver_tests.proofs.assemblies.own_list.Given as goal
 
 abbrev pub invariant-vertices : goal.invariant-vertices
 invariant-vertices l = record {

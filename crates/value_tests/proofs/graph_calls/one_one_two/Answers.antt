@@ -4,7 +4,7 @@ use Rattle.std.specs.List.{Contains}
 use Rattle.std.proofs.lemmas.Bool.{cases_eq}
 use Rattle.std.proofs.lemmas.List.Elements.{All-nil, All-cons}
 use Rattle.cut_definitions.specs.Contraction.{IsLabels}
-use Rattle.weighted_graph.proofs.tests.one_one_two.Goals as goal
+use Rattle.value_tests.proofs.graph_calls.one_one_two.Goals as goal
 
 has_both : (c : ℕ) → 1 ≤ c → c ≤ 2 → Contains (1 ∷ 1 ∷ 2 ∷ []) c
 has_both c l u =

@@ -2,7 +2,7 @@
 use Rattle.std.proofs.Common.{◌≡◌, ◌^◌, ◌≤◌}
 use Rattle.std.specs.List.{sum_by}
 use Rattle.cut_definitions.specs.declared.edge_list.Edge.{Edge}
-use Rattle.max_flow.proofs.tests.graph_of.Given as goal
+use Rattle.value_tests.proofs.bounded_flows.graph_of.Given as goal
 
 abbrev pub invariant-loop-u : goal.invariant-loop-u
 invariant-loop-u l = record {

@@ -2,7 +2,7 @@ use Rattle.std.proofs.Common.{◌≡◌, ℕ, ◌+◌, ◌<◌, length}
 use Rattle.std.specs.Prelude.{slice_index_or}
 use Rattle.cactus_merge.specs.declared.part.PartCactus.{PartCactus}
 use Rattle.cactus_merge.specs.Assembled.{IsPartOf}
-use Rattle.cactus_merge.proofs.tests.single_parts.Given as goal
+use Rattle.solver_tests.proofs.assemblies.single_parts.Given as goal
 
 abbrev pub invariant-each_part : goal.invariant-each_part
 invariant-each_part l = record {

@@ -1,7 +1,7 @@
 -- The list with one edge more is an edge list.
 use Rattle.std.proofs.Common.{arith}
 use Rattle.cut_definitions.proofs.Pushes.{IsEdgeList-with_edge}
-use Rattle.max_flow.proofs.tests.graph_of.Goals as goal
+use Rattle.value_tests.proofs.bounded_flows.graph_of.Goals as goal
 
 pub push-requires : goal.push-requires
 push-requires c =

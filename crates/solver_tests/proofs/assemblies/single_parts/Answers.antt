@@ -1,7 +1,7 @@
 use Rattle.std.proofs.Common.{[], ◌∷◌, length, ap, arith}
 use Rattle.std.proofs.lemmas.List.{length-append}
-use Rattle.cactus_merge.proofs.Tested.{more_parts}
-use Rattle.cactus_merge.proofs.tests.single_parts.Goals as goal
+use Rattle.solver_tests.proofs.Tested.{more_parts}
+use Rattle.solver_tests.proofs.assemblies.single_parts.Goals as goal
 
 pub each_part-preserved : goal.each_part-preserved
 each_part-preserved c = record {

@@ -1,8 +1,8 @@
 use Rattle.std.proofs.Common.{◌∙◌, ap, arith}
 use Rattle.std.specs.List.{filter, range_with_len}
 use Rattle.cactus_merge.specs.Assembled.{is_own}
-use Rattle.cactus_merge.proofs.Tested.{more_own}
-use Rattle.cactus_merge.proofs.tests.own_list.Goals as goal
+use Rattle.solver_tests.proofs.Tested.{more_own}
+use Rattle.solver_tests.proofs.assemblies.own_list.Goals as goal
 
 pub vertices-preserved : goal.vertices-preserved
 vertices-preserved c = record {
