@@ -1,6 +1,10 @@
-//! Tests of the solver, over small graphs whose minimum cuts are known.
+//! Tests of chains, assemblies and the solver, over small graphs whose minimum cuts are known.
 #![tactic(auto)]
 
+#[cfg(test)]
+mod assemblies;
+#[cfg(test)]
+mod chains;
 #[cfg(test)]
 mod graphs;
 #[cfg(test)]

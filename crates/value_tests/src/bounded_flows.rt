@@ -1,11 +1,14 @@
+//! Bounded flows between two vertices, and what a preflow tells.
+
 ghost use Rattle.std.specs.Prelude.{◌↔◌, ◌≡◌, ◌≢◌, ◌<◌, ◌≤◌, ◌^◌, [], ◌∷◌, IsTrue, IfOk};
 ghost use Rattle.std.specs.List.{All};
 ghost use Rattle.cut_definitions.specs.Graph.{IsBefore, IsEdgeList};
 ghost use Rattle.cut_definitions.specs.Weight.{VertexSet, weight, IsCut};
 ghost use Rattle.max_flow.specs.Flow.{StandsFor};
 
-use crate::{Beyond, Flow, Outcome, Preflow};
+use crate::graphs::uneven_triangle;
 use cut_definitions::{Edge, EdgeList};
+use max_flow::{Beyond, Flow, Outcome, Preflow};
 use std::alloc::Global;
 use std::test::Fail;
 use vertex_set::Side;
@@ -155,23 +158,9 @@ fn told_from_first(alloc: Global, graph: &Graph, t: u32, bound: u64) -> Result<B
     Ok(preflow.look_beyond(graph, t, bound))
 }
 
-// The triangle with the weights 5, 1 and 4.
-fn triangle(alloc: Global) -> Result<Graph, Fail>
-    ensures value { IfOk result (λ g. g ≡ record { vertices = 3; edges = record { u = 1; v = 2; w = 5 } ∷ record { u = 1; v = 3; w = 1 } ∷ record { u = 2; v = 3; w = 4 } ∷ [] }) }
-    ensures is_graph { IfOk result (λ g. IsEdgeList g) }
-{
-    let edges = [
-        Edge { u: 1, v: 2, w: 5 },
-        Edge { u: 1, v: 3, w: 1 },
-        Edge { u: 2, v: 3, w: 4 },
-    ];
-    let list = EdgeList::from_edges(3, Vec::from_slice(alloc, &edges)?);
-    Ok(Graph::build(alloc, &list)?)
-}
-
 #[test]
 fn what_a_preflow_tells(rt: HostRuntime) -> Result<(), Fail> {
-    let graph = triangle(rt.alloc())?;
+    let graph = uneven_triangle(rt.alloc())?;
     assert!(rt; told_from_first(rt.alloc(), &graph, 2, 5)? == Beyond::Heavy);
     assert!(rt; told_from_first(rt.alloc(), &graph, 3, 5)? == Beyond::Alone);
     Ok(())

@@ -1,10 +1,13 @@
+//! Graphs, their rows, components and classes.
+
 ghost use Rattle.std.specs.Prelude.{◌≡◌, ◌∷◌, [], IfOk};
 
-use crate::{Arc, Graph, Labels};
-use cut_definitions::{Edge, EdgeList};
-use std::alloc::{AllocError, Global};
+use crate::graphs::uneven_triangle;
+use cut_definitions::{Edge, EdgeList, NoMemory};
+use std::alloc::Global;
 use std::test::Fail;
 use vertex_set::Side;
+use weighted_graph::{Arc, Graph, Labels};
 
 #[test]
 fn triangle(rt: HostRuntime) -> Result<(), Fail> {
@@ -61,7 +64,7 @@ fn two_components(rt: HostRuntime) -> Result<(), Fail> {
 }
 
 /// Vertices 1 and 2 in class 1, vertex 3 in class 2.
-fn one_one_two(alloc: Global) -> Result<Labels, AllocError>
+fn one_one_two(alloc: Global) -> Result<Labels, NoMemory>
     ensures { IfOk result (λ l. l ≡ 1 ∷ 1 ∷ 2 ∷ []) }
 {
     let list = vec![in alloc; 1, 1, 2]?;
@@ -69,7 +72,7 @@ fn one_one_two(alloc: Global) -> Result<Labels, AllocError>
 }
 
 /// Two vertices in one class.
-fn one_one(alloc: Global) -> Result<Labels, AllocError>
+fn one_one(alloc: Global) -> Result<Labels, NoMemory>
     ensures { IfOk result (λ l. l ≡ 1 ∷ 1 ∷ []) }
 {
     let list = vec![in alloc; 1, 1]?;

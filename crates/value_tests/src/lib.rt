@@ -1,10 +1,14 @@
-//! Tests of the crates from scans to the value, over small graphs whose answers are known by hand.
+//! Tests of the crates from graphs and flows to the value, over small graphs whose answers are known by hand.
 #![tactic(auto)]
 
+#[cfg(test)]
+mod bounded_flows;
 #[cfg(test)]
 mod certificates;
 #[cfg(test)]
 mod flows;
+#[cfg(test)]
+mod graph_calls;
 #[cfg(test)]
 mod graphs;
 #[cfg(test)]
