@@ -1,7 +1,7 @@
 //! Runs of the program over a text in memory.
 
 use mincut_program::{Status, run};
-use outside::{Gate, MemorySink, MemorySource, OpenGate};
+use outside::{Gate, MemorySink, MemorySource, OpenGate, Sink, SinkFailed, Source};
 use std::alloc::Global;
 use std::sync::atomic::{AtomicU64, Ordering};
 use std::test::Fail;
@@ -137,4 +137,101 @@ pub fn passes_of(alloc: Global, words: &[&str], text: &[u8]) -> Result<u64, Fail
     };
     let _status = run(alloc, &strings, &mut source, &mut out, &mut err, &gate);
     Ok(gate.passes.load(Ordering::SeqCst))
+}
+
+/// Whether a run whose read of this number fails says so, writes nothing, and reads no further. The read behind the failed
+/// one fails too, and is made here.
+pub(crate) fn reads_no_more(
+    alloc: Global,
+    words: &[&str],
+    text: &[u8],
+    cuts: &[usize],
+    read: u64,
+) -> Result<bool, Fail> {
+    let strings = strings_of(alloc, words)?;
+    let failing = [read, read.saturating_add(1)];
+    let mut source = MemorySource::new(
+        text.to_vec(alloc)?,
+        cuts.to_vec(alloc)?,
+        failing.to_vec(alloc)?,
+    );
+    let mut out = sink_of(alloc, 1_000, &[])?;
+    let mut err = sink_of(alloc, 100, &[])?;
+    let status = run(alloc, &strings, &mut source, &mut out, &mut err, &OpenGate);
+    let is_next = source.read(&mut [0u8; 1]).is_err();
+    Ok(
+        is_next
+            && status == Status::ReadFault
+            && out.taken().is_empty()
+            && err.taken() == b"read failed\n".as_slice(),
+    )
+}
+
+/// Whether a run whose write of this number fails says so by its status alone, with a first part of the text written.
+pub(crate) fn writes_part(
+    alloc: Global,
+    words: &[&str],
+    text: &[u8],
+    whole: &str,
+    write: u64,
+) -> Result<bool, Fail> {
+    let strings = strings_of(alloc, words)?;
+    let mut source = source_of(alloc, text, &HONEST)?;
+    let mut out = sink_of(alloc, 1_000, &[write])?;
+    let mut err = sink_of(alloc, 100, &[])?;
+    let status = run(alloc, &strings, &mut source, &mut out, &mut err, &OpenGate);
+    let is_part = whole.as_bytes().starts_with(out.taken());
+    Ok(status == Status::WriteFault && is_part && err.taken().is_empty())
+}
+
+// Takes one byte at each write.
+#[derive(Drop)]
+struct ByteSink {
+    bytes: Vec<u8>,
+    faults: u64,
+}
+
+impl Sink for ByteSink {
+    ghost use Rattle.std.specs.Prelude.{None};
+
+    ghost taken = { λ _. None };
+
+    ghost faults = { λ s. s.faults };
+
+    fn write(&mut self, piece: &[u8]) -> Result<usize, SinkFailed> {
+        if piece.is_empty() {
+            return Ok(0);
+        }
+        if self.bytes.push(piece[0]).is_ok() {
+            return Ok(1);
+        }
+        self.faults = self.faults.saturating_add(1);
+        Err(SinkFailed)
+    }
+}
+
+/// Whether a run whose sink takes one byte at each write answers `Ok`, and writes what it writes to a sink that takes all.
+pub(crate) fn answers_by_bytes(alloc: Global, words: &[&str], text: &[u8]) -> Result<bool, Fail> {
+    let strings = strings_of(alloc, words)?;
+    let mut source = source_of(alloc, text, &HONEST)?;
+    let mut out = ByteSink {
+        bytes: Vec::new(alloc),
+        faults: 0,
+    };
+    let mut err = sink_of(alloc, 100, &[])?;
+    let status = run(alloc, &strings, &mut source, &mut out, &mut err, &OpenGate);
+    if status != Status::Ok {
+        return Ok(false);
+    }
+    let mut source = source_of(alloc, text, &HONEST)?;
+    let mut whole = sink_of(alloc, 1_000, &[])?;
+    let status = run(
+        alloc,
+        &strings,
+        &mut source,
+        &mut whole,
+        &mut err,
+        &OpenGate,
+    );
+    Ok(status == Status::Ok && out.bytes.as_slice() == whole.taken())
 }

@@ -1,0 +1,157 @@
+//! Reads and writes that fail one after the other, files that end early, and a sink that takes one byte at a time.
+
+use crate::graphs::{COMPLETE, HEAVY_PAIR, ONE_EDGE, PATH, SQUARE, TRIANGLE, TWO_CYCLES};
+use crate::runs::{
+    HONEST, Script, Wanted, answers, answers_by_bytes, gives, reads_no_more, tells, writes_part,
+};
+use mincut_program::Status;
+use std::alloc::Global;
+use std::test::Fail;
+
+const SINGLE: &[usize] = &[1; 16];
+
+const CUTS: &str = "value 2\ncuts 3\n2\n2 3\n3\n";
+
+// The triangle byte by byte, where the read of this number fails.
+fn fails_at<'a>(read: &'a [u64]) -> Script<'a> {
+    Script {
+        cuts: SINGLE,
+        reads: read,
+        ..HONEST
+    }
+}
+
+// Sixteen bytes and the end of the input are seventeen reads.
+#[test]
+fn each_read_may_fail(rt: HostRuntime) -> Result<(), Fail> {
+    for k in 0..17u64 {
+        assert!(rt;
+            reads_no_more(rt.alloc(), &["cuts"], TRIANGLE, SINGLE, k)?,
+            "read {k}"
+        );
+    }
+    let whole = Wanted {
+        status: Status::Ok,
+        out: CUTS,
+        err: "",
+    };
+    assert!(rt; gives(rt.alloc(), &["cuts"], TRIANGLE, &fails_at(&[17]), &whole)?);
+    Ok(())
+}
+
+#[test]
+fn each_write_may_fail(rt: HostRuntime) -> Result<(), Fail> {
+    let mut k = 0;
+    while k < 100 && writes_part(rt.alloc(), &["cuts"], TRIANGLE, CUTS, k)? {
+        k += 1;
+    }
+    assert!(rt; 1 <= k && k < 100);
+    let last = Script {
+        writes: &[k],
+        ..HONEST
+    };
+    let whole = Wanted {
+        status: Status::Ok,
+        out: CUTS,
+        err: "",
+    };
+    assert!(rt; gives(rt.alloc(), &["cuts"], TRIANGLE, &last, &whole)?);
+    Ok(())
+}
+
+// A file, and up to which number of its first bytes the program says what.
+const ENDS: &[(&[u8], &[(usize, &str)])] = &[
+    (
+        TRIANGLE,
+        &[
+            (0, "refused: NoHeader at line 0\n"),
+            (2, "refused: HeaderWords at line 1\n"),
+            (4, "refused: MissingLines at line 1\n"),
+            (8, "refused: MissingLines at line 2\n"),
+            (12, "refused: MissingLines at line 3\n"),
+            (14, "refused: TooFewEntries at line 4\n"),
+            (16, "value 2\n"),
+        ],
+    ),
+    (
+        ONE_EDGE,
+        &[
+            (0, "refused: NoHeader at line 0\n"),
+            (2, "refused: HeaderWords at line 1\n"),
+            (6, "refused: MissingLines at line 1\n"),
+            (8, "refused: WordMissing at line 2\n"),
+            (10, "refused: MissingLines at line 2\n"),
+            (12, "refused: WordMissing at line 3\n"),
+            (14, "value 7\n"),
+        ],
+    ),
+    (
+        HEAVY_PAIR,
+        &[
+            (0, "refused: NoHeader at line 0\n"),
+            (2, "refused: HeaderWords at line 1\n"),
+            (6, "refused: MissingLines at line 1\n"),
+            (8, "refused: WordMissing at line 2\n"),
+            (10, "refused: MissingLines at line 2\n"),
+            (12, "refused: WordMissing at line 2\n"),
+            (14, "refused: MissingLines at line 2\n"),
+            (16, "refused: WordMissing at line 3\n"),
+            (18, "refused: MissingLines at line 3\n"),
+            (20, "refused: WordMissing at line 3\n"),
+            (22, "refused: MissingLines at line 3\n"),
+            (24, "refused: WordMissing at line 4\n"),
+            (26, "refused: TooFewEntries at line 4\n"),
+            (28, "refused: WordMissing at line 4\n"),
+            (30, "value 5\n"),
+        ],
+    ),
+];
+
+// Whether the program says this of so many first bytes of a file.
+fn says(alloc: Global, file: &[u8], count: usize, text: &str) -> Result<bool, Fail> {
+    let Some(first) = file.get(..count) else {
+        return Ok(false);
+    };
+    if text.starts_with("value") {
+        return answers(alloc, &["value"], first, text);
+    }
+    tells(alloc, &["value"], first, Status::Refused, text)
+}
+
+// Whether the program says of each number of first bytes what the table has.
+fn says_all(alloc: Global, file: &[u8], ends: &[(usize, &str)]) -> Result<bool, Fail> {
+    let mut count = 0;
+    for (last, text) in ends {
+        for k in count..*last + 1 {
+            if !says(alloc, file, k, text)? {
+                return Ok(false);
+            }
+        }
+        count = *last + 1;
+    }
+    Ok(count == file.len() + 1)
+}
+
+#[test]
+fn a_file_may_end_anywhere(rt: HostRuntime) -> Result<(), Fail> {
+    for (file, ends) in ENDS {
+        assert!(rt;
+            says_all(rt.alloc(), file, ends)?,
+            "of {} bytes",
+            file.len()
+        );
+    }
+    Ok(())
+}
+
+const JOBS: &[&str] = &["value", "cactus", "cuts", "count", "balanced"];
+
+#[test]
+fn a_sink_may_take_one_byte_at_a_time(rt: HostRuntime) -> Result<(), Fail> {
+    for job in JOBS {
+        for file in [TRIANGLE, PATH, SQUARE, COMPLETE, ONE_EDGE, TWO_CYCLES] {
+            assert!(rt; answers_by_bytes(rt.alloc(), &[job], file)?, "{job}");
+        }
+    }
+    Ok(())
+}
