@@ -15,6 +15,3 @@ pub use weighed::best;
 
 /// Memory was wanting.
 pub type NoMemory = std::alloc::AllocError;
-
-#[cfg(test)]
-mod tests;

@@ -19,6 +19,3 @@ mod tree;
 pub use page::Page;
 pub use printing::{PrintRefusal, print, print_flat};
 pub use reading::{CactusFile, TextRefusal, read};
-
-#[cfg(test)]
-mod tests;

@@ -22,6 +22,3 @@ mod sorting;
 pub use ask::Ask;
 pub use list_refusal::ListRefusal;
 pub use lister::{Lister, SideTest};
-
-#[cfg(test)]
-mod tests;

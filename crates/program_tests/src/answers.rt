@@ -1,5 +1,7 @@
 //! What is written for graphs.
 
+ghost use Rattle.std.specs.Prelude.{◌≤◌};
+
 use crate::graphs::{
     COMPLETE, HEAVY_PAIR, NO_VERTEX, ONE_EDGE, ONE_VERTEX, PATH, SQUARE, TRIANGLE, TWO_CYCLES,
     TWO_PIECES,
@@ -159,25 +161,39 @@ fn vertices_that_are_not_there_are_told(rt: HostRuntime) -> Result<(), Fail> {
     Ok(())
 }
 
-// The text of a ring of 1,291 vertices.
-fn long_ring(alloc: Global) -> Result<Vec<u8>, Fail> {
+// The text of a ring of three or more vertices.
+fn ring_of(alloc: Global, n: u32) -> Result<Vec<u8>, Fail>
+    requires { 3 ≤ n }
+{
     let mut text = Vec::new(alloc);
-    text.extend_from_slice(b"1291 1291\n2 1291\n")?;
-    for v in 2u32..1291 {
+    let header = format!(in alloc; "{n} {n}\n2 {n}\n")?;
+    text.extend_from_slice(header.as_bytes())?;
+    for v in 2..n {
         let line = format!(in alloc; "{} {}\n", v - 1, v + 1)?;
         text.extend_from_slice(line.as_bytes())?;
     }
-    text.extend_from_slice(b"1290 1\n")?;
+    let last = format!(in alloc; "{} 1\n", n - 1)?;
+    text.extend_from_slice(last.as_bytes())?;
     Ok(text)
 }
 
 #[test]
 fn a_list_that_is_too_large_is_told(rt: HostRuntime) -> Result<(), Fail> {
-    let text = long_ring(rt.alloc())?;
+    let text = ring_of(rt.alloc(), 1291)?;
     let number = "value 2\ncount 832695\n";
     assert!(rt; answers(rt.alloc(), &["count"], &text, number)?);
     let line = "list too large: 832695 cuts, 1291 vertices\n";
     assert!(rt; tells(rt.alloc(), &["cuts"], &text, Status::ListTooLarge, line)?);
+    Ok(())
+}
+
+// 899 times 901 of the cuts of the ring part the two vertices.
+#[test]
+fn a_list_of_parting_cuts_may_be_too_large(rt: HostRuntime) -> Result<(), Fail> {
+    let text = ring_of(rt.alloc(), 1800)?;
+    let words = ["part", "1", "900"];
+    let line = "list too large: 809999 cuts, 1800 vertices\n";
+    assert!(rt; tells(rt.alloc(), &words, &text, Status::ListTooLarge, line)?);
     Ok(())
 }
 

@@ -12,8 +12,8 @@ use std::alloc::Global;
 use std::test::Fail;
 use vertex_set::Side;
 
-// Whether the side has these vertices and no other.
-fn has_exactly(side: &Side, vertices: &[u32]) -> bool {
+/// Whether the side has these vertices and no other.
+pub(crate) fn has_exactly(side: &Side, vertices: &[u32]) -> bool {
     for v in vertices {
         if side.next_from(*v) != Some(*v) {
             return false;

@@ -1,11 +1,17 @@
-//! Tests of the rooted cactus, over small trees whose sides are known.
+//! Tests of the rooted cactus, its listings, balances and texts, over small trees whose sides are known.
 #![tactic(auto)]
 
+#[cfg(test)]
+mod balances;
 #[cfg(test)]
 mod cactuses;
 #[cfg(test)]
 mod counts;
 #[cfg(test)]
 mod flats;
+#[cfg(test)]
+mod listings;
+#[cfg(test)]
+mod texts;
 #[cfg(test)]
 mod trees;

@@ -1,6 +1,6 @@
 use Rattle.std.proofs.Common.{[], ◌∷◌, refl}
 use Rattle.cactus_tree.proofs.Built.{is_cactus}
-use Rattle.balanced_cut.proofs.tests.ring_below.Goals as goal
+use Rattle.tree_tests.proofs.balances.ring_below.Goals as goal
 
 pub from_root-requires : goal.from_root-requires
 from_root-requires c = is_cactus 5 c.in_ok-tree.tree ((1 ∷ []) ∷ (2 ∷ (3 ∷ [])) ∷ (4 ∷ []) ∷ (5 ∷ []) ∷ []) (2 ∷ [])

@@ -1,6 +1,6 @@
 use Rattle.std.proofs.Common.{[], ◌∷◌, refl}
 use Rattle.cactus_tree.proofs.Built.{is_cactus}
-use Rattle.balanced_cut.proofs.tests.one_path.Goals as goal
+use Rattle.tree_tests.proofs.balances.one_path.Goals as goal
 
 pub from_root-requires : goal.from_root-requires
 from_root-requires c = is_cactus 4 c.in_ok-tree.tree ((1 ∷ []) ∷ (2 ∷ []) ∷ (3 ∷ []) ∷ (4 ∷ []) ∷ []) []

@@ -1,6 +1,6 @@
 use Rattle.std.proofs.Common.{[], ◌∷◌, refl}
 use Rattle.cactus_tree.proofs.Built.{is_cactus}
-use Rattle.balanced_cut.proofs.tests.long_ring.Goals as goal
+use Rattle.tree_tests.proofs.balances.long_ring.Goals as goal
 
 pub from_root-requires : goal.from_root-requires
 from_root-requires c = is_cactus 7 c.in_ok-tree.tree ((1 ∷ []) ∷ (2 ∷ []) ∷ (3 ∷ []) ∷ (4 ∷ []) ∷ (5 ∷ []) ∷ (6 ∷ []) ∷ (7 ∷ []) ∷ []) (6 ∷ [])

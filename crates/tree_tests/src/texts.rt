@@ -1,16 +1,15 @@
-ghost use Rattle.std.specs.Prelude.{◌≡◌, [], ◌∷◌, ◌++◌, IfOk};
-ghost use Rattle.cactus_tree.specs.Entered.{entered};
-ghost use Rattle.cactus_tree.specs.Widths.{widths};
+//! Texts of cactuses.
 
-use crate::page::Page;
-use crate::{TextRefusal, print, print_flat, read};
-use cactus_tree::{Block, Blocks, Cactus, FlatCactus, Node, VertexList};
+use crate::trees::two_and_one;
+use cactus_text::{Page, TextRefusal, print, print_flat, read};
+use cactus_tree::FlatCactus;
+use cut_definitions::NoMemory;
 use outside::{MemorySink, Sink, SinkFailed};
-use std::alloc::{AllocError, Global};
+use std::alloc::Global;
 use std::test::Fail;
 
 /// Nodes with 1 and 2, and with 3, joined by a bridge.
-fn two_nodes(alloc: Global) -> Result<FlatCactus, AllocError> {
+fn two_nodes(alloc: Global) -> Result<FlatCactus, NoMemory> {
     let mut flat = FlatCactus::new(alloc, 3);
     flat.push_node()?;
     flat.push_vertex(1)?;
@@ -24,7 +23,7 @@ fn two_nodes(alloc: Global) -> Result<FlatCactus, AllocError> {
 const TWO_NODES: &str = "cactus 5 3 2 1 0\nnode 0 1 2\nnode 1 3\nbridge 0 1\n";
 
 /// A ring of a node with a vertex and of two empty nodes.
-fn ring(alloc: Global) -> Result<FlatCactus, AllocError> {
+fn ring(alloc: Global) -> Result<FlatCactus, NoMemory> {
     let mut flat = FlatCactus::new(alloc, 1);
     flat.push_node()?;
     flat.push_vertex(1)?;
@@ -42,44 +41,11 @@ const FOUR_NODES: &str =
 
 const RING: &str = "cactus 4611686018427387904 1 3 0 1\nnode 0 1\nnode 1\nnode 2\ncycle 0 1 2\n";
 
-/// A node without blocks.
-fn leaf(alloc: Global, own: &[u32]) -> Result<Node, AllocError>
-    ensures entered { IfOk result (λ x. entered x ≡ own.now ∷ []) }
-    ensures widths { IfOk result (λ x. widths x ≡ []) }
-{
-    let vertices = Vec::from_slice(alloc, own)?;
-    Ok(Node {
-        vertices: VertexList::from_vec(vertices),
-        blocks: Blocks::new(alloc),
-    })
-}
-
-/// The node with a bridge more, down to a child.
-fn with_bridge(alloc: Global, node: Node, child: Node) -> Result<Node, AllocError>
-    ensures entered { IfOk result (λ x. entered x ≡ entered node ++ entered child) }
-    ensures widths { IfOk result (λ x. widths x ≡ widths node ++ widths child) }
-{
-    let mut node = node;
-    let child = Box::new(alloc, child)?;
-    node.blocks.push(Block::Bridge(child))?;
-    Ok(node)
-}
-
-/// A root with 1 and 2, and a bridge down to 3.
-fn one_bridge(alloc: Global) -> Result<Cactus, AllocError>
-    ensures { IfOk result (λ c. c.vertices ≡ 3) }
-{
-    let root = leaf(alloc, &[1, 2])?;
-    let child = leaf(alloc, &[3])?;
-    let tree = with_bridge(alloc, root, child)?;
-    Ok(Cactus::from_root(3, tree))
-}
-
 #[test]
 fn a_cactus_is_printed(rt: HostRuntime) -> Result<(), Fail> {
     let alloc = rt.alloc();
     let mut sink = MemorySink::new(alloc, 200, Vec::new(alloc))?;
-    assert!(rt; print(alloc, &one_bridge(alloc)?, 5, &mut sink).is_ok());
+    assert!(rt; print(alloc, &two_and_one(alloc)?, 5, &mut sink).is_ok());
     assert_eq!(rt; sink.taken(), TWO_NODES.as_bytes());
     Ok(())
 }
@@ -180,60 +146,62 @@ fn what_was_printed_is_read(rt: HostRuntime) -> Result<(), Fail> {
     Ok(())
 }
 
+const BROKEN: &[(&str, u64)] = &[
+    ("", 1),
+    ("cactus 5 3 2 1 0", 1),
+    ("cactus 5 3 2 1 0 \n", 1),
+    ("cactus 5  3 2 1 0\n", 1),
+    ("cactus 05 3 2 1 0\n", 1),
+    ("cactus 5 3 2 1\n", 1),
+    ("cactus 4611686018427387905 1 1 0 0\nnode 0 1\n", 1),
+    ("cactus 5 0 0 0 0\n", 1),
+    ("cactus 5 4194305 0 0 0\n", 1),
+    ("cactus 5 1 18446744073709551616 0 0\n", 1),
+    ("cactus 5 1 18446744073709551615 0 0\n", 2),
+    ("cactus 5 3 2 1 0\nnode 0 1 2\nnode 1 3\n", 4),
+    ("cactus 5 3 2 0 0\nnode 0 1 2\nnode 1 3\n", 4),
+    ("cactus 5 3 2 1 0\nnode 0 1 2\nnode 1 2\nbridge 0 1\n", 3),
+    ("cactus 5 3 2 1 0\nnode 0 2 1\nnode 1 3\nbridge 0 1\n", 2),
+    ("cactus 5 3 2 1 0\nnode 0 3\nnode 1 1 2\nbridge 0 1\n", 2),
+    ("cactus 5 3 2 1 0\nnode 0 1\nnode 1 2 4\nbridge 0 1\n", 3),
+    ("cactus 5 3 2 1 0\nnode 0 1\nnode 1 2\nbridge 0 1\n", 5),
+    ("cactus 5 3 2 1 0\nnode 0 1 2\nnode 1 3\nbridge 1 0\n", 4),
+    ("cactus 5 3 2 1 0\nnode 0 1 2\nnode 1 3\nbridge 0 2\n", 4),
+    ("cactus 5 3 2 1 0\nnode 0 1 2\nnode 1 3\nbridge 0 1", 4),
+    ("cactus 5 3 2 1 0\nnode 0 1 2\nnode 1 3\nbridge 0 1\n\n", 5),
+    ("cactus 5 3 2 1 0\nnode 0 1 2\r\nnode 1 3\nbridge 0 1\n", 2),
+    ("cactus 5 2 2 0 1\nnode 0 1\nnode 1 2\ncycle 0 1\n", 4),
+    (
+        "cactus 5 2 3 0 1\nnode 0 1\nnode 1 2\nnode 2\ncycle 0 1 1\n",
+        5,
+    ),
+    (
+        "cactus 5 2 3 0 1\nnode 0 1\nnode 1 2\nnode 2\ncycle 1 0 2\n",
+        5,
+    ),
+    (
+        "cactus 5 2 3 0 1\nnode 0 1\nnode 1 2\nnode 2\ncycle 0 1 3\n",
+        5,
+    ),
+    (
+        "cactus 5 2 5 1 1\nnode 0 1\nnode 1 2\nnode 2\nnode 3\nnode 4\nbridge 0 1\ncycle 0 1 2\n",
+        9,
+    ),
+    (
+        "cactus 5 2 4 0 1\nnode 0 1\nnode 1 2\nnode 2\nnode 3\ncycle 0 1 2\n",
+        7,
+    ),
+];
+
+// Whether the text is refused, with the number of this line.
+fn is_refused_at(alloc: Global, text: &str, line: u64) -> bool {
+    read(alloc, text.as_bytes()).err() == Some(TextRefusal::Malformed(line))
+}
+
 #[test]
 fn the_first_line_that_breaks_a_rule_is_named(rt: HostRuntime) -> Result<(), Fail> {
-    let alloc = rt.alloc();
-    for (text, number) in [
-        ("", 1),
-        ("cactus 5 3 2 1 0", 1),
-        ("cactus 5 3 2 1 0 \n", 1),
-        ("cactus 5  3 2 1 0\n", 1),
-        ("cactus 05 3 2 1 0\n", 1),
-        ("cactus 5 3 2 1\n", 1),
-        ("cactus 4611686018427387905 1 1 0 0\nnode 0 1\n", 1),
-        ("cactus 5 0 0 0 0\n", 1),
-        ("cactus 5 4194305 0 0 0\n", 1),
-        ("cactus 5 1 18446744073709551616 0 0\n", 1),
-        ("cactus 5 1 18446744073709551615 0 0\n", 2),
-        ("cactus 5 3 2 1 0\nnode 0 1 2\nnode 1 3\n", 4),
-        ("cactus 5 3 2 0 0\nnode 0 1 2\nnode 1 3\n", 4),
-        ("cactus 5 3 2 1 0\nnode 0 1 2\nnode 1 2\nbridge 0 1\n", 3),
-        ("cactus 5 3 2 1 0\nnode 0 2 1\nnode 1 3\nbridge 0 1\n", 2),
-        ("cactus 5 3 2 1 0\nnode 0 3\nnode 1 1 2\nbridge 0 1\n", 2),
-        ("cactus 5 3 2 1 0\nnode 0 1\nnode 1 2 4\nbridge 0 1\n", 3),
-        ("cactus 5 3 2 1 0\nnode 0 1\nnode 1 2\nbridge 0 1\n", 5),
-        ("cactus 5 3 2 1 0\nnode 0 1 2\nnode 1 3\nbridge 1 0\n", 4),
-        ("cactus 5 3 2 1 0\nnode 0 1 2\nnode 1 3\nbridge 0 2\n", 4),
-        ("cactus 5 3 2 1 0\nnode 0 1 2\nnode 1 3\nbridge 0 1", 4),
-        ("cactus 5 3 2 1 0\nnode 0 1 2\nnode 1 3\nbridge 0 1\n\n", 5),
-        ("cactus 5 3 2 1 0\nnode 0 1 2\r\nnode 1 3\nbridge 0 1\n", 2),
-        ("cactus 5 2 2 0 1\nnode 0 1\nnode 1 2\ncycle 0 1\n", 4),
-        (
-            "cactus 5 2 3 0 1\nnode 0 1\nnode 1 2\nnode 2\ncycle 0 1 1\n",
-            5,
-        ),
-        (
-            "cactus 5 2 3 0 1\nnode 0 1\nnode 1 2\nnode 2\ncycle 1 0 2\n",
-            5,
-        ),
-        (
-            "cactus 5 2 3 0 1\nnode 0 1\nnode 1 2\nnode 2\ncycle 0 1 3\n",
-            5,
-        ),
-        (
-            "cactus 5 2 5 1 1\nnode 0 1\nnode 1 2\nnode 2\nnode 3\nnode 4\nbridge 0 1\ncycle 0 1 2\n",
-            9,
-        ),
-        (
-            "cactus 5 2 4 0 1\nnode 0 1\nnode 1 2\nnode 2\nnode 3\ncycle 0 1 2\n",
-            7,
-        ),
-    ] {
-        assert_eq!(rt;
-            read(alloc, text.as_bytes()).err(),
-            Some(TextRefusal::Malformed(number)),
-            "at {text}"
-        );
+    for (text, line) in BROKEN {
+        assert!(rt; is_refused_at(rt.alloc(), text, *line), "at {text}");
     }
     Ok(())
 }
