@@ -37,36 +37,58 @@ fn values_are_printed(rt: HostRuntime) -> Result<(), Fail> {
     Ok(())
 }
 
-const CACTUSES: &[(&[u8], &str)] = &[
+// Which of several cactuses is printed is free: a cycle may be gone through either way.
+const CACTUSES: &[(&[u8], &[&str])] = &[
     (
         TRIANGLE,
-        "cactus 2 3 3 0 1\nnode 0 1\nnode 1 3\nnode 2 2\ncycle 0 1 2\n",
+        &[
+            "cactus 2 3 3 0 1\nnode 0 1\nnode 1 3\nnode 2 2\ncycle 0 1 2\n",
+            "cactus 2 3 3 0 1\nnode 0 1\nnode 1 2\nnode 2 3\ncycle 0 1 2\n",
+            "cactus 2 3 4 3 0\nnode 0 1\nnode 1\nnode 2 2\nnode 3 3\nbridge 0 1\nbridge 1 2\nbridge 1 3\n",
+            "cactus 2 3 4 3 0\nnode 0 1\nnode 1\nnode 2 3\nnode 3 2\nbridge 0 1\nbridge 1 2\nbridge 1 3\n",
+        ],
     ),
     (
         PATH,
-        "cactus 5 3 3 2 0\nnode 0 1\nnode 1 2\nnode 2 3\nbridge 0 1\nbridge 1 2\n",
+        &["cactus 5 3 3 2 0\nnode 0 1\nnode 1 2\nnode 2 3\nbridge 0 1\nbridge 1 2\n"],
     ),
     (
         SQUARE,
-        "cactus 2 4 4 0 1\nnode 0 1\nnode 1 4\nnode 2 3\nnode 3 2\ncycle 0 1 2 3\n",
+        &[
+            "cactus 2 4 4 0 1\nnode 0 1\nnode 1 4\nnode 2 3\nnode 3 2\ncycle 0 1 2 3\n",
+            "cactus 2 4 4 0 1\nnode 0 1\nnode 1 2\nnode 2 3\nnode 3 4\ncycle 0 1 2 3\n",
+        ],
     ),
     (
         ONE_EDGE,
-        "cactus 7 2 2 1 0\nnode 0 1\nnode 1 2\nbridge 0 1\n",
+        &["cactus 7 2 2 1 0\nnode 0 1\nnode 1 2\nbridge 0 1\n"],
     ),
     (
         HEAVY_PAIR,
-        "cactus 5 3 2 1 0\nnode 0 1 2\nnode 1 3\nbridge 0 1\n",
+        &["cactus 5 3 2 1 0\nnode 0 1 2\nnode 1 3\nbridge 0 1\n"],
     ),
-    (TWO_PIECES, "disconnected 2\n"),
-    (ONE_VERTEX, "no cut\n"),
-    (NO_VERTEX, "no cut\n"),
+    (TWO_PIECES, &["disconnected 2\n"]),
+    (ONE_VERTEX, &["no cut\n"]),
+    (NO_VERTEX, &["no cut\n"]),
 ];
+
+// Whether one of the texts is written.
+fn answers_one(alloc: Global, words: &[&str], text: &[u8], outs: &[&str]) -> Result<bool, Fail> {
+    for out in outs {
+        if answers(alloc, words, text, out)? {
+            return Ok(true);
+        }
+    }
+    Ok(false)
+}
 
 #[test]
 fn cactuses_are_printed(rt: HostRuntime) -> Result<(), Fail> {
-    for (text, out) in CACTUSES {
-        assert!(rt; answers(rt.alloc(), &["cactus"], text, out)?, "{out}");
+    for (text, outs) in CACTUSES {
+        assert!(rt;
+            answers_one(rt.alloc(), &["cactus"], text, outs)?,
+            "{outs:?}"
+        );
     }
     Ok(())
 }
@@ -119,7 +141,6 @@ const LISTS: &[(&[&str], &[u8], &str)] = &[
     (&["count"], TWO_CYCLES, "value 4\ncount 11\n"),
     (&["count"], TWO_PIECES, "disconnected 2\n"),
     (&["count"], ONE_VERTEX, "no cut\n"),
-    (&["balanced"], SQUARE, "value 2\nbalance 2\nside 3 4\n"),
     (
         &["balanced"],
         TWO_CYCLES,
@@ -158,6 +179,16 @@ fn vertices_that_are_not_there_are_told(rt: HostRuntime) -> Result<(), Fail> {
             "{line}"
         );
     }
+    Ok(())
+}
+
+#[test]
+fn one_of_two_best_sides_is_printed(rt: HostRuntime) -> Result<(), Fail> {
+    let outs = [
+        "value 2\nbalance 2\nside 2 3\n",
+        "value 2\nbalance 2\nside 3 4\n",
+    ];
+    assert!(rt; answers_one(rt.alloc(), &["balanced"], SQUARE, &outs)?);
     Ok(())
 }
 
