@@ -1,0 +1,143 @@
+#!/usr/bin/env python3
+"""Refused memory: what the program says where one allocation fails, and where the address space is small.
+
+    tools/check_memory.py [--program PATH] [--workers 1,4] [--step 64]
+
+Two ways. Where a C compiler is there, a small library before the program's own lets allocation number 1, 2, 3, .. fail, one number
+in each run, until a run meets none. And the address space is bounded (`ulimit -v`), in steps of so many KB, from where the program
+starts at all up to where it answers. Each run must end with status 5, its line on the error output and nothing on the standard
+output, or with the answer of a run with ample memory. Exit status 1 where one does not.
+"""
+import argparse
+import os
+import resource
+import shutil
+import subprocess
+import sys
+import tempfile
+
+import running
+
+TRIANGLE = '3 3\n2 3\n1 3\n1 2\n'
+TWO_CYCLES = '6 8 1\n2 2 4 1 6 1\n1 2 3 2\n2 2 4 1 6 1\n1 1 3 1 5 2\n4 2 6 2\n1 1 3 1 5 2\n'
+
+CASES = [(['value'], TRIANGLE), (['cuts'], TRIANGLE), (['cactus'], TRIANGLE), (['cuts'], TWO_CYCLES), (['cactus'], TWO_CYCLES),
+         (['count'], TWO_CYCLES), (['part', '2', '5'], TWO_CYCLES), (['balanced'], TWO_CYCLES), (['trial', '1000'], '')]
+
+SHIM = r'''
+#define _GNU_SOURCE
+#include <dlfcn.h>
+#include <errno.h>
+#include <stdatomic.h>
+#include <stddef.h>
+#include <stdlib.h>
+#include <sys/mman.h>
+static atomic_long count;
+static long number(void) {
+    static long n = -1;
+    if (n < 0) { const char *word = getenv("FAIL_AT"); n = word ? atol(word) : 0; }
+    return n;
+}
+static int fails(void) {
+    long k = atomic_fetch_add(&count, 1) + 1;
+    if (k == number()) { const char *file = getenv("FAIL_MARK"); if (file) { extern int creat(const char *, unsigned); creat(file, 0600); } return 1; }
+    return 0;
+}
+#define REAL(name) static __typeof__(&name) real; if (!real) real = (__typeof__(&name))dlsym(RTLD_NEXT, #name)
+void *malloc(size_t size) { REAL(malloc); if (fails()) { errno = ENOMEM; return NULL; } return real(size); }
+void *realloc(void *old, size_t size) { REAL(realloc); if (fails()) { errno = ENOMEM; return NULL; } return real(old, size); }
+void *aligned_alloc(size_t align, size_t size) { REAL(aligned_alloc); if (fails()) { errno = ENOMEM; return NULL; } return real(align, size); }
+int posix_memalign(void **out, size_t align, size_t size) { REAL(posix_memalign); if (fails()) return ENOMEM; return real(out, align, size); }
+void *mmap(void *at, size_t size, int prot, int flags, int fd, off_t off) { REAL(mmap); if (fails()) { errno = ENOMEM; return MAP_FAILED; } return real(at, size, prot, flags, fd, off); }
+'''
+
+
+def build_shim(folder):
+    """The path of the library that lets one allocation fail, or None where there is no C compiler."""
+    compiler = shutil.which('cc') or shutil.which('gcc')
+    if compiler is None:
+        return None
+    source, library = os.path.join(folder, 'fail.c'), os.path.join(folder, 'fail.so')
+    with open(source, 'w') as out:
+        out.write(SHIM)
+    subprocess.run([compiler, '-shared', '-fPIC', '-O1', '-w', '-o', library, source, '-ldl'], check=True)
+    return library
+
+
+def run(program, words, text, env=None, kilobytes=0):
+    def limit():
+        if kilobytes:
+            resource.setrlimit(resource.RLIMIT_AS, (kilobytes * 1024, kilobytes * 1024))
+    child = subprocess.run([program, *words], input=text.encode(), stdout=subprocess.PIPE, stderr=subprocess.PIPE, env=env, preexec_fn=limit, timeout=300)
+    return child.returncode, child.stdout.decode(), child.stderr.decode()
+
+
+def is_right(answer, whole):
+    return answer == whole or answer == (5, '', 'out of memory\n')
+
+
+def fail_each(program, library, words, text, whole, folder):
+    """(runs, runs that ended with status 5, what is wrong) where allocation 1, 2, .. fails."""
+    mark = os.path.join(folder, 'failed')
+    refused, wrong, k = 0, [], 0
+    while k < 20_000:
+        k += 1
+        env = dict(os.environ, LD_PRELOAD=library, FAIL_AT=str(k), FAIL_MARK=mark)
+        answer = run(program, words, text, env)
+        failed = os.path.exists(mark)
+        if failed:
+            os.remove(mark)
+        refused += answer[0] == 5
+        # an allocation before the program begins, as the loader's, ends it in the loader's way
+        if not is_right(answer, whole) and not is_before_main(answer):
+            wrong.append(f'allocation {k} of {words}: {answer}')
+        if not failed:
+            return k, refused, wrong
+    return k, refused, wrong + [f'{words}: no end']
+
+
+def is_before_main(answer):
+    return answer[0] == 127 or 'error while loading shared libraries' in answer[2]
+
+
+def bound_space(program, words, text, whole, step):
+    """(runs, runs that ended with status 5, what is wrong) under bounds of the address space from small to ample."""
+    runs, refused, wrong, kilobytes, answered = 0, 0, [], step, 0
+    while answered < 3 and kilobytes < 4_000_000:
+        answer = run(program, words, text, None, kilobytes)
+        runs += 1
+        refused += answer[0] == 5
+        answered = answered + 1 if answer == whole else 0
+        if not is_right(answer, whole) and not is_before_main(answer) and not (answer[0] in (-11, -9, -6) and refused == 0):
+            wrong.append(f'{kilobytes} KB for {words}: {answer}')
+        kilobytes += step
+    return runs, refused, wrong
+
+
+def main():
+    parser = argparse.ArgumentParser(description=__doc__, formatter_class=argparse.RawDescriptionHelpFormatter)
+    running.add_program(parser)
+    parser.add_argument('--workers', default='1,4', help='numbers of workers')
+    parser.add_argument('--step', type=int, default=64, help='KB by which the address space grows')
+    options = parser.parse_args()
+    program = running.ready(options.program)
+    wrong = []
+    with tempfile.TemporaryDirectory() as folder:
+        library = build_shim(folder)
+        for workers in options.workers.split(','):
+            for job, text in CASES:
+                words = [*job, '--workers', workers]
+                whole = run(program, words, text)
+                tried = [bound_space(program, words, text, whole, options.step)]
+                if library:
+                    tried.append(fail_each(program, library, words, text, whole, folder))
+                wrong += [line for _, _, lines in tried for line in lines]
+                print(' '.join(words), *(f'{runs} runs, {refused} with status 5;' for runs, refused, _ in tried), flush=True)
+    for line in wrong[:20]:
+        print(line)
+    print(f'{len(wrong)} wrong')
+    sys.exit(1 if wrong else 0)
+
+
+if __name__ == '__main__':
+    main()
