@@ -1,16 +1,18 @@
 -- Gathering the sides of a walk, and how many are allowed.
-use Rattle.std.proofs.Common.{◌≡◌, ℕ, zero, suc, ◌==◌, ◌||◌, ◌⊎◌, inl, inr, true≢false, ◌+◌, ◌*◌, ◌/◌, ◌<◌, ◌≤◌, Bool, true, List, [], ◌∷◌, ◌++◌, get_or, sym, ◌∙◌, ap, subst, arith}
+use Rattle.std.proofs.Common.{◌≡◌, ℕ, length, zero, suc, ◌==◌, ◌||◌, ◌⊎◌, inl, inr, true≢false, ◌+◌, ◌*◌, ◌/◌, ◌<◌, ◌≤◌, Bool, true, List, [], ◌∷◌, ◌++◌, get_or, sym, ◌∙◌, ap, subst, arith}
 use Rattle.std.specs.Prelude.{◌↔◌}
 use Rattle.std.specs.List.{All, Contains, filter, flat_map, range_with_len}
 use Rattle.std.proofs.Math.Nat.{div-mul-le_self}
 use Rattle.std.proofs.lemmas.Nat.{mul-le, le-div}
 use Rattle.std.proofs.lemmas.Bool.{cases_Bool, eqb-true}
-use Rattle.std.proofs.lemmas.List.{append_assoc}
-use Rattle.std.proofs.lemmas.List.Elements.{All-contains, All-head, All-map, filter-append}
+use Rattle.std.proofs.lemmas.List.{append_assoc, nil_from_length}
+use Rattle.std.proofs.lemmas.List.Elements.{All-nil, All-contains, All-head, All-map, filter-append}
 use Rattle.cut_definitions.proofs.Lists.{Contains-filter, Contains-from_filter}
 use Rattle.cactus_tree.specs.Different.{AreDifferent}
-use Rattle.cut_listing.specs.Listings.{different}
-use Rattle.cut_listing.proofs.Listed.{all_from, same_different}
+use Rattle.vertex_set.specs.Side.{VertexList}
+use Rattle.cut_listing.specs.declared.ask.Ask.{Ask}
+use Rattle.cut_listing.specs.Listings.{IsList, IsListing, asked_sides, different}
+use Rattle.cut_listing.proofs.Listed.{all_from, same_different, different_is_listing}
 use Rattle.cut_definitions.specs.Weight.{VertexSet}
 use Rattle.cut_definitions.specs.Cuts.{IsAscendingWithin}
 use Rattle.cut_definitions.proofs.Bridge.{IsAscendingWithin-filter}
@@ -85,3 +87,14 @@ pub has_a_vertex : (n : ℕ) (root : Node) → IsCactus n root → 0 < n
 has_a_vertex n root is =
     let lists : All (IsAscendingWithin 1 n) (vertices root ∷ flat_map entered_block (blocks root)) = subst (All (IsAscendingWithin 1 n)) (entered_out root) is.ascending in
     ascends_to 1 n 1 (vertices root) (All-head (IsAscendingWithin 1 n) (vertices root) (flat_map entered_block (blocks root)) lists) (contains_has (vertices root) 1 is.root_has_one)
+
+-- where none is asked for, the empty list is the listing
+pub none_listed : (largest n : ℕ) (ask : Ask) (c : Rooted) (list : List VertexList) → 0 ≡ length (different (asked_sides ask c)) → list ≡ [] → IsList largest n ask c list
+none_listed largest n ask c list none empty =
+    let sides = asked_sides ask c in
+    subst (IsList largest n ask c) (sym empty)
+    (record {
+      over_n = All-nil (λ (s : VertexList). s.vertices ≡ n);
+      listing = subst (IsListing sides) (nil_from_length (different sides) (sym none)) (different_is_listing sides);
+      not_too_large = omega arith;
+    })

@@ -113,6 +113,9 @@ impl Lister {
         if cuts > most {
             return Err(ListRefusal::TooLarge { cuts, n: self.n });
         }
+        if cuts == 0 {
+            return Ok(Vec::new(alloc));
+        }
         let sides = self.gather(alloc, cactus)?;
         Ok(sides)
     }
@@ -122,7 +125,7 @@ impl Lister {
     ///
     /// The cactus is normal and has at most 4,194,304 vertices. The listing is refused as too large exactly where the
     /// number of these sides times n is above 2^30, with the two factors, and for want of memory. The number is found
-    /// first, from the tree, with one step for each node and vertex; so where it is too large, no side is gathered. Else
+    /// first, from the tree, with one step for each node and vertex; so where it is too large, or none is asked for, no side is gathered. Else
     /// time: a walk over the cactus, and O(c log c) comparisons of n/64 steps for the c sides that are let through. Memory:
     /// n/8 bytes and a constant for each of these.
     pub fn list(&self, alloc: Global, cactus: &Cactus) -> Result<Vec<Side>, ListRefusal>

@@ -3,7 +3,7 @@ use Rattle.std.proofs.lemmas.List.{length-map}
 use Rattle.vertex_set.specs.Side.{VertexList}
 use Rattle.cut_listing.specs.Listings.{IsListing, asked_sides, different}
 use Rattle.cut_listing.proofs.Listed.{different_is_listing}
-use Rattle.cut_listing.proofs.Passes.{has_a_vertex, few_fit, many_do_not}
+use Rattle.cut_listing.proofs.Passes.{has_a_vertex, few_fit, many_do_not, none_listed}
 use Rattle.cut_listing.proofs.lister.Lister.list_within.Goals as goal
 
 pub nonzero_div-most : goal.nonzero_div-most
@@ -30,3 +30,8 @@ returns-then-cuts-most-clause-refusal g c =
       refl,
       many_do_not c.in_ok-cuts.cuts c.args.largest c.n.result c.args.self.now.n one more (sym c.requires.n ∙ sym c.n.ensures.value),
     )
+
+pub returns-then-cuts-eq0-clause-list : goal.returns-then-cuts-eq0-clause-list
+returns-then-cuts-eq0-clause-list g c =
+    let ask = c.args.self.now.ask in
+    none_listed c.args.largest c.args.self.now.n ask c.args.cactus.now c.new.result.items (sym c.if-cuts-eq0.true ∙ c.in_ok-cuts.ensures) c.new.ensures.items
