@@ -1,8 +1,17 @@
-//! Marked edges of a graph.
+//! The board that the workers of a round share: a bound that falls, marked edges and taken vertices.
 //!
-//! Contracts see the number of edges and the ascending list of the marked ones. Only `Marks::none` takes memory.
+//! Each call of `Board` is one step of the machine of `scan_core`, by the seat that it is handed, and one atomic operation
+//! on a word of a table: no call waits for another, and none takes memory once the board is open. `Marks` are what a board
+//! leaves when it is closed; contracts see them as the number of edges and the ascending list of the marked ones.
 #![tactic(auto)]
 
+mod board;
 mod marks;
+mod rule;
+mod seat;
+mod words;
 
+pub use board::Board;
 pub use marks::Marks;
+pub use rule::{Opened, Ruled, View};
+pub use seat::BoardSeat;

@@ -1,0 +1,83 @@
+//! Steps on a shared board.
+
+ghost use Rattle.std.specs.Prelude.{◌≡◌, ◌<◌, ◌≤◌, length};
+ghost use Rattle.cut_definitions.specs.Safe.{IsFair};
+
+use crate::triangle::uneven_triangle;
+use edge_certificates::heavy_edge;
+use mark_board::{Board, BoardSeat};
+use std::test::Fail;
+use weighted_graph::Graph;
+
+/// The degree of a vertex, which is the weight of a cut.
+pub(crate) fn degree_of(graph: &Graph, v: u32) -> u64
+    requires enough { 2 ≤ graph.now.vertices }
+    requires from_one { 1 ≤ v }
+    requires to_n { v ≤ graph.now.vertices }
+    ensures { IsFair graph.now result }
+{
+    // known by this call: the graph is an edge list
+    let _n = graph.n();
+    graph.degree(v)
+}
+
+// Lowers the bound by the degree of vertex 3, and marks edge 0 twice. Whether the bound is 5 then, and edge 0 was not
+// marked before and is now.
+fn marks_the_heavy_edge(graph: &Graph, board: &Board, seat: &mut BoardSeat) -> bool
+    requires seat { seat.old.board ≡ board.now }
+    requires graph { board.now.graph ≡ graph.now }
+    requires slack { board.now.slack ≡ 0 }
+    requires vertices { 3 ≤ graph.now.vertices }
+    requires edges { 0 < length graph.now.edges }
+    ensures { seat.new.board ≡ board.now }
+{
+    let before = board.is_marked(seat, 0);
+    let bound = board.lower(seat, degree_of(graph, 3));
+    if bound != 5 || !heavy_edge(graph, 0, bound, 0) {
+        return false;
+    }
+    board.mark(seat, 0);
+    board.mark(seat, 0);
+    !before && board.is_marked(seat, 0)
+}
+
+#[test]
+fn a_mark_is_kept_at_the_close(rt: HostRuntime) -> Result<(), Fail> {
+    let graph = uneven_triangle(rt.alloc())?;
+    let (board, mut seat) = Board::open(rt.alloc(), &graph, degree_of(&graph, 1), 0)?;
+    let marked = marks_the_heavy_edge(&graph, &board, &mut seat);
+    let (bound, marks) = board.close(seat);
+    assert!(rt; marked && bound == 5 && marks.has(0) && !marks.has(1) && !marks.has(2));
+    Ok(())
+}
+
+#[test]
+fn a_new_seat_finds_the_mark_of_another(rt: HostRuntime) -> Result<(), Fail> {
+    let graph = uneven_triangle(rt.alloc())?;
+    let (board, mut seat) = Board::open(rt.alloc(), &graph, degree_of(&graph, 1), 0)?;
+    let marked = marks_the_heavy_edge(&graph, &board, &mut seat);
+    let mut other = board.split(&mut seat);
+    assert!(rt; marked && board.is_marked(&mut other, 0));
+    Ok(())
+}
+
+#[test]
+fn a_lowering_is_seen(rt: HostRuntime) -> Result<(), Fail> {
+    let graph = uneven_triangle(rt.alloc())?;
+    let (board, mut seat) = Board::open(rt.alloc(), &graph, degree_of(&graph, 1), 0)?;
+    let mut other = board.split(&mut seat);
+    let lowered = board.lower(&mut other, degree_of(&graph, 3));
+    assert!(rt; lowered == 5 && board.bound(&mut seat) == 5);
+    Ok(())
+}
+
+#[test]
+fn a_vertex_is_won_once(rt: HostRuntime) -> Result<(), Fail> {
+    let graph = uneven_triangle(rt.alloc())?;
+    let (board, mut seat) = Board::open(rt.alloc(), &graph, degree_of(&graph, 1), 0)?;
+    let first = board.take(&mut seat, 2);
+    let mut other = board.split(&mut seat);
+    let again = board.take(&mut other, 2);
+    assert!(rt; first && !again && board.take(&mut other, 3));
+    Ok(())
+}

@@ -1,0 +1,4 @@
+pub mod Keeps
+pub mod Opened
+pub mod Shows
+pub mod Gone
