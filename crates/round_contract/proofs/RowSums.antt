@@ -1,0 +1,302 @@
+-- The vertices of a class one after another, what their rows add up to, and the edges that are made of it.
+use Rattle.std.proofs.Common.{◌≡◌, ℕ, zero, suc, ◌+◌, ◌-◌, ◌*◌, ◌^◌, ◌<◌, ◌≤◌, inl, inr, ⊎_elim, Bool, true, false, ◌&&◌, ◌||◌, cond, eqb, ltb, List, [], ◌∷◌, ◌++◌, length, map, get_or, set, refl, sym, ◌∙◌, subst, ap, arith, length-append}
+use Rattle.std.specs.Prelude.{◌≢◌}
+use Rattle.std.specs.List.{filter, flat_map, range_with_len}
+use Rattle.std.proofs.lemmas.Bool.{cases_eq, cases_lt, eq-eqb, ne_eqb}
+use Rattle.std.proofs.lemmas.Bool.Decides.{nat_tests}
+use Rattle.std.proofs.lemmas.List.{append-nil, get_or-set_other, get_or-set_same, length-map, map-append}
+use Rattle.std.proofs.lemmas.List.Concat.{flat_map-append}
+use Rattle.std.proofs.lemmas.List.Elements.{All-weaker, filter-append}
+use Rattle.std.proofs.lemmas.List.FromFn.{filter_of_map_range_with_len_more, length-range_with_len}
+use Rattle.std.proofs.lemmas.List.Sums.{count_by-le-length, length-filter}
+use Rattle.std.proofs.lemmas.Simd.{map-map}
+use Rattle.cut_definitions.specs.declared.edge_list.Edge.{Edge}
+use Rattle.cut_definitions.specs.Graph.{Graph, IsEdgeList, IsEdgeWithin, IsGraph}
+use Rattle.cut_definitions.specs.Weight.{VertexSet, between}
+use Rattle.cut_definitions.specs.Scan.{single}
+use Rattle.cut_definitions.specs.Contraction.{label, classes, class, relabel}
+use Rattle.cut_definitions.proofs.Running.{between-le_total}
+use Rattle.cut_definitions.proofs.Sums.{sum_by-plus, sum_by-none, sum_by-same, sum_by-same_on}
+use Rattle.cut_definitions.proofs.WeightLaws.{join_of, join_term}
+use Rattle.weighted_graph.specs.ContractionLaws.{IsLabelled}
+use Rattle.weighted_graph.specs.Rows.{row_of}
+use Rattle.weighted_graph.specs.declared.graph.Arc.{Arc}
+use Rattle.weighted_graph.proofs.Contraction.{law_of_contracted_graph}
+use Rattle.weighted_graph.proofs.RowLaws.{law_of_rows}
+use Rattle.round_contract.specs.Rows.{IsFirst, IsNone, IsNext, AreFirst, AreNext, toward, members_before, class_row, class_rows, edges_by}
+
+-- ---- the first vertex of each class, and the next one of each vertex
+
+next_earlier : (labels : List ℕ) (c v x : ℕ) → label labels v ≢ c → IsNext labels c (v + 1) x → IsNext labels c v x
+next_earlier labels c v x ne = ⊎_elim
+    (λ (f : IsFirst labels c (v + 1) x). inl (record {
+      late = omega (arith, f.late);
+      to_n = f.to_n;
+      is_in = f.is_in;
+      before = λ u l m. at u l (λ k. f.before u k m);
+    }))
+    (λ (n : IsNone labels c (v + 1) x). inr (record { zero = n.zero; none = λ u l m. at u l (λ k. n.none u k m) }))
+  where
+    at : (u : ℕ) → v ≤ u → (v + 1 ≤ u → label labels u ≢ c) → label labels u ≢ c
+    at u l rest = ⊎_elim (λ (e : u ≡ v). λ k. ne (ap (label labels) (sym e) ∙ k)) (λ (d : u ≢ v). rest (omega (arith, l, d))) (cases_eq u v)
+
+next_here : (labels : List ℕ) (c v : ℕ) → v ≤ length labels → label labels v ≡ c → IsNext labels c v v
+next_here labels c v within is = inl (record { late = omega arith; to_n = within; is_in = is; before = λ u l m. absurd (omega (arith, l, m)) })
+
+pub first_none : (labels first : List ℕ) (v : ℕ) → ((c : ℕ) → get_or first c 0 ≡ 0) → length labels < v → AreFirst labels v first
+first_none labels first v empty past c k = inr (record { zero = empty c; none = λ u l m. absurd (omega (arith, l, m, past)) })
+
+pub next_none : (labels next : List ℕ) (v : ℕ) → length labels < v → AreNext labels v next
+next_none labels next v past u l m = absurd (omega (arith, l, m, past))
+
+pub first_linked : (labels first : List ℕ) (v : ℕ) → v ≤ length labels → length first ≡ classes labels + 1 → AreFirst labels (v + 1) first → AreFirst labels v (set first (label labels v) v)
+first_linked labels first v within long h c k = ⊎_elim
+    (λ (e : c ≡ label labels v).
+    let same : get_or (set first (label labels v) v) c 0 ≡ v = ap (λ (j : ℕ). get_or (set first j v) c 0) (sym e) ∙ get_or-set_same first c v 0 (omega (arith, long, k)) in
+    subst (IsNext labels c v) (sym same) (next_here labels c v within (sym e)))
+    (λ (d : c ≢ label labels v).
+    subst (IsNext labels c v) (sym (get_or-set_other first (label labels v) c v 0 d)) (next_earlier labels c v (get_or first c 0) (λ e. d (sym e)) (h c k)))
+    (cases_eq c (label labels v))
+
+pub next_linked : (labels first next : List ℕ) (v : ℕ) → v ≤ length labels → label labels v ≤ classes labels → length next ≡ length labels + 1 → AreFirst labels (v + 1) first → AreNext labels (v + 1) next →
+    AreNext labels v (set next v (get_or first (label labels v) 0))
+next_linked labels first next v within fits long h r u l m = ⊎_elim
+    (λ (e : u ≡ v).
+    let x = get_or first (label labels v) 0 in
+    let same : get_or (set next v x) u 0 ≡ x = ap (λ (j : ℕ). get_or (set next v x) j 0) e ∙ get_or-set_same next v x 0 (omega (arith, long, within)) in
+    subst (IsNext labels (label labels u) (u + 1)) (sym same) (subst (λ (j : ℕ). IsNext labels (label labels j) (j + 1) x) (sym e) (h (label labels v) fits)))
+    (λ (d : u ≢ v).
+    subst (IsNext labels (label labels u) (u + 1)) (sym (get_or-set_other next v u (get_or first (label labels v) 0) 0 d)) (r u (omega (arith, l, d)) m))
+    (cases_eq u v)
+
+-- ---- the weight from the first vertices of a class to another
+
+join_more : (a b a' b' c d : Bool) (w : ℕ) → (a && a') ≡ false → (b && b') ≡ false → (a && c) ≡ false → (a' && c) ≡ false → (b && d) ≡ false → (b' && d) ≡ false →
+    join_of (a || a') (b || b') c d w ≡ join_of a b c d w + join_of a' b' c d w
+join_more a b a' b' c d w h1 h2 h3 h4 h5 h6 = grind arith
+
+grown_in : (l m k s : Bool) → l ≡ true → m ≡ (k || s) → (l && m) ≡ ((l && k) || s)
+grown_in l m k s e f = grind arith
+
+grown_out : (l m k s : Bool) → l ≡ false → s ≡ false → (l && m) ≡ ((l && k) || s)
+grown_out l m k s e f = grind arith
+
+one_later : (from v x : ℕ) → from ≤ v → (from ≤ x → x < v → ⊥) → ltb x (v + 1) ≡ (ltb x from || eqb v x)
+one_later from v x le none = ⊎_elim
+    (λ (l : x < from). before from v x le l)
+    (λ (g : from ≤ x). ⊎_elim (λ (l : x < v). absurd (none g l)) (λ (m : v ≤ x). after from v x le m) (cases_lt x v))
+    (cases_lt x from)
+  where
+    before : (from v x : ℕ) → from ≤ v → x < from → ltb x (v + 1) ≡ (ltb x from || eqb v x)
+    before from v x le l = grind (arith, nat_tests)
+
+    after : (from v x : ℕ) → from ≤ v → v ≤ x → ltb x (v + 1) ≡ (ltb x from || eqb v x)
+    after from v x le m = grind (arith, nat_tests)
+
+apart_members : (l : Bool) (from v x : ℕ) → from ≤ v → ((l && ltb x from) && eqb v x) ≡ false
+apart_members l from v x le = grind (arith, nat_tests)
+
+apart_class : (y c b : ℕ) (k : Bool) → c < b → ((eqb y c && k) && eqb y b) ≡ false
+apart_class y c b k l = grind (arith, nat_tests)
+
+right_false : (a b : Bool) → b ≡ false → (a && b) ≡ false
+right_false a b h = grind arith
+
+left_false : (a b : Bool) → a ≡ false → (a && b) ≡ false
+left_false a b h = grind arith
+
+module _ (g : Graph) (labels : List ℕ) (c b from v : ℕ) (l : c < b) (f : IsFirst labels c from v) where
+  abbrev M : VertexSet
+  M = members_before labels c from
+
+  abbrev T : VertexSet
+  T = class labels b
+
+  grown : (x : ℕ) → members_before labels c (v + 1) x ≡ (M x || single v x)
+  grown x = ⊎_elim
+      (λ (e : label labels x ≡ c). grown_in (eqb (label labels x) c) (ltb x (v + 1)) (ltb x from) (eqb v x) (eq-eqb (label labels x) c e) (one_later from v x f.late (λ k m. f.before x k m e)))
+      (λ (d : label labels x ≢ c). grown_out (eqb (label labels x) c) (ltb x (v + 1)) (ltb x from) (eqb v x) (ne_eqb (label labels x) c d) (ne_eqb v x (λ e. d (ap (label labels) (sym e) ∙ f.is_in))))
+      (cases_eq (label labels x) c)
+
+  single_apart : (x : ℕ) → (single v x && T x) ≡ false
+  single_apart x = ⊎_elim
+      (λ (e : v ≡ x). right_false (eqb v x) (eqb (label labels x) b) (ne_eqb (label labels x) b (λ k. omega (arith, ap (label labels) e, f.is_in, k, l))))
+      (λ (d : v ≢ x). left_false (eqb v x) (eqb (label labels x) b) (ne_eqb v x d))
+      (cases_eq v x)
+
+  each_more : (e : Edge) → join_term (members_before labels c (v + 1)) T e ≡ join_term M T e + join_term (single v) T e
+  each_more e =
+      ap (λ p. join_of p (members_before labels c (v + 1) e.v) (T e.u) (T e.v) e.w) (grown e.u)
+      ∙ (ap (λ p. join_of (M e.u || single v e.u) p (T e.u) (T e.v) e.w) (grown e.v)
+      ∙ join_more (M e.u) (M e.v) (single v e.u) (single v e.v) (T e.u) (T e.v) e.w
+      (apart_members (eqb (label labels e.u) c) from v e.u f.late) (apart_members (eqb (label labels e.v) c) from v e.v f.late)
+      (apart_class (label labels e.u) c b (ltb e.u from) l) (single_apart e.u)
+      (apart_class (label labels e.v) c b (ltb e.v from) l) (single_apart e.v))
+
+  pub members_grow : between g (members_before labels c (v + 1)) (class labels b) ≡ between g (members_before labels c from) (class labels b) + between g (single v) (class labels b)
+  members_grow = sum_by-same (join_term (members_before labels c (v + 1)) T) (λ e. join_term M T e + join_term (single v) T e) each_more g.edges ∙ sum_by-plus (join_term M T) (join_term (single v) T) g.edges
+
+-- the arcs of a vertex to a class weigh what lies between them
+pub toward_is : (g : Graph) → IsGraph g → (labels : List ℕ) (b v : ℕ) → toward labels b (row_of g v) ≡ between g (single v) (class labels b)
+toward_is g ok labels b v = (law_of_rows g ok v).weight_to (class labels b)
+
+pub light : (g : Graph) → IsGraph g → (s t : VertexSet) → between g s t ≤ 2 ^ 61
+light g ok s t = omega (arith, between-le_total g s t, ok.total)
+
+none_joined : (l m : Bool) (u v : ℕ) (c d : Bool) (w : ℕ) → 1 ≤ u → 1 ≤ v → join_of (l && ltb u 1) (m && ltb v 1) c d w ≡ 0
+none_joined l m u v c d w a b = grind (arith, nat_tests)
+
+pub members_none : (g : Graph) → IsGraph g → (labels : List ℕ) (c b : ℕ) → between g (members_before labels c 1) (class labels b) ≡ 0
+members_none g ok labels c b =
+    sum_by-same_on (join_term (members_before labels c 1) (class labels b)) (λ (e : Edge). 0) g.edges
+    (All-weaker (IsEdgeWithin g.vertices) (λ e. join_term (members_before labels c 1) (class labels b) e ≡ 0)
+    (λ e h. none_joined (eqb (label labels e.u) c) (eqb (label labels e.v) c) e.u e.v (class labels b e.u) (class labels b e.v) e.w h.0 (omega (arith, h.0, h.1))) g.edges ok.in_range)
+    ∙ sum_by-none (λ (e : Edge). 0) (λ e. refl) g.edges
+
+-- where no vertex of a class is left, all of them are before
+all_before : (labels : List ℕ) (c from v : ℕ) → IsNone labels c from v → (x : ℕ) → x ≤ length labels → members_before labels c from x ≡ class labels c x
+all_before labels c from v h x within = ⊎_elim
+    (λ (l : x < from). early (eqb (label labels x) c) x from l)
+    (λ (g : from ≤ x). left_false (eqb (label labels x) c) (ltb x from) (ne_eqb (label labels x) c (h.none x g within)) ∙ sym (ne_eqb (label labels x) c (h.none x g within)))
+    (cases_lt x from)
+  where
+    early : (l : Bool) (x from : ℕ) → x < from → (l && ltb x from) ≡ l
+    early l x from h = grind (arith, nat_tests)
+
+pub members_all : (g : Graph) → IsGraph g → (labels : List ℕ) (c b from v : ℕ) → length labels ≡ g.vertices → IsNone labels c from v →
+    between g (members_before labels c from) (class labels b) ≡ between g (class labels c) (class labels b)
+members_all g ok labels c b from v long h =
+    let M = members_before labels c from in
+    let T = class labels b in
+    sum_by-same_on (join_term M T) (join_term (class labels c) T) g.edges
+    (All-weaker (IsEdgeWithin g.vertices) (λ e. join_term M T e ≡ join_term (class labels c) T e)
+    (λ e k.
+    ap (λ p. join_of p (M e.v) (T e.u) (T e.v) e.w) (all_before labels c from v h e.u (omega (arith, k.1, k.2, long)))
+    ∙ ap (λ p. join_of (class labels c e.u) p (T e.u) (T e.v) e.w) (all_before labels c from v h e.v (omega (arith, k.2, long)))) g.edges ok.in_range)
+
+pub first_of : (labels : List ℕ) (c from v : ℕ) → IsNext labels c from v → v ≢ 0 → IsFirst labels c from v
+first_of labels c from v h some = ⊎_elim (λ (f : IsFirst labels c from v). f) (λ (n : IsNone labels c from v). absurd (some n.zero)) h
+
+pub none_of : (labels : List ℕ) (c from v : ℕ) → IsNext labels c from v → 1 ≤ from → v ≡ 0 → IsNone labels c from v
+none_of labels c from v h one e = ⊎_elim (λ (f : IsFirst labels c from v). absurd (omega (arith, f.late, one, e))) (λ (n : IsNone labels c from v). n) h
+
+-- the row of one more vertex
+pub more_weight : (g : Graph) → IsGraph g → (labels : List ℕ) (c b from v s : ℕ) (row : List Arc) → c < b → IsFirst labels c from v → row ≡ row_of g v → s ≡ between g (members_before labels c from) (class labels b) →
+    s + toward labels b row ≡ between g (members_before labels c (v + 1)) (class labels b)
+more_weight g ok labels c b from v s row l f is e =
+    omega (arith, e, ap (toward labels b) is, toward_is g ok labels b v, members_grow g labels c b from v l f)
+
+-- ---- the edges
+
+range_push : (low m : ℕ) → range_with_len low (suc m) ≡ range_with_len low m ++ (low + m) ∷ []
+range_push low zero = let e : low ≡ low + 0 = omega arith in ap (λ k. k ∷ []) e
+range_push low (suc m) =
+    let e : (low + 1) + m ≡ low + suc m = omega arith in
+    ap (λ l. low ∷ l) (range_push (low + 1) m ∙ ap (λ k. range_with_len (low + 1) m ++ k ∷ []) e)
+
+abbrev keeps : Edge → Bool
+keeps e = ltb 0 e.w
+
+abbrev pub edge_to : (ℕ → ℕ) → ℕ → ℕ → Edge
+edge_to f c b = record { u = c; v = b; w = f b }
+
+same_map : (f h : ℕ → ℕ) (c m low : ℕ) → ((b : ℕ) → low ≤ b → b < low + m → f b ≡ h b) → map (edge_to f c) (range_with_len low m) ≡ map (edge_to h c) (range_with_len low m)
+same_map f h c zero low same = refl
+same_map f h c (suc m) low same =
+    ap (λ (w : ℕ). (let e : Edge = record { u = c; v = low; w = w } in e) ∷ map (edge_to f c) (range_with_len (low + 1) m)) (same low (omega arith) (omega arith))
+    ∙ ap (λ l. edge_to h c low ∷ l) (same_map f h c m (low + 1) (λ b l u. same b (omega (arith, l)) (omega (arith, u))))
+
+pub same_row : (g : Graph) (labels sums : List ℕ) (c : ℕ) → ((b : ℕ) → c < b → b ≤ classes labels → get_or sums b 0 ≡ between g (class labels c) (class labels b)) →
+    edges_by sums c (classes labels - c) ≡ class_row g labels c
+same_row g labels sums c same = ap (filter keeps)
+    (same_map (λ b. get_or sums b 0) (λ b. between g (class labels c) (class labels b)) c (classes labels - c) (c + 1) (λ b l u. same b (omega (arith, l)) (omega (arith, u, l))))
+
+pub rows_more : (g : Graph) (labels : List ℕ) (m : ℕ) → class_rows g labels (m + 1) ≡ class_rows g labels m ++ class_row g labels (m + 1)
+rows_more g labels m =
+    let up : m + 1 ≡ suc m = omega arith in
+    let down : 1 + m ≡ m + 1 = omega arith in
+    ap (class_rows g labels) up
+    ∙ (ap (flat_map (class_row g labels)) (range_push 1 m)
+    ∙ (flat_map-append (class_row g labels) (range_with_len 1 m) ((1 + m) ∷ [])
+    ∙ ap (λ l. class_rows g labels m ++ l) (append-nil (class_row g labels (1 + m)) ∙ ap (class_row g labels) down)))
+
+-- one more class, to which there is a weight or not
+pub edges_with : (sums : List ℕ) (c b : ℕ) → c < b → 1 ≤ get_or sums b 0 → edges_by sums c (b + 1 - 1 - c) ≡ edges_by sums c (b - 1 - c) ++ edge_to (λ k. get_or sums k 0) c b ∷ []
+edges_with sums c b l some =
+    let f : ℕ → ℕ = λ k. get_or sums k 0 in
+    let up : b + 1 - 1 - c ≡ (b - 1 - c) + 1 = omega (arith, l) in
+    ap (edges_by sums c) up
+    ∙ (filter_of_map_range_with_len_more keeps (edge_to f c) (c + 1) (b - 1 - c) b (omega (arith, l))
+    ∙ ap (λ t. filter keeps (map (edge_to f c) (range_with_len (c + 1) (b - 1 - c))) ++ cond t (edge_to f c b ∷ []) []) (positive (get_or sums b 0) some))
+  where
+    positive : (w : ℕ) → 1 ≤ w → ltb 0 w ≡ true
+    positive w h = grind (arith, nat_tests)
+
+pub edges_without : (sums : List ℕ) (c b : ℕ) → c < b → get_or sums b 0 ≡ 0 → edges_by sums c (b + 1 - 1 - c) ≡ edges_by sums c (b - 1 - c)
+edges_without sums c b l none =
+    let f : ℕ → ℕ = λ k. get_or sums k 0 in
+    let up : b + 1 - 1 - c ≡ (b - 1 - c) + 1 = omega (arith, l) in
+    ap (edges_by sums c) up
+    ∙ (filter_of_map_range_with_len_more keeps (edge_to f c) (c + 1) (b - 1 - c) b (omega (arith, l))
+    ∙ (ap (λ w. filter keeps (map (edge_to f c) (range_with_len (c + 1) (b - 1 - c))) ++ cond (ltb 0 w) (edge_to f c b ∷ []) []) none
+    ∙ append-nil (filter keeps (map (edge_to f c) (range_with_len (c + 1) (b - 1 - c))))))
+
+-- the pairs with one first class
+abbrev pairs_from : ℕ → ℕ → List (ℕ × ℕ)
+pairs_from k i = map (λ j. let p : ℕ × ℕ = (i, j) in p) (range_with_len (i + 1) (k - i))
+
+spread : (g : Graph) (labels xs : List ℕ) →
+    flat_map (class_row g labels) xs ≡ filter keeps (map (λ (p : ℕ × ℕ). edge_to (λ b. between g (class labels p.0) (class labels b)) p.0 p.1) (flat_map (pairs_from (classes labels)) xs))
+spread g labels [] = refl
+spread g labels (x ∷ xs) =
+    let k = classes labels in
+    let make : ℕ × ℕ → Edge = λ p. edge_to (λ b. between g (class labels p.0) (class labels b)) p.0 p.1 in
+    let first : class_row g labels x ≡ filter keeps (map make (pairs_from k x)) = ap (filter keeps) (sym (map-map make (λ j. let p : ℕ × ℕ = (x, j) in p) (range_with_len (x + 1) (k - x)))) in
+    ap (λ l. l ++ flat_map (class_row g labels) xs) first
+    ∙ (ap (λ l. filter keeps (map make (pairs_from k x)) ++ l) (spread g labels xs)
+    ∙ (sym (filter-append keeps (map make (pairs_from k x)) (map make (flat_map (pairs_from k) xs)))
+    ∙ ap (filter keeps) (sym (map-append make (pairs_from k x) (flat_map (pairs_from k) xs)))))
+
+pub rows_are : (g : Graph) (labels : List ℕ) → class_rows g labels (classes labels) ≡ (relabel g labels).edges
+unfolding relabel
+rows_are g labels = spread g labels (range_with_len 1 (classes labels))
+
+-- ---- how many edges there are
+
+row_short : (g : Graph) (labels : List ℕ) (c : ℕ) → length (class_row g labels c) ≤ classes labels
+row_short g labels c =
+    let all = map (edge_to (λ b. between g (class labels c) (class labels b)) c) (range_with_len (c + 1) (classes labels - c)) in
+    omega (
+      arith,
+      length-filter keeps all,
+      count_by-le-length keeps all,
+      length-map (range_with_len (c + 1) (classes labels - c)) (edge_to (λ b. between g (class labels c) (class labels b)) c),
+      length-range_with_len (c + 1) (classes labels - c),
+    )
+
+rows_short : (g : Graph) (labels xs : List ℕ) → length (flat_map (class_row g labels) xs) ≤ length xs * classes labels
+rows_short g labels [] = omega arith
+rows_short g labels (x ∷ xs) = omega (arith, length-append (class_row g labels x) (flat_map (class_row g labels) xs), row_short g labels x, rows_short g labels xs)
+
+square : (k : ℕ) → k ≤ 4096 → k * k ≤ 16777216
+square k h = grind arith
+
+pub few_rows : (g : Graph) → IsEdgeList g → (labels : List ℕ) → IsLabelled g labels → classes labels ≤ 4096 → IsEdgeList (relabel g labels)
+unfolding relabel
+few_rows g is labels h few = record {
+  is_graph = law_of_contracted_graph g is.is_graph labels h;
+  few_vertices = omega (arith, few);
+  few_edges = omega (
+    arith,
+    ap length (rows_are g labels),
+    rows_short g labels (range_with_len 1 (classes labels)),
+    ap (λ (m : ℕ). m * classes labels) (length-range_with_len 1 (classes labels)),
+    square (classes labels) few,
+  );
+}
+
+pub relabel_made : (g : Graph) (labels : List ℕ) (k : ℕ) (edges : List Edge) → k ≡ classes labels → edges ≡ (relabel g labels).edges → (let r : Graph = record { vertices = k; edges = edges } in r) ≡ relabel g labels
+unfolding relabel
+relabel_made g labels k edges e f =
+    ap (λ (x : ℕ). let r : Graph = record { vertices = x; edges = edges } in r) e
+    ∙ ap (λ (es : List Edge). let r : Graph = record { vertices = classes labels; edges = es } in r) f

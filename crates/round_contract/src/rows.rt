@@ -1,0 +1,158 @@
+//! Contraction of a dense graph: the weights between classes are added up along the rows of each class.
+
+ghost use Rattle.std.specs.Prelude.{◌≡◌, ℕ, ◌+◌, ◌-◌, ◌<◌, ◌≤◌, ◌^◌, ◌++◌, All, IfOk, IsTrue, OnOk, if◌then◌else◌, length, nat_lt, slice_index};
+ghost use Rattle.cut_definitions.specs.Contraction.{class, classes, label, relabel};
+ghost use Rattle.cut_definitions.specs.Weight.{between};
+ghost use Rattle.weighted_graph.specs.declared.graph.Arc.{Arc};
+ghost use Rattle.round_contract.specs.Rows.{AreFirst, AreNext, IsNext, edges_by, toward};
+
+use cut_definitions::{Edge, EdgeList, NoMemory};
+use std::alloc::Global;
+use weighted_graph::{Arc, Graph, Labels};
+
+/// The greatest number of classes for which rows are added up: each two of them may be joined by an edge.
+const MANY_CLASSES: u32 = 4096;
+
+/// Writes for each class its first vertex, and for each vertex the next one of its class, or 0 where there is none.
+fn link(labels: &Labels, first: &mut [u32], next: &mut [u32])
+    requires classes { length first.old ≡ classes labels.now + 1 }
+    requires vertices { length next.old ≡ length labels.now + 1 }
+    requires zero { (c : ℕ) → slice_index first.old c ≡ 0 }
+    ensures classes { length first.new ≡ length first.old }
+    ensures vertices { length next.new ≡ length next.old }
+    ensures first { AreFirst labels.now 1 first.new }
+    ensures next { AreNext labels.now 1 next.new }
+{
+    let mut v = labels.n();
+    while v > 0 {
+        let class = labels.label(v) as usize;
+        next[v as usize] = first[class];
+        first[class] = v;
+        v -= 1;
+    }
+}
+
+/// Adds the weights of a row to those of the classes of its ends, where these are greater than the lesser one.
+fn add_row(row: &[Arc], labels: &Labels, lesser: u32, sums: &mut [u64])
+    requires ends { All (λ (a : Arc). (1 ≤ a.to) × (a.to ≤ length labels.now)) row.now }
+    requires long { length sums.old ≡ classes labels.now + 1 }
+    requires small { (b : ℕ) → lesser < b → b ≤ classes labels.now → slice_index sums.old b + toward labels.now b row.now ≤ 2 ^ 61 }
+    ensures long { length sums.new ≡ length sums.old }
+    ensures sums { (b : ℕ) → lesser < b → b ≤ classes labels.now → slice_index sums.new b ≡ slice_index sums.old b + toward labels.now b row.now }
+{
+    for arc in row {
+        let other = labels.label(arc.to);
+        if other > lesser {
+            sums[other as usize] += arc.weight;
+        }
+    }
+}
+
+/// Adds up the weights between a class and each greater one, along the rows of the class.
+fn add_class(
+    graph: &Graph,
+    labels: &Labels,
+    next: &[u32],
+    first: u32,
+    lesser: u32,
+    sums: &mut [u64],
+)
+    requires labels { length labels.now ≡ graph.now.vertices }
+    requires vertices { length next.now ≡ length labels.now + 1 }
+    requires next { AreNext labels.now 1 next.now }
+    requires first { IsNext labels.now lesser 1 first }
+    requires long { length sums.old ≡ classes labels.now + 1 }
+    requires zero { (b : ℕ) → slice_index sums.old b ≡ 0 }
+    ensures long { length sums.new ≡ length sums.old }
+    ensures sums { (b : ℕ) → lesser < b → b ≤ classes labels.now → slice_index sums.new b ≡ between graph.now (class labels.now lesser) (class labels.now b) }
+{
+    // known by this call: the graph is an edge list
+    let _n = graph.n();
+    let mut v = first;
+    while v != 0 {
+        add_row(graph.row(v), labels, lesser, sums);
+        v = next[v as usize];
+    }
+}
+
+/// Appends the edges from a class to each greater one for which there is a weight.
+fn append_row(class: u32, sums: &[u64], edges: &mut Vec<Edge>) -> Result<(), NoMemory>
+    requires class { class < length sums.now }
+    requires few { length sums.now ≤ 4194305 }
+    ensures { OnOk result (edges.new.items ≡ edges.old.items ++ edges_by sums.now class (length sums.now - 1 - class)) }
+{
+    for b in class as usize + 1..sums.len() {
+        let weight = sums[b];
+        if weight > 0 {
+            edges.push(Edge {
+                u: class,
+                v: b as u32,
+                w: weight,
+            })?;
+        }
+    }
+    Ok(())
+}
+
+/// The edges of the contracted graph, in their order.
+fn edges_of_classes(alloc: Global, graph: &Graph, labels: &Labels) -> Result<Vec<Edge>, NoMemory>
+    requires { length labels.now ≡ graph.now.vertices }
+    ensures { IfOk result (λ edges. edges.items ≡ (relabel graph.now labels.now).edges) }
+{
+    let count = labels.classes() as usize;
+    let mut first = vec![in alloc; 0u32; count + 1]?;
+    let mut next = vec![in alloc; 0u32; labels.n() as usize + 1]?;
+    link(labels, first.as_mut_slice(), next.as_mut_slice());
+    let mut room = vec![in alloc; 0u64; count + 1]?;
+    let sums = room.as_mut_slice();
+    let mut edges = Vec::new(alloc);
+    for before in 0..labels.classes() {
+        let class = before + 1;
+        let start = first[class as usize];
+        sums.fill(0);
+        add_class(graph, labels, &next, start, class, sums);
+        append_row(class, sums, &mut edges)?;
+    }
+    Ok(edges)
+}
+
+/// The graph on a few classes, by the rows of each class.
+fn relabel_by_rows(alloc: Global, graph: &Graph, labels: &Labels) -> Result<Graph, NoMemory>
+    requires labels { length labels.now ≡ graph.now.vertices }
+    requires few { classes labels.now ≤ 4096 }
+    ensures { IfOk result (λ g. g ≡ relabel graph.now labels.now) }
+{
+    // known by this call: the graph is an edge list
+    let _n = graph.n();
+    let edges = edges_of_classes(alloc, graph, labels)?;
+    let list = EdgeList::from_edges(labels.classes(), edges);
+    Graph::from_list(alloc, list)
+}
+
+/// Whether so many edges of the graph may be left between classes that each two classes can be looked at.
+fn is_dense(graph: &Graph, labels: &Labels) -> bool
+    ensures { IsTrue result → classes labels.now ≤ 4096 }
+{
+    let classes = labels.classes();
+    if classes > MANY_CLASSES {
+        return false;
+    }
+    let pairs = u64::from(classes) * u64::from(classes);
+    let is_little_smaller = u64::from(graph.n()) <= 4 * u64::from(classes);
+    is_little_smaller && pairs / 8 <= graph.edges() as u64
+}
+
+/// The graph on the classes of labels, one for each vertex, as `Graph::relabel` makes it.
+///
+/// A dense graph that becomes little smaller is not sorted: with k classes it costs O(n + m + k^2), where k^2 is at most in
+/// proportion to m, and memory in proportion to n + m. All others cost O(m log m). It is refused only where memory is
+/// wanting.
+pub fn contracted(alloc: Global, graph: &Graph, labels: &Labels) -> Result<Graph, NoMemory>
+    requires { length labels.now ≡ graph.now.vertices }
+    ensures { IfOk result (λ g. g ≡ relabel graph.now labels.now) }
+{
+    if is_dense(graph, labels) {
+        return relabel_by_rows(alloc, graph, labels);
+    }
+    graph.relabel(alloc, labels)
+}
