@@ -14,6 +14,7 @@ use outside::Gate;
 use round_workers::mark_links;
 use scan_forest::Scan;
 use std::alloc::Global;
+use std::thread::Threads;
 use weighted_graph::{Graph, Labels};
 
 /// Whether some edge of a graph is marked. It goes over the edges up to the first that is. (`Marks::is_empty` does not tell
@@ -87,7 +88,8 @@ pub(crate) fn marks_of_scan(
 
 /// Marks of edges that lie in no minimum cut: those of a round with slack 1 or, where it marks nothing, of a whole scan.
 /// None where that marks nothing either. The scan is of the very graph that the round marked nothing in.
-pub(crate) fn find_marks<G: Gate>(
+pub(crate) fn find_marks<R: Threads + Sync, G: Gate>(
+    rt: &R,
     alloc: Global,
     graph: &Graph,
     value: u64,
@@ -103,7 +105,7 @@ pub(crate) fn find_marks<G: Gate>(
     ensures closed { IfOk result (λ found. IfNone found (NoneIsCertified graph.now (value + 1))) }
     ensures light { IfOk result (λ found. IfNone found (IsLight graph.now value)) }
 {
-    let marks = round_at_value(alloc, graph, value, workers, gate)?;
+    let marks = round_at_value(rt, alloc, graph, value, workers, gate)?;
     if is_some_marked(graph, &marks) {
         return Ok(Some(marks));
     }

@@ -12,6 +12,7 @@ use outside::Gate;
 use round_contract::contract;
 use round_workers::round;
 use std::alloc::Global;
+use std::thread::Threads;
 use weighted_graph::{Graph, Labels};
 
 /// The value of a graph, a smaller graph with the same value, and labels that give each vertex of the graph a vertex of
@@ -44,7 +45,8 @@ pub(crate) fn contract_safely(
 }
 
 /// The marks of a round with slack 1 that is opened with the value, where its bound stays.
-pub(crate) fn round_at_value<G: Gate>(
+pub(crate) fn round_at_value<R: Threads + Sync, G: Gate>(
+    rt: &R,
     alloc: Global,
     graph: &Graph,
     value: u64,
@@ -58,12 +60,13 @@ pub(crate) fn round_at_value<G: Gate>(
     ensures safe { IfOk result (λ marks. MarksAreSafe graph.now (has marks.marked) value 1) }
     ensures certified { IfOk result (λ marks. CertifiedAreMarked graph.now (has marks.marked) (value + 1)) }
 {
-    let (_low, marks) = round(alloc, graph, value, 1, workers, gate)?;
+    let (_low, marks) = round(rt, alloc, graph, value, 1, workers, gate)?;
     Ok(marks)
 }
 
 /// A round with slack 1 and the contraction of what it marked.
-fn contract_once<G: Gate>(
+fn contract_once<R: Threads + Sync, G: Gate>(
+    rt: &R,
     alloc: Global,
     graph: &Graph,
     value: u64,
@@ -75,14 +78,15 @@ fn contract_once<G: Gate>(
     requires workers { (1 ≤ workers) × (workers ≤ 64) }
     ensures { IfOk result (λ r. IsKept graph.now value r.0 r.1) }
 {
-    let marks = round_at_value(alloc, graph, value, workers, gate)?;
+    let marks = round_at_value(rt, alloc, graph, value, workers, gate)?;
     let (small, labels) = contract_safely(alloc, graph, value, &marks)?;
     Ok((small, labels))
 }
 
 /// Rounds with slack 1 and their contractions, as long as each takes away a tenth of the vertices. It answers what is left
-/// and the labels that lead there.
-pub(crate) fn contract_by_rounds<G: Gate>(
+/// and the labels that lead there. The workers share the first round.
+pub(crate) fn contract_by_rounds<R: Threads + Sync, G: Gate>(
+    rt: &R,
     alloc: Global,
     graph: &Graph,
     value: u64,
@@ -94,10 +98,10 @@ pub(crate) fn contract_by_rounds<G: Gate>(
     requires workers { (1 ≤ workers) × (workers ≤ 64) }
     ensures { IfOk result (λ r. IsKept graph.now value r.0 r.1) }
 {
-    let (mut small, mut labels) = contract_once(alloc, graph, value, workers, gate)?;
+    let (mut small, mut labels) = contract_once(rt, alloc, graph, value, workers, gate)?;
     let mut shrinks = u64::from(small.n()) * 10 <= u64::from(graph.n()) * 9;
     'rounds: while shrinks {
-        let (smaller, next) = contract_once(alloc, &small, value, workers, gate)?;
+        let (smaller, next) = contract_once(rt, alloc, &small, value, 1, gate)?;
         labels = labels.compose(alloc, &next)?;
         shrinks = u64::from(smaller.n()) * 10 <= u64::from(small.n()) * 9;
         small = smaller;

@@ -12,6 +12,7 @@ use crate::values::{FEW_EDGES, value};
 use cut_definitions::NoMemory;
 use outside::Gate;
 use std::alloc::Global;
+use std::thread::Threads;
 use weighted_graph::Graph;
 
 /// The kernel of a graph of two or more vertices: a smaller graph with the same value whose minimum cuts, lifted by the
@@ -22,7 +23,8 @@ use weighted_graph::Graph;
 /// slack 1, each of O((n + m) log n) and the certificates, until one marks nothing and a whole scan meets no link above the
 /// value; each round but the last makes a new graph. The number of workers is 1 to 64. It is refused only where memory is
 /// wanting.
-pub fn kernel<G: Gate>(
+pub fn kernel<R: Threads + Sync, G: Gate>(
+    rt: &R,
     alloc: Global,
     graph: &Graph,
     workers: u32,
@@ -38,9 +40,9 @@ pub fn kernel<G: Gate>(
     ensures closed { IfOk result (λ k. NoneIsCertified k.graph (k.value + 1)) }
     ensures light { IfOk result (λ k. IsLight k.graph k.value) }
 {
-    let least = value(alloc, graph, workers, gate)?;
-    let (mut small, mut labels) = contract_by_rounds(alloc, graph, least, workers, gate)?;
-    'closing: while let Some(marks) = find_marks(alloc, &small, least, workers, gate)? {
+    let least = value(rt, alloc, graph, workers, gate)?;
+    let (mut small, mut labels) = contract_by_rounds(rt, alloc, graph, least, workers, gate)?;
+    'closing: while let Some(marks) = find_marks(rt, alloc, &small, least, workers, gate)? {
         let (smaller, next) = contract_safely(alloc, &small, least, &marks)?;
         labels = labels.compose(alloc, &next)?;
         small = smaller;
@@ -61,7 +63,8 @@ pub fn kernel<G: Gate>(
 /// link shows to lie in no minimum cut. The graph has two or more vertices, and the value is its value. It costs
 /// O((n + m) log n), and on a small graph the certificates. The number of workers is 1 to 64. It is refused only where memory
 /// is wanting.
-pub fn reduce<G: Gate>(
+pub fn reduce<R: Threads + Sync, G: Gate>(
+    rt: &R,
     alloc: Global,
     graph: &Graph,
     value: u64,
@@ -75,7 +78,7 @@ pub fn reduce<G: Gate>(
     ensures light { IfOk result (λ found. IfNone found (IsLight graph.now value)) }
 {
     let kept = if graph.edges() <= FEW_EDGES {
-        Some(contract_by_rounds(alloc, graph, value, workers, gate)?)
+        Some(contract_by_rounds(rt, alloc, graph, value, workers, gate)?)
     } else {
         contract_by_scans(alloc, graph, value)?
     };

@@ -9,7 +9,7 @@ ghost use Rattle.min_value.specs.Left.{IsShrunk};
 use cut_definitions::NoMemory;
 use least_cut::least_weight_below;
 use mark_board::Marks;
-use round_contract::classes_of_marks;
+use round_contract::{classes_of_marks, contracted};
 use round_workers::{lowered, mark_links};
 use scan_forest::Scan;
 use std::alloc::Global;
@@ -64,7 +64,7 @@ fn scan_once(alloc: Global, graph: &Graph, bound: u64) -> Result<Shrunk, NoMemor
             smaller: None,
         });
     }
-    let smaller = graph.relabel(alloc, &labels)?;
+    let smaller = contracted(alloc, graph, &labels)?;
     Ok(Shrunk {
         best,
         smaller: Some(smaller),

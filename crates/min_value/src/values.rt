@@ -12,6 +12,7 @@ use outside::Gate;
 use round_contract::contract;
 use round_workers::round;
 use std::alloc::Global;
+use std::thread::Threads;
 use weighted_graph::Graph;
 
 // Rounds, whose certificates look at each edge, are for graphs of at most so many edges.
@@ -32,7 +33,8 @@ fn least_degree(graph: &Graph) -> u64
 
 /// A round with slack 0, opened with the least degree, and the contraction of what it marked. It answers the round's
 /// bound and the contracted graph.
-fn contract_once<G: Gate>(
+fn contract_once<R: Threads + Sync, G: Gate>(
+    rt: &R,
     alloc: Global,
     graph: &Graph,
     workers: u32,
@@ -45,14 +47,16 @@ fn contract_once<G: Gate>(
     // known by this call: the graph is an edge list
     let _n = graph.n();
     let bound = least_degree(graph);
-    let (low, marks) = round(alloc, graph, bound, 0, workers, gate)?;
+    let (low, marks) = round(rt, alloc, graph, bound, 0, workers, gate)?;
     let (smaller, _labels) = contract(alloc, graph, &marks)?;
     Ok((low, smaller))
 }
 
 /// The value by rounds that contract what they show safe, as long as each takes away a tenth of the vertices; the least bound
-/// of all rounds and what is left then decide. A round costs O((n + m) log n) and the certificates.
-fn value_by_rounds<G: Gate>(
+/// of all rounds and what is left then decide. A round costs O((n + m) log n) and the certificates. The workers share the first
+/// round; what is left for later ones is small, and starting threads would cost more than it.
+fn value_by_rounds<R: Threads + Sync, G: Gate>(
+    rt: &R,
     alloc: Global,
     graph: &Graph,
     workers: u32,
@@ -62,10 +66,10 @@ fn value_by_rounds<G: Gate>(
     requires workers { (1 ≤ workers) × (workers ≤ 64) }
     ensures { IfOk result (λ weight. weight ≡ value graph.now) }
 {
-    let (mut best, mut small) = contract_once(alloc, graph, workers, gate)?;
+    let (mut best, mut small) = contract_once(rt, alloc, graph, workers, gate)?;
     let mut shrinks = true;
     'rounds: while shrinks && small.n() >= 2 {
-        let (low, smaller) = contract_once(alloc, &small, workers, gate)?;
+        let (low, smaller) = contract_once(rt, alloc, &small, 1, gate)?;
         shrinks = u64::from(smaller.n()) * 10 <= u64::from(small.n()) * 9;
         best = best.min(low);
         small = smaller;
@@ -105,13 +109,19 @@ fn value_by_sweep(alloc: Global, graph: &Graph) -> Result<u64, NoMemory>
 /// swept by flows (Hao and Orlin, 1994), and contracted by scans where these look far. The number of workers is 1 to 64. It
 /// takes memory O(n + m), and is refused only where that is wanting. A sweep has no good bound in n and m; on most graphs
 /// it takes about as long as reading them.
-pub fn value<G: Gate>(alloc: Global, graph: &Graph, workers: u32, gate: &G) -> Result<u64, NoMemory>
+pub fn value<R: Threads + Sync, G: Gate>(
+    rt: &R,
+    alloc: Global,
+    graph: &Graph,
+    workers: u32,
+    gate: &G,
+) -> Result<u64, NoMemory>
     requires enough { 2 ≤ graph.now.vertices }
     requires workers { (1 ≤ workers) × (workers ≤ 64) }
     ensures { IfOk result (λ weight. weight ≡ value graph.now) }
 {
     if graph.edges() <= FEW_EDGES {
-        let weight = value_by_rounds(alloc, graph, workers, gate)?;
+        let weight = value_by_rounds(rt, alloc, graph, workers, gate)?;
         return Ok(weight);
     }
     let weight = value_by_sweep(alloc, graph)?;

@@ -18,6 +18,7 @@ use cut_definitions::EdgeList;
 use min_value::value as least_weight;
 use outside::{Gate, NoMemory};
 use std::alloc::Global;
+use std::thread::Threads;
 use weighted_graph::{Graph, laws};
 
 // A graph of fewer than two vertices has no cut.
@@ -47,7 +48,8 @@ fn with_rows(alloc: Global, list: EdgeList) -> Result<Graph, NoMemory>
 }
 
 // The line of the job `value`.
-fn value_reply<G: Gate>(
+fn value_reply<R: Threads + Sync, G: Gate>(
+    rt: &R,
     alloc: Global,
     list: EdgeList,
     workers: u32,
@@ -59,7 +61,7 @@ fn value_reply<G: Gate>(
     ensures printable { IfOk result IsPrintable }
 {
     let graph = with_rows(alloc, list)?;
-    let value = least_weight(alloc, &graph, workers, gate)?;
+    let value = least_weight(rt, alloc, &graph, workers, gate)?;
     let text = format!(in alloc; "value {value}\n")?;
     Ok(Reply::Text(text))
 }
@@ -85,7 +87,8 @@ fn check_vertices(job: Job, n: u32) -> Result<(), Stop>
 }
 
 // The answer of a job on the cuts themselves.
-fn reply_on_cuts<G: Gate>(
+fn reply_on_cuts<R: Threads + Sync, G: Gate>(
+    rt: &R,
     alloc: Global,
     command: Command,
     list: EdgeList,
@@ -107,12 +110,13 @@ fn reply_on_cuts<G: Gate>(
         let reply = disconnected(alloc, components)?;
         return Ok(reply);
     }
-    let solved = solve(alloc, &graph, command.workers, gate)?;
+    let solved = solve(rt, alloc, &graph, command.workers, gate)?;
     cuts_reply(alloc, command.job, &graph, solved)
 }
 
 /// What a command that reads a graph answers for it, or why it has no answer.
-pub fn answer<G: Gate>(
+pub fn answer<R: Threads + Sync, G: Gate>(
+    rt: &R,
     alloc: Global,
     command: Command,
     list: EdgeList,
@@ -132,8 +136,8 @@ pub fn answer<G: Gate>(
         return Ok(reply);
     }
     if let Job::Value = command.job {
-        let reply = value_reply(alloc, list, command.workers, gate)?;
+        let reply = value_reply(rt, alloc, list, command.workers, gate)?;
         return Ok(reply);
     }
-    reply_on_cuts(alloc, command, list, gate)
+    reply_on_cuts(rt, alloc, command, list, gate)
 }

@@ -26,6 +26,7 @@ use crate::trial::trial_reply;
 use cactus_text::PrintRefusal;
 use outside::{Gate, Sink, Source, write_whole};
 use std::alloc::Global;
+use std::thread::Threads;
 
 // Tells why there is nothing to write to `out`. It takes no memory.
 fn tell<E: Sink>(err: &mut E, stop: Stop) -> Status
@@ -52,7 +53,8 @@ fn notice_reply(alloc: Global, notice: Notice) -> Result<Reply, Stop>
 }
 
 // What a command that reads a graph answers for the one that the source gives.
-fn reading_reply<S: Source, G: Gate>(
+fn reading_reply<R: Threads + Sync, S: Source, G: Gate>(
+    rt: &R,
     alloc: Global,
     command: Command,
     source: &mut S,
@@ -69,11 +71,12 @@ fn reading_reply<S: Source, G: Gate>(
     ensures words { result ≢ Err Stop.BadWords }
 {
     let graph = take_in(alloc, source)?;
-    answer(alloc, command, graph.edges, gate)
+    answer(rt, alloc, command, graph.edges, gate)
 }
 
 // What a command answers. A trial leaves the source as it is.
-fn job_reply<S: Source, G: Gate>(
+fn job_reply<R: Threads + Sync, S: Source, G: Gate>(
+    rt: &R,
     alloc: Global,
     command: Command,
     source: &mut S,
@@ -92,15 +95,16 @@ fn job_reply<S: Source, G: Gate>(
     ensures unread { ¬ IsReading command.job → source.new ≡ source.old }
 {
     match command.job {
-        Job::Trial(number) => Ok(trial_reply(alloc, number, command.workers, gate)?),
+        Job::Trial(number) => Ok(trial_reply(rt, alloc, number, command.workers, gate)?),
         Job::Value | Job::Cactus | Job::Cuts | Job::Part(..) | Job::Count | Job::Balanced => {
-            reading_reply(alloc, command, source, gate)
+            reading_reply(rt, alloc, command, source, gate)
         }
     }
 }
 
 // What the words ask for. Nothing is written yet.
-fn reply<S: Source, G: Gate>(
+fn reply<R: Threads + Sync, S: Source, G: Gate>(
+    rt: &R,
     alloc: Global,
     words: &[String],
     source: &mut S,
@@ -120,7 +124,7 @@ fn reply<S: Source, G: Gate>(
         return notice_reply(alloc, notice);
     }
     match read_words(alloc, words) {
-        Ok(command) => job_reply(alloc, command, source, gate),
+        Ok(command) => job_reply(rt, alloc, command, source, gate),
         Err(WordsRefusal::BadWords) => Err(Stop::BadWords),
         Err(WordsRefusal::NoMemory) => Err(Stop::NoMemory),
     }
@@ -128,12 +132,13 @@ fn reply<S: Source, G: Gate>(
 
 /// All that the program does, over whatever source and sinks: it reads the words, reads the source to its end, writes
 /// the text of the reply to `out` or the line that tells why there is none to `err`, and answers how it ended. The job
-/// `trial` makes its graph and reads nothing.
+/// `trial` makes its graph and reads nothing. The runtime starts the threads of the workers.
 ///
 /// The value takes memory in proportion to the graph and a sweep of flows, each of which is local on most graphs. Beside that
 /// the jobs on all minimum cuts take a sweep and a flow for each split of the graph, and a number for each vertex of a graph
 /// that is split and not yet put together.
-pub fn run<S: Source, K: Sink, E: Sink, G: Gate>(
+pub fn run<R: Threads + Sync, S: Source, K: Sink, E: Sink, G: Gate>(
+    rt: &R,
     alloc: Global,
     words: &[String],
     source: &mut S,
@@ -218,7 +223,7 @@ pub fn run<S: Source, K: Sink, E: Sink, G: Gate>(
         → ¬ Rose (K.faults out.old) (K.faults out.new) → ¬ Rose (E.faults err.old) (E.faults err.new)
         → (result ≡ Status.Ok) ⊎ (result ≡ Status.OutOfMemory) }
 {
-    match reply(alloc, words, source, gate) {
+    match reply(rt, alloc, words, source, gate) {
         Ok(reply) => match write_reply(alloc, out, &reply) {
             Ok(()) => Status::Ok,
             Err(PrintRefusal::SinkFailed) => Status::WriteFault,

@@ -14,6 +14,7 @@ use graph_maker::laws::connected_making;
 use graph_maker::make;
 use outside::{Gate, NoMemory};
 use std::alloc::Global;
+use std::thread::Threads;
 use weighted_graph::Graph;
 
 // The five lines.
@@ -53,7 +54,8 @@ fn describe(alloc: Global, graph: &Graph, solved: &Solved) -> Result<String, NoM
 /// minimum cuts and the greatest balance of one.
 ///
 /// It is refused only where memory is wanting.
-pub fn trial_reply<G: Gate>(
+pub fn trial_reply<R: Threads + Sync, G: Gate>(
+    rt: &R,
     alloc: Global,
     number: u32,
     workers: u32,
@@ -69,7 +71,7 @@ pub fn trial_reply<G: Gate>(
     connected_making();
     let list = make(alloc, number)?;
     let graph = Graph::from_list(alloc, list)?;
-    let solved = solve(alloc, &graph, workers, gate)?;
+    let solved = solve(rt, alloc, &graph, workers, gate)?;
     let text = describe(alloc, &graph, &solved)?;
     Ok(Reply::Text(text))
 }

@@ -6,10 +6,13 @@ use crate::graphs::{
     COMPLETE, HEAVY_PAIR, NO_VERTEX, ONE_EDGE, ONE_VERTEX, PATH, SQUARE, TRIANGLE, TWO_CYCLES,
     TWO_PIECES,
 };
-use crate::runs::{HONEST, Script, UNREADABLE, Wanted, answers, begins, gives, passes_of, tells};
+use crate::runs::{
+    HONEST, Script, UNREADABLE, Wanted, answers, begins, gives, meets, passes_of, tells,
+};
 use mincut_program::Status;
 use std::alloc::Global;
 use std::test::Fail;
+use std::thread::Threads;
 
 const VALUES: &[(&[u8], &str)] = &[
     (TRIANGLE, "value 2\n"),
@@ -32,7 +35,7 @@ const VALUES: &[(&[u8], &str)] = &[
 #[test]
 fn values_are_printed(rt: HostRuntime) -> Result<(), Fail> {
     for (text, out) in VALUES {
-        assert!(rt; answers(rt.alloc(), &["value"], text, out)?, "{out}");
+        assert!(rt; answers(&rt, rt.alloc(), &["value"], text, out)?, "{out}");
     }
     Ok(())
 }
@@ -73,9 +76,15 @@ const CACTUSES: &[(&[u8], &[&str])] = &[
 ];
 
 // Whether one of the texts is written.
-fn answers_one(alloc: Global, words: &[&str], text: &[u8], outs: &[&str]) -> Result<bool, Fail> {
+fn answers_one<R: Threads + Sync>(
+    rt: &R,
+    alloc: Global,
+    words: &[&str],
+    text: &[u8],
+    outs: &[&str],
+) -> Result<bool, Fail> {
     for out in outs {
-        if answers(alloc, words, text, out)? {
+        if answers(rt, alloc, words, text, out)? {
             return Ok(true);
         }
     }
@@ -86,7 +95,7 @@ fn answers_one(alloc: Global, words: &[&str], text: &[u8], outs: &[&str]) -> Res
 fn cactuses_are_printed(rt: HostRuntime) -> Result<(), Fail> {
     for (text, outs) in CACTUSES {
         assert!(rt;
-            answers_one(rt.alloc(), &["cactus"], text, outs)?,
+            answers_one(&rt, rt.alloc(), &["cactus"], text, outs)?,
             "{outs:?}"
         );
     }
@@ -102,7 +111,7 @@ const FORMS: &[(&[u8], &str)] = &[
 #[test]
 fn cactuses_are_normal(rt: HostRuntime) -> Result<(), Fail> {
     for (text, line) in FORMS {
-        assert!(rt; begins(rt.alloc(), &["cactus"], text, line)?, "{line}");
+        assert!(rt; begins(&rt, rt.alloc(), &["cactus"], text, line)?, "{line}");
     }
     Ok(())
 }
@@ -152,7 +161,7 @@ const LISTS: &[(&[&str], &[u8], &str)] = &[
 #[test]
 fn cuts_are_listed(rt: HostRuntime) -> Result<(), Fail> {
     for (words, text, out) in LISTS {
-        assert!(rt; answers(rt.alloc(), words, text, out)?, "{out}");
+        assert!(rt; answers(&rt, rt.alloc(), words, text, out)?, "{out}");
     }
     Ok(())
 }
@@ -175,7 +184,7 @@ const ABSENT: &[(&[&str], &[u8], &str)] = &[
 fn vertices_that_are_not_there_are_told(rt: HostRuntime) -> Result<(), Fail> {
     for (words, text, line) in ABSENT {
         assert!(rt;
-            tells(rt.alloc(), words, text, Status::BadVertex, line)?,
+            tells(&rt, rt.alloc(), words, text, Status::BadVertex, line)?,
             "{line}"
         );
     }
@@ -188,7 +197,7 @@ fn one_of_two_best_sides_is_printed(rt: HostRuntime) -> Result<(), Fail> {
         "value 2\nbalance 2\nside 2 3\n",
         "value 2\nbalance 2\nside 3 4\n",
     ];
-    assert!(rt; answers_one(rt.alloc(), &["balanced"], SQUARE, &outs)?);
+    assert!(rt; answers_one(&rt, rt.alloc(), &["balanced"], SQUARE, &outs)?);
     Ok(())
 }
 
@@ -212,9 +221,18 @@ fn ring_of(alloc: Global, n: u32) -> Result<Vec<u8>, Fail>
 fn a_list_that_is_too_large_is_told(rt: HostRuntime) -> Result<(), Fail> {
     let text = ring_of(rt.alloc(), 1291)?;
     let number = "value 2\ncount 832695\n";
-    assert!(rt; answers(rt.alloc(), &["count"], &text, number)?);
+    assert!(rt; answers(&rt, rt.alloc(), &["count"], &text, number)?);
     let line = "list too large: 832695 cuts, 1291 vertices\n";
-    assert!(rt; tells(rt.alloc(), &["cuts"], &text, Status::ListTooLarge, line)?);
+    assert!(rt;
+        tells(
+            &rt,
+            rt.alloc(),
+            &["cuts"],
+            &text,
+            Status::ListTooLarge,
+            line
+        )?
+    );
     Ok(())
 }
 
@@ -224,7 +242,7 @@ fn a_list_of_parting_cuts_may_be_too_large(rt: HostRuntime) -> Result<(), Fail> 
     let text = ring_of(rt.alloc(), 1800)?;
     let words = ["part", "1", "900"];
     let line = "list too large: 809999 cuts, 1800 vertices\n";
-    assert!(rt; tells(rt.alloc(), &words, &text, Status::ListTooLarge, line)?);
+    assert!(rt; tells(&rt, rt.alloc(), &words, &text, Status::ListTooLarge, line)?);
     Ok(())
 }
 
@@ -243,7 +261,7 @@ fn reads_may_be_cut_anywhere(rt: HostRuntime) -> Result<(), Fail> {
             ..HONEST
         };
         assert!(rt;
-            gives(rt.alloc(), &["cuts"], TRIANGLE, &script, &wanted)?,
+            gives(&rt, rt.alloc(), &["cuts"], TRIANGLE, &script, &wanted)?,
             "at {first}"
         );
     }
@@ -251,7 +269,7 @@ fn reads_may_be_cut_anywhere(rt: HostRuntime) -> Result<(), Fail> {
         cuts: SINGLE,
         ..HONEST
     };
-    assert!(rt; gives(rt.alloc(), &["cuts"], TRIANGLE, &script, &wanted)?);
+    assert!(rt; gives(&rt, rt.alloc(), &["cuts"], TRIANGLE, &script, &wanted)?);
     Ok(())
 }
 
@@ -282,7 +300,7 @@ fn trials_are_printed_unread(rt: HostRuntime) -> Result<(), Fail> {
             err: "",
         };
         assert!(rt;
-            gives(rt.alloc(), words, TRIANGLE, &UNREADABLE, &wanted)?,
+            gives(&rt, rt.alloc(), words, TRIANGLE, &UNREADABLE, &wanted)?,
             "{out}"
         );
     }
@@ -292,8 +310,18 @@ fn trials_are_printed_unread(rt: HostRuntime) -> Result<(), Fail> {
 // The cactus is made of a kernel, which takes further rounds.
 #[test]
 fn a_kernel_is_made(rt: HostRuntime) -> Result<(), Fail> {
-    let value = passes_of(rt.alloc(), &["value", "--workers", "1"], TWO_CYCLES)?;
-    let cactus = passes_of(rt.alloc(), &["cactus", "--workers", "1"], TWO_CYCLES)?;
+    let value = passes_of(&rt, rt.alloc(), &["value", "--workers", "1"], TWO_CYCLES)?;
+    let cactus = passes_of(&rt, rt.alloc(), &["cactus", "--workers", "1"], TWO_CYCLES)?;
     assert!(rt; 1 <= value && value < cactus, "{value} and {cactus}");
+    Ok(())
+}
+
+// Worker 0 of the first round waits until worker 1 is there.
+#[test]
+fn two_workers_meet(rt: HostRuntime) -> Result<(), Fail> {
+    for job in ["value", "cactus"] {
+        let words = [job, "--workers", "2"];
+        assert!(rt; meets(&rt, rt.alloc(), &words, TWO_CYCLES)?, "{job}");
+    }
     Ok(())
 }

@@ -7,6 +7,7 @@ use crate::runs::{
 use mincut_program::Status;
 use std::alloc::Global;
 use std::test::Fail;
+use std::thread::Threads;
 
 const SINGLE: &[usize] = &[1; 16];
 
@@ -26,7 +27,7 @@ fn fails_at<'a>(read: &'a [u64]) -> Script<'a> {
 fn each_read_may_fail(rt: HostRuntime) -> Result<(), Fail> {
     for k in 0..17u64 {
         assert!(rt;
-            reads_no_more(rt.alloc(), &["cuts"], TRIANGLE, SINGLE, k)?,
+            reads_no_more(&rt, rt.alloc(), &["cuts"], TRIANGLE, SINGLE, k)?,
             "read {k}"
         );
     }
@@ -35,19 +36,35 @@ fn each_read_may_fail(rt: HostRuntime) -> Result<(), Fail> {
         out: CUTS,
         err: "",
     };
-    assert!(rt; gives(rt.alloc(), &["cuts"], TRIANGLE, &fails_at(&[17]), &whole)?);
+    assert!(rt;
+        gives(
+            &rt,
+            rt.alloc(),
+            &["cuts"],
+            TRIANGLE,
+            &fails_at(&[17]),
+            &whole
+        )?
+    );
     Ok(())
+}
+
+// The number of the first write of a run that does not fail where it should, of the first hundred: there is no such write.
+fn first_unmade<R: Threads + Sync>(rt: &R, alloc: Global) -> Result<u64, Fail> {
+    for k in 0..100u64 {
+        if !writes_part(rt, alloc, &["cuts"], TRIANGLE, CUTS, k)? {
+            return Ok(k);
+        }
+    }
+    Ok(100)
 }
 
 #[test]
 fn each_write_may_fail(rt: HostRuntime) -> Result<(), Fail> {
-    let mut k = 0;
-    while k < 100 && writes_part(rt.alloc(), &["cuts"], TRIANGLE, CUTS, k)? {
-        k += 1;
-    }
-    assert!(rt; 1 <= k && k < 100);
+    let writes = first_unmade(&rt, rt.alloc())?;
+    assert!(rt; 1 <= writes && writes < 100);
     let last = Script {
-        writes: &[k],
+        writes: &[writes],
         ..HONEST
     };
     let whole = Wanted {
@@ -55,7 +72,7 @@ fn each_write_may_fail(rt: HostRuntime) -> Result<(), Fail> {
         out: CUTS,
         err: "",
     };
-    assert!(rt; gives(rt.alloc(), &["cuts"], TRIANGLE, &last, &whole)?);
+    assert!(rt; gives(&rt, rt.alloc(), &["cuts"], TRIANGLE, &last, &whole)?);
     Ok(())
 }
 
@@ -108,26 +125,37 @@ const ENDS: &[(&[u8], &[(usize, &str)])] = &[
 ];
 
 // Whether the program says this of so many first bytes of a file.
-fn says(alloc: Global, file: &[u8], count: usize, text: &str) -> Result<bool, Fail> {
+fn says<R: Threads + Sync>(
+    rt: &R,
+    alloc: Global,
+    file: &[u8],
+    count: usize,
+    text: &str,
+) -> Result<bool, Fail> {
     let Some(first) = file.get(..count) else {
         return Ok(false);
     };
     if text.starts_with("value") {
-        return answers(alloc, &["value"], first, text);
+        return answers(rt, alloc, &["value"], first, text);
     }
-    tells(alloc, &["value"], first, Status::Refused, text)
+    tells(rt, alloc, &["value"], first, Status::Refused, text)
 }
 
 // Whether the program says of each number of first bytes what the table has.
-fn says_all(alloc: Global, file: &[u8], ends: &[(usize, &str)]) -> Result<bool, Fail> {
+fn says_all<R: Threads + Sync>(
+    rt: &R,
+    alloc: Global,
+    file: &[u8],
+    ends: &[(usize, &str)],
+) -> Result<bool, Fail> {
     let mut count = 0;
     for (last, text) in ends {
-        for k in count..*last + 1 {
-            if !says(alloc, file, k, text)? {
+        for k in count..last.saturating_add(1) {
+            if !says(rt, alloc, file, k, text)? {
                 return Ok(false);
             }
         }
-        count = *last + 1;
+        count = last.saturating_add(1);
     }
     Ok(count == file.len() + 1)
 }
@@ -136,7 +164,7 @@ fn says_all(alloc: Global, file: &[u8], ends: &[(usize, &str)]) -> Result<bool, 
 fn a_file_may_end_anywhere(rt: HostRuntime) -> Result<(), Fail> {
     for (file, ends) in ENDS {
         assert!(rt;
-            says_all(rt.alloc(), file, ends)?,
+            says_all(&rt, rt.alloc(), file, ends)?,
             "of {} bytes",
             file.len()
         );
@@ -150,7 +178,7 @@ const JOBS: &[&str] = &["value", "cactus", "cuts", "count", "balanced"];
 fn a_sink_may_take_one_byte_at_a_time(rt: HostRuntime) -> Result<(), Fail> {
     for job in JOBS {
         for file in [TRIANGLE, PATH, SQUARE, COMPLETE, ONE_EDGE, TWO_CYCLES] {
-            assert!(rt; answers_by_bytes(rt.alloc(), &[job], file)?, "{job}");
+            assert!(rt; answers_by_bytes(&rt, rt.alloc(), &[job], file)?, "{job}");
         }
     }
     Ok(())

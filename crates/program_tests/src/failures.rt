@@ -25,7 +25,7 @@ const FAULTS: &[(&[u8], &str)] = &[
 fn first_faults_are_named(rt: HostRuntime) -> Result<(), Fail> {
     for (text, line) in FAULTS {
         assert!(rt;
-            tells(rt.alloc(), &["value"], text, Status::Refused, line)?,
+            tells(&rt, rt.alloc(), &["value"], text, Status::Refused, line)?,
             "{line}"
         );
     }
@@ -52,8 +52,8 @@ fn second_fails<'a>(cut: &'a [usize]) -> Script<'a> {
 #[test]
 fn failed_reads_are_told(rt: HostRuntime) -> Result<(), Fail> {
     let early = second_fails(&[4]);
-    assert!(rt; gives(rt.alloc(), &["value"], TRIANGLE, &early, &READ_FAILED)?);
-    assert!(rt; gives(rt.alloc(), &["value"], BROKEN, &early, &READ_FAILED)?);
+    assert!(rt; gives(&rt, rt.alloc(), &["value"], TRIANGLE, &early, &READ_FAILED)?);
+    assert!(rt; gives(&rt, rt.alloc(), &["value"], BROKEN, &early, &READ_FAILED)?);
     Ok(())
 }
 
@@ -64,7 +64,16 @@ fn nothing_is_read_behind_a_fault(rt: HostRuntime) -> Result<(), Fail> {
         out: "",
         err: "refused: BadNumber at line 1\n",
     };
-    assert!(rt; gives(rt.alloc(), &["value"], BROKEN, &second_fails(&[5]), &wanted)?);
+    assert!(rt;
+        gives(
+            &rt,
+            rt.alloc(),
+            &["value"],
+            BROKEN,
+            &second_fails(&[5]),
+            &wanted
+        )?
+    );
     Ok(())
 }
 
@@ -80,11 +89,11 @@ fn failed_writes_are_told(rt: HostRuntime) -> Result<(), Fail> {
         writes: &[0],
         ..HONEST
     };
-    assert!(rt; gives(rt.alloc(), &["value"], TRIANGLE, &write, &WRITE_FAILED)?);
+    assert!(rt; gives(&rt, rt.alloc(), &["value"], TRIANGLE, &write, &WRITE_FAILED)?);
     let tell = Script {
         tells: &[0],
         ..HONEST
     };
-    assert!(rt; gives(rt.alloc(), &["value"], BROKEN, &tell, &WRITE_FAILED)?);
+    assert!(rt; gives(&rt, rt.alloc(), &["value"], BROKEN, &tell, &WRITE_FAILED)?);
     Ok(())
 }

@@ -5,6 +5,7 @@ use outside::{Gate, MemorySink, MemorySource, OpenGate, Sink, SinkFailed, Source
 use std::alloc::Global;
 use std::sync::atomic::{AtomicU64, Ordering};
 use std::test::Fail;
+use std::thread::Threads;
 
 /// Which calls fail, and how many bytes each read gives.
 #[derive(Clone, Copy)]
@@ -50,6 +51,34 @@ impl Gate for CountingGate {
     }
 }
 
+// For so many turns the first pass of worker 0 waits for worker 1.
+const TURNS: u32 = 1_000_000_000;
+
+// A gate that holds worker 0 at its first pass until worker 1 has passed.
+#[derive(Drop)]
+struct MeetingGate {
+    first: AtomicU64,
+    second: AtomicU64,
+    met: AtomicU64,
+}
+
+impl Gate for MeetingGate {
+    fn pass(&self, worker: u32) {
+        if worker == 1 {
+            self.second.store(1, Ordering::SeqCst);
+        }
+        if worker != 0 || self.first.swap(1, Ordering::SeqCst) != 0 {
+            return;
+        }
+        for _ in 0..TURNS {
+            if self.second.load(Ordering::SeqCst) == 1 {
+                self.met.store(1, Ordering::SeqCst);
+                return;
+            }
+        }
+    }
+}
+
 /// Words as the program gets them.
 pub fn strings_of(alloc: Global, words: &[&str]) -> Result<Vec<String>, Fail> {
     let mut strings = Vec::new(alloc);
@@ -71,7 +100,8 @@ fn sink_of(alloc: Global, room: usize, failing: &[u64]) -> Result<MemorySink, Fa
 }
 
 /// Whether a run by this script answers and writes just what is wanted.
-pub fn gives(
+pub fn gives<R: Threads + Sync>(
+    rt: &R,
     alloc: Global,
     words: &[&str],
     text: &[u8],
@@ -82,7 +112,15 @@ pub fn gives(
     let mut source = source_of(alloc, text, script)?;
     let mut out = sink_of(alloc, 1_000, script.writes)?;
     let mut err = sink_of(alloc, 100, script.tells)?;
-    let status = run(alloc, &strings, &mut source, &mut out, &mut err, &OpenGate);
+    let status = run(
+        rt,
+        alloc,
+        &strings,
+        &mut source,
+        &mut out,
+        &mut err,
+        &OpenGate,
+    );
     Ok(
         status == wanted.status
             && out.taken() == wanted.out.as_bytes()
@@ -91,27 +129,48 @@ pub fn gives(
 }
 
 /// Whether an honest run answers `Ok`, writes this text, and tells nothing.
-pub fn answers(alloc: Global, words: &[&str], text: &[u8], out: &str) -> Result<bool, Fail> {
+pub fn answers<R: Threads + Sync>(
+    rt: &R,
+    alloc: Global,
+    words: &[&str],
+    text: &[u8],
+    out: &str,
+) -> Result<bool, Fail> {
     let wanted = Wanted {
         status: Status::Ok,
         out,
         err: "",
     };
-    gives(alloc, words, text, &HONEST, &wanted)
+    gives(rt, alloc, words, text, &HONEST, &wanted)
 }
 
 /// Whether an honest run answers `Ok`, and writes a text that begins with these lines.
-pub fn begins(alloc: Global, words: &[&str], text: &[u8], lines: &str) -> Result<bool, Fail> {
+pub fn begins<R: Threads + Sync>(
+    rt: &R,
+    alloc: Global,
+    words: &[&str],
+    text: &[u8],
+    lines: &str,
+) -> Result<bool, Fail> {
     let strings = strings_of(alloc, words)?;
     let mut source = source_of(alloc, text, &HONEST)?;
     let mut out = sink_of(alloc, 1_000, &[])?;
     let mut err = sink_of(alloc, 100, &[])?;
-    let status = run(alloc, &strings, &mut source, &mut out, &mut err, &OpenGate);
+    let status = run(
+        rt,
+        alloc,
+        &strings,
+        &mut source,
+        &mut out,
+        &mut err,
+        &OpenGate,
+    );
     Ok(status == Status::Ok && out.taken().starts_with(lines.as_bytes()))
 }
 
 /// Whether an honest run answers this status, writes nothing, and tells this line.
-pub fn tells(
+pub fn tells<R: Threads + Sync>(
+    rt: &R,
     alloc: Global,
     words: &[&str],
     text: &[u8],
@@ -123,11 +182,36 @@ pub fn tells(
         out: "",
         err,
     };
-    gives(alloc, words, text, &HONEST, &wanted)
+    gives(rt, alloc, words, text, &HONEST, &wanted)
+}
+
+/// Whether worker 0 waits at the gate in an honest run, and worker 1 passes it meanwhile.
+pub fn meets<R: Threads + Sync>(
+    rt: &R,
+    alloc: Global,
+    words: &[&str],
+    text: &[u8],
+) -> Result<bool, Fail> {
+    let strings = strings_of(alloc, words)?;
+    let mut source = source_of(alloc, text, &HONEST)?;
+    let mut out = sink_of(alloc, 1_000, &[])?;
+    let mut err = sink_of(alloc, 100, &[])?;
+    let gate = MeetingGate {
+        first: AtomicU64::new(0),
+        second: AtomicU64::new(0),
+        met: AtomicU64::new(0),
+    };
+    let status = run(rt, alloc, &strings, &mut source, &mut out, &mut err, &gate);
+    Ok(status == Status::Ok && gate.met.load(Ordering::SeqCst) == 1)
 }
 
 /// How often a worker passes the gate in an honest run.
-pub fn passes_of(alloc: Global, words: &[&str], text: &[u8]) -> Result<u64, Fail> {
+pub fn passes_of<R: Threads + Sync>(
+    rt: &R,
+    alloc: Global,
+    words: &[&str],
+    text: &[u8],
+) -> Result<u64, Fail> {
     let strings = strings_of(alloc, words)?;
     let mut source = source_of(alloc, text, &HONEST)?;
     let mut out = sink_of(alloc, 1_000, &[])?;
@@ -135,13 +219,14 @@ pub fn passes_of(alloc: Global, words: &[&str], text: &[u8]) -> Result<u64, Fail
     let gate = CountingGate {
         passes: AtomicU64::new(0),
     };
-    let _status = run(alloc, &strings, &mut source, &mut out, &mut err, &gate);
+    let _status = run(rt, alloc, &strings, &mut source, &mut out, &mut err, &gate);
     Ok(gate.passes.load(Ordering::SeqCst))
 }
 
 /// Whether a run whose read of this number fails says so, writes nothing, and reads no further. The read behind the failed
 /// one fails too, and is made here.
-pub(crate) fn reads_no_more(
+pub(crate) fn reads_no_more<R: Threads + Sync>(
+    rt: &R,
     alloc: Global,
     words: &[&str],
     text: &[u8],
@@ -157,7 +242,15 @@ pub(crate) fn reads_no_more(
     );
     let mut out = sink_of(alloc, 1_000, &[])?;
     let mut err = sink_of(alloc, 100, &[])?;
-    let status = run(alloc, &strings, &mut source, &mut out, &mut err, &OpenGate);
+    let status = run(
+        rt,
+        alloc,
+        &strings,
+        &mut source,
+        &mut out,
+        &mut err,
+        &OpenGate,
+    );
     let is_next = source.read(&mut [0u8; 1]).is_err();
     Ok(
         is_next
@@ -168,7 +261,8 @@ pub(crate) fn reads_no_more(
 }
 
 /// Whether a run whose write of this number fails says so by its status alone, with a first part of the text written.
-pub(crate) fn writes_part(
+pub(crate) fn writes_part<R: Threads + Sync>(
+    rt: &R,
     alloc: Global,
     words: &[&str],
     text: &[u8],
@@ -179,7 +273,15 @@ pub(crate) fn writes_part(
     let mut source = source_of(alloc, text, &HONEST)?;
     let mut out = sink_of(alloc, 1_000, &[write])?;
     let mut err = sink_of(alloc, 100, &[])?;
-    let status = run(alloc, &strings, &mut source, &mut out, &mut err, &OpenGate);
+    let status = run(
+        rt,
+        alloc,
+        &strings,
+        &mut source,
+        &mut out,
+        &mut err,
+        &OpenGate,
+    );
     let is_part = whole.as_bytes().starts_with(out.taken());
     Ok(status == Status::WriteFault && is_part && err.taken().is_empty())
 }
@@ -211,7 +313,12 @@ impl Sink for ByteSink {
 }
 
 /// Whether a run whose sink takes one byte at each write answers `Ok`, and writes what it writes to a sink that takes all.
-pub(crate) fn answers_by_bytes(alloc: Global, words: &[&str], text: &[u8]) -> Result<bool, Fail> {
+pub(crate) fn answers_by_bytes<R: Threads + Sync>(
+    rt: &R,
+    alloc: Global,
+    words: &[&str],
+    text: &[u8],
+) -> Result<bool, Fail> {
     let strings = strings_of(alloc, words)?;
     let mut source = source_of(alloc, text, &HONEST)?;
     let mut out = ByteSink {
@@ -219,13 +326,22 @@ pub(crate) fn answers_by_bytes(alloc: Global, words: &[&str], text: &[u8]) -> Re
         faults: 0,
     };
     let mut err = sink_of(alloc, 100, &[])?;
-    let status = run(alloc, &strings, &mut source, &mut out, &mut err, &OpenGate);
+    let status = run(
+        rt,
+        alloc,
+        &strings,
+        &mut source,
+        &mut out,
+        &mut err,
+        &OpenGate,
+    );
     if status != Status::Ok {
         return Ok(false);
     }
     let mut source = source_of(alloc, text, &HONEST)?;
     let mut whole = sink_of(alloc, 1_000, &[])?;
     let status = run(
+        rt,
         alloc,
         &strings,
         &mut source,

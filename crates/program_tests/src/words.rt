@@ -18,7 +18,7 @@ const PLACES: &[&[&str]] = &[
 #[test]
 fn the_option_stands_anywhere(rt: HostRuntime) -> Result<(), Fail> {
     for words in PLACES {
-        assert!(rt; answers(rt.alloc(), words, TRIANGLE, "value 2\n")?);
+        assert!(rt; answers(&rt, rt.alloc(), words, TRIANGLE, "value 2\n")?);
     }
     Ok(())
 }
@@ -54,7 +54,7 @@ fn other_words_are_refused_unread(rt: HostRuntime) -> Result<(), Fail> {
         err: USAGE,
     };
     for words in NO_COMMANDS {
-        assert!(rt; gives(rt.alloc(), words, TRIANGLE, &UNREADABLE, &wanted)?);
+        assert!(rt; gives(&rt, rt.alloc(), words, TRIANGLE, &UNREADABLE, &wanted)?);
     }
     Ok(())
 }
@@ -87,7 +87,7 @@ fn notices_are_printed_unread(rt: HostRuntime) -> Result<(), Fail> {
             err: "",
         };
         assert!(rt;
-            gives(rt.alloc(), &[*word], TRIANGLE, &UNREADABLE, &wanted)?,
+            gives(&rt, rt.alloc(), &[*word], TRIANGLE, &UNREADABLE, &wanted)?,
             "{word}"
         );
     }

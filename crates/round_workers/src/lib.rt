@@ -2,12 +2,18 @@
 //!
 //! An edge is marked where one of four local tests holds, or where a capped scan shows by a link that every cut that parts
 //! its ends reaches the bound and the slack (Nagamochi, Ono and Ibaraki, 1994; Padberg and Rinaldi, 1990). The sets of
-//! vertices that the scan has passed are cuts, so the bound falls to the least weight of these.
+//! vertices that a scan has passed are cuts, so the bound falls to the least weight of these. Workers share the bound and the
+//! marks by a board, and no worker waits for another.
 #![tactic(auto)]
 
 mod certifying;
 mod linking;
+mod lowering;
 mod one_round;
+mod scanning;
+mod shares;
+mod working;
 
 pub use linking::mark_links;
-pub use one_round::{lowered, round};
+pub use lowering::lowered;
+pub use one_round::round;

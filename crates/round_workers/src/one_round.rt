@@ -1,66 +1,62 @@
 //! One round.
 
-ghost use Rattle.std.specs.Prelude.{◌≡◌, ℕ, ◌+◌, ◌<◌, ◌≤◌, ◌^◌, IfOk, length, if◌then◌else◌, min};
+ghost use Rattle.std.specs.Prelude.{◌≡◌, ℕ, ◌+◌, ◌/◌, ◌<◌, ◌≤◌, ◌^◌, IfOk, length};
 ghost use Rattle.cut_definitions.specs.Safe.{IsFair};
 ghost use Rattle.cut_definitions.specs.Cuts.{has};
 ghost use Rattle.weighted_graph.specs.Marks.{MarksAreSafe};
-ghost use Rattle.scan_forest.specs.Scan.{StandsFor};
-ghost use Rattle.round_workers.specs.Round.{CertifiedAreMarked, AreKept};
+ghost use Rattle.round_workers.specs.Round.{CertifiedAreMarked};
+ghost use Rattle.round_workers.specs.Seats.{HasSeen, HasAll};
 
 use crate::certifying::mark_certified;
-use crate::linking::mark_links;
+use crate::working::{join_workers, race, workers_for};
 use cut_definitions::NoMemory;
-use mark_board::Marks;
+use mark_board::{Board, BoardSeat, Marks};
 use outside::Gate;
-use scan_forest::{Scan, Scanned};
 use std::alloc::Global;
+use std::thread::Threads;
 use weighted_graph::Graph;
 
-/// The lesser of a bound and the weight of the scanned set, where that set is not everything.
-pub fn lowered(next: Scanned, bound: u64) -> u64
-    ensures { result ≡ (if next.all then bound else min bound next.prefix_weight) }
+/// Into how many shares the edges are divided: one for each worker, but at most one for every four edges.
+fn shares_for(edges: usize, workers: u32) -> usize
+    requires { (1 ≤ workers) × (workers ≤ 64) }
+    ensures { (1 ≤ result) × (result ≤ 64) }
 {
-    if next.all {
-        bound
-    } else {
-        bound.min(next.prefix_weight)
-    }
+    (workers as usize).min(edges / 4).max(1)
 }
 
-/// Scans the graph from vertex 1, and marks by links. It answers the bound that is left.
-fn mark_by_scan(graph: &Graph, scan: &mut Scan, bound: u64, slack: u64, marks: &mut Marks) -> u64
-    requires stands { StandsFor scan.old graph.now }
-    requires some { 1 ≤ graph.now.vertices }
-    requires fair { IsFair graph.now bound }
-    requires bound { bound ≤ 2 ^ 62 }
+/// The bound and the marks of a board whose workers are done. Where the bound has fallen, workers may have tested an edge
+/// before that, so the edges without a mark are tested once more.
+fn close_round(board: Board, seat: BoardSeat, graph: &Graph, bound: u64, slack: u64) -> (u64, Marks)
+    requires seated { HasSeen board graph.now slack seat.seen seat }
+    requires opening { board.opening ≡ bound }
+    requires all { HasAll graph.now slack seat }
     requires slack { slack ≤ 1 }
-    requires marks { marks.old.edges ≡ length graph.now.edges }
-    requires safe { MarksAreSafe graph.now (has marks.old.marked) bound slack }
-    ensures fair { IsFair graph.now result }
-    ensures at_most { result ≤ bound }
-    ensures edges { marks.new.edges ≡ marks.old.edges }
-    ensures kept { AreKept marks.old marks.new }
-    ensures safe { MarksAreSafe graph.now (has marks.new.marked) result slack }
+    ensures fair { IsFair graph.now result.0 }
+    ensures at_most { result.0 ≤ bound }
+    ensures edges { result.1.edges ≡ length graph.now.edges }
+    ensures safe { MarksAreSafe graph.now (has result.1.marked) result.0 slack }
+    ensures certified { CertifiedAreMarked graph.now (has result.1.marked) (result.0 + slack) }
 {
-    scan.start(1, bound + slack);
-    let mut least = bound;
-    for _ in 0..graph.n() {
-        let Some(next) = scan.next(graph) else {
-            return least;
-        };
-        least = lowered(next, least);
-        mark_links(graph, scan, next.vertex, least, slack, marks);
+    // known by this call: the graph is an edge list, so no bound is above 2^61
+    let _n = graph.n();
+    let (low, mut marks) = board.close(seat);
+    if low < bound {
+        mark_certified(graph, low, slack, &mut marks);
     }
-    least
+    (low, marks)
 }
 
 /// Marks edges that may be contracted, and lowers a bound. The bound is the weight of some cut; the slack is 0 where only
 /// the value is to be kept, and 1 where all minimum cuts are.
 ///
 /// The answered bound is the weight of some cut. Each mark is safe for it and the slack; each edge is marked for which one
-/// of the four certificates holds at it. All work is done by one worker, which passes the gate first. It costs
-/// O(m log n) and the certificates of all edges, and is refused only where memory is wanting.
-pub fn round<G: Gate>(
+/// of the four certificates holds at it. There are 1 to 64 workers, but at most one for every four edges, so below eight
+/// edges no thread is started. Each worker passes the gate with its number, tests its share of the edges, and scans from a
+/// vertex of its own what no other worker takes; they share the bound, the marks and the taken vertices, and none waits for
+/// another. A round costs O(m log n) and the certificates of all edges, and O(n log n) for each worker, takes O(m) memory and
+/// O(n) for each worker before the first of them runs, and is refused only where that is wanting.
+pub fn round<R: Threads + Sync, G: Gate>(
+    rt: &R,
     alloc: Global,
     graph: &Graph,
     bound: u64,
@@ -78,33 +74,12 @@ pub fn round<G: Gate>(
     ensures safe { IfOk result (λ r. MarksAreSafe graph.now (has r.1.marked) r.0 slack) }
     ensures certified { IfOk result (λ r. CertifiedAreMarked graph.now (has r.1.marked) (r.0 + slack)) }
 {
-    gate.pass(0);
-    let mut marks = Marks::none(alloc, graph.edges())?;
-    let mut scan = Scan::new(alloc, graph)?;
-    let least = mark_all(graph, &mut scan, bound, slack, &mut marks);
-    Ok((least, marks))
-}
-
-/// A round over marks of which none is set.
-fn mark_all(graph: &Graph, scan: &mut Scan, bound: u64, slack: u64, marks: &mut Marks) -> u64
-    requires stands { StandsFor scan.old graph.now }
-    requires some { 1 ≤ graph.now.vertices }
-    requires fair { IsFair graph.now bound }
-    requires slack { slack ≤ 1 }
-    requires marks { marks.old.edges ≡ length graph.now.edges }
-    requires safe { MarksAreSafe graph.now (has marks.old.marked) bound slack }
-    ensures fair { IsFair graph.now result }
-    ensures at_most { result ≤ bound }
-    ensures edges { marks.new.edges ≡ length graph.now.edges }
-    ensures safe { MarksAreSafe graph.now (has marks.new.marked) result slack }
-    ensures certified { CertifiedAreMarked graph.now (has marks.new.marked) (result + slack) }
-{
     // known by this call: the graph is an edge list, so no bound is above 2^61
     let _n = graph.n();
-    mark_certified(graph, bound, slack, marks);
-    let least = mark_by_scan(graph, scan, bound, slack, marks);
-    if least < bound {
-        mark_certified(graph, least, slack, marks);
-    }
-    least
+    let shares = shares_for(graph.edges(), workers);
+    let (board, mut seat) = Board::open(alloc, graph, bound, slack)?;
+    let mut seated = workers_for(alloc, graph, &board, &mut seat, shares)?;
+    race(rt, &board, graph, seated.as_mut_slice(), slack, gate);
+    join_workers(&board, graph, &mut seat, seated);
+    Ok(close_round(board, seat, graph, bound, slack))
 }

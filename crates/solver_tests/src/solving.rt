@@ -9,10 +9,16 @@ use cut_definitions::{EdgeList, NoMemory};
 use outside::OpenGate;
 use std::alloc::Global;
 use std::test::Fail;
+use std::thread::Threads;
 use weighted_graph::{Graph, laws};
 
 // Whether the solver finds the value and just the sides.
-fn is_solved(alloc: Global, list: &EdgeList, known: &Known) -> Result<bool, NoMemory> {
+fn is_solved<R: Threads + Sync>(
+    rt: &R,
+    alloc: Global,
+    list: &EdgeList,
+    known: &Known,
+) -> Result<bool, NoMemory> {
     if list.n() < 2 {
         return Ok(false);
     }
@@ -21,7 +27,7 @@ fn is_solved(alloc: Global, list: &EdgeList, known: &Known) -> Result<bool, NoMe
     if graph.components(alloc)? != 1 {
         return Ok(false);
     }
-    let solved = solve(alloc, &graph, 4, &OpenGate)?;
+    let solved = solve(rt, alloc, &graph, 4, &OpenGate)?;
     let sides = all_sides(alloc, &solved.cactus)?;
     Ok(solved.value == known.value && are_same(&sides, known.sides))
 }
@@ -33,7 +39,7 @@ fn graphs_are_solved(rt: HostRuntime) -> Result<(), Fail> {
             assert!(rt; false, "{}", known.name);
             return Ok(());
         };
-        let holds = is_solved(rt.alloc(), &list, known)?;
+        let holds = is_solved(&rt, rt.alloc(), &list, known)?;
         assert!(rt; holds, "{}", known.name);
     }
     Ok(())

@@ -7,6 +7,7 @@ use min_value::{Kernel, kernel, reduce, value};
 use outside::OpenGate;
 use std::alloc::Global;
 use std::test::Fail;
+use std::thread::Threads;
 use weighted_graph::Graph;
 
 // Two blocks, in each of which four vertices are joined to each of four others, and two edges from block to block. All
@@ -47,8 +48,8 @@ fn is_of_two_blocks(kernel: &Kernel) -> bool {
 fn the_kernel_of_a_triangle(rt: HostRuntime) -> Result<(), Fail> {
     let alloc = rt.alloc();
     let graph = uneven_triangle(alloc)?;
-    let by_one = kernel(alloc, &graph, 1, &OpenGate)?;
-    let by_four = kernel(alloc, &graph, 4, &OpenGate)?;
+    let by_one = kernel(&rt, alloc, &graph, 1, &OpenGate)?;
+    let by_four = kernel(&rt, alloc, &graph, 4, &OpenGate)?;
     assert!(rt; is_of_triangle(&by_one) && is_of_triangle(&by_four));
     Ok(())
 }
@@ -57,21 +58,25 @@ fn the_kernel_of_a_triangle(rt: HostRuntime) -> Result<(), Fail> {
 fn a_triangle_is_reduced(rt: HostRuntime) -> Result<(), Fail> {
     let alloc = rt.alloc();
     let graph = uneven_triangle(alloc)?;
-    let weight = value(alloc, &graph, 1, &OpenGate)?;
-    let reduced = reduce(alloc, &graph, weight, 4, &OpenGate)?;
+    let weight = value(&rt, alloc, &graph, 1, &OpenGate)?;
+    let reduced = reduce(&rt, alloc, &graph, weight, 4, &OpenGate)?;
     assert!(rt; is_reduced_triangle(&reduced));
     Ok(())
 }
 
 // Whether no edge of the graph itself is certified at 2 with slack 1, the graph is not light, and its kernels by one worker
 // and by four are those of two blocks.
-fn has_kernels_of_two_blocks(alloc: Global, list: &EdgeList) -> Result<bool, NoMemory> {
+fn has_kernels_of_two_blocks<R: Threads + Sync>(
+    rt: &R,
+    alloc: Global,
+    list: &EdgeList,
+) -> Result<bool, NoMemory> {
     if list.n() < 2 {
         return Ok(false);
     }
     let graph = Graph::build(alloc, list)?;
-    let by_one = kernel(alloc, &graph, 1, &OpenGate)?;
-    let by_four = kernel(alloc, &graph, 4, &OpenGate)?;
+    let by_one = kernel(rt, alloc, &graph, 1, &OpenGate)?;
+    let by_four = kernel(rt, alloc, &graph, 4, &OpenGate)?;
     let open = none_is_certified(&graph, 2, 1) && !is_light(&graph);
     Ok(open && is_of_two_blocks(&by_one) && is_of_two_blocks(&by_four))
 }
@@ -82,6 +87,6 @@ fn two_blocks_leave_a_light_kernel(rt: HostRuntime) -> Result<(), Fail> {
         assert!(rt; false);
         return Ok(());
     };
-    assert!(rt; has_kernels_of_two_blocks(rt.alloc(), &list)?);
+    assert!(rt; has_kernels_of_two_blocks(&rt, rt.alloc(), &list)?);
     Ok(())
 }

@@ -12,6 +12,7 @@ use round_contract::contract;
 use round_workers::round;
 use std::alloc::Global;
 use std::test::Fail;
+use std::thread::Threads;
 use weighted_graph::Graph;
 
 // The degree of a vertex, which is the weight of a cut.
@@ -31,12 +32,20 @@ const THREE_BY_THREE: &str = "6 9\n4 5 6\n4 5 6\n4 5 6\n1 2 3\n1 2 3\n1 2 3\n";
 
 // Whether no edge passes a certificate at 3 and yet a round that is opened with the degree of vertex 1 keeps this bound, 3,
 // and marks an edge.
-fn marks_by_links(alloc: Global, list: &EdgeList) -> Result<bool, NoMemory> {
+fn marks_by_links<R: Threads + Sync>(
+    rt: &R,
+    alloc: Global,
+    list: &EdgeList,
+    workers: u32,
+) -> Result<bool, NoMemory>
+    requires { (1 ≤ workers) × (workers ≤ 64) }
+{
     if list.n() < 2 {
         return Ok(false);
     }
     let graph = Graph::build(alloc, list)?;
-    let (bound, marks) = round(alloc, &graph, degree_of(&graph, 1), 0, 1, &OpenGate)?;
+    let opening = degree_of(&graph, 1);
+    let (bound, marks) = round(rt, alloc, &graph, opening, 0, workers, &OpenGate)?;
     Ok(none_is_certified(&graph, 3, 0) && bound == 3 && !marks.is_empty())
 }
 
@@ -71,8 +80,11 @@ fn the_first_edge_of_a_triangle_is_contracted(rt: HostRuntime) -> Result<(), Fai
 #[test]
 fn one_edge_of_a_triangle_is_marked(rt: HostRuntime) -> Result<(), Fail> {
     let graph = uneven_triangle(rt.alloc())?;
-    let (bound, marks) = round(rt.alloc(), &graph, degree_of(&graph, 3), 1, 2, &OpenGate)?;
-    assert!(rt; bound == 5 && marks.has(0) && !marks.has(1) && !marks.has(2));
+    for workers in 1..5 {
+        let opening = degree_of(&graph, 3);
+        let (bound, marks) = round(&rt, rt.alloc(), &graph, opening, 1, workers, &OpenGate)?;
+        assert!(rt; bound == 5 && marks.has(0) && !marks.has(1) && !marks.has(2));
+    }
     Ok(())
 }
 
@@ -80,9 +92,11 @@ fn one_edge_of_a_triangle_is_marked(rt: HostRuntime) -> Result<(), Fail> {
 #[test]
 fn the_bound_falls_to_a_prefix(rt: HostRuntime) -> Result<(), Fail> {
     let graph = uneven_triangle(rt.alloc())?;
-    let opening = degree_of(&graph, 1);
-    let (bound, _marks) = round(rt.alloc(), &graph, opening, 0, 1, &OpenGate)?;
-    assert!(rt; opening == 6 && bound == 5);
+    for workers in 1..5 {
+        let opening = degree_of(&graph, 1);
+        let (bound, _marks) = round(&rt, rt.alloc(), &graph, opening, 0, workers, &OpenGate)?;
+        assert!(rt; opening == 6 && bound == 5);
+    }
     Ok(())
 }
 
@@ -92,6 +106,8 @@ fn a_link_marks_where_no_certificate_holds(rt: HostRuntime) -> Result<(), Fail> 
         assert!(rt; false);
         return Ok(());
     };
-    assert!(rt; marks_by_links(rt.alloc(), &list)?);
+    for workers in 1..5 {
+        assert!(rt; marks_by_links(&rt, rt.alloc(), &list, workers)?);
+    }
     Ok(())
 }

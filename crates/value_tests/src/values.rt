@@ -10,6 +10,7 @@ use outside::OpenGate;
 use scan_forest::{LastPair, last_pair, plain_value};
 use std::alloc::Global;
 use std::test::Fail;
+use std::thread::Threads;
 use weighted_graph::Graph;
 
 // The edges of the triangle with the weights 5, 1 and 4.
@@ -83,8 +84,8 @@ fn a_sweep_is_cut_short(rt: HostRuntime) -> Result<(), Fail> {
 #[test]
 fn the_value_of_a_triangle(rt: HostRuntime) -> Result<(), Fail> {
     let graph = uneven_triangle(rt.alloc())?;
-    assert!(rt; value(rt.alloc(), &graph, 1, &OpenGate)? == 5);
-    assert!(rt; value(rt.alloc(), &graph, 4, &OpenGate)? == 5);
+    assert!(rt; value(&rt, rt.alloc(), &graph, 1, &OpenGate)? == 5);
+    assert!(rt; value(&rt, rt.alloc(), &graph, 4, &OpenGate)? == 5);
     Ok(())
 }
 
@@ -102,13 +103,18 @@ const FILES: [(&str, u64); 6] = [
 ];
 
 // Whether the value by phases and by all means is what is known.
-fn is_value(alloc: Global, list: &EdgeList, known: u64) -> Result<bool, NoMemory> {
+fn is_value<R: Threads + Sync>(
+    rt: &R,
+    alloc: Global,
+    list: &EdgeList,
+    known: u64,
+) -> Result<bool, NoMemory> {
     if list.n() < 2 {
         return Ok(false);
     }
     let graph = Graph::build(alloc, list)?;
     let phases = plain_value(alloc, list)?;
-    let least = value(alloc, &graph, 1, &OpenGate)?;
+    let least = value(rt, alloc, &graph, 1, &OpenGate)?;
     Ok(phases == known && least == known)
 }
 
@@ -119,7 +125,7 @@ fn values_of_files(rt: HostRuntime) -> Result<(), Fail> {
             assert!(rt; false);
             return Ok(());
         };
-        assert!(rt; is_value(rt.alloc(), &list, known)?);
+        assert!(rt; is_value(&rt, rt.alloc(), &list, known)?);
     }
     Ok(())
 }

@@ -1,4 +1,4 @@
-use Rattle.std.proofs.Common.{◌≡◌, ◌<◌, ◌≤◌, ◌+◌, ℕ, ⊎_elim, true, length, get_or, ap, sym, ◌∙◌, subst, arith, List}
+use Rattle.std.proofs.Common.{◌≡◌, ◌<◌, ◌≤◌, ◌+◌, ℕ, ⊎_elim, true, length, get_or, refl, ap, sym, ◌∙◌, subst, arith, List}
 use Rattle.std.specs.Prelude.{◌≢◌}
 use Rattle.std.proofs.lemmas.Bool.{cases_eq, false≢true}
 use Rattle.std.proofs.lemmas.List.Elements.{All-from_get_or}
@@ -31,6 +31,15 @@ set-requires c =
     let e = c.row-arc-items.ensures in
     let a = read_row (IsArcAt g c.args.vertex) c.row-arc-items.result.now (row_of g c.args.vertex) e.value (law_of_rows g e.edge_list.is_graph c.args.vertex).arcs c.loop-arc.arc-index c.loop-arc-test.true in
     omega (arith, a.within, c.loop-arc.invariant.edges, c.requires.marks)
+
+pub loop-arc-init : goal.loop-arc-init
+loop-arc-init c = record {
+  edges = refl;
+  kept = λ i l is. is;
+  safe = c.requires.safe;
+  some = λ is. absurd (false≢true is);
+  below = λ no k l held. absurd (omega arith);
+}
 
 pub loop-arc-preserved : goal.loop-arc-preserved
 loop-arc-preserved c =

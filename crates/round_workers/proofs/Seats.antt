@@ -1,0 +1,177 @@
+-- Seats, their marks, and the shares that workers test.
+use Rattle.std.proofs.Common.{◌≡◌, ℕ, suc, ◌+◌, ◌*◌, ◌-◌, ◌/◌, ◌%◌, ◌^◌, ◌<◌, ◌≤◌, ⊎_elim, Bool, true, false, List, ◌∷◌, ◌++◌, length, get_or, take, refl, sym, ◌∙◌, ap, subst, arith}
+use Rattle.std.specs.Prelude.{◌≢◌, slice_index_or, Contains, if◌then◌else◌, min}
+use Rattle.std.proofs.lemmas.Bool.{cases_eq}
+use Rattle.std.proofs.lemmas.List.Elements.{Contains-append_left, Contains-append_right}
+use Rattle.std.proofs.lemmas.List.{get_or-take, length-take-le}
+use Rattle.std.proofs.Math.Seq.{take-append_seam}
+use Rattle.std.proofs.lemmas.Nat.{mod_below}
+use Rattle.cut_definitions.specs.Graph.{Graph, IsGraph}
+use Rattle.cut_definitions.specs.Safe.{IsFair}
+use Rattle.weighted_graph.specs.RowLaws.{edge_at}
+use Rattle.scan_core.specs.Machine.{IsSafeEdge}
+use Rattle.mark_board.specs.Seen.{BoardView, SeatView, fresh_seat}
+use Rattle.round_workers.specs.Round.{IsCertified}
+use Rattle.round_workers.proofs.Marking.{fair_small}
+use Rattle.round_workers.proofs.Places.{below_step, no_place}
+use Rattle.round_workers.specs.declared.working.Worker.{Worker}
+use Rattle.round_workers.specs.Seats.{HasSeen, IsLater, HasTested, HasWorked, HasAll, IsDone, AreDone}
+
+-- ---- one seat
+
+abbrev pub gaining : SeatView → ℕ → SeatView
+gaining s e = record s { own = e ∷ s.own }
+
+abbrev pub seeing : SeatView → ℕ → SeatView
+seeing s n = record s { seen = n }
+
+contains_tail : (xs : List ℕ) (y x : ℕ) → Contains xs x → Contains (y ∷ xs) x
+contains_tail xs y x h = let lt : h.0 < length xs = h.1 in (suc h.0, omega arith, h.2)
+
+pub gained : (s : SeatView) (e : ℕ) → Contains (gaining s e).own e
+gained s e = (0, omega arith, refl)
+
+pub later_same : (s : SeatView) → IsLater s s
+later_same s = record { seen = omega arith; own = λ e h. h }
+
+pub later_gaining : (s : SeatView) (e : ℕ) → IsLater s (gaining s e)
+later_gaining s e = record { seen = omega arith; own = λ i h. contains_tail s.own e i h }
+
+pub later_seeing : (s : SeatView) (n : ℕ) → n ≤ s.seen → IsLater s (seeing s n)
+later_seeing s n le = record { seen = le; own = λ i h. h }
+
+pub later_both : (r s t : SeatView) → IsLater r s → IsLater s t → IsLater r t
+later_both r s t a b = record { seen = omega (arith, a.seen, b.seen); own = λ e h. b.own e (a.own e h) }
+
+pub seen_gaining : (b : BoardView) (g : Graph) (slack bound e : ℕ) (s : SeatView) → HasSeen b g slack bound s → HasSeen b g slack bound (gaining s e)
+seen_gaining b g slack bound e s h = record { board = h.board; graph = h.graph; slack_is = h.slack_is; seen = h.seen; fair = h.fair; small = h.small; at_most = h.at_most }
+
+pub seen_seeing : (b : BoardView) (g : Graph) (slack bound n : ℕ) (s : SeatView) → HasSeen b g slack bound s → IsFair b.graph n → n ≤ s.seen → HasSeen b g slack n (seeing s n)
+seen_seeing b g slack bound n s h fair le = record {
+  board = h.board;
+  graph = h.graph;
+  slack_is = h.slack_is;
+  seen = refl;
+  fair = subst (λ (k : Graph). IsFair k n) h.graph fair;
+  small = omega (arith, le, h.seen, h.small);
+  at_most = omega (arith, le, h.seen, h.at_most);
+}
+
+-- the first seat of a board
+pub seen_opened : (b : BoardView) (g : Graph) (bound : ℕ) → IsGraph g → b.graph ≡ g → b.opening ≡ bound → IsFair g bound → HasSeen b g b.slack bound (fresh_seat b bound)
+seen_opened b g bound ok same opening fair =
+    record { board = refl; graph = same; slack_is = refl; seen = refl; fair = fair; small = fair_small g ok bound fair; at_most = omega (arith, opening) }
+
+-- a new seat has seen as much as the one that it was split from
+pub seen_fresh : (b : BoardView) (g : Graph) (slack n : ℕ) (s : SeatView) → HasSeen b g slack n s → HasSeen b g slack n (fresh_seat b n)
+seen_fresh b g slack n s h = record { board = refl; graph = h.graph; slack_is = h.slack_is; seen = refl; fair = h.fair; small = h.small; at_most = h.at_most }
+
+-- an edge that is safe for what the seat saw may be marked
+pub may_mark : (b : BoardView) (g : Graph) (slack bound e : ℕ) (s : SeatView) → HasSeen b g slack bound s → IsSafeEdge g bound slack e → IsSafeEdge b.graph s.seen b.slack e
+may_mark b g slack bound e s h safe =
+    subst (λ (k : Graph). IsSafeEdge k s.seen b.slack e) (sym h.graph)
+    (subst (λ (k : ℕ). IsSafeEdge g k b.slack e) (sym h.seen) (subst (λ (k : ℕ). IsSafeEdge g bound k e) (sym h.slack_is) safe))
+
+-- ---- shares
+
+pub starts_share : (g : Graph) (limit share shares : ℕ) (s : SeatView) → share < shares → HasTested g limit share shares share s
+starts_share g limit share shares s lt = record {
+  each = λ e l is cert. absurd (no_place share shares e lt l is);
+}
+
+pub tested_later : (g : Graph) (limit share shares upto : ℕ) (s t : SeatView) → IsLater s t → HasTested g limit share shares upto s → HasTested g limit share shares upto t
+tested_later g limit share shares upto s t later h = record { each = λ e l is cert. later.own e (h.each e l is cert) }
+
+pub tested_step : (g : Graph) (limit share shares edge : ℕ) (s t : SeatView) → share < shares → edge % shares ≡ share → IsLater s t → HasTested g limit share shares edge s →
+    (IsCertified g (edge_at g edge) limit → Contains t.own edge) → HasTested g limit share shares (edge + shares) t
+tested_step g limit share shares edge s t lt at later h here = record {
+  each = λ e l is cert. ⊎_elim
+      (λ (q : e ≡ edge). subst (λ (k : ℕ). Contains t.own k) (sym q) (here (subst (λ (k : ℕ). IsCertified g (edge_at g k) limit) q cert)))
+      (λ (ne : e ≢ edge). later.own e (h.each e (below_step share shares edge e at l is ne) is cert))
+      (cases_eq e edge);
+}
+
+pub tested_end : (g : Graph) (limit share shares upto m : ℕ) (s : SeatView) → m ≤ upto → HasTested g limit share shares upto s → HasTested g limit share shares m s
+tested_end g limit share shares upto m s le h = record { each = λ e l is cert. h.each e (omega arith) is cert }
+
+-- ---- workers
+
+-- what was tested at a bound that was seen is tested at the opening one, where the seat never saw a lower one
+pub worked_from : (b : BoardView) (g : Graph) (slack bound share shares : ℕ) (s t : SeatView) → HasSeen b g slack bound s → t.board ≡ b → IsLater s t →
+    HasTested g (bound + slack) share shares (length g.edges) s → HasWorked g slack share shares t
+worked_from b g slack bound share shares s t seen same later h = record {
+  tested = λ low.
+      let opening : t.board.opening ≡ b.opening = ap (λ (v : BoardView). v.opening) same in
+      let is : bound ≡ t.board.opening = omega (arith, opening, low, later.seen, seen.seen, seen.at_most) in
+      subst (λ (k : ℕ). HasTested g (k + slack) share shares (length g.edges) t) is (tested_later g (bound + slack) share shares (length g.edges) s t later h);
+}
+
+pub worked_later : (g : Graph) (slack share shares : ℕ) (s t : SeatView) → t.board ≡ s.board → IsLater s t → HasWorked g slack share shares s → HasWorked g slack share shares t
+worked_later g slack share shares s t same later h = record {
+  tested = λ low.
+      let opening : t.board.opening ≡ s.board.opening = ap (λ (v : BoardView). v.opening) same in
+      let below : s.board.opening ≤ s.seen = omega (arith, opening, low, later.seen) in
+      subst (λ (k : ℕ). HasTested g (k + slack) share shares (length g.edges) t) (sym opening)
+      (tested_later g (s.board.opening + slack) share shares (length g.edges) s t later (h.tested below));
+}
+
+-- each edge is of a share
+pub all_shares : (g : Graph) (slack shares : ℕ) (s : SeatView) → 0 < shares → ((i : ℕ) → i < shares → HasWorked g slack i shares s) → HasAll g slack s
+all_shares g slack shares s some h = record {
+  each = λ low e l cert.
+      let w = h (e % shares) (mod_below e shares some) in
+      (w.tested low).each e l refl cert;
+}
+
+-- ---- the seats of workers that are joined
+
+-- after a join the seat has the marks of both, and saw no more than both
+abbrev pub joined : SeatView → SeatView → ℕ → SeatView
+joined s t n = record s { seen = n; own = s.own ++ t.own; won = s.won ++ t.won; known = s.known ++ t.known }
+
+pub later_joined : (s t : SeatView) (n : ℕ) → n ≤ s.seen → IsLater s (joined s t n)
+later_joined s t n le = record { seen = le; own = λ e h. Contains-append_left s.own t.own e h }
+
+pub later_joined_other : (s t : SeatView) (n : ℕ) → n ≤ t.seen → IsLater t (joined s t n)
+later_joined_other s t n le = record { seen = le; own = λ e h. Contains-append_right s.own t.own e h }
+
+pub seen_joined : (b : BoardView) (g : Graph) (slack bound n : ℕ) (s t : SeatView) → HasSeen b g slack bound s → IsFair b.graph n → n ≤ s.seen → HasSeen b g slack n (joined s t n)
+seen_joined b g slack bound n s t h fair le = record {
+  board = h.board;
+  graph = h.graph;
+  slack_is = h.slack_is;
+  seen = refl;
+  fair = subst (λ (k : Graph). IsFair k n) h.graph fair;
+  small = omega (arith, le, h.seen, h.small);
+  at_most = omega (arith, le, h.seen, h.at_most);
+}
+
+-- the first workers of a list have done their shares, and the seats of all others are joined
+pub record AreJoinedFrom (b : BoardView) (g : Graph) (slack shares : ℕ) (ws : List Worker) (s : SeatView) : Type 0 where
+  pub few : length ws ≤ shares
+  pub left : (i : ℕ) (d : Worker) → i < length ws → IsDone b g slack i shares (slice_index_or ws i d)
+  pub joined : (i : ℕ) → length ws ≤ i → i < shares → HasWorked g slack i shares s
+
+pub join_step : (b : BoardView) (g : Graph) (slack shares n k : ℕ) (xs ys : List Worker) (w : Worker) (s : SeatView) → HasSeen b g slack s.seen s → AreJoinedFrom b g slack shares xs s →
+    k + 1 ≡ length xs → ((d : Worker) → w ≡ slice_index_or xs k d) → ys ≡ take k xs → n ≤ s.seen → n ≤ w.seat.seen →
+    AreJoinedFrom b g slack shares ys (joined s w.seat n)
+join_step b g slack shares n k xs ys w s seen h some last rest le le_other =
+    let long : length ys ≡ k = ap (λ (l : List Worker). length l) rest ∙ length-take-le k xs (omega arith) in
+    let done : IsDone b g slack k shares w = subst (λ (v : Worker). IsDone b g slack k shares v) (sym (last w)) (h.left k w (omega arith)) in
+    record {
+      few = omega (arith, long, h.few);
+      left = λ i d l. subst (λ (v : Worker). IsDone b g slack i shares v)
+          (sym (ap (λ (l : List Worker). slice_index_or l i d) rest ∙ get_or-take k xs i d (omega (arith, long))))
+          (h.left i d (omega (arith, long)));
+      joined = λ i low l. ⊎_elim
+          (λ (q : i ≡ k). subst (λ (j : ℕ). HasWorked g slack j shares (joined s w.seat n)) (sym q)
+          (worked_later g slack k shares w.seat (joined s w.seat n) (seen.board ∙ sym done.seated.board) (later_joined_other s w.seat n le_other) done.worked))
+          (λ (ne : i ≢ k). worked_later g slack i shares s (joined s w.seat n) refl (later_joined s w.seat n le) (h.joined i (omega (arith, long)) l))
+          (cases_eq i k);
+    }
+
+-- workers that are written back to where they stood
+pub done_written : (b : BoardView) (g : Graph) (slack same n m : ℕ) (xs ys : List Worker) → slack ≡ same → n ≡ m → m ≡ length xs → AreDone b g slack n xs → AreDone b g same m (take m (xs ++ ys))
+done_written b g slack same n m xs ys e count long h =
+    let is : take m (xs ++ ys) ≡ xs = ap (λ (k : ℕ). take k (xs ++ ys)) long ∙ take-append_seam xs ys in
+    subst (λ (l : List Worker). AreDone b g same m l) (sym is) (subst (λ (k : ℕ). AreDone b g k m xs) e (subst (λ (k : ℕ). AreDone b g slack k xs) count h))

@@ -1,0 +1,10 @@
+use Rattle.scan_forest.specs.Scan.{StandsFor}
+use Rattle.round_workers.specs.Seats.{HasSeen, IsLater}
+use Rattle.round_workers.proofs.scanning.scan_on_board.Given as goal
+
+abbrev pub invariant-loop : goal.invariant-loop
+invariant-loop l = record {
+  stands : StandsFor l.scan l.graph;
+  seen : HasSeen l.board l.graph l.slack l.seen l.seat;
+  later : IsLater l.fn.seat l.seat;
+}

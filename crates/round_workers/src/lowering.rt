@@ -1,0 +1,16 @@
+//! The bound after a step of a scan.
+
+ghost use Rattle.std.specs.Prelude.{◌≡◌, if◌then◌else◌, min};
+
+use scan_forest::Scanned;
+
+/// The lesser of a bound and the weight of the scanned set, where that set is not everything.
+pub fn lowered(next: Scanned, bound: u64) -> u64
+    ensures { result ≡ (if next.all then bound else min bound next.prefix_weight) }
+{
+    if next.all {
+        bound
+    } else {
+        bound.min(next.prefix_weight)
+    }
+}

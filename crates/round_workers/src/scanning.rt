@@ -1,0 +1,179 @@
+//! Scans by workers, which lower the bound of a board and mark by links.
+
+ghost use Rattle.std.specs.Prelude.{◌≡◌, ◌+◌, ◌<◌, ◌≤◌, ◌^◌, ◌⊎◌, ◌∷◌, true, false, length};
+ghost use Rattle.cut_definitions.specs.Safe.{IsFair};
+ghost use Rattle.scan_core.specs.Machine.{IsSafeEdge};
+ghost use Rattle.scan_forest.specs.Scan.{StandsFor, waits};
+ghost use Rattle.round_workers.specs.Round.{IsLatest};
+ghost use Rattle.round_workers.specs.Seats.{HasSeen, IsLater};
+
+use crate::lowering::lowered;
+use mark_board::{Board, BoardSeat};
+use scan_forest::{Scan, Scanned};
+use weighted_graph::Graph;
+
+/// Lowers the board's bound to a lower one than the seat saw, and answers what the seat has then seen. Where it saw no higher
+/// one, nothing is done.
+fn lower_to(
+    board: &Board,
+    seat: &mut BoardSeat,
+    graph: &Graph,
+    low: u64,
+    bound: u64,
+    slack: u64,
+) -> u64
+    requires seen { HasSeen board.now graph.now slack bound seat.old }
+    requires fair { IsFair graph.now low }
+    ensures seen { HasSeen board.now graph.now slack result seat.new }
+    ensures later { IsLater seat.old seat.new }
+{
+    if low < bound {
+        board.lower(seat, low)
+    } else {
+        bound
+    }
+}
+
+/// Marks an edge, where a look does not show that it is marked already: words that all workers read stay where they are, and
+/// words that one of them writes do not.
+fn mark_once(board: &Board, seat: &mut BoardSeat, edge: usize)
+    requires seat { seat.old.board ≡ board.now }
+    requires edge { edge < length board.now.graph.edges }
+    requires safe { IsSafeEdge board.now.graph seat.old.seen board.now.slack edge }
+    ensures { (seat.new ≡ seat.old) ⊎ (seat.new ≡ record seat.old { own = edge ∷ seat.old.own }) }
+{
+    if !board.is_marked(seat, edge) {
+        board.mark(seat, edge);
+    }
+}
+
+/// Marks the edges from the vertex scanned last to those whose link reaches the slack and the bound that the seat saw last.
+fn mark_links_on_board(
+    board: &Board,
+    seat: &mut BoardSeat,
+    graph: &Graph,
+    scan: &Scan,
+    vertex: u32,
+    bound: u64,
+    slack: u64,
+)
+    requires seen { HasSeen board.now graph.now slack bound seat.old }
+    requires slack { slack ≤ 1 }
+    requires stands { StandsFor scan.now graph.now }
+    requires latest { IsLatest scan.now vertex }
+    requires from_one { 1 ≤ vertex }
+    requires to_n { vertex ≤ graph.now.vertices }
+    ensures seen { HasSeen board.now graph.now slack bound seat.new }
+    ensures later { IsLater seat.old seat.new }
+{
+    for arc in graph.row(vertex) {
+        if scan.link(graph, arc.to) >= bound + slack {
+            mark_once(board, seat, arc.edge as usize);
+        }
+    }
+}
+
+/// What a worker does once a vertex was scanned: it lowers the bound by the weight of the scanned set, and marks by the
+/// vertex's links. It answers the bound that the seat has then seen.
+fn take_in(
+    board: &Board,
+    seat: &mut BoardSeat,
+    graph: &Graph,
+    scan: &Scan,
+    next: Scanned,
+    bound: u64,
+    slack: u64,
+) -> u64
+    requires seen { HasSeen board.now graph.now slack bound seat.old }
+    requires slack { slack ≤ 1 }
+    requires stands { StandsFor scan.now graph.now }
+    requires latest { IsLatest scan.now next.vertex }
+    requires from_one { 1 ≤ next.vertex }
+    requires to_n { next.vertex ≤ graph.now.vertices }
+    requires fair { next.all ≡ false → IsFair graph.now next.prefix_weight }
+    ensures seen { HasSeen board.now graph.now slack result seat.new }
+    ensures later { IsLater seat.old seat.new }
+{
+    let low = lowered(next, bound);
+    let seen = lower_to(board, seat, graph, low, bound, slack);
+    mark_links_on_board(board, seat, graph, scan, next.vertex, seen, slack);
+    seen
+}
+
+/// Takes a vertex for a worker, and answers whether none had it.
+fn take_vertex(
+    board: &Board,
+    seat: &mut BoardSeat,
+    graph: &Graph,
+    vertex: u32,
+    bound: u64,
+    slack: u64,
+) -> bool
+    requires seen { HasSeen board.now graph.now slack bound seat.old }
+    requires from_one { 1 ≤ vertex }
+    requires to_n { vertex ≤ graph.now.vertices }
+    ensures seen { HasSeen board.now graph.now slack bound seat.new }
+    ensures later { IsLater seat.old seat.new }
+{
+    board.take(seat, vertex)
+}
+
+/// A turn of a worker's scan, at the vertex that comes next: it is scanned where no worker had it, and dropped where one had.
+/// It answers the bound that the seat has then seen.
+fn scan_or_drop(
+    board: &Board,
+    seat: &mut BoardSeat,
+    graph: &Graph,
+    scan: &mut Scan,
+    vertex: u32,
+    bound: u64,
+    slack: u64,
+) -> u64
+    requires seen { HasSeen board.now graph.now slack bound seat.old }
+    requires slack { slack ≤ 1 }
+    requires stands { StandsFor scan.old graph.now }
+    requires waiting { waits scan.old vertex ≡ true }
+    ensures seen { HasSeen board.now graph.now slack result seat.new }
+    ensures later { IsLater seat.old seat.new }
+    ensures stands { StandsFor scan.new graph.now }
+{
+    // known by this call: the graph is an edge list
+    let _n = graph.n();
+    if !take_vertex(board, seat, graph, vertex, bound, slack) {
+        scan.drop_vertex(vertex);
+        return bound;
+    }
+    let Some(next) = scan.next(graph) else {
+        return bound;
+    };
+    take_in(board, seat, graph, scan, next, bound, slack)
+}
+
+/// Scans what no other worker takes, from a root on, lowers the board's bound by each set that was scanned, and marks by links.
+/// Vertices that others have are dropped, so the workers' scans together cost about as much as one scan of the whole graph.
+pub(crate) fn scan_on_board(
+    board: &Board,
+    seat: &mut BoardSeat,
+    graph: &Graph,
+    scan: &mut Scan,
+    root: u32,
+    bound: u64,
+    slack: u64,
+)
+    requires seen { HasSeen board.now graph.now slack bound seat.old }
+    requires slack { slack ≤ 1 }
+    requires stands { StandsFor scan.old graph.now }
+    requires root_from_one { 1 ≤ root }
+    requires root_to_n { root ≤ graph.now.vertices }
+    ensures seen { HasSeen board.now graph.now slack seat.new.seen seat.new }
+    ensures later { IsLater seat.old seat.new }
+{
+    scan.start(root, bound + slack);
+    let mut seen = bound;
+    for _ in 0..graph.n() {
+        let Some(vertex) = scan.peek(graph) else {
+            return;
+        };
+        seen = scan_or_drop(board, seat, graph, scan, vertex, seen, slack);
+    }
+}
