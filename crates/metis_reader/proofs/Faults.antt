@@ -1,7 +1,8 @@
 -- Which fault of a neighbour is the first.
-use Rattle.std.proofs.Common.{◌≡◌, ◌≢◌, ◌<◌, ◌≤◌, ◌⊎◌, ℕ, suc, Bool, true, false, ◌||◌, List, [], ◌∷◌, ◌++◌, length, map, reverse, ◌-◌, not, refl, ap, sym, ◌∙◌, arith, length-drop}
+use Rattle.std.proofs.Common.{◌≡◌, ◌≢◌, ◌<◌, ◌≤◌, ◌⊎◌, ℕ, suc, Bool, true, false, ◌||◌, List, [], ◌∷◌, ◌++◌, length, map, ◌+◌, not, refl, ap, sym, ◌∙◌, arith}
 use Rattle.std.specs.Prelude.{◌==◌, nat_lt, nat_le}
-use Rattle.std.proofs.lemmas.List.{length-reverse, length-take-le}
+use Rattle.std.specs.List.Sorted.{IsPermutation}
+use Rattle.std.proofs.lemmas.List.Sorted.{length_permutation}
 use Rattle.std.specs.List.{filter}
 use Rattle.std.proofs.lemmas.Bool.Decides.{nat_tests}
 use Rattle.metis_reader.specs.declared.fault.FaultKind.{FaultKind}
@@ -58,14 +59,13 @@ length_map f [] = refl
 length_map f (x ∷ xs) = ap (λ n. suc n) (length_map f xs)
 
 -- the body has as many entries as were read
-kept_entries : (b : Body) (all : List Entry) → greater_of b ≡ map edge_of (filter is_upward all)
-    → lesser_of b ≡ reverse (map mirrored (filter (λ e. not (is_upward e)) all)) → length all ≡ entry_count b
+kept_entries : (b : Body) (all : List Entry) → IsPermutation (map edge_of (filter is_upward all)) (greater_of b)
+    → IsPermutation (map mirrored (filter (λ e. not (is_upward e)) all)) (lesser_of b) → length all ≡ entry_count b
 kept_entries b all greater lesser =
-    let front : length (greater_of b) ≡ b.front = length-take-le b.front b.table.items (omega (arith, b.in_order, b.in_table)) in
-    let back : length (lesser_of b) ≡ length b.table.items - b.back = length-drop b.back b.table.items in
-    let up : length (greater_of b) ≡ length (map edge_of (filter is_upward all)) = ap length greater in
-    let down : length (lesser_of b) ≡ length (map mirrored (filter (λ e. not (is_upward e)) all)) = ap length lesser ∙ length-reverse (map mirrored (filter (λ e. not (is_upward e)) all)) in
+    let up : length (greater_of b) ≡ length (map edge_of (filter is_upward all)) = length_permutation _ _ greater in
+    let down : length (lesser_of b) ≡ length (map mirrored (filter (λ e. not (is_upward e)) all)) = length_permutation _ _ lesser in
     let counts = entry_counts all in
+    let counted : b.entries ≡ length (greater_of b) + length (lesser_of b) = b.counted in
     omega arith
 
 pub sizes : (b : Body) (header : Header) (done : List VertexLine) (all : List Entry) → BodyShows b header done all → Sizes b header done all

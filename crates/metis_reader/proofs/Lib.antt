@@ -18,6 +18,7 @@ pub mod Feeding
 pub mod Standing
 pub mod Merge
 pub mod Meeting
+pub mod Table
 pub mod Times
 pub mod Moved
 pub mod Rows

@@ -1,6 +1,9 @@
 -- What is due at the start of a vertex line.
 use Rattle.std.proofs.Common.{◌≡◌, ◌<◌, ◌≤◌, ℕ, zero, suc, ◌+◌, Bool, true, false, List, [], ◌∷◌, ◌++◌, length, refl, ap, sym, ◌∙◌, subst, arith, length-append}
 use Rattle.std.specs.Prelude.{if◌then◌else◌}
+use Rattle.std.specs.List.Sorted.{IsPermutation}
+use Rattle.std.proofs.lemmas.List.Sorted.{IsPermutation-refl}
+use Rattle.cut_definitions.specs.declared.edge_list.Edge.{Edge}
 use Rattle.metis_reader.specs.declared.header.Header as kept
 use Rattle.metis_reader.specs.declared.body.Body.{Body}
 use Rattle.metis_reader.specs.declared.due.Due.TheVariants.{NoWord}
@@ -56,7 +59,10 @@ next_line h b header done here left number shows lines =
     let count : length (done ++ v ∷ []) + left ≡ header.vertices = omega (arith, length-append done (v ∷ [])) in
     line_starts h b header (done ++ v ∷ []) left (subst (λ all. BodyShows b header (done ++ v ∷ []) all) (sym same) shows) count
 
+nothing : (xs : List Edge) → xs ≡ [] → IsPermutation [] xs
+nothing xs is = subst (λ xs. IsPermutation [] xs) (sym is) (IsPermutation-refl [])
+
 pub first_line : (h : kept.Header) (b : Body) (header : Header) → header_view b.header ≡ header → b.numbers.items ≡ [] → greater_of b ≡ [] → lesser_of b ≡ [] → b.total ≡ 0
     → (first_due_of b ≡ due_of (at_line header [] header.vertices)) × Keeps h b (at_line header [] header.vertices)
 first_line h b header view numbers greater lesser total =
-    line_starts h b header [] header.vertices (record { same_header = view; numbers = numbers; greater = greater; lesser = lesser; total = λ has. total }) (omega arith)
+    line_starts h b header [] header.vertices (record { same_header = view; numbers = numbers; greater = nothing (greater_of b) greater; lesser = nothing (lesser_of b) lesser; total = λ has. total }) (omega arith)

@@ -1,11 +1,12 @@
 -- What the body keeps, without where it lies in memory.
-use Rattle.std.specs.Prelude.{◌≢◌, ℕ, List, take, drop, suc, ◌+◌, ◌-◌, ◌*◌, ◌<◌, ◌≤◌, length, nat_le, if◌then◌else◌}
+use Rattle.std.specs.Prelude.{◌≢◌, ℕ, List, suc, ◌+◌, ◌*◌, ◌<◌, ◌≤◌, length, nat_le, if◌then◌else◌}
 use Rattle.cut_definitions.specs.declared.edge_list.Edge.{Edge}
 use Rattle.metis_reader.specs.declared.header.Header.{Header}
 use Rattle.metis_reader.specs.declared.body.Body.{Body}
 use Rattle.metis_reader.specs.declared.due.Due.{Due}
 use Rattle.metis_reader.specs.declared.due.Due.TheVariants.{NoWord}
 use Rattle.metis_reader.specs.Dues.{after_leading_of}
+use Rattle.metis_reader.specs.Meeting.{with_met}
 use Rattle.metis_reader.specs.Profile as profile
 
 abbrev pub leading_of : Header → ℕ
@@ -23,15 +24,15 @@ header_view h = record {
 abbrev pub vertex_of : Body → ℕ
 vertex_of b = suc (length b.numbers.items)
 
--- the entries to greater neighbours, and those to lesser ones, the last one first
 abbrev pub greater_of : Body → List Edge
-greater_of b = take b.front b.table.items
+greater_of b = b.greater.items
 
+-- the entries to lesser neighbours, in some order
 abbrev pub lesser_of : Body → List Edge
-lesser_of b = drop b.back b.table.items
+lesser_of b = with_met b.greater.items b.cursors.items b.lesser.items
 
 abbrev pub entry_count : Body → ℕ
-entry_count b = b.front + (length b.table.items - b.back)
+entry_count b = b.entries
 
 -- in the present vertex line an entry with this neighbour may stand
 pub record CanEnter (b : Body) (v : ℕ) : Type 0 where

@@ -7,6 +7,7 @@ pub mod Dues
 pub mod Bodies
 pub mod Mates
 pub mod Merging
+pub mod Meeting
 pub mod Machine
 pub mod Reading
 pub mod Ending

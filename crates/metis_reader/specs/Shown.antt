@@ -1,6 +1,7 @@
 -- What the parser keeps of a reading.
-use Rattle.std.specs.Prelude.{◌≡◌, ℕ, suc, ◌+◌, Bool, true, not, nat_lt, if◌then◌else◌, List, [], ◌∷◌, length, map, reverse}
+use Rattle.std.specs.Prelude.{◌≡◌, ℕ, suc, ◌+◌, Bool, true, not, nat_lt, if◌then◌else◌, List, [], ◌∷◌, length, map}
 use Rattle.std.specs.List.{filter}
+use Rattle.std.specs.List.Sorted.{IsPermutation}
 use Rattle.cut_definitions.specs.declared.edge_list.Edge.{Edge}
 use Rattle.metis_reader.specs.declared.fault.FaultKind.{FaultKind}
 use Rattle.metis_reader.specs.declared.fault.ReadRefusal.{ReadRefusal}
@@ -32,8 +33,8 @@ mirrored e = record { u = e.to; v = e.from; w = e.weight }
 pub record BodyShows (b : Body) (header : Header) (done : List VertexLine) (all : List Entry) : Type 0 where
   pub same_header : header_view b.header ≡ header
   pub numbers : b.numbers.items ≡ map (λ (v : VertexLine). v.number) done
-  pub greater : greater_of b ≡ map edge_of (filter is_upward all)
-  pub lesser : lesser_of b ≡ reverse (map mirrored (filter (λ e. not (is_upward e)) all))
+  pub greater : IsPermutation (map edge_of (filter is_upward all)) (greater_of b)
+  pub lesser : IsPermutation (map mirrored (filter (λ e. not (is_upward e)) all)) (lesser_of b)
   pub total : header.has_edge_weights ≡ true → b.total ≡ total all
 
 -- what is kept of the header's words up to here

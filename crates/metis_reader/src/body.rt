@@ -2,15 +2,18 @@ ghost use Rattle.std.specs.Prelude.{◌≡◌, ◌≤◌, ◌<◌, ◌+◌, ◌*
 ghost use Rattle.std.specs.List.{All};
 ghost use Rattle.cut_definitions.specs.Graph.{IsEdgeWithin};
 ghost use Rattle.cut_definitions.specs.declared.edge_list.Edge.{Edge};
+ghost use Rattle.metis_reader.specs.Meeting.{with_met, IsOfFinished, IsOfNext};
 
 use crate::header::Header;
-use crate::mates::mismatch;
+use crate::mates::{is_strict, meet, mismatch, put_back, sort_row};
 use crate::word::Word;
 use crate::{Fault, FaultKind};
 use cut_definitions::{Edge, EdgeList};
 use std::alloc::{AllocError, Global};
 
-const NO_EDGE: Edge = Edge { u: 0, v: 0, w: 0 };
+/// So many entries to lesser neighbours are gathered before they are looked for: in a loop of their own the reads at far
+/// places overlap.
+const BATCH: usize = 1024;
 
 const MAX_TOTAL: u64 = 4_611_686_018_427_387_904;
 
@@ -30,32 +33,45 @@ pub struct Body {
     header: Header,
     // the line number of each vertex line
     numbers: Vec<u64>,
-    // how many entries to greater neighbours stand up to the end of each vertex line
-    ends: Vec<u32>,
-    // One place for each entry: at the front the entries to greater neighbours, at the back those to lesser ones, each with
-    // that neighbour as `u` and the last one first.
-    table: Vec<Edge>,
-    front: usize,
-    back: usize,
+    // for each vertex line where the entries of its row in `greater` begin that were not yet met
+    cursors: Vec<u32>,
+    // the entries to greater neighbours, line by line, each finished line's in ascending order
+    greater: Vec<Edge>,
+    // Of the entries to lesser neighbours those that were not met in `greater`, each with that neighbour as `u`. No memory is
+    // touched for those that were.
+    lesser: Vec<Edge>,
+    // where the entries of the present line begin in `greater`
+    start: usize,
+    // how many of `lesser` were looked for and not found
+    strays: usize,
+    entries: usize,
     total: u64,
     ghost lines: { length numbers.items ≤ header.vertices },
     ghost line_room: { header.vertices ≤ vec_capacity numbers },
-    ghost ends_of_lines: { length ends.items ≡ length numbers.items },
-    ghost end_room: { header.vertices ≤ vec_capacity ends },
-    ghost places: { length table.items ≡ 2 * header.edges },
-    ghost in_order: { front ≤ back },
-    ghost in_table: { back ≤ length table.items },
+    ghost cursors_of_lines: { length cursors.items ≡ length numbers.items },
+    ghost cursor_room: { header.vertices ≤ vec_capacity cursors },
+    ghost greater_room: { 2 * header.edges ≤ vec_capacity greater },
+    ghost lesser_room: { 2 * header.edges ≤ vec_capacity lesser },
+    ghost counted: { entries ≡ length greater.items + length (with_met greater.items cursors.items lesser.items) },
+    ghost entries_fit: { entries ≤ 2 * header.edges },
+    ghost strays_within: { strays ≤ length lesser.items },
+    ghost start_within: { start ≤ length greater.items },
+    ghost finished_rows: { All (IsOfFinished (length cursors.items)) (take start greater.items) },
+    ghost open_row: { All (IsOfNext (length cursors.items)) (drop start greater.items) },
     ghost total_fits: { total ≤ 2 ^ 62 },
-    ghost total_is: { total ≡ sum_by (λ (e : Edge). e.w) (take front table.items) + sum_by (λ (e : Edge). e.w) (drop back table.items) },
-    ghost unit_weights: { header.format.has_edge_weights ≡ false → total + back ≡ front + 2 * header.edges },
-    ghost greater_within: { All (IsEdgeWithin header.vertices) (take front table.items) },
-    ghost lesser_within: { All (IsEdgeWithin header.vertices) (drop back table.items) },
+    ghost total_is: { total ≡ sum_by (λ (e : Edge). e.w) greater.items + sum_by (λ (e : Edge). e.w) (with_met greater.items cursors.items lesser.items) },
+    ghost unit_weights: { header.format.has_edge_weights ≡ false → total ≡ entries },
+    ghost greater_within: { All (IsEdgeWithin header.vertices) greater.items },
+    ghost lesser_within: { All (IsEdgeWithin header.vertices) lesser.items },
 }
 
 impl Body {
-    ghost use Rattle.std.specs.Prelude.{◌≡◌, ◌≤◌, ◌<◌, ◌+◌, ◌*◌, ◌^◌, ◌==◌, ◌++◌, ◌∷◌, [], ℕ, Bool, true, false, not, List, length, suc, IfOk, MatchResult, nat_lt, if◌then◌else◌};
+    ghost use Rattle.std.specs.Prelude.{◌≡◌, ◌≤◌, ◌<◌, ◌+◌, ◌*◌, ◌^◌, ◌==◌, ◌++◌, ◌∷◌, [], ℕ, Bool, true, false, not, List, length, suc, IfOk, IsTrue, MatchResult, nat_lt, if◌then◌else◌};
     ghost use Rattle.cut_definitions.specs.declared.edge_list.Edge.{Edge};
     ghost use Rattle.metis_reader.specs.Bodies.{CanEnter, vertex_of, entry_count, greater_of, lesser_of};
+    ghost use Rattle.cut_definitions.specs.Graph.{IsBefore};
+    ghost use Rattle.std.specs.List.{AllPairs};
+    ghost use Rattle.std.specs.List.Sorted.{IsPermutation};
     ghost use Rattle.std.specs.Bool.{MatchBool};
     ghost use Rattle.metis_reader.specs.Text.{Piece};
     ghost use Rattle.metis_reader.specs.Profile as profile;
@@ -69,15 +85,17 @@ impl Body {
 
     /// That of a file without vertices.
     pub fn none(alloc: Global) -> Body
-        ensures { (result.header.vertices ≡ 0) × (result.numbers.items ≡ []) × (result.table.items ≡ []) }
+        ensures { (result.header.vertices ≡ 0) × (result.numbers.items ≡ []) }
     {
         Body {
             header: Header::NONE,
             numbers: Vec::new(alloc),
-            ends: Vec::new(alloc),
-            table: Vec::new(alloc),
-            front: 0,
-            back: 0,
+            cursors: Vec::new(alloc),
+            greater: Vec::new(alloc),
+            lesser: Vec::new(alloc),
+            start: 0,
+            strays: 0,
+            entries: 0,
             total: 0,
         }
     }
@@ -91,10 +109,12 @@ impl Body {
         Ok(Body {
             header,
             numbers: Vec::with_capacity(alloc, header.vertices as usize)?,
-            ends: Vec::with_capacity(alloc, header.vertices as usize)?,
-            table: vec![in alloc; NO_EDGE; places]?,
-            front: 0,
-            back: places,
+            cursors: Vec::with_capacity(alloc, header.vertices as usize)?,
+            greater: Vec::with_capacity(alloc, places)?,
+            lesser: Vec::with_capacity(alloc, places)?,
+            start: 0,
+            strays: 0,
+            entries: 0,
             total: 0,
         })
     }
@@ -114,7 +134,7 @@ impl Body {
     fn has_all_entries(&self) -> bool
         ensures { MatchBool result (2 * self.now.header.edges ≤ entry_count self.now) (entry_count self.now < 2 * self.now.header.edges) }
     {
-        self.front >= self.back
+        self.entries >= 2 * self.header.edges as usize
     }
 
     // The vertex of the present line.
@@ -132,8 +152,10 @@ impl Body {
         ensures shows { (header : profile.Header) (done : List VertexLine) (all here : List Entry) → BodyShows self.old header done all
             → BodyShows self.new header (done ++ record { number = line; entries = here } ∷ []) all }
     {
+        sort_row(self.greater.as_mut_slice(), self.start);
         let _ = self.numbers.push(line);
-        let _ = self.ends.push(self.front as u32);
+        let _ = self.cursors.push(self.start as u32);
+        self.start = self.greater.len();
     }
 
     /// The neighbour that the word names.
@@ -189,25 +211,58 @@ impl Body {
     {
         let vertex = self.vertex();
         self.total += w;
+        self.entries += 1;
         if vertex < neighbour {
-            self.table[self.front] = Edge {
+            let _ = self.greater.push(Edge {
                 u: vertex,
                 v: neighbour,
                 w,
-            };
-            self.front += 1;
-        } else {
-            self.back -= 1;
-            self.table[self.back] = Edge {
-                u: neighbour,
-                v: vertex,
-                w,
-            };
+            });
+            return;
+        }
+        let _ = self.lesser.push(Edge {
+            u: neighbour,
+            v: vertex,
+            w,
+        });
+        if self.lesser.len() - self.strays >= BATCH {
+            self.settle();
         }
     }
 
+    // Looks for the entries to lesser neighbours that were not yet looked for.
+    #[inline(never)]
+    fn settle(&mut self)
+        ensures same_header { self.new.header ≡ self.old.header }
+        ensures same_lines { self.new.numbers.items ≡ self.old.numbers.items }
+        ensures same_entries { self.new.entries ≡ self.old.entries }
+        ensures same_total { self.new.total ≡ self.old.total }
+        ensures same_greater { greater_of self.new ≡ greater_of self.old }
+        ensures moved { IsPermutation (lesser_of self.old) (lesser_of self.new) }
+    {
+        let cursors = self.cursors.as_mut_slice();
+        let lesser = self.lesser.as_mut_slice();
+        let left = meet(&self.greater, lesser, self.strays, cursors);
+        self.lesser.truncate(left);
+        self.strays = left;
+    }
+
+    // Whether each entry has its mate, which is known where all to lesser neighbours were met.
+    fn is_met(&self) -> bool
+        ensures ascends { IsTrue result → AllPairs IsBefore (greater_of self.now) }
+        ensures lesser { IsTrue result → IsPermutation (lesser_of self.now) (greater_of self.now) }
+    {
+        if !self.lesser.is_empty() {
+            return false;
+        }
+        if self.entries < 2 * self.greater.len() {
+            return false;
+        }
+        is_strict(&self.greater)
+    }
+
     /// The graph, where the input ends after so many lines.
-    pub fn finish(self, lines: u64) -> Result<EdgeList, Fault>
+    pub fn finish(mut self, lines: u64) -> Result<EdgeList, Fault>
         ensures { (header : profile.Header) (done : List VertexLine) (end : ℕ) → BodyShows self header done (all_entries done) → RowsFrom 1 done
             → MatchResult result (λ g. (end_findings header end lines done ≡ []) × (graph_shown header done ≡ g)) (λ f. TellsFirst f (end_findings header end lines done)) }
     {
@@ -223,20 +278,40 @@ impl Body {
                 line: lines,
             });
         }
+        self.settle();
+        if !self.is_met() {
+            return self.finish_by_sorting();
+        }
+        let Body {
+            header,
+            mut greater,
+            ..
+        } = self;
+        greater.shrink_to_fit();
+        Ok(EdgeList::from_edges(header.vertices, greater))
+    }
+
+    // The graph of all lines and entries, where some may be without their mates: it sorts them.
+    #[inline(never)]
+    fn finish_by_sorting(self) -> Result<EdgeList, Fault>
+        requires lines { self.header.vertices ≤ length self.numbers.items }
+        requires entries { 2 * self.header.edges ≤ entry_count self }
+        ensures { (header : profile.Header) (done : List VertexLine) (end lines : ℕ) → BodyShows self header done (all_entries done) → RowsFrom 1 done
+            → MatchResult result (λ g. (end_findings header end lines done ≡ []) × (graph_shown header done ≡ g)) (λ f. TellsFirst f (end_findings header end lines done)) }
+    {
         let Body {
             header,
             numbers,
-            mut ends,
-            mut table,
-            front,
+            cursors,
+            mut greater,
+            mut lesser,
             ..
         } = self;
-        let (greater, lesser) = table.split_at_mut(front);
-        if let Some((kind, vertex)) = mismatch(greater, lesser, ends.as_mut_slice()) {
+        put_back(&greater, &cursors, &mut lesser);
+        if let Some((kind, vertex)) = mismatch(greater.as_mut_slice(), lesser.as_mut_slice()) {
             return Err(fault_of_vertex(kind, vertex, &numbers));
         }
-        table.truncate(front);
-        table.shrink_to_fit();
-        Ok(EdgeList::from_edges(header.vertices, table))
+        greater.shrink_to_fit();
+        Ok(EdgeList::from_edges(header.vertices, greater))
     }
 }

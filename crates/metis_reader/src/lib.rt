@@ -5,9 +5,14 @@
 //!
 //! Contracts speak of the bytes that a `Reader` was fed: `graph_of` is the first fault of some bytes, or their edge list,
 //! and `fixed` the fault that they fix, whatever follows. Both are defined over the whole list of lines and words; the code
-//! is a machine over single bytes that keeps none of them. All memory is taken at the end of the header's line: 32 bytes
-//! for each edge and 12 for each vertex. Reading costs time linear in the bytes. The end of the input costs time linear in the
-//! edges where each line names its greater neighbours in ascending order and each entry has its mate, else that of sorting.
+//! is a machine over single bytes that keeps none of them.
+//!
+//! Each entry to a lesser neighbour is looked for in that neighbour's line as it is read, at a cursor that only moves on, so none
+//! is kept where each has its mate, and the entries to greater neighbours become the edge list where they stand. All memory is
+//! taken at the end of the header's line: 16 bytes for each edge and 12 for each vertex are written, and further 48 for each edge
+//! are reserved, which a file writes to only as far as its entries are without mates. Reading costs time linear in the bytes, and
+//! where the neighbours of a line do not ascend that of sorting the greater ones. The end of the input costs time linear in the
+//! edges where each entry has its mate, else that of sorting them.
 #![tactic(auto)]
 
 mod body;
@@ -19,8 +24,6 @@ mod line_part;
 mod mates;
 mod parser;
 mod reader;
-#[cfg(test)]
-mod tests;
 mod word;
 
 pub use fault::{Fault, FaultKind, ReadRefusal};

@@ -1,9 +1,10 @@
-ghost use Rattle.std.specs.Prelude.{◌≡◌, ◌≤◌, ◌<◌, ◌⊎◌, ℕ, ◌↔◌, IsTrue, IsNone, IfNone, IfSome, OnSome, IsSome, MatchOption, length, slice_index_or};
+ghost use Rattle.std.specs.Prelude.{◌≡◌, ◌≤◌, ◌<◌, ◌⊎◌, ◌+◌, ◌^◌, ◌++◌, ◌∷◌, ℕ, ◌↔◌, false, IsTrue, IsNone, IfNone, IfSome, OnSome, IsSome, MatchOption, length, take, drop, slice_index_or, vec_capacity};
 ghost use Rattle.std.specs.List.{All, AllPairs};
 ghost use Rattle.cut_definitions.specs.declared.edge_list.Edge.{Edge};
 ghost use Rattle.cut_definitions.specs.Graph.{IsBefore, IsEdgeWithin};
 ghost use Rattle.std.specs.List.Sorted.{IsPermutation};
 ghost use Rattle.metis_reader.specs.Mates.{IsAscending, end_of, Repeats, IsOnce, RepeatsAt, IsOnceAt, LacksAt, IsMatchedAt, IsLesserOf, IsLesserOfBoth, IsFirstMismatch};
+ghost use Rattle.metis_reader.specs.Meeting.{met_from, with_met, is_met_at};
 ghost use Rattle.metis_reader.specs.Merging.{IsNext};
 
 use crate::FaultKind;
@@ -143,32 +144,8 @@ fn sort_by_pair(edges: &mut [Edge])
     edges.sort_unstable_by_key(|e| (e.u, e.v));
 }
 
-// Where the edges from a place on end that have one lesser end.
-fn row_end(edges: &[Edge], start: usize) -> usize
-    requires { start < length edges.now }
-    ensures within { (start < result) × (result ≤ length edges.now) }
-{
-    let vertex = edges[start].u;
-    let mut end = start + 1;
-    while end < edges.len() && edges[end].u == vertex {
-        end += 1;
-    }
-    end
-}
-
-// Sorts the edges of each lesser end. Where the lesser ends ascend, as those of a file's lines do, all are sorted then.
-fn sort_rows(edges: &mut [Edge])
-    ensures { IsPermutation edges.old edges.new }
-{
-    let mut start = 0;
-    while start < edges.len() {
-        let end = row_end(edges, start);
-        sort_by_pair(&mut edges[start..end]);
-        start = end;
-    }
-}
-
-fn is_strict(edges: &[Edge]) -> bool
+/// Whether the edges ascend, and no pair stands twice.
+pub fn is_strict(edges: &[Edge]) -> bool
     ensures { IsTrue result → AllPairs IsBefore edges.now }
 {
     for i in 1..edges.len() {
@@ -179,67 +156,87 @@ fn is_strict(edges: &[Edge]) -> bool
     true
 }
 
-// Sorts edges whose lesser ends ascend, as those of a file's lines do, faster than others. It tells that no pair stands twice.
-fn sort_in_rows(edges: &mut [Edge]) -> bool
-    ensures moved { IsPermutation edges.old edges.new }
-    ensures ascends { IsAscending edges.new }
-    ensures strict { IsTrue result → AllPairs IsBefore edges.new }
+/// Sorts the entries from a place on, where they do not ascend already.
+pub fn sort_row(edges: &mut [Edge], start: usize)
+    requires { start ≤ length edges.old }
+    ensures front { take start edges.new ≡ take start edges.old }
+    ensures row { IsPermutation (drop start edges.old) (drop start edges.new) }
 {
-    if is_strict(edges) {
-        return true;
+    let row = &mut edges[start..];
+    if !is_strict(row) {
+        sort_by_pair(row);
     }
-    sort_rows(edges);
-    if is_strict(edges) {
-        return true;
-    }
-    sort_by_pair(edges);
-    false
 }
 
-// Whether each entry of `lesser` is the last one of its row in `greater` that was not yet met. `ends` says where the row of
-// each vertex ends, and then where the entries that were met begin. No row is ever searched, so an entry costs one step.
-fn are_met(greater: &[Edge], lesser: &[Edge], ends: &mut [u32]) -> bool
-    requires ascends { AllPairs IsBefore greater.now }
-    requires rows { All (λ (e : Edge). (1 ≤ e.u) × (e.u ≤ length ends.old)) lesser.now }
-    ensures { IsTrue result → IsPermutation lesser.now greater.now }
+// Whether the entry at a place was met: the cursor of its row is behind it.
+fn is_behind(greater: &[Edge], cursors: &[u32], place: usize) -> bool
+    requires { place < length greater.now }
+    ensures { (d : Edge) → result ≡ is_met_at cursors.now place (slice_index_or greater.now place d) }
 {
-    if greater.len() != lesser.len() {
+    let row = (greater[place].u as usize).saturating_sub(1);
+    row < cursors.len() && place < cursors[row] as usize
+}
+
+// Moves the cursor of the entry's row on, where the entry is there. It tells whether it is.
+fn advance(greater: &[Edge], entry: Edge, cursors: &mut [u32]) -> bool
+    requires { length greater.now < 2 ^ 32 }
+    ensures met { IsTrue result → IsPermutation (entry ∷ met_from 0 cursors.old greater.now) (met_from 0 cursors.new greater.now) }
+    ensures same { result ≡ false → cursors.new ≡ cursors.old }
+{
+    let row = (entry.u as usize).saturating_sub(1);
+    if row >= cursors.len() {
         return false;
     }
-    for i in 0..lesser.len() {
-        let entry = lesser[i];
-        let row = entry.u as usize - 1;
-        if ends[row] == 0 {
-            return false;
-        }
-        let end = ends[row] - 1;
-        if !is_at(greater, end as usize, entry) {
-            return false;
-        }
-        ends[row] = end;
+    let place = cursors[row];
+    if !is_at(greater, place as usize, entry) {
+        return false;
     }
+    cursors[row] = place + 1;
     true
 }
 
+/// Looks for each entry of `lesser` from a place on at the cursor of its row in `greater`, which goes on where it is there. Those
+/// that are not there are put at the front, behind those that were there before; it tells how many these are. No row is ever
+/// searched, so an entry costs one step.
+pub fn meet(greater: &[Edge], lesser: &mut [Edge], strays: usize, cursors: &mut [u32]) -> usize
+    requires few { length greater.now < 2 ^ 32 }
+    requires strays { strays ≤ length lesser.old }
+    ensures within { (strays ≤ result) × (result ≤ length lesser.old) }
+    ensures moved { IsPermutation (with_met greater.now cursors.old lesser.old) (with_met greater.now cursors.new (take result lesser.new)) }
+{
+    let mut left = strays;
+    for i in strays..lesser.len() {
+        let entry = lesser[i];
+        if !advance(greater, entry, cursors) {
+            lesser[left] = entry;
+            left += 1;
+        }
+    }
+    left
+}
+
+/// Appends the entries of `greater` that were met.
+pub fn put_back(greater: &[Edge], cursors: &[u32], lesser: &mut Vec<Edge>)
+    requires { length lesser.old.items + length greater.now ≤ vec_capacity lesser.old }
+    ensures { lesser.new.items ≡ lesser.old.items ++ met_from 0 cursors.now greater.now }
+{
+    for i in 0..greater.len() {
+        if is_behind(greater, cursors, i) {
+            let _ = lesser.push(greater[i]);
+        }
+    }
+}
+
 /// The least vertex whose line has a neighbour twice, or else the least one whose line has an entry without its mate. It sorts
-/// the entries to greater neighbours, and those to lesser ones only where an entry is not met in its place: `ends` says where the
-/// row of each vertex ends in `greater`, and is used up. Other numbers there cost time, and change no answer.
-pub fn mismatch(
-    greater: &mut [Edge],
-    lesser: &mut [Edge],
-    ends: &mut [u32],
-) -> Option<(FaultKind, u32)>
-    requires in_order { All (λ (e : Edge). e.u < e.v) greater.old }
-    requires rows { All (λ (e : Edge). (1 ≤ e.u) × (e.u ≤ length ends.old)) lesser.old }
+/// the entries.
+pub fn mismatch(greater: &mut [Edge], lesser: &mut [Edge]) -> Option<(FaultKind, u32)>
+    requires { All (λ (e : Edge). e.u < e.v) greater.old }
     ensures some { IfSome result (λ found. IsFirstMismatch found.0 found.1 greater.old lesser.old) }
     ensures ascends { IfNone result (AllPairs IsBefore greater.new) }
     ensures greater { IsPermutation greater.old greater.new }
     ensures lesser { IfNone result (IsPermutation lesser.old greater.new) }
 {
-    let is_strict = sort_in_rows(greater);
-    if is_strict && are_met(greater, lesser, ends) {
-        return None;
-    }
+    sort_by_pair(greater);
     sort_by_pair(lesser);
     let at_greater = least_repeated(greater, End::Lesser);
     let at_lesser = least_repeated(lesser, End::Greater);

@@ -95,6 +95,25 @@ impl Parser {
         }
     }
 
+    // Takes a neighbour.
+    #[inline(always)]
+    fn neighbour(&mut self, word: Word) -> Result<(), FaultKind>
+        requires { self.old.due ≡ Due.Neighbour }
+        ensures { (s : State) (p : Piece) → Shows self.old.due self.old.header self.old.body s → IsWord word p.bytes
+            → MatchResult result (λ _. (word_faults s p ≡ []) × Shows self.new.due self.new.header self.new.body (after_word s p)) (λ kind. BeginsWith kind (word_faults s p)) }
+    {
+        let neighbour = match self.body.neighbour(word) {
+            Ok(neighbour) => neighbour,
+            Err(kind) => return Err(kind),
+        };
+        if self.body.header().format.has_edge_weights {
+            self.due = Due::EdgeWeight(neighbour);
+            return Ok(());
+        }
+        self.body.enter(neighbour, 1);
+        Ok(())
+    }
+
     /// Takes the next word of the line.
     #[inline(always)]
     pub fn word(&mut self, word: Word) -> Result<(), FaultKind>
@@ -128,18 +147,7 @@ impl Parser {
                 self.due = after_leading(left);
                 Ok(())
             }
-            Due::Neighbour => {
-                let neighbour = match self.body.neighbour(word) {
-                    Ok(neighbour) => neighbour,
-                    Err(kind) => return Err(kind),
-                };
-                if self.body.header().format.has_edge_weights {
-                    self.due = Due::EdgeWeight(neighbour);
-                    return Ok(());
-                }
-                self.body.enter(neighbour, 1);
-                Ok(())
-            }
+            Due::Neighbour => self.neighbour(word),
             Due::EdgeWeight(neighbour) => {
                 let weight = match self.body.weight(word) {
                     Ok(weight) => weight,

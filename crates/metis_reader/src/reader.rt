@@ -313,8 +313,8 @@ impl Reader {
     ///
     /// It answers a fault exactly where the bytes fed so far fix one, and then the first one. It answers `NoMemory` only
     /// where the piece has the end of the header's line: all memory is taken there, and none after it. After a refusal
-    /// each later call answers the same one. Its cost is linear in the piece, and at the header's end in the vertices and
-    /// edges that the header names.
+    /// each later call answers the same one. Its cost is linear in the piece, and for each line that ends in it, and whose greater
+    /// neighbours do not ascend, that of sorting them.
     pub fn feed(&mut self, piece: &[u8]) -> Result<(), ReadRefusal>
         ensures stands { (bytes : List ℕ) → StandsFor self.old bytes → StandsFor self.new (bytes ++ piece.now) }
         ensures ok { OnOk result ((bytes : List ℕ) → StandsFor self.old bytes → fixed (bytes ++ piece.now) ≡ None) }
@@ -340,8 +340,7 @@ impl Reader {
     ///
     /// After a refusal it answers the same one. Else it answers `NoMemory` only where the input's end ends the header's line:
     /// the header is there, and the line feed that would end its line is not; so never for an input without a header. Its
-    /// cost for m edges is O(m) where each line names its greater neighbours in ascending order and each entry has its mate,
-    /// else that of sorting the edges, O(m log m).
+    /// cost for m edges is O(m) where each entry has its mate, else that of sorting the entries, O(m log m).
     pub fn finish(mut self) -> Result<MetisGraph, ReadRefusal>
         ensures graph { IfOk result (λ g. (bytes : List ℕ) → StandsFor self bytes → graph_of bytes ≡ Ok g.edges) }
         ensures fault { (f : told.Fault) → result ≡ Err (Fault f) → (bytes : List ℕ) → StandsFor self bytes → graph_of bytes ≡ Err f }

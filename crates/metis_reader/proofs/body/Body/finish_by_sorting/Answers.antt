@@ -1,0 +1,108 @@
+use Rattle.std.proofs.Common.{◌≡◌, ◌≤◌, ◌<◌, ◌-◌, ◌++◌, ℕ, List, length, get_or, drop, arith, subst, sym, ap, ◌∙◌, length-append}
+use Rattle.std.specs.List.{All}
+use Rattle.std.specs.List.Sorted.{IsPermutation}
+use Rattle.std.proofs.lemmas.List.{take_at}
+use Rattle.std.proofs.lemmas.List.Elements.{All-weaker, All-append, All-same}
+use Rattle.std.proofs.lemmas.List.Sorted.{IsPermutation-append_comm, IsPermutation-trans, All-permutation}
+use Rattle.cut_definitions.specs.declared.edge_list.Edge.{Edge}
+use Rattle.cut_definitions.specs.Graph.{IsEdgeWithin, IsEdgeList}
+use Rattle.metis_reader.specs.declared.body.Body.{Body}
+use Rattle.metis_reader.specs.Meeting.{met_from}
+use Rattle.metis_reader.specs.Bodies.{greater_of, lesser_of}
+use Rattle.metis_reader.specs.Ending.{TellsFirst}
+use Rattle.metis_reader.specs.File.{end_findings}
+use Rattle.metis_reader.proofs.Meeting.{All-met}
+use Rattle.metis_reader.proofs.EndLaw.{mismatch_inside}
+use Rattle.metis_reader.proofs.BodyEnd.{body_mismatch, body_accepted, matched_is_edge_list}
+use Rattle.metis_reader.proofs.body.Body.finish_by_sorting.Goals as goal
+use Rattle.metis_reader.proofs.body.Body.finish_by_sorting.Goals.{After-as_mut_slice-2, After-deref-in-Some, After-shrink_to_fit}
+
+pub put_back-requires : goal.put_back-requires
+put_back-requires c =
+    let b = c.args.self in
+    let g : length c.deref.result.now ≡ length b.greater.items = ap length c.deref.ensures.value in
+    omega (arith, b.counted, b.entries_fit, b.lesser_room, length-append (met_from 0 b.cursors.items b.greater.items) b.lesser.items)
+
+back : (b : Body) (l g : List Edge) (cursors : List ℕ) → g ≡ b.greater.items → cursors ≡ b.cursors.items → l ≡ b.lesser.items ++ met_from 0 cursors g → IsPermutation (lesser_of b) l
+back b l g cursors is_g is_c is =
+    subst (λ l. IsPermutation (lesser_of b) l)
+    (sym (is ∙ ap (λ g. b.lesser.items ++ met_from 0 cursors g) is_g ∙ ap (λ cursors. b.lesser.items ++ met_from 0 cursors b.greater.items) is_c))
+    (IsPermutation-append_comm (met_from 0 b.cursors.items b.greater.items) b.lesser.items)
+
+greater_inside : (b : Body) (g : List Edge) → g ≡ b.greater.items → All (IsEdgeWithin b.header.vertices) g
+greater_inside b g is = All-same (IsEdgeWithin b.header.vertices) g b.greater.items is b.greater_within
+
+lesser_inside : (b : Body) (l : List Edge) → IsPermutation (lesser_of b) l → All (IsEdgeWithin b.header.vertices) l
+lesser_inside b l moved =
+    let P : Edge → Type 0 = IsEdgeWithin b.header.vertices in
+    All-permutation P (lesser_of b) l moved
+    (All-append P (met_from 0 b.cursors.items b.greater.items) b.lesser.items (All-met P 0 b.cursors.items b.greater.items b.greater_within) b.lesser_within)
+
+lesser_back : (c : After-as_mut_slice-2) → IsPermutation (lesser_of c.args.self) c.as_mut_slice-2.result.now
+lesser_back c = back c.args.self c.as_mut_slice-2.result.now c.deref.result.now c.deref-2.result.now c.deref.ensures.value c.deref-2.ensures.value (c.as_mut_slice-2.ensures.value ∙ c.put_back.ensures)
+
+pub mismatch-requires : goal.mismatch-requires
+mismatch-requires c =
+    All-weaker (IsEdgeWithin c.args.self.header.vertices) (λ (e : Edge). e.u < e.v) (λ e h. h.1) c.as_mut_slice.result.now
+    (greater_inside c.args.self c.as_mut_slice.result.now c.as_mut_slice.ensures.value)
+
+pub fault_of_vertex-requires-clause-from_one : goal.fault_of_vertex-requires-clause-from_one
+fault_of_vertex-requires-clause-from_one c =
+    let b = c.args.self in
+    let l = back b c.as_mut_slice-2.result.now c.deref.result.now c.deref-2.result.now c.deref.ensures.value c.deref-2.ensures.value (c.as_mut_slice-2.ensures.value ∙ c.put_back.ensures) in
+    (mismatch_inside b.header.vertices c.in-Some.vertex c.in-Some.kind c.as_mut_slice.result.now c.as_mut_slice-2.result.now
+    (greater_inside b c.as_mut_slice.result.now c.as_mut_slice.ensures.value) (lesser_inside b c.as_mut_slice-2.result.now l) c.in-Some.ensures.some).0
+
+pub fault_of_vertex-requires-clause-has_line : goal.fault_of_vertex-requires-clause-has_line
+fault_of_vertex-requires-clause-has_line c =
+    let b = c.args.self in
+    let l = back b c.as_mut_slice-2.result.now c.deref.result.now c.deref-2.result.now c.deref.ensures.value c.deref-2.ensures.value (c.as_mut_slice-2.ensures.value ∙ c.put_back.ensures) in
+    let most : c.in-Some.vertex ≤ b.header.vertices = (mismatch_inside b.header.vertices c.in-Some.vertex c.in-Some.kind c.as_mut_slice.result.now c.as_mut_slice-2.result.now
+    (greater_inside b c.as_mut_slice.result.now c.as_mut_slice.ensures.value) (lesser_inside b c.as_mut_slice-2.result.now l) c.in-Some.ensures.some).1 in
+    let all : b.header.vertices ≤ length b.numbers.items = c.requires.lines in
+    let same : length c.deref-in-Some.result.now ≡ length b.numbers.items = ap length c.deref-in-Some.ensures.value in
+    omega arith
+
+pub returns-in-Some : goal.returns-in-Some
+returns-in-Some c = λ header done end lines shows rows.
+    let b = c.args.self in
+    let l = back b c.as_mut_slice-2.result.now c.deref.result.now c.deref-2.result.now c.deref.ensures.value c.deref-2.ensures.value (c.as_mut_slice-2.ensures.value ∙ c.put_back.ensures) in
+    let inside = mismatch_inside b.header.vertices c.in-Some.vertex c.in-Some.kind c.as_mut_slice.result.now c.as_mut_slice-2.result.now
+    (greater_inside b c.as_mut_slice.result.now c.as_mut_slice.ensures.value) (lesser_inside b c.as_mut_slice-2.result.now l) c.in-Some.ensures.some in
+    subst (λ f. TellsFirst f (end_findings header end lines done)) (sym c.fault_of_vertex.ensures)
+    (subst (λ xs. TellsFirst (record { kind = c.in-Some.kind; line = get_or xs (c.in-Some.vertex - 1) 0 }) (end_findings header end lines done)) (sym c.deref-in-Some.ensures.value)
+    (body_mismatch b header done end lines c.in-Some.vertex b.header.vertices c.in-Some.kind c.as_mut_slice.result.now c.as_mut_slice-2.result.now shows rows
+    c.requires.lines c.requires.entries c.as_mut_slice.ensures.value l (lesser_inside b c.as_mut_slice-2.result.now l) c.in-Some.ensures.some inside.0))
+
+-- the edges that are kept are the sorted entries to greater neighbours
+edges_kept : (c : After-shrink_to_fit) → c.shrink_to_fit.new.self.items ≡ c.mismatch.new.greater
+edges_kept c =
+    c.shrink_to_fit.ensures.items
+    ∙ take_at c.mismatch.new.greater (drop (length c.mismatch.new.greater) c.args.self.greater.items) c.args.self.greater.len (c.mismatch.auto.greater ∙ c.as_mut_slice.ensures.len)
+
+record Matched (b : Body) (sorted : List Edge) : Type 0 where
+  greater : IsPermutation (greater_of b) sorted
+  lesser : IsPermutation (lesser_of b) sorted
+
+matched : (c : After-shrink_to_fit) → Matched c.args.self c.mismatch.new.greater
+matched c =
+    let b = c.args.self in
+    let l = back b c.as_mut_slice-2.result.now c.deref.result.now c.deref-2.result.now c.deref.ensures.value c.deref-2.ensures.value (c.as_mut_slice-2.ensures.value ∙ c.put_back.ensures) in
+    record {
+      greater = subst (λ g. IsPermutation g c.mismatch.new.greater) c.as_mut_slice.ensures.value c.mismatch.ensures.greater;
+      lesser = IsPermutation-trans (lesser_of b) c.as_mut_slice-2.result.now c.mismatch.new.greater l c.in_default.ensures.lesser;
+    }
+
+pub from_edges-requires : goal.from_edges-requires
+from_edges-requires c =
+    let m = matched c in
+    subst (λ edges. IsEdgeList (record { vertices = c.args.self.header.vertices; edges = edges })) (sym (edges_kept c))
+    (matched_is_edge_list c.args.self c.mismatch.new.greater m.greater m.lesser c.in_default.ensures.ascends)
+
+pub returns : goal.returns
+returns c = λ header done end lines shows rows.
+    let at = (goal.at.returns c).After-shrink_to_fit in
+    let m = matched at in
+    let b = c.args.self in
+    let accepted = body_accepted b header done end lines c.mismatch.new.greater shows rows c.requires.lines c.requires.entries m.greater m.lesser c.in_default.ensures.ascends in
+    (accepted.0, accepted.1 ∙ sym (subst (λ edges. c.from_edges.result ≡ record { vertices = b.header.vertices; edges = edges }) (edges_kept at) c.from_edges.ensures))

@@ -1,0 +1,25 @@
+use Rattle.std.proofs.Common.{◌≡◌, ◌≤◌, ◌+◌, ◌*◌, ◌++◌, ℕ, List, length, arith, ap, sym, subst, ◌∙◌, length-append}
+use Rattle.std.specs.List.Sorted.{IsPermutation}
+use Rattle.std.proofs.lemmas.Grind.{common_steps}
+use Rattle.std.proofs.lemmas.List.{append-nil, nil_from_length}
+use Rattle.std.proofs.lemmas.List.Sorted.{IsPermutation-refl}
+use Rattle.cut_definitions.specs.declared.edge_list.Edge.{Edge}
+use Rattle.metis_reader.specs.Meeting.{met_from, with_met}
+use Rattle.metis_reader.proofs.Meeting.{all_met, met_length}
+use Rattle.metis_reader.proofs.body.Body.is_met.Goals as goal
+
+-- no entry is left, and as many were met as there are to greater neighbours
+whole : (g : List Edge) (cursors : List ℕ) (l : List Edge) (entries : ℕ) → length l ≡ 0 → 2 * length g ≤ entries → entries ≡ length g + length (with_met g cursors l)
+    → IsPermutation (with_met g cursors l) g
+whole g cursors l entries none half counted =
+    let len : length (met_from 0 cursors g ++ l) ≡ length (met_from 0 cursors g) + length l = length-append (met_from 0 cursors g) l in
+    let few : length (met_from 0 cursors g) ≤ length g = met_length 0 cursors g in
+    let all : met_from 0 cursors g ≡ g = all_met 0 cursors g (omega arith) in
+    let is : with_met g cursors l ≡ g = ap (λ ys. met_from 0 cursors g ++ ys) (nil_from_length l none) ∙ append-nil (met_from 0 cursors g) ∙ all in
+    subst (λ xs. IsPermutation xs g) (sym is) (IsPermutation-refl g)
+
+pub returns-clause-lesser : goal.returns-clause-lesser
+returns-clause-lesser c = λ yes.
+    let none : length c.args.self.now.lesser.items ≡ 0 = grind (arith, common_steps) in
+    let most : 2 * length c.args.self.now.greater.items ≤ c.args.self.now.entries = grind (arith, common_steps) in
+    whole c.args.self.now.greater.items c.args.self.now.cursors.items c.args.self.now.lesser.items c.args.self.now.entries none most c.args.self.now.counted
