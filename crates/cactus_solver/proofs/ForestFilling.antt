@@ -53,7 +53,7 @@ placed_below n homes j x p v l h =
 placed_cuts : (x : Node) → blocks x ≡ [] → cuts x ≡ []
 placed_cuts x e = ap (λ (q : Part). q.cuts) (part_out x) ∙ ap (λ bs. (together (map block_part bs)).cuts) e
 
-placed_entered : (x : Node) → blocks x ≡ [] → entered x ≡ vertices x ∷ []
+pub placed_entered : (x : Node) → blocks x ≡ [] → entered x ≡ vertices x ∷ []
 placed_entered x e = entered_out x ∙ ap (λ bs. vertices x ∷ flat_map entered_block bs) e
 
 placed_widths : (x : Node) → blocks x ≡ [] → widths x ≡ []

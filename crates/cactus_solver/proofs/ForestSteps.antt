@@ -36,10 +36,10 @@ head_kept (z ∷ zs) after group x y d e = refl
 count_permutation : {X : Type 0} (test : X → Bool) (xs ys : List X) → IsPermutation xs ys → length (filter test ys) ≡ length (filter test xs)
 count_permutation test xs ys h = length-filter test ys ∙ sum_by-IsPermutation (λ x. cond (test x) 1 0) xs ys h ∙ sym (length-filter test xs)
 
-front_all : {X : Type 0} (P : X → Type 0) (xs ys : List X) → All P (xs ++ ys) → All P xs
+pub front_all : {X : Type 0} (P : X → Type 0) (xs ys : List X) → All P (xs ++ ys) → All P xs
 front_all P xs ys h = subst (All P) (take-append_seam xs ys) (All-take P (length xs) (xs ++ ys) h)
 
-back_all : {X : Type 0} (P : X → Type 0) (xs ys : List X) → All P (xs ++ ys) → All P ys
+pub back_all : {X : Type 0} (P : X → Type 0) (xs ys : List X) → All P (xs ++ ys) → All P ys
 back_all P xs ys h = subst (All P) (drop-append_seam xs ys) (All-drop P (length xs) (xs ++ ys) h)
 
 pub hung_length : (upper : ℕ) (b : Block) (first : ℕ) (nodes new : List Node) → first < length nodes → IsChangedAt upper (AddsBlock b) (take first nodes) new → length new ≡ first

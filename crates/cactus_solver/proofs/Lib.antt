@@ -33,6 +33,7 @@ pub mod ForestFilling
 pub mod ForestSteps
 pub mod ForestBlocks
 pub mod ForestEnds
+pub mod FilledNodes
 pub mod Halves
 pub mod Rounds
 pub mod FewParts

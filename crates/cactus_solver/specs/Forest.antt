@@ -39,6 +39,10 @@ AddsBlock b x y = (vertices y ≡ vertices x) × (blocks y ≡ blocks x ++ b ∷
 abbrev pub IsPlaced : ℕ → (ℕ → ℕ) → ℕ → Node → Type 0
 IsPlaced n homes place x = (vertices x ≡ filter (λ v. homes v == place) (range_with_len 1 n)) × (blocks x ≡ [])
 
+-- a node has a vertex
+abbrev pub IsFilled : Node → Type 0
+IsFilled x = 1 ≤ length (vertices x)
+
 -- a block has several nodes, from the last to the first: a bridge where it is one, and a cycle where they are more
 pub record IsBlockOf (nodes : List Node) (b : Block) : Type 0 where
   pub part : block_part b ≡ cycle_of (map part (reverse nodes))

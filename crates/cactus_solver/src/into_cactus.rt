@@ -1,13 +1,15 @@
 //! The cactus of a finished tree.
 
-ghost use Rattle.std.specs.Prelude.{ℕ, ◌≡◌, ◌↔◌, ◌+◌, ◌-◌, ◌<◌, ◌≤◌, ◌++◌, [], false, true, IfOk, OnOk, length, reverse, slice_index, take, drop};
+ghost use Rattle.std.specs.Prelude.{ℕ, ◌≡◌, ◌↔◌, ◌+◌, ◌-◌, ◌<◌, ◌≤◌, ◌++◌, [], false, true, IfOk, IsFalse, IsTrue, OnOk, length, reverse, slice_index, take, drop};
 ghost use Rattle.std.specs.List.{All, Contains, filter, range_with_len};
 ghost use Rattle.cut_definitions.specs.Weight.{VertexSet};
+ghost use Rattle.cactus_tree.specs.Different.{HaveSameSides, HasNoEmptySide};
+ghost use Rattle.cactus_tree.specs.Normal.{is_normal};
 ghost use Rattle.cactus_tree.specs.Trees.{blocks, nodes_in, vertices};
 ghost use Rattle.cactus_tree.specs.Rooted.{sides_of};
 ghost use Rattle.cactus_solver.specs.Finished.{arrays_of};
 ghost use Rattle.cactus_solver.specs.Flat.{AreNodes, is_follower, sets_of};
-ghost use Rattle.cactus_solver.specs.Forest.{AddsBlock, AddsVertex, AreFrom, IsBlockOf, IsChangedAt, IsForest, IsPlaced};
+ghost use Rattle.cactus_solver.specs.Forest.{AddsBlock, AddsVertex, AreFrom, IsBlockOf, IsChangedAt, IsFilled, IsForest, IsPlaced};
 ghost use Rattle.cactus_solver.specs.TreeSets.{IsTreeSide};
 
 use crate::homed_tree::HomedTree;
@@ -169,22 +171,45 @@ fn hang_from(
     Ok(())
 }
 
+/// Whether each node has a vertex.
+fn have_vertices(nodes: &[Node]) -> bool
+    ensures yes { IsTrue result → All IsFilled nodes.now }
+    ensures no { IsFalse result → ¬ (All IsFilled nodes.now) }
+{
+    for node in nodes {
+        if node.vertices.len() == 0 {
+            return false;
+        }
+    }
+    true
+}
+
+/// A cactus, and whether each of its nodes has a vertex.
+#[derive(Drop)]
+pub struct MadeCactus {
+    pub cactus: Cactus,
+    pub is_filled: bool,
+}
+
 /// The cactus of a finished tree over the vertices 1 to n, whose sides are those of the tree.
 ///
-/// Nodes that follow each other are in one cycle, and a node alone hangs by a bridge; the node of vertex 1 is the root. Each
-/// list has just the room that it needs. It takes memory in proportion to the nodes and vertices, and is refused only where
-/// that is wanting. One step for each node and vertex, in loops, so that a deep tree does not run out of stack.
-pub fn cactus_of_tree(alloc: Global, tree: HomedTree, n: u32) -> Result<Cactus, NoMemory>
+/// Nodes that follow each other are in one cycle, and a node alone hangs by a bridge; the node of vertex 1 is the root. So
+/// each cycle has three nodes or more, and where no node is empty the cactus is normal. Each list has just the room that it
+/// needs. It takes memory in proportion to the nodes and vertices, and is refused only where that is wanting. One step for
+/// each node and vertex, in loops, so that a deep tree does not run out of stack.
+pub fn cactus_of_tree(alloc: Global, tree: HomedTree, n: u32) -> Result<MadeCactus, NoMemory>
     requires some { 1 ≤ n }
     requires homes { length tree.homes.items ≡ n + 1 }
     requires nodes { AreNodes (arrays_of tree) }
     requires one { slice_index tree.homes.items 1 ≡ 0 }
-    ensures n { IfOk result (λ c. c.vertices ≡ n) }
-    ensures sides { IfOk result (λ c. (x : VertexSet) → Contains (sides_of c) (filter x (range_with_len 1 n)) ↔ IsTreeSide n (sets_of (arrays_of tree)) x) }
+    ensures n { IfOk result (λ m. m.cactus.vertices ≡ n) }
+    ensures sides { IfOk result (λ m. (x : VertexSet) → Contains (sides_of m.cactus) (filter x (range_with_len 1 n)) ↔ IsTreeSide n (sets_of (arrays_of tree)) x) }
+    ensures filled { IfOk result (λ m. IsTrue m.is_filled → is_normal m.cactus.root ≡ true) }
 {
     let HomedTree { tree, homes } = tree;
     let mut first = tree.len();
     let mut nodes = filled_nodes(alloc, &tree, homes, n)?;
+    let is_filled = have_vertices(&nodes);
     'nodes: while first > 1 {
         first -= 1;
         if tree.is_follower(first) {
@@ -193,5 +218,23 @@ pub fn cactus_of_tree(alloc: Global, tree: HomedTree, n: u32) -> Result<Cactus, 
         hang_from(alloc, &mut nodes, first, tree.upper(first))?;
     }
     let root = nodes.pop().unwrap();
-    Ok(Cactus::from_root(n, root))
+    let cactus = Cactus::from_root(n, root);
+    Ok(MadeCactus { cactus, is_filled })
+}
+
+/// The normal form of a cactus that was made of a tree: where each node has a vertex, the cactus as it is.
+///
+/// Else it costs one step for each node and block, and memory in proportion to the nodes.
+pub fn normal_form(alloc: Global, made: MadeCactus) -> Result<Cactus, NoMemory>
+    requires filled { IsTrue made.is_filled → is_normal made.cactus.root ≡ true }
+    requires sides { HasNoEmptySide made.cactus }
+    ensures n { IfOk result (λ c. c.vertices ≡ made.cactus.vertices) }
+    ensures normal { IfOk result (λ c. is_normal c.root ≡ true) }
+    ensures sides { IfOk result (λ c. HaveSameSides c made.cactus) }
+{
+    let MadeCactus { cactus, is_filled } = made;
+    if is_filled {
+        return Ok(cactus);
+    }
+    cactus.normal(alloc)
 }

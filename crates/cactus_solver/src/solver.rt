@@ -10,13 +10,14 @@ ghost use Rattle.cactus_solver.specs.Finished.{IsFinished};
 ghost use Rattle.cactus_solver.specs.Solved.{SameMembers};
 
 use crate::homed_tree::HomedTree;
-use crate::into_cactus::cactus_of_tree;
+use crate::into_cactus::{cactus_of_tree, normal_form};
 use crate::sweep::tree_of;
 use cactus_tree::Cactus;
 use cut_definitions::NoMemory;
 use min_value::{Kernel, reduce, value as least_weight};
 use outside::Gate;
 use std::alloc::Global;
+use std::thread::Threads;
 use weighted_graph::Graph;
 
 /// The value of a graph, and a normal cactus whose sides are just its minimum cuts.
@@ -46,7 +47,8 @@ fn tree_by_kernel(alloc: Global, graph: &Graph, kernel: Kernel) -> Result<HomedT
 }
 
 /// The tree of the minimum cuts of a graph whose value is given: by a smaller graph, where edges can be contracted.
-fn tree_at_value<G: Gate>(
+fn tree_at_value<R: Threads + Sync, G: Gate>(
+    rt: &R,
     alloc: Global,
     graph: &Graph,
     value: u64,
@@ -59,7 +61,7 @@ fn tree_at_value<G: Gate>(
     requires workers { (1 ≤ workers) × (workers ≤ 64) }
     ensures { IfOk result (IsFinished graph.now) }
 {
-    match reduce(alloc, graph, value, workers, gate)? {
+    match reduce(rt, alloc, graph, value, workers, gate)? {
         Some(kernel) => tree_by_kernel(alloc, graph, kernel),
         None => tree_of(alloc, graph, value),
     }
@@ -69,9 +71,11 @@ fn tree_at_value<G: Gate>(
 ///
 /// The value comes from rounds of contraction and a sweep of flows. Then scans or rounds contract edges that lie in no minimum
 /// cut, where there are some, and the sweep over regions makes the tree of what is left. Each vertex of the graph is put into
-/// the node of its class, and the cactus is made of that, once all else is given back, and made normal. Memory is in proportion to n + m. The
-/// workers and the gate are handed to the search for the value and to the rounds. It is refused only where memory is wanting.
-pub fn solve<G: Gate>(
+/// the node of its class, and the cactus is made of that, once all else is given back, and made normal where a node has no
+/// vertex. Memory is in proportion to n + m. The runtime, the workers and the gate are handed to the search for the value and
+/// to the rounds. It is refused only where memory is wanting.
+pub fn solve<R: Threads + Sync, G: Gate>(
+    rt: &R,
     alloc: Global,
     graph: &Graph,
     workers: u32,
@@ -86,9 +90,9 @@ pub fn solve<G: Gate>(
     ensures normal { IfOk result (λ s. is_normal s.cactus.root ≡ true) }
 {
     let n = graph.n();
-    let value = least_weight(alloc, graph, workers, gate)?;
-    let tree = tree_at_value(alloc, graph, value, workers, gate)?;
-    let whole = cactus_of_tree(alloc, tree, n)?;
-    let cactus = whole.normal(alloc)?;
+    let value = least_weight(rt, alloc, graph, workers, gate)?;
+    let tree = tree_at_value(rt, alloc, graph, value, workers, gate)?;
+    let made = cactus_of_tree(alloc, tree, n)?;
+    let cactus = normal_form(alloc, made)?;
     Ok(Solved { value, cactus })
 }

@@ -1,13 +1,16 @@
-use Rattle.std.proofs.Common.{◌≡◌, ◌↔◌, ◌-◌, ◌<◌, ◌≤◌, ◌∙◌, ℕ, false, sym, subst, length, take, arith}
+use Rattle.std.proofs.Common.{◌≡◌, ◌↔◌, ◌-◌, ◌<◌, ◌≤◌, ◌∙◌, ℕ, false, true, sym, subst, length, take, arith}
 use Rattle.std.specs.Prelude.{slice_index}
-use Rattle.std.specs.List.{Contains, filter, range_with_len}
+use Rattle.std.specs.List.{All, Contains, filter, flat_map, range_with_len}
+use Rattle.cactus_tree.specs.Entered.{entered}
+use Rattle.cactus_tree.specs.Normal.{is_normal}
 use Rattle.cactus_tree.specs.Rooted.{Rooted, sides_of}
 use Rattle.cactus_solver.specs.TreeSets.{IsTreeSide}
 use Rattle.cactus_solver.specs.Finished.{arrays_of}
 use Rattle.cactus_solver.specs.Flat.{NodeArrays, is_follower, sets_of}
-use Rattle.cactus_solver.specs.Forest.{AddsBlock, IsChangedAt, IsForest}
+use Rattle.cactus_solver.specs.Forest.{AddsBlock, IsChangedAt, IsFilled, IsForest}
 use Rattle.cactus_solver.proofs.ForestFilling.{started}
 use Rattle.cactus_solver.proofs.ForestSteps.{stepped, hung_length}
+use Rattle.cactus_solver.proofs.FilledNodes.{AreFilled, filled_hung, filled_placed, filled_root}
 use Rattle.cactus_solver.proofs.ForestEnds.{root_left, cactus_is, sides_are}
 use Rattle.cactus_solver.proofs.into_cactus.cactus_of_tree.Goals as goal
 
@@ -21,6 +24,7 @@ nodes-init c =
       within = omega (arith, many, c.len-first.ensures.uppers);
       few = omega (arith, many);
       forest = started c.args.n a nodes c.requires.some c.requires.nodes (sym c.len-first.ensures.follows ∙ c.len-first.ensures.uppers) c.requires.one many c.in_ok-nodes.ensures.placed;
+      filled = λ t. filled_placed c.args.n a.homes 0 nodes c.in_ok-nodes.ensures.placed (subst (All IsFilled) c.deref.ensures.value (c.have_vertices-is_filled.ensures.yes t));
       pending = λ j l m. absurd (omega (arith, l, m, many, c.len-first.ensures.uppers));
     }
 
@@ -43,11 +47,12 @@ nodes-preserved c =
       within = omega (arith, few);
       few = omega (arith, few, within, i.few);
       forest = stepped c.args.n a c.requires.nodes nodes i.few i.forest first one within lead (λ j l m. i.pending j (omega (arith, l)) m) hung.0 hung.1 new below;
+      filled = λ t. filled_hung (slice_index c.args.tree.tree.uppers first) first hung.0 nodes new hung.1 below (i.filled t);
       pending = λ j l m. absurd (omega (arith, l, m, few));
     }
 
-pub from_root-requires : goal.from_root-requires
-from_root-requires c =
+pub from_root-cactus-requires : goal.from_root-cactus-requires
+from_root-cactus-requires c =
     let a : NodeArrays = arrays_of c.args.tree in
     let i = c.nodes.invariant in
     let root = c.unwrap-root.result in
@@ -60,5 +65,14 @@ returns-clause-sides c = λ x.
     let i = c.nodes.invariant in
     let root = c.unwrap-root.result in
     let left = root_left a c.nodes.nodes.items c.pop.new.self.items c.pop.result root c.nodes.first c.requires.nodes c.nodes-test.false i.low i.within i.few i.pending c.pop.ensures.items c.unwrap-root.ensures in
-    subst (λ (r : Rooted). Contains (sides_of r) (filter x (range_with_len 1 c.args.n)) ↔ IsTreeSide c.args.n (sets_of a) x) (sym c.from_root.ensures)
+    subst (λ (r : Rooted). Contains (sides_of r) (filter x (range_with_len 1 c.args.n)) ↔ IsTreeSide c.args.n (sets_of a) x) (sym c.from_root-cactus.ensures)
     (sides_are c.args.n a root (subst (IsForest c.args.n a) left i.forest) x)
+
+pub returns-clause-filled : goal.returns-clause-filled
+returns-clause-filled c = λ t.
+    let a : NodeArrays = arrays_of c.args.tree in
+    let i = c.nodes.invariant in
+    let root = c.unwrap-root.result in
+    let left = root_left a c.nodes.nodes.items c.pop.new.self.items c.pop.result root c.nodes.first c.requires.nodes c.nodes-test.false i.low i.within i.few i.pending c.pop.ensures.items c.unwrap-root.ensures in
+    subst (λ (r : Rooted). is_normal r.root ≡ true) (sym c.from_root-cactus.ensures)
+    (filled_root c.args.n a root (subst (IsForest c.args.n a) left i.forest) (subst (λ l. AreFilled (flat_map entered l)) left (i.filled t)))

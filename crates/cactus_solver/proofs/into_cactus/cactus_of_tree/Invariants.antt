@@ -1,8 +1,11 @@
 use Rattle.std.proofs.Common.{◌≡◌, ℕ, ◌<◌, ◌≤◌, true, length}
-use Rattle.std.specs.Prelude.{slice_index}
+use Rattle.std.specs.Prelude.{slice_index, IsTrue}
+use Rattle.std.specs.List.{flat_map}
+use Rattle.cactus_tree.specs.Entered.{entered}
 use Rattle.cactus_solver.specs.Finished.{arrays_of}
 use Rattle.cactus_solver.specs.Flat.{is_follower}
 use Rattle.cactus_solver.specs.Forest.{IsForest}
+use Rattle.cactus_solver.proofs.FilledNodes.{AreFilled}
 use Rattle.cactus_solver.proofs.into_cactus.cactus_of_tree.Given as goal
 
 abbrev pub invariant-nodes : goal.invariant-nodes
@@ -11,6 +14,7 @@ invariant-nodes l = record {
   within : l.first ≤ length l.nodes.items;
   few : length l.nodes.items ≤ length l.fn.tree.tree.uppers;
   forest : IsForest l.fn.n (arrays_of l.fn.tree) l.nodes.items;
+  filled : IsTrue l.is_filled → AreFilled (flat_map entered l.nodes.items);
   pending : (j : ℕ) → l.first ≤ j → j < length l.nodes.items → is_follower l.fn.tree.tree.follows j ≡ true;
 }
 
