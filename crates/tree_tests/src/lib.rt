@@ -1,10 +1,12 @@
-//! Tests of the rooted cactus, its listings, balances and texts, over small trees whose sides are known.
+//! Tests of the rooted cactus, its canonical form, its listings, balances and texts, over small trees whose sides are known.
 #![tactic(auto)]
 
 #[cfg(test)]
 mod balances;
 #[cfg(test)]
 mod cactuses;
+#[cfg(test)]
+mod canonicals;
 #[cfg(test)]
 mod counts;
 #[cfg(test)]

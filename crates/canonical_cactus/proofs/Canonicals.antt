@@ -1,0 +1,107 @@
+-- A tree that shows what was read off a cactus without an empty side is a canonical cactus with the same sides.
+use Rattle.std.proofs.Common.{◌≡◌, ℕ, ◌≤◌, ◌<◌, inl, inr, true, List, [], ◌∷◌, length, map, ap, ◌∙◌, sym, refl, subst, arith}
+use Rattle.std.specs.Prelude.{slice_index_or}
+use Rattle.std.specs.List.{All, Contains, filter, range_with_len}
+use Rattle.std.proofs.lemmas.Bool.{false≢true, or_left, and_from}
+use Rattle.std.proofs.lemmas.List.{map-id}
+use Rattle.std.proofs.lemmas.List.Elements.{All-nil, All-cons, All-contains}
+use Rattle.cut_definitions.specs.Weight.{VertexSet}
+use Rattle.cut_definitions.specs.Cuts.{has, IsAscendingWithin}
+use Rattle.cut_definitions.proofs.Lists.{Contains-here, Contains-there, Contains-cons_cases, Contains-map, Contains-from_map}
+use Rattle.cactus_tree.specs.Sides.{Part, part, block_part, nothing, all_of, belows}
+use Rattle.cactus_tree.specs.Trees.{vertices, blocks}
+use Rattle.cactus_tree.specs.Entered.{entered}
+use Rattle.cactus_tree.specs.Entries.{read_node, kept}
+use Rattle.cactus_tree.specs.Rooted.{Rooted, IsCactus, sides_of}
+use Rattle.cactus_tree.specs.Normal.{is_normal}
+use Rattle.cactus_tree.specs.Widths.{widths}
+use Rattle.cactus_tree.specs.Different.{HaveSameSides, HasNoEmptySide}
+use Rattle.cactus_tree.specs.Trims.{SameSets, NoneEmpty}
+use Rattle.cactus_tree.specs.declared.tree.Node.{Node}
+use Rattle.cactus_tree.proofs.Clean.{root_clean}
+use Rattle.cactus_tree.proofs.Groups.{contains_has}
+use Rattle.cactus_tree.proofs.Lifts.{own_lists}
+use Rattle.cactus_tree.proofs.Orders.{entered_out}
+use Rattle.cactus_tree.proofs.Shapes.{root_normal}
+use Rattle.cactus_tree.proofs.Trims.{below_out}
+use Rattle.canonical_cactus.specs.Canonical.{arranged, is_canonical}
+use Rattle.canonical_cactus.specs.Laws.{over}
+use Rattle.canonical_cactus.specs.Making.{AreApart, ShowsNode, IsGood, IsNodeOf}
+use Rattle.canonical_cactus.specs.declared.parts.Placed.{Placed}
+
+-- ---- no cut is empty
+filter_nothing : (xs : List ℕ) → filter nothing xs ≡ []
+filter_nothing [] = refl
+filter_nothing (x ∷ xs) = filter_nothing xs
+
+none_empty : (n : ℕ) (root : Node) → IsCactus n root → HasNoEmptySide (over n root) → NoneEmpty ((part root).below ∷ (part root).cuts)
+none_empty n root h some c = elim (Contains-cons_cases (part root).below (part root).cuts nothing c) [
+  | inl k ↦ (
+      let later : VertexSet = all_of (belows (map block_part (blocks root))) in
+      let one : (part root).below 1 ≡ true = ap (λ (s : VertexSet). s 1) (below_out root) ∙ or_left (has (vertices root) 1) (later 1) (contains_has (vertices root) 1 h.root_has_one) in
+      false≢true (sym (ap (λ (s : VertexSet). s 1) k) ∙ one))
+  | inr k ↦ (
+      let list : VertexSet → List ℕ = λ s. filter s (range_with_len 1 n) in
+      let long : 0 < length (list nothing) = All-contains (λ side. 0 < length side) (map list (part root).cuts) (list nothing) some (Contains-map list (part root).cuts nothing k) in
+      let none : length (list nothing) ≡ 0 = ap length (filter_nothing (range_with_len 1 n)) in
+      omega (arith, long, none))
+]
+
+good_root : (n : ℕ) (root : Node) → IsCactus n root → HasNoEmptySide (over n root) → IsGood ((read_node has kept root).part.below ∷ (read_node has kept root).part.cuts) (read_node has kept root)
+good_root n root h some = record {
+  cuts = subst (λ (p : Part). NoneEmpty (p.below ∷ p.cuts)) (own_lists root) (none_empty n root h some);
+  wide = h.wide;
+  apart = subst AreApart (sym (map-id (entered root))) (root_clean n root h).once;
+}
+
+-- ---- the tree
+all_from : {X : Type 0} (P : X → Type 0) (xs : List X) → ((x : X) → Contains xs x → P x) → All P xs
+all_from P [] h = All-nil P
+all_from P (x ∷ xs) h = All-cons P x xs (h x (Contains-here x xs)) (all_from P xs (λ y k. h y (Contains-there x xs y k)))
+
+same_vertices : (root x : Node) → ShowsNode (read_node has kept root) x → vertices x ≡ vertices root
+same_vertices root x s = s.own ∙ ap (λ ls. slice_index_or (map kept ls) 0 []) (entered_out root)
+
+shown_cactus : (n : ℕ) (root x : Node) → IsCactus n root → ShowsNode (read_node has kept root) x → IsCactus n x
+shown_cactus n root x h s = record {
+  ascending = all_from (IsAscendingWithin 1 n) (entered x) (λ l k. elim (s.lists.members l k) [
+    | inl e ↦ subst (IsAscendingWithin 1 n) (sym e) tt
+    | inr t ↦ All-contains (IsAscendingWithin 1 n) (entered root) l h.ascending (subst (λ ls. Contains ls l) (map-id (entered root)) t)
+  ]);
+  in_one_node = λ v l k. s.lists.often v ∙ ap (λ ls. length (filter (λ m. has m v) ls)) (map-id (entered root)) ∙ h.in_one_node v l k;
+  root_has_one = subst (λ l. Contains l 1) (sym (same_vertices root x s)) h.root_has_one;
+  wide = all_from (λ k. 2 ≤ k) (widths x) (λ k m. omega (arith, s.wide k m));
+}
+
+shown_canonical : (n : ℕ) (root x : Node) → IsCactus n root → ShowsNode (read_node has kept root) x → is_canonical x ≡ true
+shown_canonical n root x h s = and_from (is_normal x) (arranged x).in_order (root_normal x 1 (subst (λ l. Contains l 1) (sym (same_vertices root x s)) h.root_has_one) ∙ s.fine) s.in_order
+
+shown_cuts : (root x : Node) → ShowsNode (read_node has kept root) x → SameSets (part x).cuts (part root).cuts
+shown_cuts root x s = subst (λ (p : Part). SameSets (part x).cuts p.cuts) (sym (own_lists root)) s.cuts
+
+one_way : (n : ℕ) (x y : Node) → ((s : VertexSet) → Contains (part x).cuts s → Contains (part y).cuts s) → (side : List ℕ) → Contains (sides_of (over n x)) side → Contains (sides_of (over n y)) side
+one_way n x y f side h =
+    let list : VertexSet → List ℕ = λ s. filter s (range_with_len 1 n) in
+    let r = Contains-from_map list (part x).cuts side h in
+    subst (λ l. Contains (map list (part y).cuts) l) r.2 (Contains-map list (part y).cuts r.0 (f r.0 r.1))
+
+shown_sides : (n : ℕ) (root x : Node) → ShowsNode (read_node has kept root) x → HaveSameSides (over n x) (over n root)
+shown_sides n root x s =
+    let f = shown_cuts root x s in
+    λ side. (one_way n x root (λ t. (f t).0) side, one_way n root x (λ t. (f t).1) side)
+
+-- what is known of a tree that was put together from the entries of a cactus
+pub record IsFinished (k : ℕ) (x : Node) (cactus : Rooted) : Type 0 where
+  pub is_cactus : IsCactus k x
+  pub canonical : is_canonical x ≡ true
+  pub sides : HaveSameSides (over k x) cactus
+
+pub finished : (cactus : Rooted) (k : ℕ) (root : Node) (p : Placed) → IsCactus cactus.vertices cactus.root → HasNoEmptySide cactus → root ≡ cactus.root → k ≡ cactus.vertices → IsNodeOf (read_node has kept root) p → IsFinished k p.node cactus
+finished cactus k root p h some e n f =
+    let s = (subst (λ (y : Node). IsNodeOf (read_node has kept y) p) e f).shows (good_root cactus.vertices cactus.root h some) in
+    let x = p.node in
+    record {
+      is_cactus = subst (λ m. IsCactus m x) (sym n) (shown_cactus cactus.vertices cactus.root x h s);
+      canonical = shown_canonical cactus.vertices cactus.root x h s;
+      sides = subst (λ m. HaveSameSides (over m x) cactus) (sym n) (shown_sides cactus.vertices cactus.root x s);
+    }

@@ -1,0 +1,151 @@
+-- Nodes and blocks are drawn from a stack of finished nodes, and a tree is put together from the last entry.
+use Rattle.std.proofs.Common.{◌≡◌, ℕ, zero, suc, ◌+◌, ◌-◌, ◌≤◌, List, [], ◌∷◌, ◌++◌, length, take, drop, ap, ◌∙◌, sym, refl, subst, arith}
+use Rattle.std.specs.Prelude.{slice_index_or}
+use Rattle.std.proofs.lemmas.List.{append_assoc, append-nil, length-drop, length-take-le}
+use Rattle.cut_definitions.specs.Cuts.{has}
+use Rattle.cactus_tree.specs.Entries.{Read, bridge_read, cycle_read, node_read, nothing_read, used, wanted, drawn, all_drawn}
+use Rattle.cactus_tree.specs.Trims.{Each}
+use Rattle.cactus_tree.specs.declared.tree.entries.Joint as tree_joint
+use Rattle.cactus_tree.proofs.Entries.{drawn_front}
+use Rattle.canonical_cactus.specs.Making.{IsNodeOf, IsChildOf, IsBlockOf, AreNodesOf, AreChildrenOf, AreBlocksOf}
+use Rattle.canonical_cactus.specs.Taken.{joints_of, read_entry, read_entries, left, IsReady}
+use Rattle.canonical_cactus.specs.declared.entries.Entry.{Entry}
+use Rattle.canonical_cactus.specs.declared.parts.Placed.{Placed}
+use Rattle.canonical_cactus.specs.declared.parts.Hung.{Hung}
+use Rattle.canonical_cactus.proofs.Taken.{read_push, left_push, ready_pop}
+
+-- ---- pairs, one by one
+each_push : {X Y : Type 0} (P : X → Y → Type 0) (xs : List X) (ys : List Y) (x : X) (y : Y) → Each P xs ys → P x y → Each P (xs ++ x ∷ []) (ys ++ y ∷ [])
+each_push P [] [] x y h p = (p, tt)
+each_push P [] (z ∷ ys) x y h p = absurd h
+each_push P (w ∷ xs) [] x y h p = absurd h
+each_push P (w ∷ xs) (z ∷ ys) x y h p = (h.0, each_push P xs ys x y h.1 p)
+
+each_length : {X Y : Type 0} (P : X → Y → Type 0) (xs : List X) (ys : List Y) → Each P xs ys → length xs ≡ length ys
+each_length P [] [] h = refl
+each_length P [] (y ∷ ys) h = absurd h
+each_length P (x ∷ xs) [] h = absurd h
+each_length P (x ∷ xs) (y ∷ ys) h = omega (arith, each_length P xs ys h.1)
+
+each_drop : {X Y : Type 0} (P : X → Y → Type 0) (k : ℕ) (xs : List X) (ys : List Y) → Each P xs ys → Each P (drop k xs) (drop k ys)
+each_drop P zero xs ys h = h
+each_drop P (suc k) [] [] h = tt
+each_drop P (suc k) [] (y ∷ ys) h = absurd h
+each_drop P (suc k) (x ∷ xs) [] h = absurd h
+each_drop P (suc k) (x ∷ xs) (y ∷ ys) h = each_drop P k xs ys h.1
+
+each_first : {X Y : Type 0} (P : X → Y → Type 0) (xs : List X) (y : Y) (ys : List Y) → Each P xs (y ∷ ys) → (x : X) × (rest : List X) × (xs ≡ x ∷ rest) × P x y × Each P rest ys
+each_first P [] y ys h = absurd h
+each_first P (x ∷ xs) y ys h = (x, xs, refl, h.0, h.1)
+
+-- ---- nodes are drawn for a cycle
+pub record DrawsNodes (rs : List Read) (nodes stack : List Placed) : Type 0 where
+  pub done : List Read
+  pub rest : List Read
+  pub children : AreChildrenOf done nodes
+  pub nodes_left : AreNodesOf rest stack
+  pub whole : done ++ rest ≡ rs
+
+pub draws_none : (rs : List Read) (nodes stack : List Placed) → nodes ≡ [] → AreNodesOf rs stack → DrawsNodes rs nodes stack
+draws_none rs nodes stack e a = record { done = []; rest = rs; children = subst (AreChildrenOf []) (sym e) tt; nodes_left = a; whole = refl }
+
+pub draws_one : (rs : List Read) (nodes more before after : List Placed) (x y : Placed) → DrawsNodes rs nodes before → before ≡ x ∷ after → more ≡ nodes ++ y ∷ [] → ((r : Read) → IsNodeOf r x → IsChildOf r y) → DrawsNodes rs more after
+draws_one rs nodes more before after x y d b m f =
+    let v = each_first IsNodeOf d.rest x after (subst (AreNodesOf d.rest) b d.nodes_left) in
+    record {
+      done = d.done ++ v.0 ∷ [];
+      rest = v.1;
+      children = subst (AreChildrenOf (d.done ++ v.0 ∷ [])) (sym m) (each_push IsChildOf d.done nodes v.0 y d.children (f v.0 v.3));
+      nodes_left = v.4;
+      whole = append_assoc d.done (v.0 ∷ []) v.1 ∙ ap (λ l. d.done ++ l) (sym v.2) ∙ d.whole;
+    }
+
+pub draws_all : (rs : List Read) (nodes stack : List Placed) (k : ℕ) → length nodes ≡ k → DrawsNodes rs nodes stack → AreChildrenOf (take k rs) nodes
+draws_all rs nodes stack k n d =
+    subst (λ l. AreChildrenOf l nodes) (drawn_front d.done d.rest rs k (each_length IsChildOf d.done nodes d.children ∙ n) d.whole) d.children
+
+-- ---- a bridge is drawn
+pub bridge_drawn : (b : Hung) (x : Placed) (after all : List Placed) (rs : List Read) → all ≡ x ∷ after → ((r : Read) → IsNodeOf r x → IsBlockOf (bridge_read r) b) → AreNodesOf rs all → IsBlockOf (bridge_read (slice_index_or rs 0 nothing_read)) b
+bridge_drawn b x after all rs e f a =
+    let v = each_first IsNodeOf rs x after (subst (AreNodesOf rs) e a) in
+    subst (λ (l : List Read). IsBlockOf (bridge_read (slice_index_or l 0 nothing_read)) b) (sym v.2) (f v.0 v.3)
+
+-- ---- blocks are drawn for a node
+pub record DrawsBlocks (target : List Read) (js : List tree_joint.Joint) (bs : List Hung) (stack : List Placed) : Type 0 where
+  pub done : List Read
+  pub rest : List Read
+  pub blocks_done : AreBlocksOf done bs
+  pub nodes_left : AreNodesOf rest stack
+  pub whole : done ++ all_drawn js rest ≡ target
+
+pub blocks_none : (rs : List Read) (js : List tree_joint.Joint) (bs : List Hung) (stack : List Placed) → bs ≡ [] → AreNodesOf rs stack → DrawsBlocks (all_drawn js rs) js bs stack
+blocks_none rs js bs stack e a = record { done = []; rest = rs; blocks_done = subst (AreBlocksOf []) (sym e) tt; nodes_left = a; whole = refl }
+
+pub blocks_one : (target : List Read) (js later : List tree_joint.Joint) (j : tree_joint.Joint) (bs more : List Hung) (b : Hung) (before after : List Placed) → DrawsBlocks target js bs before → js ≡ j ∷ later → more ≡ bs ++ b ∷ [] →
+    after ≡ drop (used j) before → ((rs : List Read) → AreNodesOf rs before → IsBlockOf (drawn j rs) b) → DrawsBlocks target later more after
+blocks_one target js later j bs more b before after d e m a f = record {
+  done = d.done ++ drawn j d.rest ∷ [];
+  rest = drop (used j) d.rest;
+  blocks_done = subst (AreBlocksOf (d.done ++ drawn j d.rest ∷ [])) (sym m) (each_push IsBlockOf d.done bs (drawn j d.rest) b d.blocks_done (f d.rest d.nodes_left));
+  nodes_left = subst (AreNodesOf (drop (used j) d.rest)) (sym a) (each_drop IsNodeOf (used j) d.rest before d.nodes_left);
+  whole = append_assoc d.done (drawn j d.rest ∷ []) (all_drawn later (drop (used j) d.rest)) ∙ ap (λ (l : List tree_joint.Joint). d.done ++ all_drawn l d.rest) (sym e) ∙ d.whole;
+}
+
+pub blocks_all : (target : List Read) (js : List tree_joint.Joint) (bs : List Hung) (stack : List Placed) → js ≡ [] → DrawsBlocks target js bs stack → AreBlocksOf target bs
+blocks_all target js bs stack e d =
+    subst (λ l. AreBlocksOf l bs) (sym (append-nil d.done) ∙ ap (λ (l : List tree_joint.Joint). d.done ++ all_drawn l d.rest) (sym e) ∙ d.whole) d.blocks_done
+
+-- ---- a tree is put together from the last entry
+pub record Makes (r : Read) (entries : List Entry) (finished : List Placed) : Type 0 where
+  pub reads : List Read
+  pub nodes : AreNodesOf reads finished
+  pub all : read_entries has entries reads ≡ r ∷ []
+
+pub record Puts (all entries : List Entry) (finished : List Placed) : Type 0 where
+  pub ready : IsReady entries (length finished)
+  pub one : left entries (length finished) ≡ 1
+  pub makes : (r : Read) → read_entries has all [] ≡ r ∷ [] → Makes r entries finished
+
+pub puts_none : (all : List Entry) → IsReady all 0 → left all 0 ≡ 1 → Puts all all []
+puts_none all r o = record { ready = r; one = o; makes = λ r e. record { reads = []; nodes = tt; all = e } }
+
+pub puts_enough : (all entries es : List Entry) (e : Entry) (finished : List Placed) → Puts all entries finished → entries ≡ es ++ e ∷ [] → wanted (joints_of e) ≤ length finished
+puts_enough all entries es e finished h p = (ready_pop es e (length finished) (subst (λ (l : List Entry). IsReady l (length finished)) p h.ready)).0
+
+pub puts_one : (all entries es : List Entry) (e : Entry) (x : Placed) (before after : List Placed) → Puts all entries before → entries ≡ es ++ e ∷ [] →
+    ((rs : List Read) → AreNodesOf rs before → IsNodeOf (node_read has e.vertices (all_drawn (joints_of e) rs)) x) → after ≡ drop (wanted (joints_of e)) before → Puts all es (x ∷ after)
+puts_one all entries es e x before after h p made a =
+    let r = ready_pop es e (length before) (subst (λ (l : List Entry). IsReady l (length before)) p h.ready) in
+    let same : length before - wanted (joints_of e) + 1 ≡ length (x ∷ after) = omega (arith, ap length a, length-drop (wanted (joints_of e)) before) in
+    record {
+      ready = subst (IsReady es) same r.1;
+      one = ap (left es) (sym same) ∙ sym (left_push es e (length before)) ∙ ap (λ (l : List Entry). left l (length before)) (sym p) ∙ h.one;
+      makes = λ t begun.
+          let m = h.makes t begun in
+          record {
+            reads = read_entry has e m.reads;
+            nodes = (
+              made m.reads m.nodes,
+              subst (AreNodesOf (drop (wanted (joints_of e)) m.reads)) (sym a) (each_drop IsNodeOf (wanted (joints_of e)) m.reads before m.nodes),
+            );
+            all = sym (read_push has es e m.reads) ∙ ap (λ (l : List Entry). read_entries has l m.reads) (sym p) ∙ m.all;
+          };
+    }
+
+pub puts_all : (all entries : List Entry) (finished : List Placed) (x : Placed) (r : Read) → Puts all entries finished → entries ≡ [] → finished ≡ x ∷ [] → read_entries has all [] ≡ r ∷ [] → IsNodeOf r x
+puts_all all entries finished x r h e f begun =
+    let m = h.makes r begun in
+    let reads : m.reads ≡ r ∷ [] = ap (λ (l : List Entry). read_entries has l m.reads) (sym e) ∙ m.all in
+    (subst (λ (l : List Read). AreNodesOf l (x ∷ [])) reads (subst (AreNodesOf m.reads) f m.nodes)).0
+
+-- ---- a star is drawn
+pub star_drawn : (b : Hung) (x y : Placed) (after all : List Placed) (rs : List Read) → all ≡ x ∷ (y ∷ after) → ((r s : Read) → IsNodeOf r x → IsNodeOf s y → IsBlockOf (cycle_read (r ∷ (s ∷ []))) b) → AreNodesOf rs all → IsBlockOf (cycle_read (take 2 rs)) b
+star_drawn b x y after all rs e f a =
+    let v = each_first IsNodeOf rs x (y ∷ after) (subst (AreNodesOf rs) e a) in
+    let w = each_first IsNodeOf v.1 y after v.4 in
+    let same : take 2 rs ≡ v.0 ∷ (w.0 ∷ []) = ap (take 2) v.2 ∙ ap (λ (l : List Read). take 2 (v.0 ∷ l)) w.2 in
+    subst (λ (l : List Read). IsBlockOf (cycle_read l) b) (sym same) (f v.0 w.0 v.3 w.3)
+
+-- so many of the reads of a stack that has as many nodes
+pub drawn_many : (rs : List Read) (xs : List Placed) (k : ℕ) → AreNodesOf rs xs → k ≤ length xs → length (take k rs) ≡ k
+drawn_many rs xs k a h = length-take-le k rs (omega (arith, h, each_length IsNodeOf rs xs a))

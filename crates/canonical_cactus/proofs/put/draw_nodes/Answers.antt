@@ -1,0 +1,42 @@
+use Rattle.std.proofs.Common.{[], ◌∷◌, ◌≡◌, ◌+◌, length, drop, ◌∙◌, ap, sym, arith}
+use Rattle.std.proofs.lemmas.List.{length-append}
+use Rattle.cactus_tree.specs.Entries.{top_first}
+use Rattle.cactus_tree.proofs.Orders.{popped_is}
+use Rattle.cactus_tree.proofs.Entries.{top_push}
+use Rattle.cactus_tree.proofs.Makes.{dropped_one}
+use Rattle.canonical_cactus.proofs.Draws.{draws_none, draws_one, draws_all}
+use Rattle.canonical_cactus.proofs.put.draw_nodes.Goals as goal
+
+pub draw-init : goal.draw-init
+draw-init c =
+    let none : length c.new-nodes.result.items ≡ 0 = ap length c.new-nodes.ensures.items in
+    record {
+      few = omega (arith, none);
+      rest = omega (arith, none);
+      stack = sym (ap (λ k. drop k (top_first c.args.stack.now.items)) none);
+      draws = λ rs a. draws_none rs c.new-nodes.result.items (top_first c.args.stack.now.items) c.new-nodes.ensures.items a;
+    }
+
+pub draw-preserved : goal.draw-preserved
+draw-preserved c =
+    let node = c.unwrap-node.result in
+    let left = c.pop.new.self.items in
+    let popped = popped_is c.draw.stack.items left c.pop.result node c.pop.ensures.items c.unwrap-node.ensures in
+    let top = ap top_first popped ∙ top_push left node in
+    let longer = length-append c.draw.nodes.items (c.trimmed.result ∷ []) in
+    let shorter = length-append left (node ∷ []) in
+    let more : length c.push.new.self.items ≡ length c.draw.nodes.items + 1 = omega (arith, ap length c.in_ok-push.ensures.items, longer) in
+    record {
+      few = omega (arith, more);
+      rest = omega (arith, more, ap length popped, shorter, c.draw.invariant.rest);
+      stack = dropped_one _ (top_first c.draw.stack.items) (top_first left) node (length c.draw.nodes.items) c.draw.invariant.stack top ∙ sym (ap (λ k. drop k (top_first c.args.stack.now.items)) more);
+      draws = λ rs a. draws_one rs c.draw.nodes.items c.push.new.self.items (top_first c.draw.stack.items) (top_first left) node c.trimmed.result (c.draw.invariant.draws rs a) top c.in_ok-push.ensures.items c.trimmed.ensures;
+    }
+
+pub returns-clause-nodes : goal.returns-clause-nodes
+returns-clause-nodes c = λ rs a. draws_all rs c.draw.nodes.items (top_first c.draw.stack.items) c.args.count (omega arith) (c.draw.invariant.draws rs a)
+
+pub returns-clause-stack : goal.returns-clause-stack
+returns-clause-stack c =
+    let many : length c.draw.nodes.items ≡ c.args.count = omega arith in
+    c.draw.invariant.stack ∙ ap (λ k. drop k (top_first c.args.stack.now.items)) many

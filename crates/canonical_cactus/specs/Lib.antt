@@ -1,0 +1,6 @@
+pub mod Canonical
+pub mod Plain
+pub mod Laws
+pub mod Standing
+pub mod Taken
+pub mod Making

@@ -1,0 +1,47 @@
+//! Canonical cactuses: of all cactuses that show the same cuts, one.
+//!
+//! A cactus is canonical where it is normal, every cycle has four or more nodes, the blocks of a node ascend by the least
+//! vertex below them, and in every cycle the least vertex at or under the first child is less than that at or under the
+//! last. Contracts see it by `is_canonical`, which reads the tree by one fold, `arranged`: the vertices at or under each
+//! node, and whether all there stands in order. The function of that name is the test, and `canonical` makes the
+//! canonical cactus with the sides of another one.
+//!
+//! Two canonical cactuses over the same vertices that have the same sides are one tree, `laws::one_tree`, and have one
+//! flat cactus, `laws::one_flat`: so what is printed of a canonical cactus is a function of the sides alone. The law goes
+//! by induction from the root: the sides that lie in no other one tell the blocks of a node, two of them that overlap
+//! tell a cycle from a bridge, and the sides that contain the first child of a cycle tell the order of the others. That
+//! a cycle of three nodes shows the same cuts as an empty node with three bridges, that an empty node of few blocks can
+//! be spared, and the order of blocks and children are the freedoms which the representation of Dinitz, Karzanov and
+//! Lomonosov (1976) leaves.
+//!
+//! `canonical` takes a tree apart into entries (`entries`) and puts it together from the last one (`put`): each node and
+//! block is finished with its least vertex (`parts`), and blocks and cycles are put in order as they are made (`rows`).
+//! It takes O(n log n) for n vertices, in loops; `is_canonical` one step for each node and vertex, and a call for each
+//! level.
+#![tactic(auto)]
+
+ghost use Rattle.std.specs.Prelude.{◌≡◌};
+ghost use Rattle.canonical_cactus.specs.Canonical.{is_canonical};
+
+mod entries;
+pub mod laws;
+mod making;
+mod order;
+mod parts;
+mod put;
+mod rows;
+
+use cactus_tree::Cactus;
+pub use making::canonical;
+use order::node_standing;
+
+/// Whether a cactus is normal, every cycle has four or more nodes, the blocks of each node ascend by the least vertex
+/// below them, and in every cycle the least vertex at or under the first child is less than that at or under the last.
+///
+/// One step for each node and each vertex. It takes no memory, and calls itself once for each level of the tree, so that
+/// a very deep tree can run out of stack.
+pub fn is_canonical(cactus: &Cactus) -> bool
+    ensures { result ≡ is_canonical cactus.now.root }
+{
+    cactus.is_normal() && node_standing(cactus.root()).in_order
+}

@@ -1,0 +1,33 @@
+//! The canonical cactus with the sides of another.
+
+ghost use Rattle.std.specs.Prelude.{◌≡◌, IfOk, true};
+ghost use Rattle.cactus_tree.specs.Different.{HasNoEmptySide, HaveSameSides};
+ghost use Rattle.canonical_cactus.specs.Canonical.{is_canonical};
+
+use crate::entries::entries_of;
+use crate::put::put_in_order;
+use cactus_tree::Cactus;
+use cut_definitions::NoMemory;
+use std::alloc::Global;
+
+/// The canonical cactus with the same set of sides.
+///
+/// No side of the cactus may be empty. A cycle of three nodes gives way to a bridge down to an empty node with two more
+/// bridges; a bridge to an empty node with one other block gives way to that block, and in a cycle an empty node with a
+/// bridge alone to the node below that bridge; then the blocks of each node are put in the order of the least vertices
+/// below them, and a cycle is turned round where its last node has a lesser one than its first.
+///
+/// The tree is taken apart and its nodes are moved. Time O(n log n), in loops, so that a deep tree does not run out of
+/// stack. It takes memory in proportion to the nodes, and is refused only where that is wanting; the cactus is dropped
+/// then.
+pub fn canonical(alloc: Global, cactus: Cactus) -> Result<Cactus, NoMemory>
+    requires { HasNoEmptySide cactus }
+    ensures n { IfOk result (λ c. c.vertices ≡ cactus.vertices) }
+    ensures canonical { IfOk result (λ c. is_canonical c.root ≡ true) }
+    ensures sides { IfOk result (λ c. HaveSameSides c cactus) }
+{
+    let n = cactus.n();
+    let entries = entries_of(alloc, cactus.into_root())?;
+    let placed = put_in_order(alloc, entries)?;
+    Ok(Cactus::from_root(n, placed.node))
+}

@@ -1,0 +1,93 @@
+//! The blocks of a node in the order of their least vertices, and cycles in the one of their two directions that is meant.
+
+ghost use Rattle.std.specs.Prelude.{◌≡◌, [], ◌∷◌, length, IfOk, List};
+ghost use Rattle.std.specs.List.Sorted.{IsPermutation, IsNonDecreasingBy};
+ghost use Rattle.cut_definitions.specs.Cuts.{has};
+ghost use Rattle.cactus_tree.specs.Entries.{Read, bridge_read, cycle_read, node_read, top_first};
+ghost use Rattle.canonical_cactus.specs.Making.{AreBlocksOf, AreChildrenOf, IsBlockOf, IsNodeOf, key_of, ends_rise, faced};
+
+use crate::order::{least_vertex, lesser, vertex_or_zero};
+use crate::parts::{Hung, Placed, hang};
+use cactus_tree::{Block, Blocks, Children, Node, VertexList};
+use cut_definitions::NoMemory;
+use std::alloc::Global;
+
+/// Sorts blocks by their least vertices, the greatest first.
+fn sort_down(row: &mut Vec<Hung>)
+    ensures same { IsPermutation row.old.items (top_first row.new.items) }
+    ensures sorted { IsNonDecreasingBy key_of (top_first row.new.items) }
+{
+    row.sort_unstable_by_key(|block| vertex_or_zero(block.least));
+    row.reverse();
+}
+
+/// The node of some vertices, with these blocks below it in the order of their least vertices.
+pub fn node_of(alloc: Global, vertices: VertexList, row: Vec<Hung>) -> Result<Placed, NoMemory>
+    ensures { IfOk result (λ p. (rs : List Read) → AreBlocksOf rs row.items → IsNodeOf (node_read has vertices rs) p) }
+{
+    let mut row = row;
+    sort_down(&mut row);
+    let mut least = least_vertex(&vertices);
+    let mut blocks = Blocks::new(alloc);
+    'fill: while let Some(next) = row.pop() {
+        least = lesser(least, next.least);
+        blocks.push(next.block)?;
+    }
+    Ok(Placed {
+        node: Node { vertices, blocks },
+        least,
+    })
+}
+
+/// Whether the least vertex at or under the first node is less than that at or under the last.
+fn rises(nodes: &[Placed]) -> bool
+    ensures { result ≡ ends_rise nodes.now }
+{
+    if nodes.is_empty() {
+        return false;
+    }
+    vertex_or_zero(nodes[0].least) < vertex_or_zero(nodes[nodes.len() - 1].least)
+}
+
+/// Turns the nodes round where they are to be closed from the last to the first.
+fn face(nodes: &mut Vec<Placed>)
+    ensures { nodes.new.items ≡ faced nodes.old.items }
+{
+    if rises(nodes) {
+        nodes.reverse();
+    }
+}
+
+/// The cycle through three or more nodes, in the direction in which the least vertex at or under the first is less than
+/// that at or under the last.
+pub fn cycle_of(alloc: Global, nodes: Vec<Placed>) -> Result<Hung, NoMemory>
+    ensures { IfOk result (λ b. (rs : List Read) → (length rs ≡ 2 → ⊥) → AreChildrenOf rs nodes.items → IsBlockOf (cycle_read rs) b) }
+{
+    let mut nodes = nodes;
+    face(&mut nodes);
+    let mut least = None;
+    let mut children = Children::new(alloc);
+    'close: while let Some(next) = nodes.pop() {
+        least = lesser(least, next.least);
+        children.push(next.node)?;
+    }
+    Ok(Hung {
+        block: Block::Cycle(children),
+        least,
+    })
+}
+
+/// A bridge to an empty node with two bridges, which stands for a cycle through two nodes and the node above.
+pub fn star_of(alloc: Global, first: Placed, second: Placed) -> Result<Hung, NoMemory>
+    ensures { IfOk result (λ b. (r s : Read) → IsNodeOf r first → IsNodeOf s second → IsBlockOf (cycle_read (r ∷ s ∷ [])) b) }
+{
+    let first = hang(alloc, first)?;
+    let second = hang(alloc, second)?;
+    let mut blocks = Vec::new(alloc);
+    blocks.push(first)?;
+    blocks.push(second)?;
+    let none = VertexList::new(alloc);
+    let middle = node_of(alloc, none, blocks)?;
+    let block = hang(alloc, middle)?;
+    Ok(block)
+}
