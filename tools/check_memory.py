@@ -1,12 +1,13 @@
 #!/usr/bin/env python3
 """Refused memory: what the program says where one allocation fails, and where the address space is small.
 
-    tools/check_memory.py [--program PATH] [--workers 1,4] [--step 64]
+    tools/check_memory.py [--program PATH] [--workers 1,4] [--step 16]
 
 Two ways. Where a C compiler is there, a small library before the program's own lets allocation number 1, 2, 3, .. fail, one number
 in each run, until a run meets none. And the address space is bounded (`ulimit -v`), in steps of so many KB, from where the program
 starts at all up to where it answers. Each run must end with status 5, its line on the error output and nothing on the standard
-output, or with the answer of a run with ample memory. Exit status 1 where one does not.
+output, or with the answer of a run with ample memory. While the program still makes the words it ends with status 5 and no line.
+Exit status 1 where a run does not.
 """
 import argparse
 import os
@@ -79,7 +80,7 @@ def is_right(answer, whole):
 def fail_each(program, library, words, text, whole, folder):
     """(runs, runs that ended with status 5, what is wrong) where allocation 1, 2, .. fails."""
     mark = os.path.join(folder, 'failed')
-    refused, wrong, k = 0, [], 0
+    refused, wrong, k, told = 0, [], 0, False
     while k < 20_000:
         k += 1
         env = dict(os.environ, LD_PRELOAD=library, FAIL_AT=str(k), FAIL_MARK=mark)
@@ -88,8 +89,10 @@ def fail_each(program, library, words, text, whole, folder):
         if failed:
             os.remove(mark)
         refused += answer[0] == 5
+        told = told or answer[2] != ''
+        makes_words = answer == (5, '', '') and not told
         # an allocation before the program begins, as the loader's, ends it in the loader's way
-        if not is_right(answer, whole) and not is_before_main(answer):
+        if not is_right(answer, whole) and not makes_words and not is_before_main(answer):
             wrong.append(f'allocation {k} of {words}: {answer}')
         if not failed:
             return k, refused, wrong
@@ -118,7 +121,7 @@ def main():
     parser = argparse.ArgumentParser(description=__doc__, formatter_class=argparse.RawDescriptionHelpFormatter)
     running.add_program(parser)
     parser.add_argument('--workers', default='1,4', help='numbers of workers')
-    parser.add_argument('--step', type=int, default=64, help='KB by which the address space grows')
+    parser.add_argument('--step', type=int, default=16, help='KB by which the address space grows')
     options = parser.parse_args()
     program = running.ready(options.program)
     wrong = []
