@@ -6,8 +6,10 @@
 
 mod edge_list;
 pub mod laws;
+mod vertex_weights;
 
 pub use edge_list::{Edge, EdgeList};
+pub use vertex_weights::VertexWeights;
 
 /// Memory was wanting.
 pub type NoMemory = std::alloc::AllocError;
