@@ -60,3 +60,4 @@ pub mod Marked
 pub mod Counted
 pub mod Pigeons
 pub mod Placed
+pub mod RangeMasses

@@ -74,7 +74,7 @@ inside_at to p h = elim (le_or to p) [
     and_false a = grind arith
 
 -- an element is not among those at earlier places
-not_before : (n : ℕ) (order : List ℕ) → AreOnce n order → (from to : ℕ) → to < length order → IsVertex n (get_or order to 0) → has (elements_at order (range from to)) (get_or order to 0) ≡ false
+pub not_before : (n : ℕ) (order : List ℕ) → AreOnce n order → (from to : ℕ) → to < length order → IsVertex n (get_or order to 0) → has (elements_at order (range from to)) (get_or order to 0) ≡ false
 not_before n order once from to within at =
     let x = get_or order to 0 in
     let p = once x at.0 at.1 in
@@ -126,7 +126,7 @@ all_in s (suc m) low h =
     ∙ ap suc (all_in s m (low + 1) (λ v from to. h v (omega (arith, from)) (omega (arith, to))))
 
 -- a first part as long as the list is the list
-take_whole : {X : Type 0} (xs : List X) → take (length xs) xs ≡ xs
+pub take_whole : {X : Type 0} (xs : List X) → take (length xs) xs ≡ xs
 take_whole [] = refl
 take_whole (x ∷ xs) = ap (λ l. x ∷ l) (take_whole xs)
 

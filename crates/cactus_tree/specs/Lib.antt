@@ -24,3 +24,4 @@ pub mod Numbers
 pub mod Trims
 pub mod Formula
 pub mod NormalLaws
+pub mod RangeMasses

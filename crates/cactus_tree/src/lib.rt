@@ -39,4 +39,7 @@ pub use tree::{
     Block, Blocks, Children, Node, gather, rename_node, subtree_sizes, vertices_in_order,
 };
 pub use vertex_list::VertexList;
-pub use walk::{Border, CutPlaces, Span, Walk, cut_places, next_start, put_range};
+pub use walk::{
+    Border, CutPlaces, KeptPlaces, Span, Walk, cut_places, kept_places, masses_before, next_start,
+    put_range,
+};

@@ -7,14 +7,15 @@ ghost use Rattle.cactus_tree.specs.Normal.{is_normal};
 ghost use Rattle.cactus_tree.specs.Rooted.{sides_of};
 
 mod borders;
+mod masses;
 mod places;
 mod repeats;
 mod shown;
 
 use crate::cactus::Cactus;
 pub use borders::{Border, next_start};
-use places::kept_places;
-pub use places::{CutPlaces, cut_places};
+pub use masses::masses_before;
+pub use places::{CutPlaces, KeptPlaces, cut_places, kept_places};
 use repeats::{next_kept, passed_over};
 use shown::change_side;
 pub use shown::{Span, put_range};

@@ -95,9 +95,12 @@ pub fn cut_places(alloc: Global, cactus: &Cactus) -> Result<CutPlaces, AllocErro
 ///
 /// As `cut_places`, with one step and one byte more for each border.
 pub fn kept_places(alloc: Global, cactus: &Cactus) -> Result<KeptPlaces, AllocError>
+    ensures order { IfOk result (λ p. p.order.items ≡ concat (entered cactus.now.root)) }
+    ensures long { IfOk result (λ p. length p.order.items ≡ cactus.now.vertices) }
     ensures vertices { IfOk result (λ p. All (IsVertex cactus.now.vertices) p.order.items) }
     ensures once { IfOk result (λ p. AreOnce cactus.now.vertices p.order.items) }
     ensures borders { IfOk result (λ p. AreBorders (length p.order.items) p.borders.items) }
+    ensures chained { IfOk result (λ p. AreChained p.borders.items) }
     ensures repeats { IfOk result (λ p. length p.repeats.items ≡ length p.borders.items) }
     ensures sides { IfOk result (λ p. (side : List ℕ) → Contains (map (side_at cactus.now.vertices p.order.items) (ranges_kept p.borders.items p.repeats.items)) side ↔ Contains (sides_of cactus.now) side) }
     ensures few { IfOk result (λ p. length (ranges_kept p.borders.items p.repeats.items) ≤ length (sides_of cactus.now)) }

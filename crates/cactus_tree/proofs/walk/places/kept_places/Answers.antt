@@ -46,4 +46,4 @@ returns c =
     let repeats = c.in_ok-repeats.ensures ∙ marks_read x c.deref-4.result.now c.deref-5.result.now c.deref-6.result.now (c.deref-4.ensures.value ∙ c.in_ok-laid.ensures.entries) (c.deref-5.ensures.value ∙ c.in_ok-laid.ensures.sizes) (c.deref-6.ensures.value ∙ c.in_ok-laid.ensures.places) in
     let p = are_places n x order bs cactus c.in_ok-laid.ensures.vertices borders in
     let k = are_kept n x order bs c.in_ok-repeats.repeats.items cactus p borders repeats in
-    record { vertices = p.vertices; once = p.once; borders = p.borders; repeats = k.repeats; sides = k.sides; few = k.few; different = k.different }
+    record { order = c.in_ok-laid.ensures.vertices; long = p.long; vertices = p.vertices; once = p.once; borders = p.borders; chained = p.chained; repeats = k.repeats; sides = k.sides; few = k.few; different = k.different }
