@@ -103,3 +103,11 @@ matched_is_edge_list b sorted g l ascends =
       few_vertices = b.header.few_vertices;
       few_edges = omega (arith, b.header.few_edges, b.entries_fit);
     }
+
+-- the masses are as few as vertices may be
+pub few_masses : (b : Body) → length b.masses.items ≤ 4194304
+few_masses b = omega (arith, b.masses_of_lines, b.lines, b.header.few_vertices)
+
+-- and one for each vertex, once all lines are read
+pub one_for_each : (b : Body) → b.header.vertices ≤ length b.numbers.items → length b.masses.items ≡ b.header.vertices
+one_for_each b all = omega (arith, b.masses_of_lines, b.lines)

@@ -1,20 +1,23 @@
 -- What the end of the input shows of all bytes fed.
 use Rattle.std.proofs.Common.{◌≡◌, ◌<◌, ◌≤◌, ◌-◌, ◌+◌, ◌^◌, ℕ, suc, List, [], ◌∷◌, ◌++◌, length, ap, sym, ◌∙◌, subst, arith}
 use Rattle.std.specs.Prelude.{Ok, Err}
+use Rattle.std.specs.List.{filter}
 use Rattle.cut_definitions.specs.Graph.{Graph}
 use Rattle.metis_reader.specs.declared.fault.Fault as told
 use Rattle.metis_reader.specs.declared.fault.ReadRefusal.{ReadRefusal}
 use Rattle.metis_reader.specs.declared.fault.ReadRefusal.TheVariants.{NoMemory, Fault}
 use Rattle.metis_reader.specs.declared.reader.Reader.{Reader}
-use Rattle.metis_reader.specs.File.{graph_of}
+use Rattle.metis_reader.specs.Text.{lines}
+use Rattle.metis_reader.specs.File.{graph_of, masses_of, from_header, is_kept}
 use Rattle.metis_reader.specs.Machine.{final_findings}
 use Rattle.metis_reader.specs.Reading.{Reading, start, reading_from}
-use Rattle.metis_reader.specs.Ending.{TellsFirst, last_line, end_state, line_count, state_graph}
+use Rattle.metis_reader.specs.Ending.{TellsFirst, last_line, end_state, line_count, state_graph, state_masses}
 use Rattle.metis_reader.specs.Holding.{RefusedFirst, ByteEndsHeader}
 use Rattle.metis_reader.specs.Fed.{IsOpen, HeaderEndsIn}
 use Rattle.metis_reader.proofs.Running.{ended_bound}
 use Rattle.metis_reader.proofs.FixedFaults.{refused_at_end, accepted_at_end}
-use Rattle.metis_reader.proofs.GraphLaw.{end_graph, end_parts}
+use Rattle.metis_reader.proofs.Masses.{masses_are}
+use Rattle.metis_reader.proofs.GraphLaw.{end_graph, end_masses, end_parts}
 use Rattle.metis_reader.proofs.HeaderEnds.{ends_at_last}
 
 short : (reader : Reader) (bytes : List ℕ) → IsOpen reader bytes → length bytes ≤ 2 ^ 33
@@ -64,3 +67,11 @@ end_accepted reader bytes g count still none same well shows =
     accepted_at_end bytes (short reader bytes still) still.none
     (end_parts r ∙ ap (λ fs. fs ++ final_findings (end_state r) r.next (line_count r)) none ∙ final)
     ∙ ap (λ g. Ok g) (sym (end_graph bytes) ∙ shows)
+
+-- and the masses are those of the file
+pub end_weighed : (bytes : List ℕ) (g : Graph) (masses : List ℕ) → length masses ≡ g.vertices → state_graph (end_state (reading_from start bytes)) ≡ g
+    → state_masses (end_state (reading_from start bytes)) ≡ masses → masses_of bytes ≡ masses
+unfolding masses_of
+end_weighed bytes g masses count graph shows =
+    masses_are (from_header (filter is_kept (lines bytes))) masses (sym (end_masses bytes) ∙ shows)
+    (count ∙ ap (λ (g : Graph). g.vertices) (sym graph ∙ end_graph bytes))

@@ -26,21 +26,21 @@ behind_start : (header : Header) (done : List VertexLine) (left : ℕ) → IsBeh
 behind_start header done zero = tt
 behind_start header done (suc left) = tt
 
-behind_neighbour : (has : Bool) (header : Header) (done : List VertexLine) (here : List Entry) (left : ℕ) (word : Piece) → IsBehind (after_neighbour has header done here left word)
-behind_neighbour true header done here left word = tt
-behind_neighbour false header done here left word = tt
+behind_neighbour : (has : Bool) (header : Header) (done : List VertexLine) (mass : ℕ) (here : List Entry) (left : ℕ) (word : Piece) → IsBehind (after_neighbour has header done mass here left word)
+behind_neighbour true header done mass here left word = tt
+behind_neighbour false header done mass here left word = tt
 
 behind_word : (s : State) (word : Piece) → IsBehind s → IsBehind (after_word s word)
 behind_word (AtHeader words) word h = absurd h
-behind_word (InLine header done here zero left) word h = behind_neighbour header.has_edge_weights header done here left word
-behind_word (InLine header done here (suc leading) left) word h = tt
-behind_word (AtWeight header done here neighbour left) word h = tt
+behind_word (InLine header done mass here zero left) word h = behind_neighbour header.has_edge_weights header done mass here left word
+behind_word (InLine header done mass here (suc leading) left) word h = tt
+behind_word (AtWeight header done mass here neighbour left) word h = tt
 behind_word (After header done) word h = tt
 
 pub behind_line : (s : State) (number : ℕ) → IsBehind s → IsBehind (after_line s number)
 behind_line (AtHeader words) number h = absurd h
-behind_line (InLine header done here leading left) number h = behind_start header (end_vertex done number here) left
-behind_line (AtWeight header done here neighbour left) number h = behind_start header (end_vertex done number here) left
+behind_line (InLine header done mass here leading left) number h = behind_start header (end_vertex done number mass here) left
+behind_line (AtWeight header done mass here neighbour left) number h = behind_start header (end_vertex done number mass here) left
 behind_line (After header done) number h = tt
 
 behind_words : (s : State) (words : List Piece) → IsBehind s → IsBehind (line_state s words)
@@ -118,14 +118,14 @@ ends_behind : (s : State) (number : ℕ) → EndsHeader s → IsBehind (after_li
 ends_behind (AtHeader []) number h = absurd h
 ends_behind (AtHeader (n ∷ [])) number h = absurd h
 ends_behind (AtHeader (n ∷ m ∷ words)) number h = behind_start (header_of (n ∷ m ∷ words)) [] (header_of (n ∷ m ∷ words)).vertices
-ends_behind (InLine header done here leading left) number h = absurd h
-ends_behind (AtWeight header done here neighbour left) number h = absurd h
+ends_behind (InLine header done mass here leading left) number h = absurd h
+ends_behind (AtWeight header done mass here neighbour left) number h = absurd h
 ends_behind (After header done) number h = absurd h
 
 ends_not_behind : (s : State) → EndsHeader s → IsBehind s → ⊥
 ends_not_behind (AtHeader words) h b = b
-ends_not_behind (InLine header done here leading left) h b = h
-ends_not_behind (AtWeight header done here neighbour left) h b = h
+ends_not_behind (InLine header done mass here leading left) h b = h
+ends_not_behind (AtWeight header done mass here neighbour left) h b = h
 ends_not_behind (After header done) h b = h
 
 no_words_end : (word : List ℕ) (place : ℕ) → EndsHeader (word_end_state (AtHeader []) word place) → ⊥

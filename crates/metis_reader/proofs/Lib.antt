@@ -1,5 +1,6 @@
 pub mod Examples
 pub mod Ascending
+pub mod Masses
 pub mod MachineLaw
 pub mod TextLaw
 pub mod Counts

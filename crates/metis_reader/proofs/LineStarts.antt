@@ -12,7 +12,7 @@ use Rattle.metis_reader.specs.Profile.{Header, Entry, header_of, format_of, weig
 use Rattle.metis_reader.specs.File.{VertexLine, all_entries}
 use Rattle.metis_reader.specs.Machine.{at_line, before, end_vertex}
 use Rattle.metis_reader.specs.Dues.{after_leading_of}
-use Rattle.metis_reader.specs.Bodies.{greater_of, lesser_of, first_due_of, header_view, leading_of}
+use Rattle.metis_reader.specs.Bodies.{greater_of, lesser_of, first_due_of, header_view, leading_of, sizes_of}
 use Rattle.metis_reader.specs.Shown.{BodyShows, HeaderShows, Keeps, due_of}
 use Rattle.metis_reader.proofs.Faults.{le_true, le_false, Sizes, sizes}
 use Rattle.metis_reader.proofs.MachineLaw.{append_none, all_entries-push}
@@ -21,15 +21,16 @@ leading_is : (s t f g : Bool) (w ws : ℕ) → s ≡ t → f ≡ g → w ≡ (if
 leading_is s t true g w ws e e' h = rw (← e) (rw (← e') (ap (λ n. (if s then 1 else 0) + n) h))
 leading_is s t false g w ws e e' h = rw (← e) (rw (← e') refl)
 
-record_is : (n m k : ℕ) (b : Bool) (h : Header) → n ≡ h.vertices → m ≡ h.edges → k ≡ h.leading → b ≡ h.has_edge_weights
-    → record { vertices = n; edges = m; leading = k; has_edge_weights = b } ≡ h
-record_is n m k b h en em ek eb = rw (en, em, ek, eb) refl
+record_is : (n m k s : ℕ) (b : Bool) (h : Header) → n ≡ h.vertices → m ≡ h.edges → k ≡ h.leading → s ≡ h.sizes → b ≡ h.has_edge_weights
+    → record { vertices = n; edges = m; leading = k; sizes = s; has_edge_weights = b } ≡ h
+record_is n m k s b h en em ek es eb = rw (en, em, ek, es, eb) refl
 
 pub header_is : (h : kept.Header) (seen : List Piece) → HeaderShows h seen → header_view h ≡ header_of seen
 header_is h seen shows =
-    record_is h.vertices h.edges (leading_of h) h.format.has_edge_weights (header_of seen) shows.vertices shows.edges
+    record_is h.vertices h.edges (leading_of h) (sizes_of h) h.format.has_edge_weights (header_of seen) shows.vertices shows.edges
     (leading_is h.format.has_sizes (has_flag 2 (format_of seen)) h.format.has_vertex_weights (has_flag 1 (format_of seen)) h.weights (weights_of seen)
     shows.flags.sizes shows.flags.weights shows.weights)
+    (ap (λ (b : Bool). if b then 1 else 0) shows.flags.sizes)
     shows.flags.edges
 
 due_all : (b : Body) → b.header.vertices ≤ length b.numbers.items → first_due_of b ≡ NoWord
@@ -39,30 +40,30 @@ due_more : (b : Body) → length b.numbers.items < b.header.vertices → first_d
 due_more b h = rw (le_false _ _ h) refl
 
 pub line_starts : (h : kept.Header) (b : Body) (header : Header) (done : List VertexLine) (left : ℕ)
-    → BodyShows b header done (before done []) → length done + left ≡ header.vertices
+    → BodyShows b header done (before done []) → length done + left ≡ header.vertices → b.mass ≡ 1
     → (first_due_of b ≡ due_of (at_line header done left)) × Keeps h b (at_line header done left)
-line_starts h b header done zero shows lines =
+line_starts h b header done zero shows lines mass =
     let size : Sizes b header done (before done []) = sizes b header done (before done []) shows in
     let all : b.header.vertices ≤ length b.numbers.items = omega arith in
-    (due_all b all, record { body = shows; lines = lines })
-line_starts h b header done (suc left) shows lines =
+    (due_all b all, record { body = shows; lines = lines; same_mass = mass })
+line_starts h b header done (suc left) shows lines mass =
     let size : Sizes b header done (before done []) = sizes b header done (before done []) shows in
     let more : length b.numbers.items < b.header.vertices = omega arith in
-    (due_more b more ∙ ap (λ (h : Header). after_leading_of h.leading) shows.same_header, record { body = shows; lines = lines })
+    (due_more b more ∙ ap (λ (h : Header). after_leading_of h.leading) shows.same_header, record { body = shows; lines = lines; same_mass = mass })
 
-pub next_line : (h : kept.Header) (b : Body) (header : Header) (done : List VertexLine) (here : List Entry) (left number : ℕ)
-    → BodyShows b header (end_vertex done number here) (before done here) → length done + suc left ≡ header.vertices
-    → (first_due_of b ≡ due_of (at_line header (end_vertex done number here) left)) × Keeps h b (at_line header (end_vertex done number here) left)
-next_line h b header done here left number shows lines =
-    let v : VertexLine = record { number = number; entries = here } in
+pub next_line : (h : kept.Header) (b : Body) (header : Header) (done : List VertexLine) (mass : ℕ) (here : List Entry) (left number : ℕ)
+    → BodyShows b header (end_vertex done number mass here) (before done here) → length done + suc left ≡ header.vertices → b.mass ≡ 1
+    → (first_due_of b ≡ due_of (at_line header (end_vertex done number mass here) left)) × Keeps h b (at_line header (end_vertex done number mass here) left)
+next_line h b header done mass here left number shows lines one =
+    let v : VertexLine = record { number = number; mass = mass; entries = here } in
     let same : before (done ++ v ∷ []) [] ≡ before done here = append_none (all_entries (done ++ v ∷ [])) ∙ all_entries-push done v in
     let count : length (done ++ v ∷ []) + left ≡ header.vertices = omega (arith, length-append done (v ∷ [])) in
-    line_starts h b header (done ++ v ∷ []) left (subst (λ all. BodyShows b header (done ++ v ∷ []) all) (sym same) shows) count
+    line_starts h b header (done ++ v ∷ []) left (subst (λ all. BodyShows b header (done ++ v ∷ []) all) (sym same) shows) count one
 
 nothing : (xs : List Edge) → xs ≡ [] → IsPermutation [] xs
 nothing xs is = subst (λ xs. IsPermutation [] xs) (sym is) (IsPermutation-refl [])
 
-pub first_line : (h : kept.Header) (b : Body) (header : Header) → header_view b.header ≡ header → b.numbers.items ≡ [] → greater_of b ≡ [] → lesser_of b ≡ [] → b.total ≡ 0
+pub first_line : (h : kept.Header) (b : Body) (header : Header) → header_view b.header ≡ header → b.numbers.items ≡ [] → greater_of b ≡ [] → lesser_of b ≡ [] → b.total ≡ 0 → b.masses.items ≡ [] → b.mass ≡ 1
     → (first_due_of b ≡ due_of (at_line header [] header.vertices)) × Keeps h b (at_line header [] header.vertices)
-first_line h b header view numbers greater lesser total =
-    line_starts h b header [] header.vertices (record { same_header = view; numbers = numbers; greater = nothing (greater_of b) greater; lesser = nothing (lesser_of b) lesser; total = λ has. total }) (omega arith)
+first_line h b header view numbers greater lesser total masses mass =
+    line_starts h b header [] header.vertices (record { same_header = view; numbers = numbers; masses = masses; greater = nothing (greater_of b) greater; lesser = nothing (lesser_of b) lesser; total = λ has. total }) (omega arith) mass

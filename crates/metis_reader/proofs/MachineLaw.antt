@@ -4,9 +4,10 @@ use Rattle.std.proofs.lemmas.Grind.{common_steps}
 use Rattle.std.proofs.lemmas.Bool.Decides.{nat_tests}
 use Rattle.metis_reader.specs.declared.fault.FaultKind.TheVariants.{HeaderWords, TooManyVertices, TooManyEdges}
 use Rattle.metis_reader.specs.Text.{Piece, Line}
-use Rattle.metis_reader.specs.Profile.{Finding, Header, Entry, found_at, where_true, value, entries, line_entries, header_of, header_judges, format_of, count_faults, format_faults, weights_faults, has_flag, judged, vertex_findings, entry_findings, not_a_number, extra_words, extra_findings, neighbour_faults, edge_weight_faults}
+use Rattle.metis_reader.specs.Profile.{Finding, Header, Entry, found_at, where_true, value, entries, line_entries, first_weight, header_of, header_judges, format_of, count_faults, format_faults, weights_faults, has_flag, judged, vertex_findings, entry_findings, not_a_number, extra_words, extra_findings, neighbour_faults, edge_weight_faults}
 use Rattle.metis_reader.specs.File.{VertexLine, all_entries, vertex_lines, body_findings, end_findings, file_findings, from_header}
-use Rattle.metis_reader.specs.Machine.{State, AtHeader, InLine, After, vertex, before, after_neighbour, with_entry, word_faults, line_faults, after_line, at_line, end_vertex, line_state, line_findings, lines_findings}
+use Rattle.metis_reader.specs.Machine.{State, AtHeader, InLine, After, vertex, before, after_neighbour, with_entry, with_mass, word_faults, line_faults, after_line, at_line, end_vertex, line_state, line_findings, lines_findings}
+use Rattle.metis_reader.proofs.Masses.{mass_from, first_mass}
 
 pub append_none : {X : Type 0} (xs : List X) → xs ++ [] ≡ xs
 append_none [] = refl
@@ -18,60 +19,68 @@ all_entries-push (d ∷ done) v = ap (λ es. d.entries ++ es) (all_entries-push 
 
 -- The vertex lines.
 
-in_line : (has : Bool) (header : Header) (done : List VertexLine) (here : List Entry) (left number end : ℕ) (words : List Piece)
+in_line : (has : Bool) (header : Header) (done : List VertexLine) (mass : ℕ) (here : List Entry) (left number end : ℕ) (words : List Piece)
     → header.has_edge_weights ≡ has
-    → line_findings (InLine header done here zero left) number end words
+    → line_findings (InLine header done mass here zero left) number end words
     ≡ entry_findings header has (vertex done) (before done here) number end words
-in_line has header done here left number end [] e = refl
-in_line false header done here left number end (v ∷ words) e =
+in_line has header done mass here left number end [] e = refl
+in_line false header done mass here left number end (v ∷ words) e =
     let faults = found_at v.place number (neighbour_faults header (vertex done) (before done here) v) in
-    ap (λ has. faults ++ line_findings (after_neighbour has header done here left v) number end words) e
-    ∙ ap (λ found. faults ++ found) (in_line false header done (with_entry done here v 1) left number end words e)
+    ap (λ has. faults ++ line_findings (after_neighbour has header done mass here left v) number end words) e
+    ∙ ap (λ found. faults ++ found) (in_line false header done mass (with_entry done here v 1) left number end words e)
     ∙ ap (λ before. faults ++ entry_findings header false (vertex done) before number end words)
     (sym (append_assoc (all_entries done) here (record { from = vertex done; to = value v; weight = 1 } ∷ [])))
-in_line true header done here left number end (v ∷ []) e =
+in_line true header done mass here left number end (v ∷ []) e =
     let faults = found_at v.place number (neighbour_faults header (vertex done) (before done here) v) in
-    ap (λ has. faults ++ line_findings (after_neighbour has header done here left v) number end []) e
-in_line true header done here left number end (v ∷ w ∷ words) e =
+    ap (λ has. faults ++ line_findings (after_neighbour has header done mass here left v) number end []) e
+in_line true header done mass here left number end (v ∷ w ∷ words) e =
     let faults = found_at v.place number (neighbour_faults header (vertex done) (before done here) v) in
     let more = found_at w.place number (edge_weight_faults (before done here) w) in
-    ap (λ has. faults ++ line_findings (after_neighbour has header done here left v) number end (w ∷ words)) e
-    ∙ ap (λ found. faults ++ (more ++ found)) (in_line true header done (with_entry done here v (value w)) left number end words e)
+    ap (λ has. faults ++ line_findings (after_neighbour has header done mass here left v) number end (w ∷ words)) e
+    ∙ ap (λ found. faults ++ (more ++ found)) (in_line true header done mass (with_entry done here v (value w)) left number end words e)
     ∙ ap (λ before. faults ++ (more ++ entry_findings header true (vertex done) before number end words))
     (sym (append_assoc (all_entries done) here (record { from = vertex done; to = value v; weight = value w } ∷ [])))
     ∙ sym (append_assoc faults more _)
 
-vertex_line : (header : Header) (done : List VertexLine) (here : List Entry) (leading left number end : ℕ) (words : List Piece)
-    → line_findings (InLine header done here leading left) number end words
+vertex_line : (header : Header) (done : List VertexLine) (mass : ℕ) (here : List Entry) (leading left number end : ℕ) (words : List Piece)
+    → line_findings (InLine header done mass here leading left) number end words
     ≡ vertex_findings header leading (vertex done) (before done here) number end words
-vertex_line header done here zero left number end words = in_line header.has_edge_weights header done here left number end words refl
-vertex_line header done here (suc leading) left number end [] = refl
-vertex_line header done here (suc leading) left number end (word ∷ words) =
-    ap (λ found. found_at word.place number (not_a_number word) ++ found) (vertex_line header done here leading left number end words)
+vertex_line header done mass here zero left number end words = in_line header.has_edge_weights header done mass here left number end words refl
+vertex_line header done mass here (suc leading) left number end [] = refl
+vertex_line header done mass here (suc leading) left number end (word ∷ words) =
+    ap (λ found. found_at word.place number (not_a_number word) ++ found) (vertex_line header done (with_mass header mass leading word) here leading left number end words)
 
-after_in_line : (has : Bool) (header : Header) (done : List VertexLine) (here : List Entry) (left number : ℕ) (words : List Piece)
+after_in_line : (has : Bool) (header : Header) (done : List VertexLine) (mass : ℕ) (here : List Entry) (left number : ℕ) (words : List Piece)
     → header.has_edge_weights ≡ has
-    → after_line (line_state (InLine header done here zero left) words) number
-    ≡ at_line header (end_vertex done number (here ++ entries has (vertex done) words)) left
-after_in_line has header done here left number [] e = ap (λ es. at_line header (end_vertex done number es) left) (sym (append_none here))
-after_in_line false header done here left number (v ∷ words) e =
-    ap (λ has. after_line (line_state (after_neighbour has header done here left v) words) number) e
-    ∙ after_in_line false header done (with_entry done here v 1) left number words e
-    ∙ ap (λ es. at_line header (end_vertex done number es) left) (append_assoc here (record { from = vertex done; to = value v; weight = 1 } ∷ []) (entries false (vertex done) words))
-after_in_line true header done here left number (v ∷ []) e =
-    ap (λ has. after_line (line_state (after_neighbour has header done here left v) []) number) e
-    ∙ ap (λ es. at_line header (end_vertex done number es) left) (sym (append_none here))
-after_in_line true header done here left number (v ∷ w ∷ words) e =
-    ap (λ has. after_line (line_state (after_neighbour has header done here left v) (w ∷ words)) number) e
-    ∙ after_in_line true header done (with_entry done here v (value w)) left number words e
-    ∙ ap (λ es. at_line header (end_vertex done number es) left) (append_assoc here (record { from = vertex done; to = value v; weight = value w } ∷ []) (entries true (vertex done) words))
+    → after_line (line_state (InLine header done mass here zero left) words) number
+    ≡ at_line header (end_vertex done number mass (here ++ entries has (vertex done) words)) left
+after_in_line has header done mass here left number [] e = ap (λ es. at_line header (end_vertex done number mass es) left) (sym (append_none here))
+after_in_line false header done mass here left number (v ∷ words) e =
+    ap (λ has. after_line (line_state (after_neighbour has header done mass here left v) words) number) e
+    ∙ after_in_line false header done mass (with_entry done here v 1) left number words e
+    ∙ ap (λ es. at_line header (end_vertex done number mass es) left) (append_assoc here (record { from = vertex done; to = value v; weight = 1 } ∷ []) (entries false (vertex done) words))
+after_in_line true header done mass here left number (v ∷ []) e =
+    ap (λ has. after_line (line_state (after_neighbour has header done mass here left v) []) number) e
+    ∙ ap (λ es. at_line header (end_vertex done number mass es) left) (sym (append_none here))
+after_in_line true header done mass here left number (v ∷ w ∷ words) e =
+    ap (λ has. after_line (line_state (after_neighbour has header done mass here left v) (w ∷ words)) number) e
+    ∙ after_in_line true header done mass (with_entry done here v (value w)) left number words e
+    ∙ ap (λ es. at_line header (end_vertex done number mass es) left) (append_assoc here (record { from = vertex done; to = value v; weight = value w } ∷ []) (entries true (vertex done) words))
 
-pub after_vertex_line : (header : Header) (done : List VertexLine) (leading left number : ℕ) (words : List Piece)
-    → after_line (line_state (InLine header done [] leading left) words) number
-    ≡ at_line header (end_vertex done number (entries header.has_edge_weights (vertex done) (drop leading words))) left
-after_vertex_line header done zero left number words = after_in_line header.has_edge_weights header done [] left number words refl
-after_vertex_line header done (suc leading) left number [] = refl
-after_vertex_line header done (suc leading) left number (word ∷ words) = after_vertex_line header done leading left number words
+pub after_vertex_line : (header : Header) (done : List VertexLine) (mass leading left number : ℕ) (words : List Piece)
+    → after_line (line_state (InLine header done mass [] leading left) words) number
+    ≡ at_line header (end_vertex done number (mass_from header leading mass words) (entries header.has_edge_weights (vertex done) (drop leading words))) left
+after_vertex_line header done mass zero left number words = after_in_line header.has_edge_weights header done mass [] left number words refl
+after_vertex_line header done mass (suc leading) left number [] = refl
+after_vertex_line header done mass (suc leading) left number (word ∷ words) = after_vertex_line header done (with_mass header mass leading word) leading left number words
+
+-- a vertex line, from its start on
+pub after_whole_line : (header : Header) (done : List VertexLine) (left : ℕ) (line : Line)
+    → after_line (line_state (InLine header done 1 [] header.leading left) line.words) line.number
+    ≡ at_line header (end_vertex done line.number (first_weight header line.words) (line_entries header (vertex done) line)) left
+after_whole_line header done left line =
+    after_vertex_line header done 1 header.leading left line.number line.words
+    ∙ ap (λ m. at_line header (end_vertex done line.number m (line_entries header (vertex done) line)) left) (first_mass header line.words)
 
 -- Behind the vertex lines.
 
@@ -111,13 +120,13 @@ body_lines header end count done zero lines =
     ∙ ap (λ all. extra_findings lines ++ end_findings header end count all) (sym (append_none done))
 body_lines header end count done (suc left) [] = ap (λ all. end_findings header end count all) (sym (append_none done))
 body_lines header end count done (suc left) (line ∷ lines) =
-    let v : VertexLine = record { number = line.number; entries = line_entries header (vertex done) line } in
+    let v : VertexLine = record { number = line.number; mass = first_weight header line.words; entries = line_entries header (vertex done) line } in
     let first : List Entry → List Finding = λ before. vertex_findings header header.leading (vertex done) before line.number line.place line.words in
     let rest : State → List Finding = λ state. lines_findings state end count lines in
-    ap (λ found. found ++ rest (after_line (line_state (InLine header done [] header.leading left) line.words) line.number))
-    (vertex_line header done [] header.leading left line.number line.place line.words)
-    ∙ ap (λ before. first before ++ rest (after_line (line_state (InLine header done [] header.leading left) line.words) line.number)) (append_none (all_entries done))
-    ∙ ap (λ state. first (all_entries done) ++ rest state) (after_vertex_line header done header.leading left line.number line.words)
+    ap (λ found. found ++ rest (after_line (line_state (InLine header done 1 [] header.leading left) line.words) line.number))
+    (vertex_line header done 1 [] header.leading left line.number line.place line.words)
+    ∙ ap (λ before. first before ++ rest (after_line (line_state (InLine header done 1 [] header.leading left) line.words) line.number)) (append_none (all_entries done))
+    ∙ ap (λ state. first (all_entries done) ++ rest state) (after_whole_line header done left line)
     ∙ ap (λ found. first (all_entries done) ++ found) (body_lines header end count (done ++ v ∷ []) left lines)
     ∙ ap (λ n. first (all_entries done) ++ (body_findings header n left (all_entries (done ++ v ∷ [])) lines
     ++ end_findings header end count ((done ++ v ∷ []) ++ vertex_lines header n left lines))) (vertex_push done v)

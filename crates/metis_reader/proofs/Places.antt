@@ -84,8 +84,8 @@ at_end header end count vs =
 
 at_final : (s : State) (end count : ℕ) → AllAt end (final_findings s end count)
 at_final (AtHeader words) end count = (refl, tt)
-at_final (InLine header done here leading left) end count = at_end header end count done
-at_final (AtWeight header done here neighbour left) end count = at_end header end count done
+at_final (InLine header done mass here leading left) end count = at_end header end count done
+at_final (AtWeight header done mass here neighbour left) end count = at_end header end count done
 at_final (After header done) end count = at_end header end count done
 
 at_input_end_by : (part : LinePart) (s : State) (word : List ℕ) (ended next : ℕ)

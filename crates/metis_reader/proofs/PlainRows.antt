@@ -21,7 +21,7 @@ use Rattle.metis_reader.proofs.PlainText.{Writes, Reads}
 
 -- the header of a file with no weights
 abbrev pub plain_header : ℕ → ℕ → Header
-plain_header n m = record { vertices = n; edges = m; leading = 0; has_edge_weights = false }
+plain_header n m = record { vertices = n; edges = m; leading = 0; sizes = 0; has_edge_weights = false }
 
 abbrev pub entry : ℕ → ℕ → Entry
 entry u v = record { from = u; to = v; weight = 1 }

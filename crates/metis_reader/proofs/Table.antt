@@ -93,12 +93,14 @@ total_push all e = sum_by-append (λ (e : Entry). e.weight) all (e ∷ []) ∙ o
 pub record SameLines (a b : Body) : Type 0 where
   pub header : b.header ≡ a.header
   pub numbers : b.numbers.items ≡ a.numbers.items
+  pub masses : b.masses.items ≡ a.masses.items
 
 pub shows_moved : (a b : Body) (header : Header) (done : List VertexLine) (all : List Entry) → SameLines a b → greater_of b ≡ greater_of a → IsPermutation (lesser_of a) (lesser_of b)
     → b.total ≡ a.total → BodyShows a header done all → BodyShows b header done all
 shows_moved a b header done all lines greater lesser weight shows = record {
   same_header = ap (λ h. header_view h) lines.header ∙ shows.same_header;
   numbers = lines.numbers ∙ shows.numbers;
+  masses = lines.masses ∙ shows.masses;
   greater = subst (λ xs. IsPermutation (map edge_of (filter is_upward all)) xs) (sym greater) shows.greater;
   lesser = IsPermutation-trans _ _ _ shows.lesser lesser;
   total = λ has. weight ∙ shows.total has;
@@ -109,6 +111,7 @@ pub shows_up : (a b : Body) (header : Header) (done : List VertexLine) (all : Li
 shows_up a b header done all e lines up greater lesser weight shows = record {
   same_header = ap (λ h. header_view h) lines.header ∙ shows.same_header;
   numbers = lines.numbers ∙ shows.numbers;
+  masses = lines.masses ∙ shows.masses;
   greater = rw (up_push all e up, greater) (IsPermutation-append _ _ _ _ shows.greater (IsPermutation-refl (edge_of e ∷ [])));
   lesser = rw (down_skip all e up, lesser) shows.lesser;
   total = λ has. weight ∙ ap (λ n. n + e.weight) (shows.total has) ∙ sym (total_push all e);
@@ -119,17 +122,19 @@ pub shows_down : (a b : Body) (header : Header) (done : List VertexLine) (all : 
 shows_down a b header done all e lines down greater lesser weight shows = record {
   same_header = ap (λ h. header_view h) lines.header ∙ shows.same_header;
   numbers = lines.numbers ∙ shows.numbers;
+  masses = lines.masses ∙ shows.masses;
   greater = rw (up_skip all e down, greater) shows.greater;
   lesser = rw (down_push all e down) (IsPermutation-trans _ _ _ (IsPermutation-append _ _ _ _ shows.lesser (IsPermutation-refl (mirrored e ∷ []))) lesser);
   total = λ has. weight ∙ ap (λ n. n + e.weight) (shows.total has) ∙ sym (total_push all e);
 }
 
-pub shows_line : (a b : Body) (header : Header) (done : List VertexLine) (all here : List Entry) (line : ℕ) → b.header ≡ a.header → b.numbers.items ≡ a.numbers.items ++ line ∷ []
+pub shows_line : (a b : Body) (header : Header) (done : List VertexLine) (all here : List Entry) (line : ℕ) → b.header ≡ a.header → b.numbers.items ≡ a.numbers.items ++ line ∷ [] → b.masses.items ≡ a.masses.items ++ a.mass ∷ []
     → IsPermutation (greater_of a) (greater_of b) → lesser_of b ≡ lesser_of a → b.total ≡ a.total → BodyShows a header done all
-    → BodyShows b header (done ++ record { number = line; entries = here } ∷ []) all
-shows_line a b header done all here line same numbers greater lesser weight shows = record {
+    → BodyShows b header (done ++ record { number = line; mass = a.mass; entries = here } ∷ []) all
+shows_line a b header done all here line same numbers masses greater lesser weight shows = record {
   same_header = ap (λ h. header_view h) same ∙ shows.same_header;
-  numbers = numbers ∙ ap (λ xs. xs ++ line ∷ []) shows.numbers ∙ sym (map-append (λ (v : VertexLine). v.number) done (record { number = line; entries = here } ∷ []));
+  numbers = numbers ∙ ap (λ xs. xs ++ line ∷ []) shows.numbers ∙ sym (map-append (λ (v : VertexLine). v.number) done (record { number = line; mass = a.mass; entries = here } ∷ []));
+  masses = masses ∙ ap (λ xs. xs ++ a.mass ∷ []) shows.masses ∙ sym (map-append (λ (v : VertexLine). v.mass) done (record { number = line; mass = a.mass; entries = here } ∷ []));
   greater = IsPermutation-trans _ _ _ shows.greater greater;
   lesser = rw lesser shows.lesser;
   total = λ has. weight ∙ shows.total has;

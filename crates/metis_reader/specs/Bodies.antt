@@ -9,8 +9,12 @@ use Rattle.metis_reader.specs.Dues.{after_leading_of}
 use Rattle.metis_reader.specs.Meeting.{with_met}
 use Rattle.metis_reader.specs.Profile as profile
 
+-- how many words stand before the vertex weights, and how many before the neighbours
+abbrev pub sizes_of : Header → ℕ
+sizes_of h = if h.format.has_sizes then 1 else 0
+
 abbrev pub leading_of : Header → ℕ
-leading_of h = (if h.format.has_sizes then 1 else 0) + (if h.format.has_vertex_weights then h.weights else 0)
+leading_of h = sizes_of h + (if h.format.has_vertex_weights then h.weights else 0)
 
 -- the header as the definition of a file has it
 abbrev pub header_view : Header → profile.Header
@@ -18,6 +22,7 @@ header_view h = record {
   vertices = h.vertices;
   edges = h.edges;
   leading = leading_of h;
+  sizes = sizes_of h;
   has_edge_weights = h.format.has_edge_weights;
 }
 

@@ -3,7 +3,7 @@ use Rattle.std.specs.Prelude.{◌≡◌, ℕ, suc, List, [], ◌∷◌}
 use Rattle.cut_definitions.specs.Graph.{Graph}
 use Rattle.metis_reader.specs.declared.fault.Fault.{Fault}
 use Rattle.metis_reader.specs.Profile.{Finding, Header, Entry}
-use Rattle.metis_reader.specs.File.{VertexLine, all_entries, edges_of, fault_of}
+use Rattle.metis_reader.specs.File.{VertexLine, all_entries, all_masses, edges_of, fault_of}
 use Rattle.metis_reader.specs.declared.line_part.LinePart.TheVariants.{Start, Words}
 use Rattle.metis_reader.specs.Machine.{State, AtHeader, InLine, AtWeight, After}
 use Rattle.metis_reader.specs.Reading.{Reading, line_end, line_end_state}
@@ -29,16 +29,24 @@ graph_shown header done = record { vertices = header.vertices; edges = edges_of 
 abbrev pub IsLineStart : State → Type 0
 IsLineStart (AtHeader []) = Unit {0}
 IsLineStart (AtHeader (word ∷ words)) = ⊥
-IsLineStart (InLine header done here leading left) = (here ≡ []) × RowsFrom 1 done
-IsLineStart (AtWeight header done here neighbour left) = ⊥
+IsLineStart (InLine header done mass here leading left) = (here ≡ []) × RowsFrom 1 done
+IsLineStart (AtWeight header done mass here neighbour left) = ⊥
 IsLineStart (After header done) = RowsFrom 1 done
 
--- the graph that a state shows
+-- what a state shows of the lines that are read, if any
+abbrev pub shown_by : {X : Type 0} → X → (Header → List VertexLine → X) → State → X
+shown_by none shown (AtHeader words) = none
+shown_by none shown (InLine header done mass here leading left) = shown header done
+shown_by none shown (AtWeight header done mass here neighbour left) = shown header done
+shown_by none shown (After header done) = shown header done
+
+-- the graph
 abbrev pub state_graph : State → Graph
-state_graph (AtHeader words) = record { vertices = 0; edges = [] }
-state_graph (InLine header done here leading left) = graph_shown header done
-state_graph (AtWeight header done here neighbour left) = graph_shown header done
-state_graph (After header done) = graph_shown header done
+state_graph s = shown_by (record { vertices = 0; edges = [] }) graph_shown s
+
+-- the masses of the vertices
+abbrev pub state_masses : State → List ℕ
+state_masses s = shown_by [] (λ header done. all_masses done) s
 
 -- the end of the last line, where no line feed ends it: its faults, the state behind it, and the number of lines
 abbrev pub last_line : Reading → List Finding

@@ -1,5 +1,5 @@
 -- The graph of a file, or its first fault.
-use Rattle.std.specs.Prelude.{ℕ, zero, suc, ◌-◌, ◌*◌, ◌^◌, Bool, false, not, ◌&&◌, ◌||◌, ◌==◌, nat_lt, nat_le, if◌then◌else◌, List, [], ◌∷◌, ◌++◌, length, take, map, Option, None, Some, Result, Ok, Err}
+use Rattle.std.specs.Prelude.{ℕ, zero, suc, ◌-◌, ◌*◌, ◌^◌, Bool, false, not, ◌&&◌, ◌||◌, ◌==◌, nat_lt, nat_le, if◌then◌else◌, List, [], ◌∷◌, ◌++◌, length, take, map, replicate, Option, None, Some, Result, Ok, Err}
 use Rattle.std.specs.List.{filter, list_any, flat_map, range_with_len}
 use Rattle.cut_definitions.specs.declared.edge_list.Edge.{Edge}
 use Rattle.cut_definitions.specs.Graph.{Graph}
@@ -7,21 +7,26 @@ use Rattle.metis_reader.specs.declared.fault.Fault.{Fault}
 use Rattle.metis_reader.specs.declared.fault.FaultKind.{FaultKind}
 use Rattle.metis_reader.specs.declared.fault.FaultKind.TheVariants.{NoHeader, InputTooLong, MissingLines, TooFewEntries, Repeated, Unsymmetric}
 use Rattle.metis_reader.specs.Text.{Line, lines, is_line_feed}
-use Rattle.metis_reader.specs.Profile.{Finding, Header, Entry, where_true, found_at, header_of, header_findings, vertex_findings, line_entries, extra_findings}
+use Rattle.metis_reader.specs.Profile.{Finding, Header, Entry, where_true, found_at, header_of, header_findings, vertex_findings, line_entries, first_weight, has_flag, format_of, extra_findings}
 
--- The entries of the vertex lines, which are as many as there are vertices or fewer.
+-- The masses and the entries of the vertex lines, which are as many as there are vertices or fewer.
 pub record VertexLine : Type 0 where
   pub number : ℕ
+  pub mass : ℕ
   pub entries : List Entry
 
 abbrev pub vertex_lines : Header → ℕ → ℕ → List Line → List VertexLine
 vertex_lines header vertex zero lines = []
 vertex_lines header vertex (suc left) [] = []
 vertex_lines header vertex (suc left) (line ∷ lines) =
-    record { number = line.number; entries = line_entries header vertex line } ∷ vertex_lines header (suc vertex) left lines
+    record { number = line.number; mass = first_weight header line.words; entries = line_entries header vertex line }
+    ∷ vertex_lines header (suc vertex) left lines
 
 abbrev pub all_entries : List VertexLine → List Entry
 all_entries vertices = flat_map (λ (v : VertexLine). v.entries) vertices
+
+abbrev pub all_masses : List VertexLine → List ℕ
+all_masses vertices = map (λ (v : VertexLine). v.mass) vertices
 
 -- The tests of the end of the input: of the lines of two vertices that a fault may be told of, that of the lesser one.
 
@@ -116,6 +121,17 @@ edge_list (line ∷ lines) =
       vertices = header.vertices;
       edges = edges_of header.vertices (all_entries (vertex_lines header 1 header.vertices lines));
     }
+
+-- the mass of each vertex: its first weight, or 1 where the format says that vertices have none
+abbrev pub mass_list : List Line → List ℕ
+mass_list [] = []
+mass_list (line ∷ lines) =
+    let header = header_of line.words in
+    if has_flag 1 (format_of line.words) then all_masses (vertex_lines header 1 header.vertices lines) else replicate header.vertices 1
+
+-- the masses of the vertices of a file without a fault, in the order of the vertices
+unfoldable pub masses_of : List ℕ → List ℕ
+masses_of bytes = mass_list (from_header (filter is_kept (lines bytes)))
 
 -- the first fault of a file, or its edge list
 unfoldable pub graph_of : List ℕ → Result Graph Fault

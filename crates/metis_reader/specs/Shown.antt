@@ -12,7 +12,7 @@ use Rattle.metis_reader.specs.declared.header.Header as kept
 use Rattle.metis_reader.specs.declared.body.Body.{Body}
 use Rattle.metis_reader.specs.Text.{Piece}
 use Rattle.metis_reader.specs.Profile.{Header, Entry, value, total, value_or_zero, after_first, format_of, weights_of}
-use Rattle.metis_reader.specs.File.{VertexLine, edge_of}
+use Rattle.metis_reader.specs.File.{VertexLine, all_masses, edge_of}
 use Rattle.metis_reader.specs.Machine.{State, AtHeader, InLine, AtWeight, After, before, line_faults}
 use Rattle.metis_reader.specs.Words.{HasFlags}
 use Rattle.metis_reader.specs.Dues.{after_leading_of}
@@ -33,6 +33,7 @@ mirrored e = record { u = e.to; v = e.from; w = e.weight }
 pub record BodyShows (b : Body) (header : Header) (done : List VertexLine) (all : List Entry) : Type 0 where
   pub same_header : header_view b.header ≡ header
   pub numbers : b.numbers.items ≡ map (λ (v : VertexLine). v.number) done
+  pub masses : b.masses.items ≡ all_masses done
   pub greater : IsPermutation (map edge_of (filter is_upward all)) (greater_of b)
   pub lesser : IsPermutation (map mirrored (filter (λ e. not (is_upward e)) all)) (lesser_of b)
   pub total : header.has_edge_weights ≡ true → b.total ≡ total all
@@ -51,21 +52,22 @@ header_due (n ∷ m ∷ []) = Format
 header_due (n ∷ m ∷ f ∷ []) = Constraints
 header_due (n ∷ m ∷ f ∷ c ∷ words) = NoHeaderWord
 
-pub record LineShows (b : Body) (header : Header) (done : List VertexLine) (here : List Entry) (left : ℕ) : Type 0 where
+pub record LineShows (b : Body) (header : Header) (done : List VertexLine) (mass : ℕ) (here : List Entry) (left : ℕ) : Type 0 where
   pub body : BodyShows b header done (before done here)
   pub lines : length done + left ≡ header.vertices
+  pub same_mass : b.mass ≡ mass
 
 abbrev pub due_of : State → Due
 due_of (AtHeader seen) = header_due seen
-due_of (InLine header done here leading left) = after_leading_of leading
-due_of (AtWeight header done here neighbour left) = EdgeWeight (value neighbour)
+due_of (InLine header done mass here leading left) = after_leading_of leading
+due_of (AtWeight header done mass here neighbour left) = EdgeWeight (value neighbour)
 due_of (After header done) = NoWord
 
 abbrev pub Keeps : kept.Header → Body → State → Type 0
 Keeps h b (AtHeader seen) = HeaderShows h seen
-Keeps h b (InLine header done here leading left) = LineShows b header done here (suc left)
-Keeps h b (AtWeight header done here neighbour left) = LineShows b header done here (suc left) × (header.has_edge_weights ≡ true)
-Keeps h b (After header done) = LineShows b header done [] 0
+Keeps h b (InLine header done mass here leading left) = LineShows b header done mass here (suc left)
+Keeps h b (AtWeight header done mass here neighbour left) = LineShows b header done mass here (suc left) × (header.has_edge_weights ≡ true)
+Keeps h b (After header done) = LineShows b header done 1 [] 0
 
 abbrev pub Shows : Due → kept.Header → Body → State → Type 0
 Shows due h b state = (due ≡ due_of state) × Keeps h b state

@@ -7,8 +7,8 @@ ghost use Rattle.metis_reader.specs.Meeting.{with_met, IsOfFinished, IsOfNext};
 use crate::header::Header;
 use crate::mates::{is_strict, meet, mismatch, put_back, sort_row};
 use crate::word::Word;
-use crate::{Fault, FaultKind};
-use cut_definitions::{Edge, EdgeList};
+use crate::{Fault, FaultKind, MetisGraph};
+use cut_definitions::{Edge, EdgeList, VertexWeights};
 use std::alloc::{AllocError, Global};
 
 /// So many entries to lesser neighbours are gathered before they are looked for: in a loop of their own the reads at far
@@ -33,6 +33,8 @@ pub struct Body {
     header: Header,
     // the line number of each vertex line
     numbers: Vec<u64>,
+    // the mass of each vertex whose line is ended
+    masses: Vec<u64>,
     // for each vertex line where the entries of its row in `greater` begin that were not yet met
     cursors: Vec<u32>,
     // the entries to greater neighbours, line by line, each finished line's in ascending order
@@ -46,8 +48,12 @@ pub struct Body {
     strays: usize,
     entries: usize,
     total: u64,
+    // the mass of the present vertex, as far as its line was read
+    mass: u64,
     ghost lines: { length numbers.items ≤ header.vertices },
     ghost line_room: { header.vertices ≤ vec_capacity numbers },
+    ghost masses_of_lines: { length masses.items ≡ length numbers.items },
+    ghost mass_room: { header.vertices ≤ vec_capacity masses },
     ghost cursors_of_lines: { length cursors.items ≡ length numbers.items },
     ghost cursor_room: { header.vertices ≤ vec_capacity cursors },
     ghost greater_room: { 2 * header.edges ≤ vec_capacity greater },
@@ -68,7 +74,7 @@ pub struct Body {
 impl Body {
     ghost use Rattle.std.specs.Prelude.{◌≡◌, ◌≤◌, ◌<◌, ◌+◌, ◌*◌, ◌^◌, ◌==◌, ◌++◌, ◌∷◌, [], ℕ, Bool, true, false, not, List, length, suc, IfOk, IsTrue, MatchResult, nat_lt, if◌then◌else◌};
     ghost use Rattle.cut_definitions.specs.declared.edge_list.Edge.{Edge};
-    ghost use Rattle.metis_reader.specs.Bodies.{CanEnter, vertex_of, entry_count, greater_of, lesser_of};
+    ghost use Rattle.metis_reader.specs.Bodies.{CanEnter, vertex_of, entry_count, greater_of, lesser_of, sizes_of, leading_of};
     ghost use Rattle.cut_definitions.specs.Graph.{IsBefore};
     ghost use Rattle.std.specs.List.{AllPairs};
     ghost use Rattle.std.specs.List.Sorted.{IsPermutation};
@@ -76,7 +82,7 @@ impl Body {
     ghost use Rattle.metis_reader.specs.Text.{Piece};
     ghost use Rattle.metis_reader.specs.Profile as profile;
     ghost use Rattle.metis_reader.specs.Profile.{Entry, value, neighbour_faults, edge_weight_faults};
-    ghost use Rattle.metis_reader.specs.File.{VertexLine, all_entries, end_findings};
+    ghost use Rattle.metis_reader.specs.File.{VertexLine, all_entries, all_masses, end_findings};
     ghost use Rattle.metis_reader.specs.Ending.{RowsFrom, TellsFirst, graph_shown};
     ghost use Rattle.metis_reader.specs.Machine.{vertex};
     ghost use Rattle.metis_reader.specs.Judging.{Judges};
@@ -90,6 +96,7 @@ impl Body {
         Body {
             header: Header::NONE,
             numbers: Vec::new(alloc),
+            masses: Vec::new(alloc),
             cursors: Vec::new(alloc),
             greater: Vec::new(alloc),
             lesser: Vec::new(alloc),
@@ -97,18 +104,20 @@ impl Body {
             strays: 0,
             entries: 0,
             total: 0,
+            mass: 1,
         }
     }
 
     /// Memory for all that a file with this header may say.
     #[inline(never)]
     pub fn new(alloc: Global, header: Header) -> Result<Body, AllocError>
-        ensures { IfOk result (λ b. (b.header ≡ header) × (b.numbers.items ≡ []) × (greater_of b ≡ []) × (lesser_of b ≡ []) × (b.total ≡ 0)) }
+        ensures { IfOk result (λ b. (b.header ≡ header) × (b.numbers.items ≡ []) × (greater_of b ≡ []) × (lesser_of b ≡ []) × (b.total ≡ 0) × (b.masses.items ≡ []) × (b.mass ≡ 1)) }
     {
         let places = 2 * header.edges as usize;
         Ok(Body {
             header,
             numbers: Vec::with_capacity(alloc, header.vertices as usize)?,
+            masses: Vec::with_capacity(alloc, header.vertices as usize)?,
             cursors: Vec::with_capacity(alloc, header.vertices as usize)?,
             greater: Vec::with_capacity(alloc, places)?,
             lesser: Vec::with_capacity(alloc, places)?,
@@ -116,6 +125,7 @@ impl Body {
             strays: 0,
             entries: 0,
             total: 0,
+            mass: 1,
         })
     }
 
@@ -149,13 +159,28 @@ impl Body {
         requires { length self.old.numbers.items < self.old.header.vertices }
         ensures same_header { self.new.header ≡ self.old.header }
         ensures next_line { length self.new.numbers.items ≡ suc (length self.old.numbers.items) }
+        ensures next_mass { self.new.mass ≡ 1 }
         ensures shows { (header : profile.Header) (done : List VertexLine) (all here : List Entry) → BodyShows self.old header done all
-            → BodyShows self.new header (done ++ record { number = line; entries = here } ∷ []) all }
+            → BodyShows self.new header (done ++ record { number = line; mass = self.old.mass; entries = here } ∷ []) all }
     {
         sort_row(self.greater.as_mut_slice(), self.start);
         let _ = self.numbers.push(line);
         let _ = self.cursors.push(self.start as u32);
+        let _ = self.masses.push(self.mass);
+        self.mass = 1;
         self.start = self.greater.len();
+    }
+
+    /// Takes the value of a leading word of the present vertex line, behind which so many come. The first weight is the mass.
+    pub fn lead(&mut self, value: u64, left: u32)
+        ensures same_header { self.new.header ≡ self.old.header }
+        ensures same_line { length self.new.numbers.items ≡ length self.old.numbers.items }
+        ensures mass { self.new.mass ≡ (if suc left + sizes_of self.old.header == leading_of self.old.header then value else self.old.mass) }
+        ensures shows { (header : profile.Header) (done : List VertexLine) (all : List Entry) → BodyShows self.old header done all → BodyShows self.new header done all }
+    {
+        if self.header.is_first_weight(left) {
+            self.mass = value;
+        }
     }
 
     /// The neighbour that the word names.
@@ -206,6 +231,7 @@ impl Body {
         requires unit { self.old.header.format.has_edge_weights ≡ false → w ≡ 1 }
         ensures same_header { self.new.header ≡ self.old.header }
         ensures same_line { length self.new.numbers.items ≡ length self.old.numbers.items }
+        ensures same_mass { self.new.mass ≡ self.old.mass }
         ensures shows { (header : profile.Header) (done : List VertexLine) (all : List Entry) → BodyShows self.old header done all
             → BodyShows self.new header done (all ++ record { from = vertex done; to = neighbour; weight = w } ∷ []) }
     {
@@ -235,6 +261,8 @@ impl Body {
     fn settle(&mut self)
         ensures same_header { self.new.header ≡ self.old.header }
         ensures same_lines { self.new.numbers.items ≡ self.old.numbers.items }
+        ensures same_masses { self.new.masses.items ≡ self.old.masses.items }
+        ensures same_mass { self.new.mass ≡ self.old.mass }
         ensures same_entries { self.new.entries ≡ self.old.entries }
         ensures same_total { self.new.total ≡ self.old.total }
         ensures same_greater { greater_of self.new ≡ greater_of self.old }
@@ -261,10 +289,11 @@ impl Body {
         is_strict(&self.greater)
     }
 
-    /// The graph, where the input ends after so many lines.
-    pub fn finish(mut self, lines: u64) -> Result<EdgeList, Fault>
-        ensures { (header : profile.Header) (done : List VertexLine) (end : ℕ) → BodyShows self header done (all_entries done) → RowsFrom 1 done
-            → MatchResult result (λ g. (end_findings header end lines done ≡ []) × (graph_shown header done ≡ g)) (λ f. TellsFirst f (end_findings header end lines done)) }
+    /// The graph and the masses, where the input ends after so many lines.
+    pub fn finish(mut self, lines: u64) -> Result<MetisGraph, Fault>
+        ensures weighed { IfOk result (λ g. length g.weights ≡ g.edges.vertices) }
+        ensures exact { (header : profile.Header) (done : List VertexLine) (end : ℕ) → BodyShows self header done (all_entries done) → RowsFrom 1 done
+            → MatchResult result (λ g. (end_findings header end lines done ≡ []) × (graph_shown header done ≡ g.edges) × (all_masses done ≡ g.weights)) (λ f. TellsFirst f (end_findings header end lines done)) }
     {
         if !self.has_all_lines() {
             return Err(Fault {
@@ -284,24 +313,30 @@ impl Body {
         }
         let Body {
             header,
+            masses,
             mut greater,
             ..
         } = self;
         greater.shrink_to_fit();
-        Ok(EdgeList::from_edges(header.vertices, greater))
+        Ok(MetisGraph {
+            edges: EdgeList::from_edges(header.vertices, greater),
+            weights: VertexWeights::from_list(masses),
+        })
     }
 
-    // The graph of all lines and entries, where some may be without their mates: it sorts them.
+    // The graph and the masses of all lines and entries, where some entries may be without their mates: it sorts them.
     #[inline(never)]
-    fn finish_by_sorting(self) -> Result<EdgeList, Fault>
+    fn finish_by_sorting(self) -> Result<MetisGraph, Fault>
         requires lines { self.header.vertices ≤ length self.numbers.items }
         requires entries { 2 * self.header.edges ≤ entry_count self }
-        ensures { (header : profile.Header) (done : List VertexLine) (end lines : ℕ) → BodyShows self header done (all_entries done) → RowsFrom 1 done
-            → MatchResult result (λ g. (end_findings header end lines done ≡ []) × (graph_shown header done ≡ g)) (λ f. TellsFirst f (end_findings header end lines done)) }
+        ensures weighed { IfOk result (λ g. length g.weights ≡ g.edges.vertices) }
+        ensures exact { (header : profile.Header) (done : List VertexLine) (end lines : ℕ) → BodyShows self header done (all_entries done) → RowsFrom 1 done
+            → MatchResult result (λ g. (end_findings header end lines done ≡ []) × (graph_shown header done ≡ g.edges) × (all_masses done ≡ g.weights)) (λ f. TellsFirst f (end_findings header end lines done)) }
     {
         let Body {
             header,
             numbers,
+            masses,
             cursors,
             mut greater,
             mut lesser,
@@ -312,6 +347,9 @@ impl Body {
             return Err(fault_of_vertex(kind, vertex, &numbers));
         }
         greater.shrink_to_fit();
-        Ok(EdgeList::from_edges(header.vertices, greater))
+        Ok(MetisGraph {
+            edges: EdgeList::from_edges(header.vertices, greater),
+            weights: VertexWeights::from_list(masses),
+        })
     }
 }

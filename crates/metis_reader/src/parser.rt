@@ -11,8 +11,7 @@ use crate::body::Body;
 use crate::due::Due;
 use crate::header::Header;
 use crate::word::Word;
-use crate::{Fault, FaultKind, ReadRefusal};
-use cut_definitions::EdgeList;
+use crate::{Fault, FaultKind, MetisGraph, ReadRefusal};
 use std::alloc::Global;
 
 const MAX_VERTICES: u32 = 4_194_304;
@@ -77,11 +76,11 @@ pub struct Parser {
 }
 
 impl Parser {
-    ghost use Rattle.std.specs.Prelude.{◌≡◌, ℕ, MatchResult, [], List};
+    ghost use Rattle.std.specs.Prelude.{◌≡◌, ℕ, IfOk, MatchResult, [], List, length};
     ghost use Rattle.metis_reader.specs.Text.{Piece};
     ghost use Rattle.metis_reader.specs.Words.{IsWord};
     ghost use Rattle.metis_reader.specs.Machine.{State, AtHeader, word_faults, after_word, line_faults, after_line, final_findings};
-    ghost use Rattle.metis_reader.specs.Ending.{IsLineStart, state_graph, TellsFirst};
+    ghost use Rattle.metis_reader.specs.Ending.{IsLineStart, state_graph, state_masses, TellsFirst};
     ghost use Rattle.metis_reader.specs.Shown.{Shows, BeginsWith, RefusedBy};
 
     pub fn new(alloc: Global) -> Parser
@@ -143,7 +142,8 @@ impl Parser {
             }
             Due::NoHeaderWord => Err(FaultKind::HeaderWords),
             Due::Leading(left) => {
-                word.number()?;
+                let value = word.number()?;
+                self.body.lead(value, left);
                 self.due = after_leading(left);
                 Ok(())
             }
@@ -183,10 +183,11 @@ impl Parser {
         }
     }
 
-    /// The graph, where the input ends after so many lines.
-    pub fn finish(self, lines: u64) -> Result<EdgeList, Fault>
-        ensures { (s : State) (end : ℕ) → Shows self.due self.header self.body s → IsLineStart s
-            → MatchResult result (λ g. (final_findings s end lines ≡ []) × (state_graph s ≡ g)) (λ f. TellsFirst f (final_findings s end lines)) }
+    /// The graph and the masses, where the input ends after so many lines.
+    pub fn finish(self, lines: u64) -> Result<MetisGraph, Fault>
+        ensures weighed { IfOk result (λ g. length g.weights ≡ g.edges.vertices) }
+        ensures exact { (s : State) (end : ℕ) → Shows self.due self.header self.body s → IsLineStart s
+            → MatchResult result (λ g. (final_findings s end lines ≡ []) × (state_graph s ≡ g.edges) × (state_masses s ≡ g.weights)) (λ f. TellsFirst f (final_findings s end lines)) }
     {
         if let Due::Vertices = self.due {
             return Err(Fault {

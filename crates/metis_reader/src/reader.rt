@@ -9,7 +9,7 @@ use crate::line_part::LinePart;
 use crate::parser::{Parser, refusal_at};
 use crate::word::Word;
 use crate::{FaultKind, ReadRefusal};
-use cut_definitions::EdgeList;
+use cut_definitions::{EdgeList, VertexWeights};
 use std::alloc::Global;
 
 const MAX_BYTES: u64 = 8_589_934_592;
@@ -18,10 +18,14 @@ const LINE_FEED: u8 = 10;
 
 const PERCENT: u8 = 37;
 
-/// What a METIS file says: its graph, as the list of its edges.
+/// What a METIS file says: its graph, as the list of its edges, and the masses of its vertices, in their order.
+///
+/// The mass of a vertex is the first of its weights, a number below 2^64, which may be 0; where the format says that vertices
+/// have no weights, it is 1. Sizes and further weights are read and not kept.
 #[derive(Drop)]
 pub struct MetisGraph {
     pub edges: EdgeList,
+    pub weights: VertexWeights,
 }
 
 /// A reader that is fed a file in pieces.
@@ -80,7 +84,7 @@ impl Reader {
     ghost use Rattle.metis_reader.specs.declared.fault.ReadRefusal.TheVariants.{NoMemory, Fault};
     ghost use Rattle.metis_reader.specs.Machine.{State};
     ghost use Rattle.metis_reader.specs.Words.{IsWord};
-    ghost use Rattle.metis_reader.specs.File.{graph_of, fixed};
+    ghost use Rattle.metis_reader.specs.File.{graph_of, masses_of, fixed};
     ghost use Rattle.metis_reader.specs.Reading.{Reading, start, bytes_findings, reading_from, byte_findings, after_byte, word_end, word_end_state, line_end, line_end_state, input_end};
     ghost use Rattle.metis_reader.specs.Holding.{ParserShows, Holds, RefusedFirst, ByteEndsHeader, BytesEndHeader};
     ghost use Rattle.metis_reader.specs.Shown.{EndsHeader};
@@ -336,13 +340,16 @@ impl Reader {
         }
     }
 
-    /// The graph of the file, where the bytes fed are one without a fault, else its first fault.
+    /// The graph of the file and the mass of each of its vertices, where the bytes fed are one without a fault, else its first
+    /// fault.
     ///
     /// After a refusal it answers the same one. Else it answers `NoMemory` only where the input's end ends the header's line:
     /// the header is there, and the line feed that would end its line is not; so never for an input without a header. Its
     /// cost for m edges is O(m) where each entry has its mate, else that of sorting the entries, O(m log m).
     pub fn finish(mut self) -> Result<MetisGraph, ReadRefusal>
         ensures graph { IfOk result (λ g. (bytes : List ℕ) → StandsFor self bytes → graph_of bytes ≡ Ok g.edges) }
+        ensures masses { IfOk result (λ g. (bytes : List ℕ) → StandsFor self bytes → masses_of bytes ≡ g.weights) }
+        ensures weighed { IfOk result (λ g. length g.weights ≡ g.edges.vertices) }
         ensures fault { (f : told.Fault) → result ≡ Err (Fault f) → (bytes : List ℕ) → StandsFor self bytes → graph_of bytes ≡ Err f }
         ensures no_memory { result ≡ Err NoMemory → answered self ≡ None → (bytes : List ℕ) → StandsFor self bytes → HeaderEndsIn bytes (10 ∷ []) }
         ensures again { (refusal : refusals.ReadRefusal) → answered self ≡ Some refusal → result ≡ Err refusal }
@@ -356,7 +363,7 @@ impl Reader {
         }
         let Reader { parser, line, .. } = self;
         match parser.finish(line.saturating_sub(1)) {
-            Ok(edges) => Ok(MetisGraph { edges }),
+            Ok(graph) => Ok(graph),
             Err(fault) => Err(ReadRefusal::Fault(fault)),
         }
     }

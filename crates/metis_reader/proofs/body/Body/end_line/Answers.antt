@@ -79,8 +79,11 @@ invariant_of-self-clause-greater_within c =
 numbers_are : (c : After-len-self) → c.push.new.self.items ≡ c.args.self.now.numbers.items ++ c.args.line ∷ []
 numbers_are c = grind (arith, common_steps)
 
+masses_are : (c : After-len-self) → c.push-3.new.self.items ≡ c.args.self.now.masses.items ++ c.args.self.now.mass ∷ []
+masses_are c = grind (arith, common_steps)
+
 pub returns-clause-shows : goal.returns-clause-shows
 returns-clause-shows c = λ header done all here shows.
     let at = (goal.at.returns-clause-shows c).After-len-self in
     let e = ends at in
-    shows_line c.args.self.now _ header done all here c.args.line refl (numbers_are at) e.moved (same_met at) refl shows
+    shows_line c.args.self.now _ header done all here c.args.line refl (numbers_are at) (masses_are at) e.moved (same_met at) refl shows

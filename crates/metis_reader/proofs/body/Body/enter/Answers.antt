@@ -85,7 +85,7 @@ returns-then-vertex-neighbour-clause-shows c = λ header done all shows.
     let size : Sizes c.args.self.now header done all = sizes c.args.self.now header done all shows in
     let is : c.vertex-vertex.result ≡ vertex done = c.vertex-vertex.ensures ∙ sym size.vertex in
     let entry : Entry = record { from = vertex done; to = c.args.neighbour; weight = c.args.w } in
-    shows_up c.args.self.now _ header done all entry (record { header = refl; numbers = refl })
+    shows_up c.args.self.now _ header done all entry (record { header = refl; numbers = refl; masses = refl })
     (subst (λ v. nat_lt v c.args.neighbour ≡ true) is (rises c.vertex-vertex.result c.args.neighbour c.if-vertex-neighbour.true))
     (up_items at ∙ ap (λ (u : ℕ). c.args.self.now.greater.items ++ record { u = u; v = c.args.neighbour; w = c.args.w } ∷ []) is) (up_met at) refl shows
 
@@ -146,7 +146,7 @@ returns-then-len-self-ge-BATCH-clause-shows c = λ header done all shows.
     let size : Sizes c.args.self.now header done all = sizes c.args.self.now header done all shows in
     let is : c.vertex-vertex.result ≡ vertex done = c.vertex-vertex.ensures ∙ sym size.vertex in
     let entry : Entry = record { from = vertex done; to = c.args.neighbour; weight = c.args.w } in
-    shows_down c.args.self.now c.settle.new.self header done all entry (record { header = c.settle.ensures.same_header; numbers = c.settle.ensures.same_lines })
+    shows_down c.args.self.now c.settle.new.self header done all entry (record { header = c.settle.ensures.same_header; numbers = c.settle.ensures.same_lines; masses = c.settle.ensures.same_masses })
     (subst (λ v. nat_lt v c.args.neighbour ≡ false) is (falls c.vertex-vertex.result c.args.neighbour c.if-vertex-neighbour.false))
     c.settle.ensures.same_greater (moved at (vertex done) is (lesser_of c.settle.new.self) c.settle.ensures.moved) c.settle.ensures.same_total shows
 
@@ -157,6 +157,6 @@ returns-else-len-self-ge-BATCH-clause-shows c = λ header done all shows.
     let is : c.vertex-vertex.result ≡ vertex done = c.vertex-vertex.ensures ∙ sym size.vertex in
     let entry : Entry = record { from = vertex done; to = c.args.neighbour; weight = c.args.w } in
     let same : List Edge = with_met c.args.self.now.greater.items c.args.self.now.cursors.items c.push-2.new.self.items in
-    shows_down c.args.self.now _ header done all entry (record { header = refl; numbers = refl })
+    shows_down c.args.self.now _ header done all entry (record { header = refl; numbers = refl; masses = refl })
     (subst (λ v. nat_lt v c.args.neighbour ≡ false) is (falls c.vertex-vertex.result c.args.neighbour c.if-vertex-neighbour.false))
     refl (moved at (vertex done) is same (IsPermutation-refl same)) refl shows

@@ -1,10 +1,10 @@
 use Rattle.std.proofs.Common.{◌≡◌, ◌≤◌, ◌*◌, length, arith, subst, sym, ap, ◌∙◌}
 use Rattle.std.proofs.lemmas.List.Sorted.{IsPermutation-refl}
-use Rattle.cut_definitions.specs.Graph.{IsEdgeList}
+use Rattle.cut_definitions.specs.Graph.{Graph, IsEdgeList}
 use Rattle.metis_reader.specs.declared.header.Header.{Header}
 use Rattle.metis_reader.specs.declared.body.Body.{Body}
 use Rattle.metis_reader.specs.File.{all_entries}
-use Rattle.metis_reader.proofs.BodyEnd.{body_missing, body_few, body_accepted, matched_is_edge_list}
+use Rattle.metis_reader.proofs.BodyEnd.{body_missing, body_few, body_accepted, matched_is_edge_list, few_masses, one_for_each}
 use Rattle.metis_reader.proofs.Table.{shows_moved}
 use Rattle.metis_reader.proofs.body.Body.finish.Goals as goal
 
@@ -19,11 +19,11 @@ all_entries_there a b header entries h =
     let m : b.header.edges ≡ a.header.edges = ap (λ (h : Header). h.edges) header in
     omega arith
 
-pub returns-then-not-has_all_lines : goal.returns-then-not-has_all_lines
-returns-then-not-has_all_lines c = λ header done end shows rows. body_missing c.args.self header done end c.args.lines shows c.if-not-has_all_lines.ensures
+pub returns-then-not-has_all_lines-clause-exact : goal.returns-then-not-has_all_lines-clause-exact
+returns-then-not-has_all_lines-clause-exact c = λ header done end shows rows. body_missing c.args.self header done end c.args.lines shows c.if-not-has_all_lines.ensures
 
-pub returns-then-not-has_all_entries : goal.returns-then-not-has_all_entries
-returns-then-not-has_all_entries c = λ header done end shows rows. body_few c.args.self header done end c.args.lines shows c.if-not-has_all_lines.ensures c.if-not-has_all_entries.ensures
+pub returns-then-not-has_all_entries-clause-exact : goal.returns-then-not-has_all_entries-clause-exact
+returns-then-not-has_all_entries-clause-exact c = λ header done end shows rows. body_few c.args.self header done end c.args.lines shows c.if-not-has_all_lines.ensures c.if-not-has_all_entries.ensures
 
 pub finish_by_sorting-requires : goal.finish_by_sorting-requires
 finish_by_sorting-requires c = record {
@@ -31,10 +31,10 @@ finish_by_sorting-requires c = record {
   entries = all_entries_there c.args.self c.settle.new.self c.settle.ensures.same_header c.settle.ensures.same_entries c.if-not-has_all_entries.ensures;
 }
 
-pub returns-then-not-is_met : goal.returns-then-not-is_met
-returns-then-not-is_met c = λ header done end shows rows.
-    c.finish_by_sorting.ensures header done end c.args.lines
-    (shows_moved c.args.self c.settle.new.self header done (all_entries done) (record { header = c.settle.ensures.same_header; numbers = c.settle.ensures.same_lines })
+pub returns-then-not-is_met-clause-exact : goal.returns-then-not-is_met-clause-exact
+returns-then-not-is_met-clause-exact c = λ header done end shows rows.
+    c.finish_by_sorting.ensures.exact header done end c.args.lines
+    (shows_moved c.args.self c.settle.new.self header done (all_entries done) (record { header = c.settle.ensures.same_header; numbers = c.settle.ensures.same_lines; masses = c.settle.ensures.same_masses })
     c.settle.ensures.same_greater c.settle.ensures.moved c.settle.ensures.same_total shows)
     rows
 
@@ -44,13 +44,26 @@ from_edges-requires c =
     subst (λ edges. IsEdgeList (record { vertices = b.header.vertices; edges = edges })) (sym c.shrink_to_fit.ensures.items)
     (matched_is_edge_list b b.greater.items (IsPermutation-refl b.greater.items) (c.is_met.ensures.lesser c.if-not-is_met.false) (c.is_met.ensures.ascends c.if-not-is_met.false))
 
-pub returns : goal.returns
-returns c = λ header done end shows rows.
+pub returns-clause-exact : goal.returns-clause-exact
+returns-clause-exact c = λ header done end shows rows.
     let b = c.settle.new.self in
-    let now = shows_moved c.args.self b header done (all_entries done) (record { header = c.settle.ensures.same_header; numbers = c.settle.ensures.same_lines })
+    let now = shows_moved c.args.self b header done (all_entries done) (record { header = c.settle.ensures.same_header; numbers = c.settle.ensures.same_lines; masses = c.settle.ensures.same_masses })
     c.settle.ensures.same_greater c.settle.ensures.moved c.settle.ensures.same_total shows in
     let accepted = body_accepted b header done end c.args.lines b.greater.items now rows
     (all_lines c.args.self b c.settle.ensures.same_header c.settle.ensures.same_lines c.if-not-has_all_lines.ensures)
     (all_entries_there c.args.self b c.settle.ensures.same_header c.settle.ensures.same_entries c.if-not-has_all_entries.ensures)
-    (IsPermutation-refl b.greater.items) (c.is_met.ensures.lesser c.if-not-is_met.false) (c.is_met.ensures.ascends c.if-not-is_met.false) in
-    (accepted.0, accepted.1 ∙ sym (subst (λ edges. c.from_edges.result ≡ record { vertices = b.header.vertices; edges = edges }) c.shrink_to_fit.ensures.items c.from_edges.ensures))
+    (IsPermutation-refl b.greater.items) (c.is_met.ensures.lesser c.if-not-is_met.false) (c.is_met.ensures.ascends c.if-not-is_met.false) in (
+      accepted.0,
+      accepted.1 ∙ sym (subst (λ edges. c.from_edges.result ≡ record { vertices = b.header.vertices; edges = edges }) c.shrink_to_fit.ensures.items c.from_edges.ensures),
+      sym now.masses ∙ sym c.from_list.ensures,
+    )
+
+pub from_list-requires : goal.from_list-requires
+from_list-requires c = few_masses c.settle.new.self
+
+pub returns-clause-weighed : goal.returns-clause-weighed
+returns-clause-weighed c =
+    let b = c.settle.new.self in
+    ap length c.from_list.ensures
+    ∙ one_for_each b (all_lines c.args.self b c.settle.ensures.same_header c.settle.ensures.same_lines c.if-not-has_all_lines.ensures)
+    ∙ sym (ap (λ (g : Graph). g.vertices) c.from_edges.ensures)

@@ -5,7 +5,7 @@ use Rattle.std.proofs.lemmas.List.{take_at}
 use Rattle.std.proofs.lemmas.List.Elements.{All-weaker, All-append, All-same}
 use Rattle.std.proofs.lemmas.List.Sorted.{IsPermutation-append_comm, IsPermutation-trans, All-permutation}
 use Rattle.cut_definitions.specs.declared.edge_list.Edge.{Edge}
-use Rattle.cut_definitions.specs.Graph.{IsEdgeWithin, IsEdgeList}
+use Rattle.cut_definitions.specs.Graph.{Graph, IsEdgeWithin, IsEdgeList}
 use Rattle.metis_reader.specs.declared.body.Body.{Body}
 use Rattle.metis_reader.specs.Meeting.{met_from}
 use Rattle.metis_reader.specs.Bodies.{greater_of, lesser_of}
@@ -13,7 +13,7 @@ use Rattle.metis_reader.specs.Ending.{TellsFirst}
 use Rattle.metis_reader.specs.File.{end_findings}
 use Rattle.metis_reader.proofs.Meeting.{All-met}
 use Rattle.metis_reader.proofs.EndLaw.{mismatch_inside}
-use Rattle.metis_reader.proofs.BodyEnd.{body_mismatch, body_accepted, matched_is_edge_list}
+use Rattle.metis_reader.proofs.BodyEnd.{body_mismatch, body_accepted, matched_is_edge_list, few_masses, one_for_each}
 use Rattle.metis_reader.proofs.body.Body.finish_by_sorting.Goals as goal
 use Rattle.metis_reader.proofs.body.Body.finish_by_sorting.Goals.{After-as_mut_slice-2, After-deref-in-Some, After-shrink_to_fit}
 
@@ -63,8 +63,8 @@ fault_of_vertex-requires-clause-has_line c =
     let same : length c.deref-in-Some.result.now ≡ length b.numbers.items = ap length c.deref-in-Some.ensures.value in
     omega arith
 
-pub returns-in-Some : goal.returns-in-Some
-returns-in-Some c = λ header done end lines shows rows.
+pub returns-in-Some-clause-exact : goal.returns-in-Some-clause-exact
+returns-in-Some-clause-exact c = λ header done end lines shows rows.
     let b = c.args.self in
     let l = back b c.as_mut_slice-2.result.now c.deref.result.now c.deref-2.result.now c.deref.ensures.value c.deref-2.ensures.value (c.as_mut_slice-2.ensures.value ∙ c.put_back.ensures) in
     let inside = mismatch_inside b.header.vertices c.in-Some.vertex c.in-Some.kind c.as_mut_slice.result.now c.as_mut_slice-2.result.now
@@ -99,10 +99,20 @@ from_edges-requires c =
     subst (λ edges. IsEdgeList (record { vertices = c.args.self.header.vertices; edges = edges })) (sym (edges_kept c))
     (matched_is_edge_list c.args.self c.mismatch.new.greater m.greater m.lesser c.in_default.ensures.ascends)
 
-pub returns : goal.returns
-returns c = λ header done end lines shows rows.
-    let at = (goal.at.returns c).After-shrink_to_fit in
+pub returns-clause-exact : goal.returns-clause-exact
+returns-clause-exact c = λ header done end lines shows rows.
+    let at = (goal.at.returns-clause-exact c).After-shrink_to_fit in
     let m = matched at in
     let b = c.args.self in
-    let accepted = body_accepted b header done end lines c.mismatch.new.greater shows rows c.requires.lines c.requires.entries m.greater m.lesser c.in_default.ensures.ascends in
-    (accepted.0, accepted.1 ∙ sym (subst (λ edges. c.from_edges.result ≡ record { vertices = b.header.vertices; edges = edges }) (edges_kept at) c.from_edges.ensures))
+    let accepted = body_accepted b header done end lines c.mismatch.new.greater shows rows c.requires.lines c.requires.entries m.greater m.lesser c.in_default.ensures.ascends in (
+      accepted.0,
+      accepted.1 ∙ sym (subst (λ edges. c.from_edges.result ≡ record { vertices = b.header.vertices; edges = edges }) (edges_kept at) c.from_edges.ensures),
+      sym shows.masses ∙ sym c.from_list.ensures,
+    )
+
+pub from_list-requires : goal.from_list-requires
+from_list-requires c = few_masses c.args.self
+
+pub returns-clause-weighed : goal.returns-clause-weighed
+returns-clause-weighed c =
+    ap length c.from_list.ensures ∙ one_for_each c.args.self c.requires.lines ∙ sym (ap (λ (g : Graph). g.vertices) c.from_edges.ensures)
