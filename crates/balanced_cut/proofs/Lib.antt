@@ -1,3 +1,4 @@
 pub mod SomeCut
 pub mod Moving
 pub mod BestSide
+pub mod Gathered

@@ -1,6 +1,7 @@
 -- Two ends that move along the borders of a block weigh all ranges of the block that can be best.
 use Rattle.std.proofs.Common.{◌≡◌, ◌≢◌, ℕ, zero, suc, ◌+◌, ◌-◌, ◌≤◌, ◌<◌, min, max, ◌⊎◌, inl, inr, List, [], ◌∷◌, ◌++◌, length, take, drop, ap, ◌∙◌, sym, refl, subst, arith, append_assoc}
 use Rattle.std.specs.List.{All, Contains}
+use Rattle.std.proofs.lemmas.List.{append-nil}
 use Rattle.std.proofs.lemmas.List.Elements.{All-nil, All-cons, All-append, All-weaker, All-contains, Contains-append_left, Contains-append_right}
 use Rattle.cut_definitions.proofs.Lists.{Contains-here, Contains-there}
 use Rattle.cactus_tree.specs.Borders.{ranges_to, ranges_between, border_at}
@@ -8,7 +9,8 @@ use Rattle.cactus_tree.specs.CutRanges.{Range}
 use Rattle.cactus_tree.specs.Walking.{AreBorders, AreChained}
 use Rattle.cactus_tree.specs.declared.walk.borders.Border.{Border}
 use Rattle.cactus_tree.proofs.Stepping.{end_there, place_within}
-use Rattle.balanced_cut.specs.Ends.{IsBestBefore, IsLesserPart, IsRangeOf, range_balance, range_between}
+use Rattle.balanced_cut.specs.Ends.{IsBestBefore, IsLesserPart, IsRangeOf, IsScale, NoneGreater, mass_to, range_balance, range_between}
+use Rattle.balanced_cut.specs.declared.scale.Scale.{Scale}
 
 -- ---- borders of one block
 -- a border which others follow is there
@@ -109,20 +111,32 @@ ranges_fit n (b ∷ bs) h c =
 pub best_fits : (n : ℕ) (bs : List Border) (r : Range) → AreBorders n bs → AreChained bs → Contains (ranges_between bs) r → IsRangeOf n r
 best_fits n bs r h c is = All-contains (IsRangeOf n) (ranges_between bs) r (ranges_fit n bs h c) is
 
+-- ---- the masses before the borders of one block
+-- no more mass is before the earlier of two
+mass_no_less : (n : ℕ) (s : Scale) (bs : List Border) (i a b : ℕ) → IsScale n s → AreBorders n bs → AreChained bs → i ≤ a → a ≤ b → i < b → b ≤ i + (border_at bs i).following →
+    mass_to s (border_at bs a).place ≤ mass_to s (border_at bs b).place
+mass_no_less n s bs i a b are h c ia ab ib few =
+    are.no_less (border_at bs a).place (border_at bs b).place (no_less bs i a b c ia ab few) (place_within n bs b h (behind_there n bs i b h ib few))
+
+-- before none of them is more than all
+mass_within : (n : ℕ) (s : Scale) (bs : List Border) (i b : ℕ) → IsScale n s → AreBorders n bs → i < b → b ≤ i + (border_at bs i).following → mass_to s (border_at bs b).place ≤ s.total
+mass_within n s bs i b are h ib few =
+    omega (arith, are.no_less (border_at bs b).place n (place_within n bs b h (behind_there n bs i b h ib few)) (omega arith), are.whole)
+
 -- ---- the better of two
-pub record IsBetter (n : ℕ) (best contender result : Range) : Type 0 where
-  pub put : range_balance n best < range_balance n contender → result ≡ contender
-  pub kept : range_balance n contender ≤ range_balance n best → result ≡ best
+pub record IsBetter (s : Scale) (best contender result : Range) : Type 0 where
+  pub put : range_balance s best < range_balance s contender → result ≡ contender
+  pub kept : range_balance s contender ≤ range_balance s best → result ≡ best
 
 -- one number is less than another or not
 lt_or : (a b : ℕ) → (a < b) ⊎ (b ≤ a)
 lt_or a b = grind arith
 
 -- the better of two is no worse than either
-better_than : (n : ℕ) (best contender result : Range) → IsBetter n best contender result → (range_balance n best ≤ range_balance n result) × (range_balance n contender ≤ range_balance n result)
-better_than n best contender result h = elim (lt_or (range_balance n best) (range_balance n contender)) [
-  | inl less ↦ subst (λ r. (range_balance n best ≤ range_balance n r) × (range_balance n contender ≤ range_balance n r)) (sym (h.put less)) (le_of less, le_same (range_balance n contender))
-  | inr more ↦ subst (λ r. (range_balance n best ≤ range_balance n r) × (range_balance n contender ≤ range_balance n r)) (sym (h.kept more)) (le_same (range_balance n best), more)
+better_than : (s : Scale) (best contender result : Range) → IsBetter s best contender result → (range_balance s best ≤ range_balance s result) × (range_balance s contender ≤ range_balance s result)
+better_than s best contender result h = elim (lt_or (range_balance s best) (range_balance s contender)) [
+  | inl less ↦ subst (λ r. (range_balance s best ≤ range_balance s r) × (range_balance s contender ≤ range_balance s r)) (sym (h.put less)) (le_of less, le_same (range_balance s contender))
+  | inr more ↦ subst (λ r. (range_balance s best ≤ range_balance s r) × (range_balance s contender ≤ range_balance s r)) (sym (h.kept more)) (le_same (range_balance s best), more)
 ]
   where
     le_of : {a b : ℕ} → a < b → a ≤ b
@@ -132,82 +146,95 @@ better_than n best contender result h = elim (lt_or (range_balance n best) (rang
     le_same a = omega arith
 
 -- the better of two is one of them
-better_one : (P : Range → Type 0) (n : ℕ) (best contender result : Range) → IsBetter n best contender result → P best → P contender → P result
-better_one P n best contender result h b c = elim (lt_or (range_balance n best) (range_balance n contender)) [
+better_one : (P : Range → Type 0) (s : Scale) (best contender result : Range) → IsBetter s best contender result → P best → P contender → P result
+better_one P s best contender result h b c = elim (lt_or (range_balance s best) (range_balance s contender)) [
   | inl less ↦ subst P (sym (h.put less)) c
   | inr more ↦ subst P (sym (h.kept more)) b
 ]
 
 -- so it is a range of n places where both are
-pub better_fits : (n : ℕ) (best contender result : Range) → IsBetter n best contender result → IsRangeOf n best → IsRangeOf n contender → IsRangeOf n result
-better_fits n best contender result = better_one (IsRangeOf n) n best contender result
+pub better_fits : (n : ℕ) (s : Scale) (best contender result : Range) → IsBetter s best contender result → IsRangeOf n best → IsRangeOf n contender → IsRangeOf n result
+better_fits n s best contender result = better_one (IsRangeOf n) s best contender result
 
 -- ---- one border more
--- a range that ends no later than one that has fewer places than the others
-short_one : (n from place last : ℕ) → from ≤ place → place ≤ last → last ≤ n → last - from < n - (last - from) → min (place - from) (n - (place - from)) ≤ min (last - from) (n - (last - from))
-short_one n from place last fp pl ln less = omega (arith, fp, pl, ln, less)
+-- a range that ends before no less mass than another, of less mass than all others
+short_one : (total from mass last : ℕ) → from ≤ mass → mass ≤ last → last ≤ total → last - from < total - (last - from) → min (mass - from) (total - (mass - from)) ≤ min (last - from) (total - (last - from))
+short_one total from mass last fp pl ln less = omega (arith, fp, pl, ln, less)
 
--- a range that ends no earlier than one that has no fewer places than the others
-long_one : (n from to place : ℕ) → from ≤ to → to ≤ place → place ≤ n → n - (to - from) ≤ to - from → min (place - from) (n - (place - from)) ≤ min (to - from) (n - (to - from))
-long_one n from to place ft tp pn more = omega (arith, ft, tp, pn, more)
+-- a range that ends before no more mass than another, of no less mass than all others
+long_one : (total from to mass : ℕ) → from ≤ to → to ≤ mass → mass ≤ total → total - (to - from) ≤ to - from → min (mass - from) (total - (mass - from)) ≤ min (to - from) (total - (to - from))
+long_one total from to mass ft tp pn more = omega (arith, ft, tp, pn, more)
+
+-- less mass than the others have stays less where the range gets a later start
+later_start : (total from start last : ℕ) → from ≤ start → start ≤ last → last ≤ total → last - from < total - (last - from) → last - start < total - (last - start)
+later_start total from start last fs sl lt less = omega (arith, fs, sl, lt, less)
 
 -- no range from a border to another of its block has a greater balance than those up to the moving end and just before it
-at_most : (n : ℕ) (bs : List Border) (start end shorter high : ℕ) → AreBorders n bs → AreChained bs → start < end → end ≤ start + (border_at bs start).following →
-    (start + 1 < end → IsLesserPart n (range_between bs start (end - 1))) → (IsLesserPart n (range_between bs start end) → end ≡ start + (border_at bs start).following) → shorter ≡ max (end - 1) (start + 1) →
-    range_balance n (range_between bs start end) ≤ high → range_balance n (range_between bs start shorter) ≤ high →
-    (e : ℕ) → start < e → e ≤ start + (border_at bs start).following → range_balance n (range_between bs start e) ≤ high
-at_most n bs start end shorter high h c se within lesser first is a b e le few =
-    let fits = between_fits n bs start e h c le few in
+at_most : (n : ℕ) (s : Scale) (bs : List Border) (start end shorter high : ℕ) → IsScale n s → AreBorders n bs → AreChained bs → start < end → end ≤ start + (border_at bs start).following →
+    (start + 1 < end → IsLesserPart s (range_between bs start (end - 1))) → (IsLesserPart s (range_between bs start end) → end ≡ start + (border_at bs start).following) → shorter ≡ max (end - 1) (start + 1) →
+    range_balance s (range_between bs start end) ≤ high → range_balance s (range_between bs start shorter) ≤ high →
+    (e : ℕ) → start < e → e ≤ start + (border_at bs start).following → range_balance s (range_between bs start e) ≤ high
+at_most n s bs start end shorter high are h c se within lesser first is a b e le few =
+    let from = mass_to s (border_at bs start).place in
     elim (lt_or e end) [
       | inl before ↦
           let last : shorter ≡ end - 1 = omega (arith, is, le, before) in
-          let short = short_one n (border_at bs start).place (border_at bs e).place (border_at bs (end - 1)).place fits.0
-          (no_less bs start e (end - 1) c (omega (arith, le)) (omega (arith, before)) (omega (arith, within)))
-          (between_fits n bs start (end - 1) h c (omega (arith, le, before)) (omega (arith, within))).1 (lesser (omega (arith, le, before))) in
-          let low : range_balance n (range_between bs start (end - 1)) ≤ high = subst (λ k. range_balance n (range_between bs start k) ≤ high) last b in
-          omega (arith, short, low)
-      | inr behind ↦ elim (lt_or ((border_at bs end).place - (border_at bs start).place) (n - ((border_at bs end).place - (border_at bs start).place))) [
+          let short = short_one s.total from (mass_to s (border_at bs e).place) (mass_to s (border_at bs (end - 1)).place)
+          (mass_no_less n s bs start start e are h c (omega arith) (omega (arith, le)) le few)
+          (mass_no_less n s bs start e (end - 1) are h c (omega (arith, le)) (omega (arith, before)) (omega (arith, le, before)) (omega (arith, within)))
+          (mass_within n s bs start (end - 1) are h (omega (arith, le, before)) (omega (arith, within))) (lesser (omega (arith, le, before))) in
+          let low : range_balance s (range_between bs start (end - 1)) ≤ high = subst (λ k. range_balance s (range_between bs start k) ≤ high) last b in
+          le_trans short low
+      | inr behind ↦ elim (lt_or (mass_to s (border_at bs end).place - from) (s.total - (mass_to s (border_at bs end).place - from))) [
         | inl less ↦
             let whole : end ≡ e = omega (arith, first less, behind, few) in
-            subst (λ k. range_balance n (range_between bs start k) ≤ high) whole a
+            subst (λ k. range_balance s (range_between bs start k) ≤ high) whole a
         | inr more ↦
-            let long = long_one n (border_at bs start).place (border_at bs end).place (border_at bs e).place (between_fits n bs start end h c se within).0
-            (no_less bs start end e c (omega (arith, se)) behind few) fits.1 more in
-            omega (arith, long, a)
+            let long = long_one s.total from (mass_to s (border_at bs end).place) (mass_to s (border_at bs e).place)
+            (mass_no_less n s bs start start end are h c (omega arith) (omega (arith, se)) se within)
+            (mass_no_less n s bs start end e are h c (omega (arith, se)) behind le few) (mass_within n s bs start e are h le few) more in
+            le_trans long a
       ]
     ]
+  where
+    le_trans : {a b c : ℕ} → a ≤ b → b ≤ c → a ≤ c
+    le_trans h k = omega (arith, h, k)
 
 -- the ranges up to the moving end and just before it were weighed
-pub moved_on : (n : ℕ) (bs : List Border) (start : ℕ) (best mid new : Range) (old end shorter : ℕ) → AreBorders n bs → AreChained bs → start < end → end ≤ start + (border_at bs start).following →
-    (start + 1 < end → IsLesserPart n (range_between bs start (end - 1))) → (IsLesserPart n (range_between bs start end) → end ≡ start + (border_at bs start).following) → shorter ≡ max (end - 1) (start + 1) →
-    IsBetter n best (range_between bs start end) mid → IsBetter n mid (range_between bs start shorter) new → IsBestBefore n bs start best old → IsBestBefore n bs (start + 1) new end
-moved_on n bs start best mid new old end shorter h c se within lesser first is one two before =
+pub moved_on : (n : ℕ) (s : Scale) (bs : List Border) (start : ℕ) (best mid new : Range) (old end shorter : ℕ) → IsScale n s → AreBorders n bs → AreChained bs → start < end → end ≤ start + (border_at bs start).following →
+    (start + 1 < end → IsLesserPart s (range_between bs start (end - 1))) → (IsLesserPart s (range_between bs start end) → end ≡ start + (border_at bs start).following) → shorter ≡ max (end - 1) (start + 1) →
+    IsBetter s best (range_between bs start end) mid → IsBetter s mid (range_between bs start shorter) new → IsBestBefore s bs start best old → IsBestBefore s bs (start + 1) new end
+moved_on n s bs start best mid new old end shorter are h c se within lesser first is one two before =
     let InAll = Contains (ranges_between bs) in
-    let a = better_than n best (range_between bs start end) mid one in
-    let b = better_than n mid (range_between bs start shorter) new two in
+    let a = better_than s best (range_between bs start end) mid one in
+    let b = better_than s mid (range_between bs start shorter) new two in
     let there : start < length bs = border_there bs start (omega (arith, se, within)) in
-    let here = from_here (λ r. range_balance n r ≤ range_balance n new) n bs start (start + 1) h there refl
-    (at_most n bs start end shorter (range_balance n new) h c se within lesser first is (omega (arith, a.1, b.0)) b.1) in
+    let here = from_here (λ r. range_balance s r ≤ range_balance s new) n bs start (start + 1) h there refl
+    (at_most n s bs start end shorter (range_balance s new) are h c se within lesser first is (le_trans a.1 b.0) b.1) in
     let next = next_at bs start (start + 1) c refl (omega (arith, se, within)) in
     record {
-      member = better_one InAll n mid (range_between bs start shorter) new two
-          (better_one InAll n best (range_between bs start end) mid one before.member (between_is n bs start end h se within))
+      member = better_one InAll s mid (range_between bs start shorter) new two
+          (better_one InAll s best (range_between bs start end) mid one before.member (between_is n bs start end h se within))
           (between_is n bs start shorter h (omega (arith, is)) (omega (arith, is, se, within)));
       weighed = before.weighed ++ here.here;
       split = before.split ∙ ap (λ l. before.weighed ++ l) here.split ∙ sym (append_assoc before.weighed here.here (ranges_between (drop (start + 1) bs)));
-      none_greater = All-append (λ r. range_balance n r ≤ range_balance n new) before.weighed here.here
-          (All-weaker (λ r. range_balance n r ≤ range_balance n best) (λ r. range_balance n r ≤ range_balance n new) (λ r l. omega (arith, l, a.0, b.0)) before.weighed before.none_greater)
+      none_greater = All-append (λ r. range_balance s r ≤ range_balance s new) before.weighed here.here
+          (All-weaker (λ r. range_balance s r ≤ range_balance s best) (λ r. range_balance s r ≤ range_balance s new) (λ r l. le_trans l (le_trans a.0 b.0)) before.weighed before.none_greater)
           here.all;
       within = λ l. omega (arith, within, next.1);
       lesser = λ l.
-          let less = lesser (omega (arith, l)) in
-          let later_place = no_less bs start (start + 1) (end - 1) c (omega arith) (omega (arith, l)) (omega (arith, within)) in
-          omega (arith, less, next.0, later_place, (between_fits n bs start (end - 1) h c (omega (arith, l)) (omega (arith, within))).1);
+          later_start s.total (mass_to s (border_at bs start).place) (mass_to s (border_at bs (start + 1)).place) (mass_to s (border_at bs (end - 1)).place)
+          (mass_no_less n s bs start start (start + 1) are h c (omega arith) (omega arith) (omega arith) (omega (arith, se, within)))
+          (mass_no_less n s bs start (start + 1) (end - 1) are h c (omega arith) (omega (arith, l)) (omega (arith, l)) (omega (arith, within)))
+          (mass_within n s bs start (end - 1) are h (omega (arith, l)) (omega (arith, within))) (lesser (omega (arith, l)));
     }
+  where
+    le_trans : {a b c : ℕ} → a ≤ b → b ≤ c → a ≤ c
+    le_trans h k = omega (arith, h, k)
 
 -- ---- the first border
 -- nothing is behind the end of a list
-none_past : {X : Type 0} (xs : List X) (k : ℕ) → length xs ≤ k → drop k xs ≡ []
+pub none_past : {X : Type 0} (xs : List X) (k : ℕ) → length xs ≤ k → drop k xs ≡ []
 none_past [] zero h = refl
 none_past [] (suc k) h = refl
 none_past (x ∷ xs) zero h = absurd (omega (arith, h))
@@ -221,13 +248,20 @@ first_there bs first some same = elim (lt_or first (length bs)) [
 ]
 
 -- before the first border nothing was weighed
-pub at_first : (n : ℕ) (bs : List Border) (first : ℕ) (best : Range) → AreBorders n bs → 0 < (border_at bs first).following → ranges_between (drop first bs) ≡ ranges_between (drop 0 bs) → best ≡ range_between bs first (first + 1) →
-    IsBestBefore n bs first best (first + 1)
-at_first n bs first best h some same is = record {
+pub at_first : (n : ℕ) (s : Scale) (bs : List Border) (first : ℕ) (best : Range) → AreBorders n bs → 0 < (border_at bs first).following → ranges_between (drop first bs) ≡ ranges_between (drop 0 bs) → best ≡ range_between bs first (first + 1) →
+    IsBestBefore s bs first best (first + 1)
+at_first n s bs first best h some same is = record {
   member = subst (Contains (ranges_between bs)) (sym is) (between_is n bs first (first + 1) h (omega arith) (omega (arith, some)));
   weighed = [];
   split = sym same;
-  none_greater = All-nil (λ r. range_balance n r ≤ range_balance n best);
+  none_greater = All-nil (λ r. range_balance s r ≤ range_balance s best);
   within = λ l. absurd (omega (arith, l));
   lesser = λ l. absurd (omega (arith, l));
 }
+
+-- ---- the last border
+-- behind the last border all ranges were weighed
+pub all_weighed : (s : Scale) (bs : List Border) (start : ℕ) (best : Range) (end : ℕ) → length bs ≤ start → IsBestBefore s bs start best end → NoneGreater s (ranges_between bs) best
+all_weighed s bs start best end past is =
+    let whole : ranges_between bs ≡ is.weighed = is.split ∙ ap (λ l. is.weighed ++ ranges_between l) (none_past bs start past) ∙ append-nil is.weighed in
+    subst (λ l. NoneGreater s l best) (sym whole) is.none_greater

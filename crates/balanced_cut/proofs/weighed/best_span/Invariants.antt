@@ -5,5 +5,5 @@ use Rattle.balanced_cut.proofs.weighed.best_span.Given as goal
 abbrev pub invariant-starts : goal.invariant-starts
 invariant-starts l = record {
   last : l.start-end ≡ length l.borders;
-  search : IsBestBefore l.n l.borders l.start (range_of l.search.best) l.search.end;
+  search : IsBestBefore l.scale l.borders l.start (range_of l.search.best) l.search.end;
 }

@@ -8,7 +8,7 @@ invariant-ends l = record {
   last : l.last ≡ l.start + (border_at l.borders l.start).following;
   behind : l.from ≤ l.end;
   within : l.end ≤ l.last;
-  lesser : l.start + 1 < l.end → IsLesserPart l.n (range_between l.borders l.start (l.end - 1));
+  lesser : l.start + 1 < l.end → IsLesserPart l.scale (range_between l.borders l.start (l.end - 1));
 }
 
 abbrev pub decreases-ends : goal.decreases-ends
