@@ -1,9 +1,10 @@
+pub mod Asked
+pub mod Balanced
+pub mod Bands
 pub mod Listed
 pub mod Sorted
 pub mod Passes
 pub mod Ordered
-pub mod Marks
-pub mod Walked
+pub mod Pairs
 pub mod Counted
 mod Numbered
-pub mod Standing

@@ -1,6 +1,6 @@
 -- Lists of lists in strict order: their members determine them, and the least different ones of a list do not depend on
 -- the greater ones.
-use Rattle.std.proofs.Common.{◌≡◌, ℕ, zero, suc, ◌≤◌, Bool, true, List, [], ◌∷◌, ◌++◌, ◌⊎◌, inl, inr, length, take, refl, sym, ◌∙◌, ap, subst, arith, true≢false}
+use Rattle.std.proofs.Common.{◌≡◌, ℕ, zero, suc, Bool, true, List, [], ◌∷◌, ◌⊎◌, inl, inr, length, take, refl, sym, ◌∙◌, ap, subst, true≢false}
 use Rattle.std.specs.declared.cmp.Ordering.{Ordering}
 use Rattle.std.specs.declared.cmp.Ordering.TheVariants.{Less, Equal, Greater}
 use Rattle.std.specs.Ordering.{nat_cmp, is_lt, ordering_reverse}
@@ -8,11 +8,10 @@ use Rattle.std.specs.Cmp.Lexicographic.{slice_cmp}
 use Rattle.std.specs.List.{All, Contains, filter}
 use Rattle.std.specs.List.Sorted.{IsStrictlySortedBy}
 use Rattle.std.proofs.lemmas.Cmp.{nat_list_cmp_total, tied_itself}
-use Rattle.std.proofs.lemmas.List.Elements.{All-nil, All-take, All-weaker, All-contains, All-contains_itself, All-from_recursion, recursion_from_All, Contains-append_left, Contains-append_cases}
-use Rattle.std.proofs.lemmas.List.Kept.{IsStrictlySortedBy-filter}
+use Rattle.std.proofs.lemmas.List.Elements.{All-nil, All-take, All-weaker, All-contains, All-contains_itself, All-from_recursion, recursion_from_All}
 use Rattle.std.proofs.lemmas.Map.Keys.{sorted_head, sorted_tail}
 use Rattle.std.proofs.lemmas.Map.Lookups.{exact_bytes}
-use Rattle.cut_definitions.proofs.Lists.{Contains-here, Contains-there, Contains-cons_cases, Contains-nil, Contains-filter, Contains-from_filter}
+use Rattle.cut_definitions.proofs.Lists.{Contains-here, Contains-there, Contains-cons_cases, Contains-nil}
 use Rattle.cactus_tree.specs.Different.{AreDifferent}
 use Rattle.cut_listing.specs.Listings.{IsAscending, IsListing, put, put_by, different}
 
@@ -137,14 +136,6 @@ put_ascending x (y ∷ ys) h = at_order IsAscending x y ys (put x ys)
     ]))
     (put_ascending x ys (sorted_tail cmp y ys h)))
 
-pub length_put_least : (x : List ℕ) (ys : List (List ℕ)) → length ys ≤ length (put x ys)
-length_put_least x [] = omega arith
-length_put_least x (y ∷ ys) = at_order (λ l. length (y ∷ ys) ≤ length l) x y ys (put x ys) (λ o. omega arith) (λ o. omega arith) (λ o. let r = length_put_least x ys in omega (arith, r))
-
-pub length_put_most : (x : List ℕ) (ys : List (List ℕ)) → length (put x ys) ≤ suc (length ys)
-length_put_most x [] = omega arith
-length_put_most x (y ∷ ys) = at_order (λ l. length l ≤ suc (length (y ∷ ys))) x y ys (put x ys) (λ o. omega arith) (λ o. omega arith) (λ o. let r = length_put_most x ys in omega (arith, r))
-
 pub put_fresh : (x : List ℕ) (ys : List (List ℕ)) → (Contains ys x → ⊥) → length (put x ys) ≡ suc (length ys)
 put_fresh x [] h = refl
 put_fresh x (y ∷ ys) h = at_order (λ l. length l ≡ suc (length (y ∷ ys))) x y ys (put x ys)
@@ -184,11 +175,6 @@ different_itself xs up = sym (is_different xs xs up (λ s c. c) (λ s c. c))
 pub same_different : (xs ys : List (List ℕ)) → ((s : List ℕ) → Contains xs s → Contains ys s) → ((s : List ℕ) → Contains ys s → Contains xs s) → different xs ≡ different ys
 same_different xs ys to from = is_different ys (different xs) (different_ascending xs) (λ s c. to s (different_from xs s c)) (λ s c. different_to xs s (from s c))
 
-pub different_filter : (p : List ℕ → Bool) (xs : List (List ℕ)) → different (filter p xs) ≡ filter p (different xs)
-different_filter p xs = sym (is_different (filter p xs) (filter p (different xs)) (IsStrictlySortedBy-filter cmp p (different xs) (different_ascending xs))
-    (λ s c. let d = Contains-from_filter p (different xs) s c in Contains-filter p xs s (different_from xs s d.0) d.1)
-    (λ s c. let d = Contains-from_filter p xs s c in Contains-filter p (different xs) s (different_to xs s d.0) d.1))
-
 -- ---- a test that passes all
 pass_all : (p : List ℕ → Bool) (xs : Lists) → ((s : List ℕ) → Contains xs s → p s ≡ true) → filter p xs ≡ xs
 pass_all p [] h = refl
@@ -196,22 +182,6 @@ pass_all p (x ∷ xs) h = rw (h x (Contains-here x xs)) (ap (λ l. x ∷ l) (pas
 
 pub pass_true : (xs : List (List ℕ)) → filter (λ (s : List ℕ). true) xs ≡ xs
 pass_true xs = pass_all (λ s. true) xs (λ s c. refl)
-
--- ---- no more are different than another list has that has them all
-different_most : (xs : Lists) → length (different xs) ≤ length xs
-different_most [] = omega arith
-different_most (x ∷ xs) = omega (arith, length_put_most x (different xs), different_most xs)
-
-different_grows : (front xs : Lists) → length (different xs) ≤ length (different (front ++ xs))
-different_grows [] xs = omega arith
-different_grows (x ∷ front) xs = omega (arith, length_put_least x (different (front ++ xs)), different_grows front xs)
-
-pub no_more_different : (xs all : List (List ℕ)) → ((s : List ℕ) → Contains xs s → Contains all s) → length (different xs) ≤ length all
-no_more_different xs all h =
-    let same : different (all ++ xs) ≡ different all = same_different (all ++ xs) all
-    (λ s c. elim (Contains-append_cases all xs s c) [ inl d ↦ d | inr d ↦ h s d ])
-    (λ s c. Contains-append_left all xs s c) in
-    omega (arith, different_grows all xs, ap length same, different_most all)
 
 -- ---- as many are different as a list of different ones has
 pub all_different : (xs : List (List ℕ)) → AreDifferent xs → length (different xs) ≡ length xs

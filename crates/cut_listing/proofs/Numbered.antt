@@ -1,7 +1,6 @@
 -- The number of the different sides of a cactus is that of the minimum cuts.
-use Rattle.std.proofs.Common.{◌≡◌, ℕ, List, length, ap, ◌∙◌}
+use Rattle.std.proofs.Common.{ℕ, List, length, ap, ◌∙◌}
 use Rattle.cut_definitions.specs.Cuts.{mincuts}
-use Rattle.cut_listing.specs.Asks.{lets}
 use Rattle.cut_listing.specs.Laws.{LawOfNumber}
 use Rattle.cut_listing.specs.Listings.{asked_sides, different}
 use Rattle.cut_listing.specs.declared.ask.Ask.TheVariants.{All}

@@ -1,17 +1,17 @@
 -- Gathering the sides of a walk, and how many are allowed.
-use Rattle.std.proofs.Common.{◌≡◌, ℕ, length, zero, suc, ◌==◌, ◌||◌, ◌⊎◌, inl, inr, true≢false, ◌+◌, ◌*◌, ◌/◌, ◌<◌, ◌≤◌, Bool, true, List, [], ◌∷◌, ◌++◌, get_or, sym, ◌∙◌, ap, subst, arith}
+use Rattle.std.proofs.Common.{◌≡◌, ℕ, length, zero, suc, ◌==◌, ◌||◌, ◌&&◌, ◌⊎◌, inl, inr, true≢false, ◌+◌, ◌*◌, ◌/◌, ◌<◌, ◌≤◌, Bool, true, false, List, [], ◌∷◌, ◌++◌, get_or, refl, sym, ◌∙◌, ap, subst, arith}
 use Rattle.std.specs.Prelude.{◌↔◌}
 use Rattle.std.specs.List.{All, Contains, filter, flat_map, range_with_len}
 use Rattle.std.proofs.Math.Nat.{div-mul-le_self}
 use Rattle.std.proofs.lemmas.Nat.{mul-le, le-div}
-use Rattle.std.proofs.lemmas.Bool.{cases_Bool, eqb-true}
+use Rattle.std.proofs.lemmas.Bool.{cases_Bool, eq-eqb, eqb-true}
 use Rattle.std.proofs.lemmas.List.{append_assoc, nil_from_length}
-use Rattle.std.proofs.lemmas.List.Elements.{All-nil, All-contains, All-head, All-map, filter-append}
+use Rattle.std.proofs.lemmas.List.Elements.{All-nil, All-contains, All-head, All-map, All-tail, filter-append}
 use Rattle.cut_definitions.proofs.Lists.{Contains-filter, Contains-from_filter}
 use Rattle.cactus_tree.specs.Different.{AreDifferent}
 use Rattle.vertex_set.specs.Side.{VertexList}
 use Rattle.cut_listing.specs.declared.ask.Ask.{Ask}
-use Rattle.cut_listing.specs.Listings.{IsList, IsListing, asked_sides, different}
+use Rattle.cut_listing.specs.Listings.{IsList, IsListing, asked_sides, different, members_of}
 use Rattle.cut_listing.proofs.Listed.{all_from, same_different, different_is_listing}
 use Rattle.cut_definitions.specs.Weight.{VertexSet}
 use Rattle.cut_definitions.specs.Cuts.{IsAscendingWithin}
@@ -76,7 +76,7 @@ many_do_not count largest n size p h f =
     ]
 
 -- ---- a cactus has a vertex
-ascends_to : (low high v : ℕ) (l : List ℕ) → IsAscendingWithin low high l → has l v ≡ true → v ≤ high
+pub ascends_to : (low high v : ℕ) (l : List ℕ) → IsAscendingWithin low high l → has l v ≡ true → v ≤ high
 ascends_to low high v [] a h = absurd (true≢false (sym h))
 ascends_to low high v (u ∷ l) a h = elim (cases_Bool (u == v)) [
   | inl e ↦ subst (λ k. k ≤ high) (eqb-true u v e) a.1
@@ -98,3 +98,20 @@ none_listed largest n ask c list none empty =
       listing = subst (IsListing sides) (nil_from_length (different sides) (sym none)) (different_is_listing sides);
       not_too_large = omega arith;
     })
+
+-- ---- the sides over n that are selected
+pub selected : (n : ℕ) (q : List ℕ → Bool) (xs : List VertexList) → All (λ (s : VertexList). s.vertices ≡ n) xs → members_of (filter (λ (s : VertexList). (s.vertices == n) && q s.members) xs) ≡ filter q (members_of xs)
+selected n q [] over = refl
+selected n q (x ∷ xs) over =
+    let here : ((x.vertices == n) && q x.members) ≡ q x.members = ap (λ b. b && q x.members) (eq-eqb x.vertices n (All-head (λ (s : VertexList). s.vertices ≡ n) x xs over)) in
+    let rest = selected n q xs (All-tail (λ (s : VertexList). s.vertices ≡ n) x xs over) in
+    elim (cases_Bool (q x.members)) [
+      | inl is ↦ (let both = here ∙ is in rw both (ap (λ l. x.members ∷ l) rest ∙ sym (kept_head is)))
+      | inr out ↦ (let both = here ∙ out in rw both (rest ∙ sym (left_head out)))
+    ]
+  where
+    kept_head : q x.members ≡ true → filter q (x.members ∷ members_of xs) ≡ x.members ∷ filter q (members_of xs)
+    kept_head is = rw is refl
+
+    left_head : q x.members ≡ false → filter q (x.members ∷ members_of xs) ≡ filter q (members_of xs)
+    left_head out = rw out refl

@@ -1,5 +1,5 @@
 pub mod Asks
+pub mod Bands
 pub mod Listings
 pub mod Laws
-pub mod Parting
-pub mod Standing
+pub mod Pairs

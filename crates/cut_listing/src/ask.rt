@@ -1,10 +1,15 @@
 //! What is asked of a side.
 
+use cut_definitions::VertexWeights;
+
 /// Which sides are let through.
-#[derive(Clone, Copy, Debug, PartialEq, Eq)]
-pub enum Ask {
+#[derive(Clone, Copy)]
+pub enum Ask<'a> {
     /// Every side.
     All,
     /// The sides that have exactly one of two vertices; a number that is no vertex is in no side.
     Parting(u32, u32),
+    /// The sides whose balance by the masses is at least a number: the lesser of the mass of the side and that of all other
+    /// vertices.
+    Least(u64, &'a VertexWeights),
 }

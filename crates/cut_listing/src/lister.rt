@@ -1,15 +1,17 @@
 //! A test of sides, kept beside the fact that it answers what is asked.
 
-ghost use Rattle.std.specs.Prelude.{◌≡◌, ◌*◌, ◌<◌, ◌≤◌, ◌^◌, ◌++◌, [], ◌∷◌, true, IfOk, IfErr, map, length};
+ghost use Rattle.std.specs.Prelude.{◌≡◌, ◌*◌, ◌<◌, ◌≤◌, ◌^◌, ◌++◌, ◌&&◌, ◌==◌, [], ◌∷◌, true, IfOk, IfErr, map, length};
 ghost use Rattle.std.specs.List.{All, filter};
+ghost use Rattle.cactus_tree.specs.Different.{AreDifferent};
 ghost use Rattle.cactus_tree.specs.Normal.{is_normal};
-ghost use Rattle.cut_listing.specs.Asks.{AnswersAsk, IsOver, TakesSides, lets};
+ghost use Rattle.cut_listing.specs.Asks.{AnswersAsk, HasMasses, IsOver, TakesSides, has_masses-prop, lets};
 ghost use Rattle.cut_listing.specs.Listings.{IsList, IsRefusal, asked_sides, different, members_of};
 
 use crate::ask::Ask;
 use crate::list_refusal::ListRefusal;
-use crate::parting::Pair;
+use crate::pair::{number_of_parting, parting_sides};
 use crate::sorting::sort_sides;
+use crate::weighed::{balanced_sides, number_of_balanced};
 use cactus_tree::{Cactus, Walk};
 use std::alloc::{AllocError, Global};
 use vertex_set::Side;
@@ -23,21 +25,23 @@ pub type SideTest = Box<dyn Fn(&Side) -> bool>;
 
 /// A test of the sides over n, which says yes exactly where a side is asked for.
 #[derive(Drop)]
-pub struct Lister {
+pub struct Lister<'a> {
     n: u32,
-    ask: Ask,
+    ask: Ask<'a>,
     keep: SideTest,
     ghost callable: { TakesSides (SideTest.pre keep) n },
     ghost answers: { AnswersAsk (SideTest.post keep) n ask },
+    ghost masses: { HasMasses n ask } by { has_masses-prop n ask },
 }
 
-impl Lister {
-    /// A lister that keeps a test of the sides over n.
-    pub fn new(n: u32, ask: Ask, keep: SideTest) -> Lister
+impl<'a> Lister<'a> {
+    /// A lister that keeps a test of the sides over n; where a least balance is asked for, there are n weights.
+    pub fn new(n: u32, ask: Ask<'a>, keep: SideTest) -> Lister<'a>
         requires callable { TakesSides (SideTest.pre keep) n }
         requires answers { AnswersAsk (SideTest.post keep) n ask }
+        requires masses { HasMasses n ask }
         ensures n { result.n ≡ n }
-        ensures ask { result.ask ≡ ask }
+        ensures ask { result.ask ≡ ask.entry }
     {
         Lister { n, ask, keep }
     }
@@ -50,16 +54,24 @@ impl Lister {
         (self.keep)(side)
     }
 
+    /// Whether a side is over n and asked for.
+    fn selects(&self, side: &Side) -> bool
+        ensures { result ≡ (side.now.vertices == self.now.n && lets self.now.ask side.now.members) }
+    {
+        side.n() == self.n && self.lets_through(side)
+    }
+
     /// The number of the different sides that are asked for, from the tree.
     fn number_of_sides(&self, alloc: Global, cactus: &Cactus) -> Result<u64, AllocError>
+        requires n { cactus.now.vertices ≡ self.now.n }
         requires normal { is_normal cactus.now.root ≡ true }
         requires few { cactus.now.vertices ≤ 4194304 }
         ensures { IfOk result (λ k. k ≡ length (different (asked_sides self.now.ask cactus.now))) }
     {
-        let root = cactus.root();
         match self.ask {
             Ask::All => cactus.count_within(alloc),
-            Ask::Parting(first, second) => Pair { first, second }.number_of_sides(alloc, root),
+            Ask::Parting(first, second) => number_of_parting(alloc, cactus, first, second),
+            Ask::Least(least, weights) => number_of_balanced(alloc, cactus, weights, least),
         }
     }
 
@@ -78,12 +90,13 @@ impl Lister {
         Side::empty(alloc, self.n)
     }
 
-    /// The different sides that are asked for, in the order of lists.
-    fn gather(&self, alloc: Global, cactus: &Cactus) -> Result<Vec<Side>, AllocError>
+    /// The sides of a walk that are asked for, in the order of the tree.
+    fn walked_sides(&self, alloc: Global, cactus: &Cactus) -> Result<Vec<Side>, AllocError>
         requires n { cactus.now.vertices ≡ self.now.n }
         requires normal { is_normal cactus.now.root ≡ true }
         ensures over_n { IfOk result (λ v. All (λ s. s.vertices ≡ self.now.n) v.items) }
-        ensures sides { IfOk result (λ v. members_of v.items ≡ different (asked_sides self.now.ask cactus.now)) }
+        ensures differ { IfOk result (λ v. AreDifferent (members_of v.items)) }
+        ensures same { IfOk result (λ v. different (members_of v.items) ≡ different (asked_sides self.now.ask cactus.now)) }
     {
         let mut walk = Walk::new(alloc, cactus)?;
         let mut room = Side::empty(alloc, self.n)?;
@@ -91,6 +104,34 @@ impl Lister {
         'sides: while walk.next(&mut room) {
             room = self.keep(alloc, room, &mut found)?;
         }
+        Ok(found)
+    }
+
+    /// The different sides that are asked for, in the order of the tree.
+    fn found_sides(&self, alloc: Global, cactus: &Cactus) -> Result<Vec<Side>, AllocError>
+        requires n { cactus.now.vertices ≡ self.now.n }
+        requires normal { is_normal cactus.now.root ≡ true }
+        requires few { cactus.now.vertices ≤ 4194304 }
+        ensures over_n { IfOk result (λ v. All (λ s. s.vertices ≡ self.now.n) v.items) }
+        ensures differ { IfOk result (λ v. AreDifferent (members_of v.items)) }
+        ensures same { IfOk result (λ v. different (members_of v.items) ≡ different (asked_sides self.now.ask cactus.now)) }
+    {
+        match self.ask {
+            Ask::All => self.walked_sides(alloc, cactus),
+            Ask::Parting(first, second) => parting_sides(alloc, cactus, first, second),
+            Ask::Least(least, weights) => balanced_sides(alloc, cactus, weights, least),
+        }
+    }
+
+    /// The different sides that are asked for, in the order of lists.
+    fn gather(&self, alloc: Global, cactus: &Cactus) -> Result<Vec<Side>, AllocError>
+        requires n { cactus.now.vertices ≡ self.now.n }
+        requires normal { is_normal cactus.now.root ≡ true }
+        requires few { cactus.now.vertices ≤ 4194304 }
+        ensures over_n { IfOk result (λ v. All (λ s. s.vertices ≡ self.now.n) v.items) }
+        ensures sides { IfOk result (λ v. members_of v.items ≡ different (asked_sides self.now.ask cactus.now)) }
+    {
+        let mut found = self.found_sides(alloc, cactus)?;
         sort_sides(&mut found, self.n);
         Ok(found)
     }
@@ -125,9 +166,10 @@ impl Lister {
     ///
     /// The cactus is normal and has at most 4,194,304 vertices. The listing is refused as too large exactly where the
     /// number of these sides times n is above 2^30, with the two factors, and for want of memory. The number is found
-    /// first, from the tree, with one step for each node and vertex; so where it is too large, or none is asked for, no side is gathered. Else
-    /// time: a walk over the cactus, and O(c log c) comparisons of n/64 steps for the c sides that are let through. Memory:
-    /// n/8 bytes and a constant for each of these.
+    /// first, from the tree, with one step for each node and vertex; so where it is too large, or none is asked for, no
+    /// side is gathered. Else time: where all are asked for a walk over the cactus, and otherwise the same steps again, and
+    /// for each of the c sides found n/64 steps and one for each of its vertices; and O(c log c) comparisons of n/64 steps.
+    /// Memory: in proportion to the nodes and vertices, and n/8 bytes and a constant for each of these sides.
     pub fn list(&self, alloc: Global, cactus: &Cactus) -> Result<Vec<Side>, ListRefusal>
         requires n { cactus.now.vertices ≡ self.now.n }
         requires normal { is_normal cactus.now.root ≡ true }
@@ -136,5 +178,21 @@ impl Lister {
         ensures refusal { IfErr result (IsRefusal (2 ^ 30) self.now.n self.now.ask cactus.now) }
     {
         self.list_within(alloc, cactus, LARGEST)
+    }
+
+    /// Those of some sides over n that are asked for, in their order.
+    ///
+    /// One call of the test for each side, and one step. It takes no memory.
+    pub fn select(&self, mut sides: Vec<Side>) -> Vec<Side>
+        requires { All (λ s. s.vertices ≡ self.now.n) sides.items }
+        ensures over_n { All (λ s. s.vertices ≡ self.now.n) result.items }
+        ensures selected { members_of result.items ≡ filter (lets self.now.ask) (members_of sides.items) }
+    {
+        sides.retain(
+            |side: &Side| -> bool
+                ensures { result ≡ (side.now.vertices == self.entry.now.n && lets self.entry.now.ask side.now.members) }
+            { self.selects(side) },
+        );
+        sides
     }
 }

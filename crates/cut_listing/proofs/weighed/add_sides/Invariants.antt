@@ -1,0 +1,14 @@
+use Rattle.std.proofs.Common.{◌≡◌, ◌≤◌, ◌++◌, map, max}
+use Rattle.std.specs.List.{All}
+use Rattle.cactus_tree.specs.Places.{side_at}
+use Rattle.cut_listing.specs.Bands.{ranges_of}
+use Rattle.cut_listing.specs.Listings.{members_of}
+use Rattle.cut_listing.proofs.weighed.add_sides.Given as goal
+
+abbrev pub invariant-ends : goal.invariant-ends
+invariant-ends l = record {
+  last : l.end-end ≡ l.fn.band.to;
+  bounded : l.end ≤ max l.fn.band.from l.end-end;
+  over_n : All (λ s. s.vertices ≡ l.n) l.found.items;
+  added : members_of l.found.items ≡ members_of l.initial.found.items ++ map (side_at l.n l.order) (ranges_of l.borders l.start l.fn.band.from l.end);
+}

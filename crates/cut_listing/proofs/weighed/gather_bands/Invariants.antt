@@ -1,0 +1,15 @@
+use Rattle.std.proofs.Common.{◌≡◌, ◌++◌, drop, length, map}
+use Rattle.std.specs.List.{All, filter}
+use Rattle.cactus_tree.specs.Places.{side_at}
+use Rattle.cactus_tree.specs.Repeats.{ranges_kept}
+use Rattle.cut_listing.specs.Bands.{AreShort, is_heavy}
+use Rattle.cut_listing.specs.Listings.{members_of}
+use Rattle.cut_listing.proofs.weighed.gather_bands.Given as goal
+
+abbrev pub invariant-starts : goal.invariant-starts
+invariant-starts l = record {
+  last : l.start-end ≡ length l.borders;
+  ends : AreShort l.before l.borders l.least l.start l.ends.from l.ends.to;
+  over_n : All (λ s. s.vertices ≡ l.n) l.found.items;
+  gathered : members_of l.found.items ++ map (side_at l.n l.order) (filter (is_heavy l.before l.least) (ranges_kept (drop l.start l.borders) (drop l.start l.repeats))) ≡ map (side_at l.n l.order) (filter (is_heavy l.before l.least) (ranges_kept l.borders l.repeats));
+}

@@ -1,0 +1,236 @@
+//! The sides of a cactus whose balance by masses is at least a number, by two ends that move along the borders of its
+//! blocks.
+//!
+//! In the list of the vertices in the order of entering each side is a range, from one border of a block to a later one.
+//! As its end goes on its mass does not fall, so the ranges from one border on that are asked for end at borders that stand
+//! side by side: a band. From the next border on a range has no more mass, so neither end of the band goes back.
+
+ghost use Rattle.std.specs.Prelude.{◌≡◌, ◌+◌, ◌-◌, ◌<◌, ◌≤◌, ◌^◌, ◌++◌, true, IfOk, OnOk, drop, length, map, max};
+ghost use Rattle.std.specs.List.{All, filter};
+ghost use Rattle.cactus_tree.specs.Borders.{border_at};
+ghost use Rattle.cactus_tree.specs.Different.{AreDifferent};
+ghost use Rattle.cactus_tree.specs.Normal.{is_normal};
+ghost use Rattle.cactus_tree.specs.Places.{IsVertex, side_at};
+ghost use Rattle.cactus_tree.specs.Repeats.{mark_at, passed_over, ranges_kept};
+ghost use Rattle.cactus_tree.specs.Rooted.{sides_of};
+ghost use Rattle.cactus_tree.specs.Walking.{AreBorders, AreChained};
+ghost use Rattle.cut_listing.specs.Asks.{is_balanced};
+ghost use Rattle.cut_listing.specs.Bands.{AreEnds, AreRising, AreShort, IsShort, is_heavy, mass_at, ranges_of, range_between, whole};
+ghost use Rattle.cut_listing.specs.Listings.{different, members_of};
+
+use cactus_tree::{Border, Cactus, kept_places, masses_before, put_range};
+use cut_definitions::VertexWeights;
+use std::alloc::{AllocError, Global};
+use vertex_set::Side;
+
+/// The borders from one on that are before another.
+#[derive(Clone, Copy)]
+struct Band {
+    from: usize,
+    to: usize,
+}
+
+impl Band {
+    /// The number of the borders.
+    fn len(self) -> usize
+        ensures { result ≡ self.to - self.from }
+    {
+        self.to.saturating_sub(self.from)
+    }
+}
+
+/// The first border from one on up to which the ranges from another have a mass or more; the end of the block where none
+/// has.
+fn end_from(borders: &[Border], before: &[u128], mass: u128, start: usize, from: usize) -> usize
+    requires borders { AreBorders (length before.now - 1) borders.now }
+    requires before { AreRising before.now }
+    requires start { start < length borders.now }
+    requires mass { mass < 2 ^ 87 }
+    requires behind { start < from }
+    requires short { IsShort before.now borders.now mass start from }
+    ensures behind { from ≤ result }
+    ensures short { IsShort before.now borders.now mass start result }
+    ensures reached { result ≤ start + (border_at borders.now start).following → mass_at before.now borders.now start + mass ≤ mass_at before.now borders.now result }
+{
+    let end = start + borders[start].following + 1;
+    let reached = before[borders[start].place] + mass;
+    let mut at = from;
+    'ends: while at < end && before[borders[at].place] < reached {
+        at += 1;
+    }
+    at
+}
+
+/// The two ends of the band of a border, from those of the border before it.
+fn move_ends(borders: &[Border], before: &[u128], least: u64, start: usize, ends: Band) -> Band
+    requires borders { AreBorders (length before.now - 1) borders.now }
+    requires before { AreRising before.now }
+    requires start { start < length borders.now }
+    requires short { AreShort before.now borders.now least start ends.from ends.to }
+    ensures { AreEnds before.now borders.now least start result.from result.to }
+{
+    let least = least as u128;
+    let whole = before[before.len() - 1];
+    let most = whole.saturating_sub(least);
+    Band {
+        from: end_from(borders, before, least, start, ends.from.max(start + 1)),
+        to: end_from(borders, before, most + 1, start, ends.to.max(start + 1)),
+    }
+}
+
+/// A band without the border behind its own, where the cut to that one is left out.
+fn kept_band(repeats: &[bool], start: usize, ends: Band) -> Band
+    requires { start < length repeats.now }
+    ensures from { result.from ≡ max ends.from (start + 1 + passed_over (mark_at repeats.now start)) }
+    ensures to { result.to ≡ ends.to }
+{
+    let passed = if repeats[start] { 1 } else { 0 };
+    Band {
+        from: ends.from.max(start + 1 + passed),
+        to: ends.to,
+    }
+}
+
+/// The number of the ranges that have the least balance.
+fn count_bands(borders: &[Border], repeats: &[bool], before: &[u128], least: u64) -> u64
+    requires borders { AreBorders (length before.now - 1) borders.now }
+    requires chained { AreChained borders.now }
+    requires repeats { length repeats.now ≡ length borders.now }
+    requires before { AreRising before.now }
+    requires few { length (ranges_kept borders.now repeats.now) < 2 ^ 62 }
+    ensures { result ≡ length (filter (is_heavy before.now least) (ranges_kept borders.now repeats.now)) }
+{
+    let mut ends = Band { from: 0, to: 0 };
+    let mut count: u64 = 0;
+    'starts: for start in 0..borders.len() {
+        ends = move_ends(borders, before, least, start, ends);
+        count += kept_band(repeats, start, ends).len() as u64;
+    }
+    count
+}
+
+/// The side at the range from one border to another.
+fn side_between(
+    alloc: Global,
+    n: u32,
+    order: &[u32],
+    from: Border,
+    to: Border,
+) -> Result<Side, AllocError>
+    requires vertices { All (IsVertex n) order.now }
+    requires to { to.place ≤ length order.now }
+    ensures n { IfOk result (λ s. s.vertices ≡ n) }
+    ensures side { IfOk result (λ s. s.members ≡ side_at n order.now record { from = from.place; to = to.place }) }
+{
+    let mut side = Side::empty(alloc, n)?;
+    put_range(&mut side, order, from.place, to.place);
+    Ok(side)
+}
+
+/// Puts the sides at the ranges of a band behind those that were found.
+fn add_sides(
+    alloc: Global,
+    found: &mut Vec<Side>,
+    n: u32,
+    order: &[u32],
+    borders: &[Border],
+    start: usize,
+    band: Band,
+) -> Result<(), AllocError>
+    requires vertices { All (IsVertex n) order.now }
+    requires borders { AreBorders (length order.now) borders.now }
+    requires start { start < length borders.now }
+    requires band { band.to ≤ length borders.now }
+    requires found { All (λ s. s.vertices ≡ n) found.old.items }
+    ensures found { OnOk result (All (λ s. s.vertices ≡ n) found.new.items) }
+    ensures added { OnOk result (members_of found.new.items ≡ members_of found.old.items ++ map (side_at n order.now) (ranges_of borders.now start band.from band.to)) }
+{
+    'ends: for end in band.from..band.to {
+        let side = side_between(alloc, n, order, borders[start], borders[end])?;
+        found.push(side)?;
+    }
+    Ok(())
+}
+
+/// The sides at the ranges that have the least balance.
+fn gather_bands(
+    alloc: Global,
+    n: u32,
+    order: &[u32],
+    borders: &[Border],
+    repeats: &[bool],
+    before: &[u128],
+    least: u64,
+) -> Result<Vec<Side>, AllocError>
+    requires vertices { All (IsVertex n) order.now }
+    requires long { length before.now ≡ length order.now + 1 }
+    requires borders { AreBorders (length order.now) borders.now }
+    requires chained { AreChained borders.now }
+    requires repeats { length repeats.now ≡ length borders.now }
+    requires before { AreRising before.now }
+    ensures over_n { IfOk result (λ v. All (λ s. s.vertices ≡ n) v.items) }
+    ensures sides { IfOk result (λ v. members_of v.items ≡ map (side_at n order.now) (filter (is_heavy before.now least) (ranges_kept borders.now repeats.now))) }
+{
+    let mut ends = Band { from: 0, to: 0 };
+    let mut found = Vec::new(alloc);
+    'starts: for start in 0..borders.len() {
+        ends = move_ends(borders, before, least, start, ends);
+        let band = kept_band(repeats, start, ends);
+        add_sides(alloc, &mut found, n, order, borders, start, band)?;
+    }
+    Ok(found)
+}
+
+/// The number of the different sides of a cactus whose balance is at least a number.
+///
+/// One step for each vertex and each node, in loops. It takes memory in proportion to these, and is refused only where that
+/// is wanting.
+pub(crate) fn number_of_balanced(
+    alloc: Global,
+    cactus: &Cactus,
+    weights: &VertexWeights,
+    least: u64,
+) -> Result<u64, AllocError>
+    requires normal { is_normal cactus.now.root ≡ true }
+    requires masses { length weights.now ≡ cactus.now.vertices }
+    ensures { IfOk result (λ k. k ≡ length (different (filter (is_balanced weights.now least) (sides_of cactus.now)))) }
+{
+    // known by these calls: the vertices are few, and the cactus has them all
+    let _few = weights.len();
+    let _root = cactus.root();
+    let places = kept_places(alloc, cactus)?;
+    let before = masses_before(alloc, &places.order, weights)?;
+    Ok(count_bands(&places.borders, &places.repeats, &before, least))
+}
+
+/// The different sides of a cactus whose balance is at least a number, in the order of the tree.
+///
+/// As `number_of_balanced`, and for each side n/64 steps and one for each of its vertices.
+pub(crate) fn balanced_sides(
+    alloc: Global,
+    cactus: &Cactus,
+    weights: &VertexWeights,
+    least: u64,
+) -> Result<Vec<Side>, AllocError>
+    requires normal { is_normal cactus.now.root ≡ true }
+    requires masses { length weights.now ≡ cactus.now.vertices }
+    ensures over_n { IfOk result (λ v. All (λ s. s.vertices ≡ cactus.now.vertices) v.items) }
+    ensures differ { IfOk result (λ v. AreDifferent (members_of v.items)) }
+    ensures same { IfOk result (λ v. different (members_of v.items) ≡ different (filter (is_balanced weights.now least) (sides_of cactus.now))) }
+{
+    // known by these calls: the vertices are few, and the cactus has them all
+    let _few = weights.len();
+    let _root = cactus.root();
+    let n = cactus.n();
+    let places = kept_places(alloc, cactus)?;
+    let before = masses_before(alloc, &places.order, weights)?;
+    gather_bands(
+        alloc,
+        n,
+        &places.order,
+        &places.borders,
+        &places.repeats,
+        &before,
+        least,
+    )
+}
