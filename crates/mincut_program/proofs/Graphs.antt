@@ -21,7 +21,7 @@ use Rattle.cactus_text.specs.Text.{cactus_text, line}
 use Rattle.mincut_program.specs.Jobs.{StandsFor, IsCactusText, IsBalancedText, IsTextFor, IsListed, IsInRange, IsAnswerOf, IsStopFor, asked_cuts}
 use Rattle.mincut_program.specs.Solving.{IsSolved, IsListReply, IsListStop, cuts_for}
 use Rattle.mincut_program.specs.Listings.{listing_text, count_text, balanced_text}
-use Rattle.mincut_program.specs.Trials.{trial_text, IsFactsText}
+use Rattle.mincut_program.specs.Trials.{ones, trial_text, IsFactsText}
 use Rattle.graph_maker.specs.Made.{made_graph}
 use Rattle.mincut_program.specs.declared.stop.Stop.{Stop}
 use Rattle.mincut_program.specs.declared.stop.Stop.TheVariants as stop
@@ -36,8 +36,7 @@ use Rattle.std.proofs.lemmas.List.{length-map}
 use Rattle.cut_listing.specs.declared.ask.Ask.{Ask}
 use Rattle.cut_listing.specs.declared.ask.Ask.TheVariants as ask
 use Rattle.std.specs.List.{Contains, filter}
-use Rattle.mincut_program.specs.declared.command.Job.{Job}
-use Rattle.mincut_program.specs.declared.command.Job.TheVariants.{Cuts}
+use Rattle.mincut_program.specs.declared.command.Command.{Command}
 
 -- the value of a graph that the program takes is small
 pub value_small : (g : Graph) → IsEdgeList g → 2 ≤ g.vertices → value g ≤ 2 ^ 62
@@ -79,13 +78,13 @@ all_let_through : (xs : List (List ℕ)) → filter (lets ask.All) xs ≡ xs
 all_let_through [] = refl
 all_let_through (x ∷ xs) = ap (λ l. x ∷ l) (all_let_through xs)
 
-pub cuts_of_all : (g : Graph) → cuts_for ask.All g ≡ asked_cuts Cuts g
+pub cuts_of_all : (g : Graph) → cuts_for ask.All g ≡ mincuts g
 cuts_of_all g = all_let_through (mincuts g)
 
 -- a listing in the words of a job
-pub listed_answer : (job : Job) (a : Ask) (g : Graph) → cuts_for a g ≡ asked_cuts job g → IsListed job → IsInRange job g.vertices → 2 ≤ g.vertices → IsConnected g →
-    ((text : List ℕ) → text ≡ listing_text (value g) (asked_cuts job g) → IsTextFor job g text) → (text : List ℕ) → IsListReply a g text → IsAnswerOf job g text
-listed_answer job a g same listed inside two connected fits text r = record {
+pub listed_answer : (command : Command) (masses : List ℕ) (a : Ask) (g : Graph) → cuts_for a g ≡ asked_cuts command masses g → IsListed command.job → IsInRange command.job g.vertices → 2 ≤ g.vertices → IsConnected g →
+    ((text : List ℕ) → text ≡ listing_text (value g) (asked_cuts command masses g) → IsTextFor command masses g text) → (text : List ℕ) → IsListReply a g text → IsAnswerOf command masses g text
+listed_answer command masses a g same listed inside two connected fits text r = record {
   in_range = inside;
   answer = inr (inr (record {
     enough = two;
@@ -95,9 +94,9 @@ listed_answer job a g same listed inside two connected fits text r = record {
   }));
 }
 
-pub listed_stop : (job : Job) (a : Ask) (g : Graph) → cuts_for a g ≡ asked_cuts job g → IsListed job → IsInRange job g.vertices → 2 ≤ g.vertices → IsConnected g →
-    (s : Stop) → IsListStop a g s → IsStopFor job g s
-listed_stop job a g same listed inside two connected (stop.TooLarge cuts n) r = record {
+pub listed_stop : (command : Command) (masses : List ℕ) (a : Ask) (g : Graph) → cuts_for a g ≡ asked_cuts command masses g → IsListed command.job → IsInRange command.job g.vertices → 2 ≤ g.vertices → IsConnected g →
+    (s : Stop) → IsListStop a g s → IsStopFor command masses g s
+listed_stop command masses a g same listed inside two connected (stop.TooLarge cuts n) r = record {
   in_range = inside;
   enough = two;
   connected = connected;
@@ -106,11 +105,11 @@ listed_stop job a g same listed inside two connected (stop.TooLarge cuts n) r = 
   over = r.over;
   large = r.large;
 }
-listed_stop job a g same listed inside two connected stop.NoMemory r = tt
-listed_stop job a g same listed inside two connected (stop.BadVertex x n) r = absurd r
-listed_stop job a g same listed inside two connected stop.BadWords r = absurd r
-listed_stop job a g same listed inside two connected (stop.Refused f) r = absurd r
-listed_stop job a g same listed inside two connected stop.ReadFailed r = absurd r
+listed_stop command masses a g same listed inside two connected stop.NoMemory r = tt
+listed_stop command masses a g same listed inside two connected (stop.BadVertex x n) r = absurd r
+listed_stop command masses a g same listed inside two connected stop.BadWords r = absurd r
+listed_stop command masses a g same listed inside two connected (stop.Refused f) r = absurd r
+listed_stop command masses a g same listed inside two connected stop.ReadFailed r = absurd r
 
 pub over_ok : {X E : Type 0} (P Q : X → Type 0) (r : Result X E) → ((x : X) → P x → Q x) → IfOk r P → IfOk r Q
 over_ok P Q (Ok x) f p = f x p
@@ -120,31 +119,28 @@ pub over_err : {X E : Type 0} (P Q : E → Type 0) (r : Result X E) → ((e : E)
 over_err P Q (Ok x) f p = tt
 over_err P Q (Err e) f p = f e p
 
-pub whole_answer : (job : Job) (g : Graph) → IsInRange job g.vertices → 2 ≤ g.vertices → IsConnected g → (IsListed job → ⊥) → (text : List ℕ) → IsTextFor job g text → IsAnswerOf job g text
-whole_answer job g inside two connected unlisted text is = record {
+pub whole_answer : (command : Command) (masses : List ℕ) (g : Graph) → IsInRange command.job g.vertices → 2 ≤ g.vertices → IsConnected g → (IsListed command.job → ⊥) → (text : List ℕ) → IsTextFor command masses g text → IsAnswerOf command masses g text
+whole_answer command masses g inside two connected unlisted text is = record {
   in_range = inside;
   answer = inr (inr (record { enough = two; connected = λ _. connected; within = λ listed. absurd (unlisted listed); text_is = is }));
 }
 
 -- the best side of a solved graph is a best minimum cut
-best_of_cuts : (g : Graph) (solved : Solved) (side : VertexList) → IsSolved g solved → IsBest solved.cactus.vertices (sides_of solved.cactus) side.members →
-    IsBest g.vertices (mincuts g) side.members
-best_of_cuts g solved side s best = record {
-  member = (s.sides side.members).0 best.member;
+best_of_cuts : (g : Graph) (solved : Solved) (masses side : List ℕ) → IsSolved g solved → IsBest masses (sides_of solved.cactus) side → IsBest masses (mincuts g) side
+best_of_cuts g solved masses side s best = record {
+  member = (s.sides side).0 best.member;
   none_greater = λ i d lt. no_greater (get_or (mincuts g) i d) (Contains-get_or (mincuts g) i d lt);
 }
   where
-    no_greater : (other : List ℕ) → Contains (mincuts g) other → balance g.vertices other ≤ balance g.vertices side.members
-    no_greater other m =
-        subst (λ (k : ℕ). balance k other ≤ balance k side.members) s.over
-        (All-contains (λ (o : List ℕ). balance solved.cactus.vertices o ≤ balance solved.cactus.vertices side.members) (sides_of solved.cactus) other best.none_greater ((s.sides other).1 m))
+    no_greater : (other : List ℕ) → Contains (mincuts g) other → balance masses other ≤ balance masses side
+    no_greater other m = All-contains (λ (o : List ℕ). balance masses o ≤ balance masses side) (sides_of solved.cactus) other best.none_greater ((s.sides other).1 m)
 
-pub best_text : (g : Graph) (solved : Solved) (side : VertexList) → IsSolved g solved → side.vertices ≡ solved.cactus.vertices → IsBest solved.cactus.vertices (sides_of solved.cactus) side.members →
-    IsBalancedText g (balanced_text solved.value side.vertices side.members)
-best_text g solved side s over best = record {
-  side = side.members;
-  best = best_of_cuts g solved side s best;
-  text_is = ap (λ (k : ℕ). balanced_text k side.vertices side.members) s.value ∙ ap (λ (k : ℕ). balanced_text (value g) k side.members) (over ∙ s.over);
+pub best_text : (g : Graph) (solved : Solved) (masses side : List ℕ) (b : ℕ) → IsSolved g solved → b ≡ balance masses side → IsBest masses (sides_of solved.cactus) side →
+    IsBalancedText masses g (balanced_text solved.value b side)
+best_text g solved masses side b s even best = record {
+  side = side;
+  best = best_of_cuts g solved masses side s best;
+  text_is = λ i. balanced_text (s.value i) (even i) side;
 }
 
 -- a graph that has a cut has a cactus with a block
@@ -178,12 +174,14 @@ list_stop g solved a n cuts m law s over r = record {
 -- ---- the facts of a solved graph
 
 -- the facts of a solved graph and of a best side
-pub facts_known : (g : Graph) (solved : Solved) (side : VertexList) (n m count b : ℕ) → IsSolved g solved → side.vertices ≡ solved.cactus.vertices →
-    IsBest solved.cactus.vertices (sides_of solved.cactus) side.members → n ≡ g.vertices → m ≡ length g.edges → count ≡ length (mincuts g) → b ≡ balance side.vertices side.members →
+pub facts_known : (g : Graph) (solved : Solved) (masses side : List ℕ) (n m count b : ℕ) → IsSolved g solved → masses ≡ ones g.vertices →
+    IsBest masses (sides_of solved.cactus) side → n ≡ g.vertices → m ≡ length g.edges → count ≡ length (mincuts g) → b ≡ balance masses side →
     (text : List ℕ) → text ≡ trial_text n m solved.value count b → IsFactsText g text
-facts_known g solved side n m count b s over best all edges counted balanced text is =
-    let even : b ≡ balance g.vertices side.members = balanced ∙ ap (λ (k : ℕ). balance k side.members) (over ∙ s.over) in
-    record { side = side.members; best = best_of_cuts g solved side s best; text_is = is ∙ (λ i. trial_text (all i) (edges i) (s.value i) (counted i) (even i)) }
+facts_known g solved masses side n m count b s ones_are best all edges counted balanced text is = record {
+  side = side;
+  best = subst (λ (l : List ℕ). IsBest l (mincuts g) side) ones_are (best_of_cuts g solved masses side s best);
+  text_is = is ∙ (λ i. trial_text (all i) (edges i) (s.value i) (counted i) ((balanced ∙ ap (λ (l : List ℕ). balance l side) ones_are) i));
+}
 
 -- the made graph of a trial has a cut
 pub made_enough : (number : ℕ) → 12 ≤ number → 2 ≤ (made_graph number).vertices

@@ -45,16 +45,18 @@ values_or_none None d e = ap (map (λ v. v.now)) e
 values_or_none (Some s) d e = refl
 
 -- what the rules make of what the getters read
-pub read_by_rows : (found : Found) (name workers : Option (Bor Text)) (all : Option (Bor (List (Bor Text)))) (none : Bor (List (Bor Text))) → none.now ≡ []
+pub read_by_rows : (found : Found) (name workers least : Option (Bor Text)) (all : Option (Bor (List (Bor Text)))) (none : Bor (List (Bor Text))) → none.now ≡ []
     → option_map (λ s. s.now) name ≡ first_value found (codes "job")
     → option_map (λ s. map (λ v. v.now) s.now) all ≡ option_map raw_values (matched_of found (codes "values"))
     → option_map (λ s. s.now) workers ≡ first_value found (codes "workers")
-    → command_by (option_map (λ s. s.now) name) (map (λ v. v.now) (unwrap_or all none).now) (option_map (λ s. s.now) workers) ≡ command_in (rows_of found)
-read_by_rows found name workers all none nil n v w =
+    → option_map (λ s. s.now) least ≡ first_value found (codes "least")
+    → command_by (option_map (λ s. s.now) name) (map (λ v. v.now) (unwrap_or all none).now) (option_map (λ s. s.now) workers) (option_map (λ s. s.now) least) ≡ command_in (rows_of found)
+read_by_rows found name workers least all none nil n v w l =
     let names = n ∙ first_value-rows found (codes "job") in
     let counts = w ∙ first_value-rows found (codes "workers") in
     let values = values_or_none all none nil ∙ ap (λ (o : Option (List Text)). unwrap_or o []) (v ∙ raw_values-rows found (codes "values")) in
-    λ i. command_by (names i) (values i) (counts i)
+    let balances = l ∙ first_value-rows found (codes "least") in
+    λ i. command_by (names i) (values i) (counts i) (balances i)
 
 -- the refusal in an `Err`
 pub refusal_is : {T E : Type 0} (d : E) (e x : E) → ◌≡◌ {A = Result T E} (Err e) (Err x) → e ≡ x

@@ -7,7 +7,7 @@ use Rattle.cut_definitions.specs.Graph.{Graph}
 use Rattle.cut_definitions.specs.Components.{IsConnected}
 use Rattle.weighted_graph.specs.Components.{LawOfOneComponent}
 use Rattle.metis_reader.specs.declared.fault.Fault.{Fault}
-use Rattle.metis_reader.specs.File.{graph_of}
+use Rattle.metis_reader.specs.File.{graph_of, masses_of}
 use Rattle.metis_reader.proofs.FixedFaults.{graph_of_fixed, fixed_stays}
 use Rattle.mincut_program.specs.declared.stop.Stop.{Stop}
 use Rattle.mincut_program.specs.declared.stop.Stop.TheVariants as stop
@@ -18,10 +18,10 @@ use Rattle.mincut_program.specs.Notices.{notice_of, text_of}
 use Rattle.mincut_program.specs.declared.command.Command.{Command}
 use Rattle.mincut_program.specs.declared.command.Job.{Job}
 use Rattle.mincut_program.specs.declared.command.Job.TheVariants.{Value, Cactus, Cuts, Part, Count, Balanced, Trial}
-use Rattle.mincut_program.specs.Jobs.{IsAnswerOf, IsStopFor, IsInRange, IsOutside, IsWithin, asked_cuts}
+use Rattle.mincut_program.specs.Jobs.{IsAnswerOf, IsStopFor, IsInRange, IsListed, IsOutside, IsWithin, asked_cuts}
 use Rattle.mincut_program.specs.Words.{IsReading, ReadsGraph, command_of}
 use Rattle.mincut_program.specs.Stops.{status_of, line_of}
-use Rattle.mincut_program.specs.Intake.{IsRefused, IsAnswer, IsJobAnswer, IsJobReply, IsStopped, IsReply, IsCause}
+use Rattle.mincut_program.specs.Intake.{IsRefused, IsAnswer, IsJobAnswer, IsJobReply, RepliesAs, IsStopped, IsReply, IsCause}
 use Rattle.mincut_program.specs.Answers.{Writes, Tells, TellsFault, TellsVertex, TellsTooLarge, TellingFailed}
 use Rattle.mincut_program.proofs.NoticeWords.{notice_is_no_command}
 use Rattle.mincut_program.proofs.Bytes.{read_all}
@@ -78,35 +78,35 @@ ok_is : {T E : Type 0} (x y : T) → ◌≡◌ {A = Result T E} (Ok x) (Ok y) �
 ok_is {T} {E} x y e = ap (λ (r : Result T E). elim r [ Ok v ↦ v | Err e ↦ x ]) e
 
 -- the reply to a command
-replied : (words : List (List ℕ)) (command : Command) (left : Option (List ℕ)) (text : List ℕ) → command_of words ≡ Some command → IsReply words left text → IsJobReply command.job left text
+replied : (words : List (List ℕ)) (command : Command) (left : Option (List ℕ)) (text : List ℕ) → command_of words ≡ Some command → IsReply words left text → IsJobReply command left text
 replied words command left text is reply =
     let a : IsAnswer words left text = subst
     (λ (o : Option Notice). MatchOption o (IsAnswer words left text) (λ notice. text ≡ text_of notice)) (no_notice words (has_command words command is)) reply in
-    subst (λ (x : Command). IsJobReply x.job left text) (some_is a.command command (sym a.commanded ∙ is)) a.answer
+    subst (λ (x : Command). IsJobReply x left text) (some_is a.command command (sym a.commanded ∙ is)) a.answer
 
 -- a job that reads a graph replies for the bytes
-reading_replied : (job : Job) (left : Option (List ℕ)) (bytes text : List ℕ) → IsReading job → left ≡ Some bytes → IsJobReply job left text → IsJobAnswer job bytes text
-reading_replied Value left bytes text reading from reply = subst (λ (o : Option (List ℕ)). IfSome o (λ bytes. IsJobAnswer Value bytes text)) from reply
-reading_replied Cactus left bytes text reading from reply = subst (λ (o : Option (List ℕ)). IfSome o (λ bytes. IsJobAnswer Cactus bytes text)) from reply
-reading_replied Cuts left bytes text reading from reply = subst (λ (o : Option (List ℕ)). IfSome o (λ bytes. IsJobAnswer Cuts bytes text)) from reply
-reading_replied (Part u v) left bytes text reading from reply = subst (λ (o : Option (List ℕ)). IfSome o (λ bytes. IsJobAnswer (Part u v) bytes text)) from reply
-reading_replied Count left bytes text reading from reply = subst (λ (o : Option (List ℕ)). IfSome o (λ bytes. IsJobAnswer Count bytes text)) from reply
-reading_replied Balanced left bytes text reading from reply = subst (λ (o : Option (List ℕ)). IfSome o (λ bytes. IsJobAnswer Balanced bytes text)) from reply
-reading_replied (Trial number) left bytes text reading from reply = absurd reading
+reading_replied : (job : Job) (command : Command) (left : Option (List ℕ)) (bytes text : List ℕ) → IsReading job → left ≡ Some bytes → RepliesAs job command left text → IsJobAnswer command bytes text
+reading_replied Value command left bytes text reading from reply = subst (λ (o : Option (List ℕ)). IfSome o (λ bytes. IsJobAnswer command bytes text)) from reply
+reading_replied Cactus command left bytes text reading from reply = subst (λ (o : Option (List ℕ)). IfSome o (λ bytes. IsJobAnswer command bytes text)) from reply
+reading_replied Cuts command left bytes text reading from reply = subst (λ (o : Option (List ℕ)). IfSome o (λ bytes. IsJobAnswer command bytes text)) from reply
+reading_replied (Part u v) command left bytes text reading from reply = subst (λ (o : Option (List ℕ)). IfSome o (λ bytes. IsJobAnswer command bytes text)) from reply
+reading_replied Count command left bytes text reading from reply = subst (λ (o : Option (List ℕ)). IfSome o (λ bytes. IsJobAnswer command bytes text)) from reply
+reading_replied Balanced command left bytes text reading from reply = subst (λ (o : Option (List ℕ)). IfSome o (λ bytes. IsJobAnswer command bytes text)) from reply
+reading_replied (Trial number) command left bytes text reading from reply = absurd reading
 
 -- the reply to a command for a graph that was read
 pub answered : (words : List (List ℕ)) (command : Command) (left : Option (List ℕ)) (bytes text : List ℕ) (graph : Graph) → command_of words ≡ Some command → IsReading command.job →
-    left ≡ Some bytes → graph_of bytes ≡ Ok graph → IsReply words left text → IsAnswerOf command.job graph text
+    left ≡ Some bytes → graph_of bytes ≡ Ok graph → IsReply words left text → IsAnswerOf command (masses_of bytes) graph text
 answered words command left bytes text graph is reading from accepted reply =
-    let a : IsJobAnswer command.job bytes text = reading_replied command.job left bytes text reading from (replied words command left text is reply) in
-    subst (λ (y : Graph). IsAnswerOf command.job y text) (ok_is a.graph graph (sym a.accepted ∙ accepted)) a.answer
+    let a : IsJobAnswer command bytes text = reading_replied command.job command left bytes text reading from (replied words command left text is reply) in
+    subst (λ (y : Graph). IsAnswerOf command (masses_of bytes) y text) (ok_is a.graph graph (sym a.accepted ∙ accepted)) a.answer
 
 -- no reply stands where the bytes have a fault
 pub no_reply : (words : List (List ℕ)) (left : Option (List ℕ)) (bytes text : List ℕ) (fault : Fault) → ReadsGraph words → left ≡ Some bytes → graph_of bytes ≡ Err fault →
     IsReply words left text → ⊥
 no_reply words left bytes text fault reads from wrong reply =
-    let a : IsJobAnswer reads.command.job bytes text =
-    reading_replied reads.command.job left bytes text reads.reading from (replied words reads.command left text reads.commanded reply) in
+    let a : IsJobAnswer reads.command bytes text =
+    reading_replied reads.command.job reads.command left bytes text reads.reading from (replied words reads.command left text reads.commanded reply) in
     one_result (graph_of bytes) a.graph fault a.accepted wrong
 
 -- a job whose vertices may be missing, or whose list may be too large, reads a graph
@@ -119,23 +119,26 @@ reading_of_outside Count n outside = tt
 reading_of_outside Balanced n outside = tt
 reading_of_outside (Trial number) n outside = absurd (outside tt)
 
-pub reading_of_large : (job : Job) (g : Graph) → (IsWithin job g → ⊥) → IsReading job
-reading_of_large (Part u v) g large = tt
-reading_of_large Value g large = tt
-reading_of_large Cactus g large = tt
-reading_of_large Cuts g large = tt
-reading_of_large Count g large = tt
-reading_of_large Balanced g large = tt
-reading_of_large (Trial number) g large = absurd (large (λ listed. absurd listed))
+listed_reads : (job : Job) (P : Type 0) → ((IsListed job → P) → ⊥) → IsReading job
+listed_reads (Part u v) P large = tt
+listed_reads Value P large = tt
+listed_reads Cactus P large = tt
+listed_reads Cuts P large = tt
+listed_reads Count P large = tt
+listed_reads Balanced P large = tt
+listed_reads (Trial number) P large = absurd (large (λ listed. absurd listed))
+
+pub reading_of_large : (command : Command) (masses : List ℕ) (g : Graph) → (IsWithin command masses g → ⊥) → IsReading command.job
+reading_of_large command masses g large = listed_reads command.job (length (asked_cuts command masses g) * g.vertices ≤ 2 ^ 30) large
 
 -- the stop of a command for a graph
 stopped : (words : List (List ℕ)) (command : Command) (left : Option (List ℕ)) (bytes : List ℕ) (graph : Graph) (s : Stop) → command_of words ≡ Some command →
-    left ≡ Some bytes → graph_of bytes ≡ Ok graph → IfSome left (λ bytes. IsStopped words bytes s) → IsStopFor command.job graph s
+    left ≡ Some bytes → graph_of bytes ≡ Ok graph → IfSome left (λ bytes. IsStopped words bytes s) → IsStopFor command (masses_of bytes) graph s
 stopped words command left bytes graph s is from accepted why =
     let a : IsStopped words bytes s = subst (λ (o : Option (List ℕ)). IfSome o (λ bytes. IsStopped words bytes s)) from why in
     let c : a.command ≡ command = some_is a.command command (sym a.commanded ∙ is) in
     let g : a.graph ≡ graph = ok_is a.graph graph (sym a.accepted ∙ accepted) in
-    subst (λ (x : Command). IsStopFor x.job graph s) c (subst (λ (y : Graph). IsStopFor a.command.job y s) g a.why)
+    subst (λ (x : Command). IsStopFor x (masses_of bytes) graph s) c (subst (λ (y : Graph). IsStopFor a.command (masses_of bytes) y s) g a.why)
 
 -- a graph that is accepted has no fault
 accepted_twice : (words : List (List ℕ)) (left : Option (List ℕ)) (bytes : List ℕ) (fault : Fault) (s : Stop) → left ≡ Some bytes → graph_of bytes ≡ Err fault →
@@ -154,19 +157,19 @@ out_of_range (Trial number) n x outside inside = outside
 out_of_range (Part u v) n x outside inside = ⊎_elim (λ a. a.1 inside.0) (λ b. b.2 inside.1) outside
 
 -- a vertex that is not there stops no job whose vertices are there
-bad_vertex_stops : (job : Job) (g : Graph) (x n : ℕ) → IsStopFor job g (stop.BadVertex x n) → IsInRange job g.vertices → ⊥
-bad_vertex_stops job g x n why inside = out_of_range job n x why.1 (subst (λ (k : ℕ). IsInRange job k) (sym why.0) inside)
+bad_vertex_stops : (command : Command) (masses : List ℕ) (g : Graph) (x n : ℕ) → IsStopFor command masses g (stop.BadVertex x n) → IsInRange command.job g.vertices → ⊥
+bad_vertex_stops command masses g x n why inside = out_of_range command.job n x why.1 (subst (λ (k : ℕ). IsInRange command.job k) (sym why.0) inside)
 
 -- nor does a list within its limit
-too_large_stops : (job : Job) (g : Graph) (cuts n : ℕ) → IsStopFor job g (stop.TooLarge cuts n) → (2 ≤ g.vertices → IsConnected g → IsWithin job g) → ⊥
-too_large_stops job g cuts n why within =
-    let most : length (asked_cuts job g) * g.vertices ≤ 2 ^ 30 = within why.enough why.connected why.listed in
-    let least : 2 ^ 30 < length (asked_cuts job g) * g.vertices = subst (λ (k : ℕ). 2 ^ 30 < k * g.vertices) why.counted (subst (λ (k : ℕ). 2 ^ 30 < cuts * k) why.over why.large) in
+too_large_stops : (command : Command) (masses : List ℕ) (g : Graph) (cuts n : ℕ) → IsStopFor command masses g (stop.TooLarge cuts n) → (2 ≤ g.vertices → IsConnected g → IsWithin command masses g) → ⊥
+too_large_stops command masses g cuts n why within =
+    let most : length (asked_cuts command masses g) * g.vertices ≤ 2 ^ 30 = within why.enough why.connected why.listed in
+    let least : 2 ^ 30 < length (asked_cuts command masses g) * g.vertices = subst (λ (k : ℕ). 2 ^ 30 < k * g.vertices) why.counted (subst (λ (k : ℕ). 2 ^ 30 < cuts * k) why.over why.large) in
     omega (arith, most, least)
 
 -- no reply lists more cuts than it may
-pub too_large_reply : (job : Job) (g : Graph) (text : List ℕ) → LawOfOneComponent → IsAnswerOf job g text → 2 ≤ g.vertices → IsConnected g → (IsWithin job g → ⊥) → ⊥
-too_large_reply job g text law a two connected large =
+pub too_large_reply : (command : Command) (masses : List ℕ) (g : Graph) (text : List ℕ) → LawOfOneComponent → IsAnswerOf command masses g text → 2 ≤ g.vertices → IsConnected g → (IsWithin command masses g → ⊥) → ⊥
+too_large_reply command masses g text law a two connected large =
     ⊎_elim (λ few. omega (arith, few.few, two))
     (⊎_elim (λ apart. omega (arith, apart.several, (law g apart.count apart.components).1 connected)) (λ whole. large whole.within))
     a.answer
@@ -298,7 +301,7 @@ module _ (words : List (List ℕ)) (left now : Option (List ℕ)) (m n : ℕ) (b
       (t : Telling words left now m n before after p q result) where
     -- why a graph has no reply
     stop_for : (command : Command) (graph : Graph) → command_of words ≡ Some command → graph_of bytes ≡ Ok graph → (s : Stop) → IsCause words left now m n s →
-        (s ≡ stop.NoMemory) ⊎ IsStopFor command.job graph s
+        (s ≡ stop.NoMemory) ⊎ IsStopFor command (masses_of bytes) graph s
     stop_for command graph is accepted stop.BadWords cause = absurd (none_command words cause.0 has)
     stop_for command graph is accepted (stop.Refused fault) cause =
         let wrong : graph_of bytes ≡ Err fault = subst (λ (o : Option (List ℕ)). IfSome o (λ all. graph_of all ≡ Err fault)) from (refused_all left now fault cause.2) in
@@ -310,13 +313,13 @@ module _ (words : List (List ℕ)) (left now : Option (List ℕ)) (m n : ℕ) (b
 
     -- for a graph whose job has a text only memory can be wanting
     pub graph_told : (command : Command) (graph : Graph) → command_of words ≡ Some command → graph_of bytes ≡ Ok graph → IsInRange command.job graph.vertices →
-        (2 ≤ graph.vertices → IsConnected graph → IsWithin command.job graph) → (result ≡ status.Ok) ⊎ (result ≡ status.OutOfMemory)
+        (2 ≤ graph.vertices → IsConnected graph → IsWithin command (masses_of bytes) graph) → (result ≡ status.Ok) ⊎ (result ≡ status.OutOfMemory)
     graph_told command graph is accepted inside within = of t.stop (stop_for command graph is accepted t.stop t.cause) (calm t tells)
       where
-        of : (s : Stop) → (s ≡ stop.NoMemory) ⊎ IsStopFor command.job graph s → result ≡ status_of s → (result ≡ status.Ok) ⊎ (result ≡ status.OutOfMemory)
+        of : (s : Stop) → (s ≡ stop.NoMemory) ⊎ IsStopFor command (masses_of bytes) graph s → result ≡ status_of s → (result ≡ status.Ok) ⊎ (result ≡ status.OutOfMemory)
         of s (inl memory) e = inr (e ∙ ap status_of memory)
-        of (stop.BadVertex x k) (inr why) e = absurd (bad_vertex_stops command.job graph x k why inside)
-        of (stop.TooLarge cuts k) (inr why) e = absurd (too_large_stops command.job graph cuts k why within)
+        of (stop.BadVertex x k) (inr why) e = absurd (bad_vertex_stops command (masses_of bytes) graph x k why inside)
+        of (stop.TooLarge cuts k) (inr why) e = absurd (too_large_stops command (masses_of bytes) graph cuts k why within)
         of stop.NoMemory (inr why) e = inr e
         of stop.BadWords (inr why) e = absurd why
         of (stop.Refused fault) (inr why) e = absurd why
@@ -327,7 +330,7 @@ module _ (words : List (List ℕ)) (left now : Option (List ℕ)) (m n : ℕ) (b
         (result ≡ status.BadVertex) ⊎ (result ≡ status.OutOfMemory)
     outside_told command graph is accepted outside = of t.stop (stop_for command graph is accepted t.stop t.cause) (calm t tells)
       where
-        of : (s : Stop) → (s ≡ stop.NoMemory) ⊎ IsStopFor command.job graph s → result ≡ status_of s → (result ≡ status.BadVertex) ⊎ (result ≡ status.OutOfMemory)
+        of : (s : Stop) → (s ≡ stop.NoMemory) ⊎ IsStopFor command (masses_of bytes) graph s → result ≡ status_of s → (result ≡ status.BadVertex) ⊎ (result ≡ status.OutOfMemory)
         of s (inl memory) e = inr (e ∙ ap status_of memory)
         of (stop.BadVertex x k) (inr why) e = inl e
         of (stop.TooLarge cuts k) (inr why) e = absurd (outside why.in_range)
@@ -341,9 +344,9 @@ module _ (words : List (List ℕ)) (left now : Option (List ℕ)) (m n : ℕ) (b
         (result ≡ status.ListTooLarge) ⊎ (result ≡ status.OutOfMemory)
     over_limit_told command graph is accepted inside = of t.stop (stop_for command graph is accepted t.stop t.cause) (calm t tells)
       where
-        of : (s : Stop) → (s ≡ stop.NoMemory) ⊎ IsStopFor command.job graph s → result ≡ status_of s → (result ≡ status.ListTooLarge) ⊎ (result ≡ status.OutOfMemory)
+        of : (s : Stop) → (s ≡ stop.NoMemory) ⊎ IsStopFor command (masses_of bytes) graph s → result ≡ status_of s → (result ≡ status.ListTooLarge) ⊎ (result ≡ status.OutOfMemory)
         of s (inl memory) e = inr (e ∙ ap status_of memory)
-        of (stop.BadVertex x k) (inr why) e = absurd (bad_vertex_stops command.job graph x k why inside)
+        of (stop.BadVertex x k) (inr why) e = absurd (bad_vertex_stops command (masses_of bytes) graph x k why inside)
         of (stop.TooLarge cuts k) (inr why) e = inl e
         of stop.NoMemory (inr why) e = inr e
         of stop.BadWords (inr why) e = absurd why

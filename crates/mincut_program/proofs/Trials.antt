@@ -1,12 +1,12 @@
 -- The number of a trial is in range, and a trial reads no graph.
-use Rattle.std.proofs.Common.{◌≡◌, ℕ, ◌&&◌, Bool, true, false, List, [], ◌∷◌, Option, Some, None, codes, refl, sym, ◌∙◌, ap, subst, if◌then◌else◌, nat_le}
+use Rattle.std.proofs.Common.{◌≡◌, ℕ, ◌&&◌, Bool, true, false, List, [], ◌∷◌, Option, Some, None, option_map, codes, refl, sym, ◌∙◌, ap, subst, if◌then◌else◌, nat_le}
 use Rattle.std.specs.Prelude.{IfSome, unwrap_or}
 use Rattle.std.specs.Str.{bytes_eq}
 use Rattle.std.proofs.lemmas.Bool.{leb-true}
 use Rattle.clap.specs.Words.{Text, all_of, first_of, fault_of, matches_of}
 use Rattle.mincut_program.specs.Line.{mincut}
 use Rattle.mincut_program.specs.Numbers.{number_of}
-use Rattle.mincut_program.specs.Words.{IsMakeable, IsReading, ReadsGraph, command_by, command_from, command_of, is_clean, job_of, part_of, trial_of, within, workers_of}
+use Rattle.mincut_program.specs.Words.{IsMakeable, IsReading, ReadsGraph, command_by, command_from, command_of, is_clean, job_of, least_for, part_of, taken_with, trial_of, with_least, within, workers_of}
 use Rattle.mincut_program.specs.declared.command.Job.{Job}
 use Rattle.mincut_program.specs.declared.command.Command.{Command}
 
@@ -47,14 +47,28 @@ from_within None n h = tt
 from_within (Some j) None h = tt
 from_within (Some j) (Some n) h = h
 
-by_within : (name : Option Text) (values : List Text) (workers : Option Text) → IfSome (command_by name values workers) IsMade
-by_within None values workers = tt
-by_within (Some name) values None = tt
-by_within (Some name) values (Some workers) = from_within (job_of name values) (workers_of workers) (job_within name values)
+-- a least balance leaves the job as it is
+least_within : (least : Option Text) (command : Command) → IsMade command → IfSome (with_least least command) IsMade
+least_within None command h = h
+least_within (Some text) command h = go (least_for command.job (number_of text))
+  where
+    go : (o : Option ℕ) → IfSome (option_map (λ k. record command { least = Some k }) o) IsMade
+    go None = tt
+    go (Some k) = h
+
+taken_within : (least : Option Text) (o : Option Command) → IfSome o IsMade → IfSome (taken_with least o) IsMade
+taken_within least None h = tt
+taken_within least (Some command) h = least_within least command h
+
+by_within : (name : Option Text) (values : List Text) (workers least : Option Text) → IfSome (command_by name values workers least) IsMade
+by_within None values workers least = tt
+by_within (Some name) values None least = tt
+by_within (Some name) values (Some workers) least =
+    taken_within least (command_from (job_of name values) (workers_of workers)) (from_within (job_of name values) (workers_of workers) (job_within name values))
 
 command_within : (words : List Text) → IfSome (command_of words) IsMade
 unfolding command_of
-command_within words = chosen IsMade (is_clean (fault_of mincut words)) _ _ (by_within (first_of (codes "job") (matches_of mincut words)) (unwrap_or (all_of (codes "values") (matches_of mincut words)) []) (first_of (codes "workers") (matches_of mincut words))) tt
+command_within words = chosen IsMade (is_clean (fault_of mincut words)) _ _ (by_within (first_of (codes "job") (matches_of mincut words)) (unwrap_or (all_of (codes "values") (matches_of mincut words)) []) (first_of (codes "workers") (matches_of mincut words)) (first_of (codes "least") (matches_of mincut words))) tt
 
 -- the number of a trial that words ask for is in range
 pub is_makeable : (words : List Text) (command : Command) → command_of words ≡ Some command → IsMakeable command.job

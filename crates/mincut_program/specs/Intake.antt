@@ -4,7 +4,7 @@ use Rattle.std.specs.Io.KnownBytes.{IsAtEnd}
 use Rattle.outside.specs.Faults.{Rose}
 use Rattle.cut_definitions.specs.Graph.{Graph}
 use Rattle.metis_reader.specs.declared.fault.Fault.{Fault}
-use Rattle.metis_reader.specs.File.{graph_of, fixed}
+use Rattle.metis_reader.specs.File.{graph_of, masses_of, fixed}
 use Rattle.metis_reader.specs.Fed.{HeaderEndsIn}
 use Rattle.mincut_program.specs.declared.stop.Stop.{Stop}
 use Rattle.mincut_program.specs.declared.stop.Stop.TheVariants.{BadWords, Refused, ReadFailed, NoMemory, BadVertex, TooLarge}
@@ -63,7 +63,7 @@ pub record IsStopped (words : List (List ℕ)) (bytes : List ℕ) (stop : Stop) 
   pub commanded : command_of words ≡ Some command
   pub graph : Graph
   pub accepted : graph_of bytes ≡ Ok graph
-  pub why : IsStopFor command.job graph stop
+  pub why : IsStopFor command (masses_of bytes) graph stop
 
 -- the words read a graph, all was read, and for the graph of it the job has no text
 abbrev pub IsJobStop : List (List ℕ) → Option (List ℕ) → Option (List ℕ) → ℕ → ℕ → Stop → Type 0
@@ -78,22 +78,25 @@ IsCause words before now m n NoMemory = (n ≡ m) × IsMemoryPlace before now
 IsCause words before now m n (BadVertex x k) = IsJobStop words before now m n (BadVertex x k)
 IsCause words before now m n (TooLarge cuts k) = IsJobStop words before now m n (TooLarge cuts k)
 
--- the text is what the job answers for the graph of the bytes
-pub record IsJobAnswer (job : Job) (bytes text : List ℕ) : Type 0 where
+-- the text is what the command answers for the graph and the masses of the bytes
+pub record IsJobAnswer (command : Command) (bytes text : List ℕ) : Type 0 where
   pub graph : Graph
   pub accepted : graph_of bytes ≡ Ok graph
-  pub answer : IsAnswerOf job graph text
+  pub answer : IsAnswerOf command (masses_of bytes) graph text
 
--- the text is what a job replies: a trial for the graph that it makes, whatever the source has left, and any other for the graph of the bytes that it had left
-abbrev pub IsJobReply : Job → Option (List ℕ) → List ℕ → Type 0
-IsJobReply (Trial number) left text = IsTrialText number text
-IsJobReply job left text = IfSome left (λ bytes. IsJobAnswer job bytes text)
+-- the text is what a job replies: a trial for the graph that it makes, whatever the source has left, and any other what the command answers for the bytes that it had left
+abbrev pub RepliesAs : Job → Command → Option (List ℕ) → List ℕ → Type 0
+RepliesAs (Trial number) command left text = IsTrialText number text
+RepliesAs _ command left text = IfSome left (λ bytes. IsJobAnswer command bytes text)
+
+abbrev pub IsJobReply : Command → Option (List ℕ) → List ℕ → Type 0
+IsJobReply command left text = RepliesAs command.job command left text
 
 -- the text is what the job of the words replies
 pub record IsAnswer (words : List (List ℕ)) (left : Option (List ℕ)) (text : List ℕ) : Type 0 where
   pub command : Command
   pub commanded : command_of words ≡ Some command
-  pub answer : IsJobReply command.job left text
+  pub answer : IsJobReply command left text
 
 -- the text is that of the notice that the words ask for, or else that of their job
 abbrev pub IsReply : List (List ℕ) → Option (List ℕ) → List ℕ → Type 0

@@ -1,14 +1,15 @@
 -- What the jobs answer for a graph.
-use Rattle.std.specs.Prelude.{ℕ, ◌≡◌, ◌≢◌, ◌⊎◌, ◌<◌, ◌≤◌, ◌*◌, ◌^◌, ⊤, List, length}
+use Rattle.std.specs.Prelude.{ℕ, ◌≡◌, ◌≢◌, ◌⊎◌, ◌<◌, ◌≤◌, ◌*◌, ◌^◌, ⊤, List, Option, None, Some, length, nat_le}
 use Rattle.std.specs.List.{filter}
 use Rattle.cut_definitions.specs.Graph.{Graph}
 use Rattle.cut_definitions.specs.Weight.{parts}
 use Rattle.cut_definitions.specs.Cuts.{has, value, mincuts}
-use Rattle.cut_definitions.specs.Balance.{IsBest}
+use Rattle.cut_definitions.specs.Balance.{IsBest, balance}
 use Rattle.cut_definitions.specs.Components.{IsConnected, HasComponents}
 use Rattle.cactus_tree.specs.Flat.{Flat}
 use Rattle.cactus_tree.specs.FlatCuts.{IsWellFormed, HasSides}
 use Rattle.cactus_text.specs.Text.{cactus_text}
+use Rattle.mincut_program.specs.declared.command.Command.{Command}
 use Rattle.mincut_program.specs.declared.command.Job.{Job}
 use Rattle.mincut_program.specs.declared.command.Job.TheVariants.{Value, Cactus, Cuts, Part, Count, Balanced, Trial}
 use Rattle.mincut_program.specs.declared.stop.Stop.{Stop}
@@ -28,26 +29,35 @@ pub record IsCactusText (g : Graph) (text : List ℕ) : Type 0 where
   pub stands : StandsFor flat g
   pub text_is : text ≡ cactus_text (value g) flat
 
--- the text of a best side
-pub record IsBalancedText (g : Graph) (text : List ℕ) : Type 0 where
+-- the text of a best side, where the vertices have these masses
+pub record IsBalancedText (masses : List ℕ) (g : Graph) (text : List ℕ) : Type 0 where
   pub side : List ℕ
-  pub best : IsBest g.vertices (mincuts g) side
-  pub text_is : text ≡ balanced_text (value g) g.vertices side
+  pub best : IsBest masses (mincuts g) side
+  pub text_is : text ≡ balanced_text (value g) (balance masses side) side
 
--- the minimum cuts that a listing has: those that part two vertices, or all
-abbrev pub asked_cuts : Job → Graph → List (List ℕ)
-asked_cuts (Part u v) g = filter (λ s. parts (has s) u v) (mincuts g)
-asked_cuts _ g = mincuts g
+-- those of some cuts that a listing has: those that part two vertices, those of at least a balance, or all
+abbrev pub asked_of : Job → Option ℕ → List ℕ → List (List ℕ) → List (List ℕ)
+asked_of (Part u v) least masses cuts = filter (λ s. parts (has s) u v) cuts
+asked_of Cuts (Some least) masses cuts = filter (λ s. nat_le least (balance masses s)) cuts
+asked_of _ least masses cuts = cuts
 
--- the text of a job for a graph that has a cut; a trial has none for a graph that was read
-abbrev pub IsTextFor : Job → Graph → List ℕ → Type 0
-IsTextFor Value g text = text ≡ value_line (value g)
-IsTextFor Cactus g text = IsCactusText g text
-IsTextFor Cuts g text = text ≡ listing_text (value g) (asked_cuts Cuts g)
-IsTextFor (Part u v) g text = text ≡ listing_text (value g) (asked_cuts (Part u v) g)
-IsTextFor Count g text = text ≡ count_text (value g) (length (mincuts g))
-IsTextFor Balanced g text = IsBalancedText g text
-IsTextFor (Trial number) g text = ⊥
+-- the minimum cuts that a command lists
+abbrev pub asked_cuts : Command → List ℕ → Graph → List (List ℕ)
+asked_cuts command masses g = asked_of command.job command.least masses (mincuts g)
+
+-- the text of a job for a graph that has a cut, where a listing has these cuts; a trial has none for a graph that was read
+abbrev pub IsTextOf : Job → List (List ℕ) → List ℕ → Graph → List ℕ → Type 0
+IsTextOf Value cuts masses g text = text ≡ value_line (value g)
+IsTextOf Cactus cuts masses g text = IsCactusText g text
+IsTextOf Cuts cuts masses g text = text ≡ listing_text (value g) cuts
+IsTextOf (Part u v) cuts masses g text = text ≡ listing_text (value g) cuts
+IsTextOf Count cuts masses g text = text ≡ count_text (value g) (length (mincuts g))
+IsTextOf Balanced cuts masses g text = IsBalancedText masses g text
+IsTextOf (Trial number) cuts masses g text = ⊥
+
+-- the text of a command for a graph that has a cut
+abbrev pub IsTextFor : Command → List ℕ → Graph → List ℕ → Type 0
+IsTextFor command masses g text = IsTextOf command.job (asked_cuts command masses g) masses g text
 
 abbrev pub IsListed : Job → Type 0
 IsListed Cuts = ⊤
@@ -55,8 +65,8 @@ IsListed (Part u v) = ⊤
 IsListed _ = ⊥
 
 -- a listing has no more than 2^30 numbers, as many for each side as there are vertices
-abbrev pub IsWithin : Job → Graph → Type 0
-IsWithin job g = IsListed job → length (asked_cuts job g) * g.vertices ≤ 2 ^ 30
+abbrev pub IsWithin : Command → List ℕ → Graph → Type 0
+IsWithin command masses g = IsListed command.job → length (asked_cuts command masses g) * g.vertices ≤ 2 ^ 30
 
 abbrev pub IsVertex : ℕ → ℕ → Type 0
 IsVertex n v = (1 ≤ v) × (v ≤ n)
@@ -84,30 +94,30 @@ pub record IsApart (job : Job) (g : Graph) (text : List ℕ) : Type 0 where
   pub several : 2 ≤ count
   pub text_is : text ≡ disconnected_line count
 
-pub record IsWhole (job : Job) (g : Graph) (text : List ℕ) : Type 0 where
+pub record IsWhole (command : Command) (masses : List ℕ) (g : Graph) (text : List ℕ) : Type 0 where
   pub enough : 2 ≤ g.vertices
-  pub connected : job ≢ Value → IsConnected g
-  pub within : IsWithin job g
-  pub text_is : IsTextFor job g text
+  pub connected : command.job ≢ Value → IsConnected g
+  pub within : IsWithin command masses g
+  pub text_is : IsTextFor command masses g text
 
--- what is written for a graph
-pub record IsAnswerOf (job : Job) (g : Graph) (text : List ℕ) : Type 0 where
-  pub in_range : IsInRange job g.vertices
-  pub answer : IsUncut g text ⊎ (IsApart job g text ⊎ IsWhole job g text)
+-- what is written for a graph whose vertices have these masses
+pub record IsAnswerOf (command : Command) (masses : List ℕ) (g : Graph) (text : List ℕ) : Type 0 where
+  pub in_range : IsInRange command.job g.vertices
+  pub answer : IsUncut g text ⊎ (IsApart command.job g text ⊎ IsWhole command masses g text)
 
 -- the cuts of a listing are so many that their number times n is above 2^30
-pub record IsOverLimit (job : Job) (g : Graph) (cuts n : ℕ) : Type 0 where
-  pub in_range : IsInRange job g.vertices
+pub record IsOverLimit (command : Command) (masses : List ℕ) (g : Graph) (cuts n : ℕ) : Type 0 where
+  pub in_range : IsInRange command.job g.vertices
   pub enough : 2 ≤ g.vertices
   pub connected : IsConnected g
-  pub listed : IsListed job
-  pub counted : cuts ≡ length (asked_cuts job g)
+  pub listed : IsListed command.job
+  pub counted : cuts ≡ length (asked_cuts command masses g)
   pub over : n ≡ g.vertices
   pub large : 2 ^ 30 < cuts * n
 
--- why a job has no text for a graph
-abbrev pub IsStopFor : Job → Graph → Stop → Type 0
-IsStopFor job g (BadVertex x n) = (n ≡ g.vertices) × IsOutside job n x
-IsStopFor job g (TooLarge cuts n) = IsOverLimit job g cuts n
-IsStopFor job g NoMemory = ⊤
-IsStopFor job g _ = ⊥
+-- why a command has no text for a graph
+abbrev pub IsStopFor : Command → List ℕ → Graph → Stop → Type 0
+IsStopFor command masses g (BadVertex x n) = (n ≡ g.vertices) × IsOutside command.job n x
+IsStopFor command masses g (TooLarge cuts n) = IsOverLimit command masses g cuts n
+IsStopFor command masses g NoMemory = ⊤
+IsStopFor command masses g _ = ⊥

@@ -2,7 +2,6 @@
 use Rattle.std.specs.Prelude.{ℕ, List, [], ◌∷◌, ◌++◌, length, codes, ltb}
 use Rattle.std.specs.List.{filter, flat_map}
 use Rattle.std.specs.Fmt.{decimal}
-use Rattle.cut_definitions.specs.Balance.{balance}
 use Rattle.cactus_text.specs.Text.{spaced, line}
 
 -- the members above a vertex
@@ -22,6 +21,6 @@ listing_text value sides = line (codes "value") (value ∷ []) ++ line (codes "c
 abbrev pub count_text : ℕ → ℕ → List ℕ
 count_text value count = line (codes "value") (value ∷ []) ++ line (codes "count") (count ∷ [])
 
--- the value, the balance of a side, and the side
+-- the value, a balance, and a side
 abbrev pub balanced_text : ℕ → ℕ → List ℕ → List ℕ
-balanced_text value n side = line (codes "value") (value ∷ []) ++ line (codes "balance") (balance n side ∷ []) ++ line (codes "side") side
+balanced_text value balance side = line (codes "value") (value ∷ []) ++ line (codes "balance") (balance ∷ []) ++ line (codes "side") side

@@ -15,9 +15,10 @@ text_of Help =
     ++ line (codes "cuts: lists the minimum cuts, each by its side without vertex 1")
     ++ line (codes "part: lists those that part the vertices U and V")
     ++ line (codes "count: prints the number of all minimum cuts")
-    ++ line (codes "balanced: prints a minimum cut whose smaller side is greatest")
+    ++ line (codes "balanced: prints a minimum cut whose lighter side is heaviest")
     ++ line (codes "trial: prints five facts about a graph that it makes for the number U of 12 to 100000")
     ++ line (codes "N, the number of workers, is 1 to 64, and 4 where it is not named")
+    ++ line (codes "--least W with cuts: lists those whose lighter side weighs W or more")
 text_of Version = line (codes "mincut 0.1.0")
 
 -- the notice of this name

@@ -11,7 +11,7 @@ abbrev pub text_of : Reply → List ℕ
 text_of (Text text) = string_bytes text
 text_of (Cactus solved) = cactus_text solved.value (flat_of solved.cactus)
 text_of (Listing value sides) = listing_text value (members_of sides.items)
-text_of (Balanced value side) = balanced_text value side.vertices side.members
+text_of (Balanced value balance side) = balanced_text value balance side.members
 
 -- the numbers are within the limits of the text of a cactus
 abbrev pub IsPrintable : Reply → Type 0

@@ -1,5 +1,5 @@
 -- The text of the job `trial`: five facts about a graph, one a line.
-use Rattle.std.specs.Prelude.{ℕ, ◌≡◌, List, [], ◌∷◌, ◌++◌, length, codes}
+use Rattle.std.specs.Prelude.{ℕ, ◌≡◌, List, [], ◌∷◌, ◌++◌, length, replicate, codes}
 use Rattle.cut_definitions.specs.Graph.{Graph}
 use Rattle.cut_definitions.specs.Cuts.{value, mincuts}
 use Rattle.cut_definitions.specs.Balance.{balance, IsBest}
@@ -12,11 +12,15 @@ trial_text n m value count balance =
     line (codes "vertices") (n ∷ []) ++ line (codes "edges") (m ∷ []) ++ line (codes "value") (value ∷ []) ++ line (codes "count") (count ∷ [])
     ++ line (codes "balance") (balance ∷ [])
 
+-- each of n vertices has the mass 1
+abbrev pub ones : ℕ → List ℕ
+ones n = replicate n 1
+
 -- the text of a graph
 pub record IsFactsText (g : Graph) (text : List ℕ) : Type 0 where
   pub side : List ℕ
-  pub best : IsBest g.vertices (mincuts g) side
-  pub text_is : text ≡ trial_text g.vertices (length g.edges) (value g) (length (mincuts g)) (balance g.vertices side)
+  pub best : IsBest (ones g.vertices) (mincuts g) side
+  pub text_is : text ≡ trial_text g.vertices (length g.edges) (value g) (length (mincuts g)) (balance (ones g.vertices) side)
 
 -- the text of the graph that is made of a number
 abbrev pub IsTrialText : ℕ → List ℕ → Type 0

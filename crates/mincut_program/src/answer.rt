@@ -1,6 +1,6 @@
 //! From the graph to what is written.
 
-ghost use Rattle.std.specs.Prelude.{◌≡◌, ◌≢◌, ◌<◌, ◌≤◌, ◌⊎◌, IfOk, IfErr, OnOk, true, false};
+ghost use Rattle.std.specs.Prelude.{◌≡◌, ◌≢◌, ◌<◌, ◌≤◌, ◌⊎◌, ℕ, List, IfOk, IfErr, OnOk, length, true, false};
 ghost use Rattle.cut_definitions.specs.Components.{IsConnected};
 ghost use Rattle.cut_definitions.specs.Cuts.{value};
 ghost use Rattle.cut_definitions.specs.Graph.{IsEdgeList, Graph as EdgeGraph};
@@ -14,7 +14,8 @@ use crate::cuts::cuts_reply;
 use crate::reply::Reply;
 use crate::stop::Stop;
 use cactus_solver::solve;
-use cut_definitions::EdgeList;
+use cut_definitions::{EdgeList, VertexWeights};
+use metis_reader::MetisGraph;
 use min_value::value as least_weight;
 use outside::{Gate, NoMemory};
 use std::alloc::Global;
@@ -74,12 +75,12 @@ fn is_vertex(n: u32, v: u64) -> bool
     1 <= v && v <= n as u64
 }
 
-// The first vertex that a job names that is not of 1 to n.
-fn check_vertices(job: Job, n: u32) -> Result<(), Stop>
-    ensures in_range { OnOk result (IsInRange job n) }
-    ensures outside { (g : EdgeGraph) → g.vertices ≡ n → IfErr result (IsStopFor job g) }
+// The first vertex that a command names that is not of 1 to n.
+fn check_vertices(command: Command, n: u32) -> Result<(), Stop>
+    ensures in_range { OnOk result (IsInRange command.job n) }
+    ensures outside { (masses : List ℕ) (g : EdgeGraph) → g.vertices ≡ n → IfErr result (IsStopFor command masses g) }
 {
-    match job {
+    match command.job {
         Job::Part(u, _) if !is_vertex(n, u) => Err(Stop::BadVertex { vertex: u, n }),
         Job::Part(_, v) if !is_vertex(n, v) => Err(Stop::BadVertex { vertex: v, n }),
         _ => Ok(()),
@@ -92,16 +93,18 @@ fn reply_on_cuts<R: Threads + Sync, G: Gate>(
     alloc: Global,
     command: Command,
     list: EdgeList,
+    weights: &VertexWeights,
     gate: &G,
 ) -> Result<Reply, Stop>
     requires enough { 2 ≤ list.vertices }
+    requires weighed { length weights.now ≡ list.vertices }
     requires in_range { IsInRange command.job list.vertices }
     requires job { command.job ≢ Job.Value }
     requires reading { IsReading command.job }
     requires workers { (1 ≤ command.workers) × (command.workers ≤ 64) }
-    ensures text { IfOk result (λ reply. IsAnswerOf command.job list (text_of reply)) }
+    ensures text { IfOk result (λ reply. IsAnswerOf command weights.now list (text_of reply)) }
     ensures printable { IfOk result IsPrintable }
-    ensures stop { IfErr result (IsStopFor command.job list) }
+    ensures stop { IfErr result (IsStopFor command weights.now list) }
 {
     laws::connected_is_one_component();
     let graph = with_rows(alloc, list)?;
@@ -111,7 +114,7 @@ fn reply_on_cuts<R: Threads + Sync, G: Gate>(
         return Ok(reply);
     }
     let solved = solve(rt, alloc, &graph, command.workers, gate)?;
-    cuts_reply(alloc, command.job, &graph, solved)
+    cuts_reply(alloc, command, &graph, weights, solved)
 }
 
 /// What a command that reads a graph answers for it, or why it has no answer.
@@ -119,16 +122,21 @@ pub fn answer<R: Threads + Sync, G: Gate>(
     rt: &R,
     alloc: Global,
     command: Command,
-    list: EdgeList,
+    read: MetisGraph,
     gate: &G,
 ) -> Result<Reply, Stop>
+    requires weighed { length read.weights ≡ read.edges.vertices }
     requires workers { (1 ≤ command.workers) × (command.workers ≤ 64) }
     requires reading { IsReading command.job }
-    ensures text { IfOk result (λ reply. IsAnswerOf command.job list (text_of reply)) }
+    ensures text { IfOk result (λ reply. IsAnswerOf command read.weights read.edges (text_of reply)) }
     ensures printable { IfOk result IsPrintable }
-    ensures stop { IfErr result (IsStopFor command.job list) }
+    ensures stop { IfErr result (IsStopFor command read.weights read.edges) }
 {
-    if let Err(stop) = check_vertices(command.job, list.n()) {
+    let MetisGraph {
+        edges: list,
+        weights,
+    } = read;
+    if let Err(stop) = check_vertices(command, list.n()) {
         return Err(stop);
     }
     if list.n() < 2 {
@@ -139,5 +147,5 @@ pub fn answer<R: Threads + Sync, G: Gate>(
         let reply = value_reply(rt, alloc, list, command.workers, gate)?;
         return Ok(reply);
     }
-    reply_on_cuts(rt, alloc, command, list, gate)
+    reply_on_cuts(rt, alloc, command, list, &weights, gate)
 }

@@ -1,27 +1,103 @@
 //! From a solved graph to what is written.
 
-ghost use Rattle.std.specs.Prelude.{◌≡◌, ◌≢◌, ◌≤◌, ◌^◌, IfOk, IfErr, length};
+ghost use Rattle.std.specs.Prelude.{◌≡◌, ◌≢◌, ◌≤◌, ◌^◌, ℕ, IfOk, IfErr, length};
 ghost use Rattle.cut_definitions.specs.Components.{IsConnected};
 ghost use Rattle.cut_definitions.specs.Cuts.{mincuts, value};
-ghost use Rattle.mincut_program.specs.Jobs.{IsAnswerOf, IsInRange, IsStopFor, IsCactusText, IsBalancedText};
+ghost use Rattle.cut_definitions.specs.Graph.{Graph as EdgeGraph};
+ghost use Rattle.mincut_program.specs.Jobs.{asked_of, IsAnswerOf, IsInRange, IsStopFor, IsCactusText, IsBalancedText};
 ghost use Rattle.mincut_program.specs.Listings.{count_text};
-ghost use Rattle.mincut_program.specs.Solving.{IsSolved, IsListReply, IsListStop};
+ghost use Rattle.mincut_program.specs.Solving.{cuts_for, IsSolved, IsListReply, IsListStop};
 ghost use Rattle.mincut_program.specs.Words.{IsReading};
 ghost use Rattle.cut_listing.specs.Asks.{IsAskWithin};
 ghost use Rattle.cut_listing.specs.Listings.{IsList, IsRefusal};
 ghost use Rattle.mincut_program.specs.Replies.{text_of, IsPrintable};
 
-use crate::command::Job;
+use crate::command::{Command, Job};
 use crate::reply::Reply;
 use crate::stop::Stop;
-use balanced_cut::best;
+use balanced_cut::{balance_of, best};
 use cactus_solver::Solved;
 use cactus_tree::laws;
+use cut_definitions::VertexWeights;
 use cut_listing::laws::{count_of_minimum_cuts, minimum_cuts_in_order, number_of_minimum_cuts};
 use cut_listing::{Ask, ListRefusal, Lister};
 use std::alloc::{AllocError, Global};
 use vertex_set::Side;
 use weighted_graph::Graph;
+
+// All minimum cuts, by their sides in order, or their number where they are too many.
+fn all_sides(alloc: Global, graph: &Graph, solved: &Solved) -> Result<Vec<Side>, ListRefusal>
+    requires { IsSolved graph.now solved.now }
+    ensures list { IfOk result (λ sides. IsList (2 ^ 30) graph.now.vertices Ask.All solved.now.cactus sides.items) }
+    ensures refusal { IfErr result (IsRefusal (2 ^ 30) graph.now.vertices Ask.All solved.now.cactus) }
+{
+    let Ok(keep) = Box::new(alloc, |_side: &Side| true) else {
+        return Err(ListRefusal::NoMemory);
+    };
+    let lister = Lister::new(graph.n(), Ask::All, keep);
+    lister.list(alloc, &solved.cactus)
+}
+
+// Those that part two vertices.
+fn parting_sides(
+    alloc: Global,
+    u: u32,
+    v: u32,
+    graph: &Graph,
+    solved: &Solved,
+) -> Result<Vec<Side>, ListRefusal>
+    requires solved { IsSolved graph.now solved.now }
+    requires within { IsAskWithin graph.now.vertices (Ask.Parting u v) }
+    ensures list { IfOk result (λ sides. IsList (2 ^ 30) graph.now.vertices (Ask.Parting u v) solved.now.cactus sides.items) }
+    ensures refusal { IfErr result (IsRefusal (2 ^ 30) graph.now.vertices (Ask.Parting u v) solved.now.cactus) }
+{
+    let Ok(keep) = Box::new(
+        alloc,
+        move |side: &Side|
+            requires { IsAskWithin side.now.vertices (Ask.Parting u v) }
+        { side.has(u) != side.has(v) },
+    ) else {
+        return Err(ListRefusal::NoMemory);
+    };
+    let lister = Lister::new(graph.n(), Ask::Parting(u, v), keep);
+    lister.list(alloc, &solved.cactus)
+}
+
+// A copy of weights.
+fn copied(alloc: Global, weights: &VertexWeights) -> Result<VertexWeights, AllocError>
+    ensures { IfOk result (λ copy. copy ≡ weights.now) }
+{
+    // known by this call: there are few enough
+    let _few = weights.len();
+    let list = weights.as_slice().to_vec(alloc)?;
+    Ok(VertexWeights::from_list(list))
+}
+
+// Those of at least a balance. A boxed test borrows nothing, so it has weights of its own.
+fn balanced_sides(
+    alloc: Global,
+    least: u64,
+    weights: &VertexWeights,
+    graph: &Graph,
+    solved: &Solved,
+) -> Result<Vec<Side>, ListRefusal>
+    requires solved { IsSolved graph.now solved.now }
+    requires weighed { length weights.now ≡ graph.now.vertices }
+    ensures list { IfOk result (λ sides. IsList (2 ^ 30) graph.now.vertices (Ask.Least least weights.entry) solved.now.cactus sides.items) }
+    ensures refusal { IfErr result (IsRefusal (2 ^ 30) graph.now.vertices (Ask.Least least weights.entry) solved.now.cactus) }
+{
+    let own = copied(alloc, weights)?;
+    let Ok(keep) = Box::new(
+        alloc,
+        move |side: &Side|
+            requires { length own ≡ side.now.vertices }
+        { balance_of(side, &own) >= least as u128 },
+    ) else {
+        return Err(ListRefusal::NoMemory);
+    };
+    let lister = Lister::new(graph.n(), Ask::Least(least, weights), keep);
+    lister.list(alloc, &solved.cactus)
+}
 
 // The sides of the minimum cuts that are asked for, in order, or their number where they are too many.
 fn asked_sides(
@@ -32,33 +108,23 @@ fn asked_sides(
 ) -> Result<Vec<Side>, ListRefusal>
     requires solved { IsSolved graph.now solved.now }
     requires within { IsAskWithin graph.now.vertices ask }
-    ensures list { IfOk result (λ sides. IsList (2 ^ 30) graph.now.vertices ask solved.now.cactus sides.items) }
-    ensures refusal { IfErr result (IsRefusal (2 ^ 30) graph.now.vertices ask solved.now.cactus) }
+    ensures list { IfOk result (λ sides. IsList (2 ^ 30) graph.now.vertices ask.entry solved.now.cactus sides.items) }
+    ensures refusal { IfErr result (IsRefusal (2 ^ 30) graph.now.vertices ask.entry solved.now.cactus) }
 {
-    let Ok(keep) = Box::new(
-        alloc,
-        move |side: &Side|
-            requires { IsAskWithin side.now.vertices ask }
-        {
-            match ask {
-                Ask::All => true,
-                Ask::Parting(u, v) => side.has(u) != side.has(v),
-            }
-        },
-    ) else {
-        return Err(ListRefusal::NoMemory);
-    };
-    let lister = Lister::new(graph.n(), ask, keep);
-    lister.list(alloc, &solved.cactus)
+    match ask {
+        Ask::All => all_sides(alloc, graph, solved),
+        Ask::Parting(u, v) => parting_sides(alloc, u, v, graph, solved),
+        Ask::Least(least, weights) => balanced_sides(alloc, least, weights, graph, solved),
+    }
 }
 
 // The list of the minimum cuts that are asked for.
 fn listing_reply(alloc: Global, ask: Ask, graph: &Graph, solved: Solved) -> Result<Reply, Stop>
     requires solved { IsSolved graph.now solved }
     requires within { IsAskWithin graph.now.vertices ask }
-    ensures text { IfOk result (λ reply. IsListReply ask graph.now (text_of reply)) }
+    ensures text { IfOk result (λ reply. IsListReply ask.entry graph.now (text_of reply)) }
     ensures printable { IfOk result IsPrintable }
-    ensures stop { IfErr result (IsListStop ask graph.now) }
+    ensures stop { IfErr result (IsListStop ask.entry graph.now) }
 {
     minimum_cuts_in_order();
     count_of_minimum_cuts();
@@ -96,36 +162,62 @@ fn count_reply(alloc: Global, graph: &Graph, solved: &Solved) -> Result<Reply, A
 }
 
 // A most balanced minimum cut.
-fn balanced_reply(alloc: Global, graph: &Graph, solved: Solved) -> Result<Reply, AllocError>
+fn balanced_reply(
+    alloc: Global,
+    graph: &Graph,
+    weights: &VertexWeights,
+    solved: Solved,
+) -> Result<Reply, AllocError>
     requires enough { 2 ≤ graph.now.vertices }
+    requires weighed { length weights.now ≡ graph.now.vertices }
     requires solved { IsSolved graph.now solved }
-    ensures text { IfOk result (λ reply. IsBalancedText graph.now (text_of reply)) }
+    ensures text { IfOk result (λ reply. IsBalancedText weights.now graph.now (text_of reply)) }
     ensures printable { IfOk result IsPrintable }
 {
-    let side = best(alloc, &solved.cactus)?;
+    let side = best(alloc, &solved.cactus, weights)?;
+    let balance = balance_of(&side, weights);
     Ok(Reply::Balanced {
         value: solved.value,
+        balance,
         side,
     })
 }
 
-/// What a job on the cuts of a connected graph answers, from all its minimum cuts.
-pub fn cuts_reply(alloc: Global, job: Job, graph: &Graph, solved: Solved) -> Result<Reply, Stop>
-    requires enough { 2 ≤ graph.now.vertices }
-    requires connected { IsConnected graph.now }
-    requires in_range { IsInRange job graph.now.vertices }
-    requires job { job ≢ Job.Value }
-    requires reading { IsReading job }
-    requires solved { IsSolved graph.now solved }
-    ensures text { IfOk result (λ reply. IsAnswerOf job graph.now (text_of reply)) }
-    ensures printable { IfOk result IsPrintable }
-    ensures stop { IfErr result (IsStopFor job graph.now) }
+// What the job `cuts` lists: all minimum cuts, or those of at least a balance.
+fn ask_of(least: Option<u64>, weights: &VertexWeights) -> Ask
+    ensures cuts { (g : EdgeGraph) → cuts_for result g ≡ asked_of Job.Cuts least weights.now (mincuts g) }
+    ensures within { (n : ℕ) → length weights.now ≡ n → IsAskWithin n result }
 {
-    match job {
-        Job::Cuts => listing_reply(alloc, Ask::All, graph, solved),
+    match least {
+        Some(number) => Ask::Least(number, weights),
+        None => Ask::All,
+    }
+}
+
+/// What a job on the cuts of a connected graph answers, from all its minimum cuts.
+pub fn cuts_reply(
+    alloc: Global,
+    command: Command,
+    graph: &Graph,
+    weights: &VertexWeights,
+    solved: Solved,
+) -> Result<Reply, Stop>
+    requires enough { 2 ≤ graph.now.vertices }
+    requires weighed { length weights.now ≡ graph.now.vertices }
+    requires connected { IsConnected graph.now }
+    requires in_range { IsInRange command.job graph.now.vertices }
+    requires job { command.job ≢ Job.Value }
+    requires reading { IsReading command.job }
+    requires solved { IsSolved graph.now solved }
+    ensures text { IfOk result (λ reply. IsAnswerOf command weights.now graph.now (text_of reply)) }
+    ensures printable { IfOk result IsPrintable }
+    ensures stop { IfErr result (IsStopFor command weights.now graph.now) }
+{
+    match command.job {
+        Job::Cuts => listing_reply(alloc, ask_of(command.least, weights), graph, solved),
         Job::Part(u, v) => listing_reply(alloc, Ask::Parting(u as u32, v as u32), graph, solved),
         Job::Count => Ok(count_reply(alloc, graph, &solved)?),
-        Job::Balanced => Ok(balanced_reply(alloc, graph, solved)?),
+        Job::Balanced => Ok(balanced_reply(alloc, graph, weights, solved)?),
         Job::Cactus => Ok(cactus_reply(graph, solved)),
         Job::Value | Job::Trial(_) => unreachable!(),
     }

@@ -1,8 +1,8 @@
 //! From the source to the graph.
 
-ghost use Rattle.std.specs.Prelude.{◌≡◌, ◌≢◌, ℕ, List, Ok, IfOk, IfErr, IfSome};
+ghost use Rattle.std.specs.Prelude.{◌≡◌, ◌≢◌, ℕ, List, Ok, IfOk, IfErr, IfSome, length};
 ghost use Rattle.std.specs.Io.KnownBytes.{IsAtEnd};
-ghost use Rattle.metis_reader.specs.File.{graph_of};
+ghost use Rattle.metis_reader.specs.File.{graph_of, masses_of};
 ghost use Rattle.mincut_program.specs.Words.{ReadsGraph};
 ghost use Rattle.mincut_program.specs.Intake.{IsCause};
 
@@ -16,6 +16,8 @@ use std::alloc::Global;
 /// It stops at the first fault and at the first read that fails; nothing is read after that.
 pub fn take_in<S: Source>(alloc: Global, source: &mut S) -> Result<MetisGraph, Stop>
     ensures graph { IfOk result (λ graph. IfSome (S.left source.old) (λ bytes. graph_of bytes ≡ Ok graph.edges)) }
+    ensures masses { IfOk result (λ graph. IfSome (S.left source.old) (λ bytes. masses_of bytes ≡ graph.weights)) }
+    ensures weighed { IfOk result (λ graph. length graph.weights ≡ graph.edges.vertices) }
     ensures ended { IfOk result (λ graph. IsAtEnd (S.left source.new)) }
     ensures same { IfOk result (λ graph. S.faults source.new ≡ S.faults source.old) }
     ensures cause { IfErr result (λ stop. (words : List (List ℕ)) → ReadsGraph words

@@ -5,7 +5,7 @@ ghost use Rattle.mincut_program.specs.Line.{mincut};
 
 use std::alloc::{AllocError, Global};
 
-/// A job, its further values and the option for the number of workers.
+/// A job, its further values and the options for the number of workers and the least balance.
 pub fn command_line<'a>(alloc: Global) -> Result<clap::Command<'a>, AllocError>
     ensures { IfOk result (λ command. app_of command ≡ mincut) }
 {
@@ -17,8 +17,11 @@ pub fn command_line<'a>(alloc: Global) -> Result<clap::Command<'a>, AllocError>
         .long("workers")
         .action(clap::ArgAction::Set)
         .default_value("4");
+    let least = clap::Arg::new(alloc, "least")
+        .long("least")
+        .action(clap::ArgAction::Set);
     let bare = clap::Command::new(alloc, "mincut")
         .no_binary_name(true)
         .disable_help_flag(true);
-    bare.arg(job)?.arg(values)?.arg(workers)
+    bare.arg(job)?.arg(values)?.arg(workers)?.arg(least)
 }

@@ -12,9 +12,10 @@ const HELP: &str = "usage: mincut JOB [U V] [--workers N]\n\
     cuts: lists the minimum cuts, each by its side without vertex 1\n\
     part: lists those that part the vertices U and V\n\
     count: prints the number of all minimum cuts\n\
-    balanced: prints a minimum cut whose smaller side is greatest\n\
+    balanced: prints a minimum cut whose lighter side is heaviest\n\
     trial: prints five facts about a graph that it makes for the number U of 12 to 100000\n\
-    N, the number of workers, is 1 to 64, and 4 where it is not named\n";
+    N, the number of workers, is 1 to 64, and 4 where it is not named\n\
+    --least W with cuts: lists those whose lighter side weighs W or more\n";
 
 const VERSION: &str = "mincut 0.1.0\n";
 

@@ -4,7 +4,6 @@ ghost use Rattle.std.specs.Prelude.{◌≡◌, ◌≤◌, ◌∷◌, ◌++◌, [
 ghost use Rattle.std.specs.Io.KnownBytes.{Appends};
 ghost use Rattle.std.specs.List.{flat_map};
 ghost use Rattle.outside.specs.Faults.{HasCause, AppendsPrefix, Rose};
-ghost use Rattle.cut_definitions.specs.Balance.{balance};
 ghost use Rattle.cactus_text.specs.Puts.{Puts};
 ghost use Rattle.cactus_text.specs.Text.{spaced, line};
 ghost use Rattle.mincut_program.specs.Listings.{above, side_line, listing_text, balanced_text};
@@ -85,7 +84,7 @@ fn put_count<K: Sink>(
     page: &mut Page,
     sink: &mut K,
     word: &[u8],
-    number: u64,
+    number: u128,
 ) -> Result<(), SinkFailed>
     requires { length word.now ≤ 40 }
     ensures { Puts (page.old ++ line word.now (number ∷ [])) (K.taken sink.old) (K.taken sink.new) (K.faults sink.old) (K.faults sink.new) page.new result }
@@ -104,14 +103,6 @@ fn put_worded_side<K: Sink>(page: &mut Page, sink: &mut K, side: &Side) -> Resul
     page.put(sink, b"\n")
 }
 
-/// The lesser of the numbers of members and of other vertices.
-pub fn balance_of(side: &Side) -> u32
-    ensures { result ≡ balance side.now.vertices side.now.members }
-{
-    let size = side.len();
-    size.min(side.n() - size)
-}
-
 /// Puts the text of a listing.
 fn put_listing<K: Sink>(
     page: &mut Page,
@@ -121,8 +112,8 @@ fn put_listing<K: Sink>(
 ) -> Result<(), SinkFailed>
     ensures { Puts (page.old ++ listing_text value (map (λ s. s.members) sides.now)) (K.taken sink.old) (K.taken sink.new) (K.faults sink.old) (K.faults sink.new) page.new result }
 {
-    put_count(page, sink, b"value", value)?;
-    put_count(page, sink, b"cuts", sides.len() as u64)?;
+    put_count(page, sink, b"value", value as u128)?;
+    put_count(page, sink, b"cuts", sides.len() as u128)?;
     put_sides(page, sink, sides)
 }
 
@@ -131,12 +122,13 @@ fn put_balanced<K: Sink>(
     page: &mut Page,
     sink: &mut K,
     value: u64,
+    balance: u128,
     side: &Side,
 ) -> Result<(), SinkFailed>
-    ensures { Puts (page.old ++ balanced_text value side.now.vertices side.now.members) (K.taken sink.old) (K.taken sink.new) (K.faults sink.old) (K.faults sink.new) page.new result }
+    ensures { Puts (page.old ++ balanced_text value balance side.now.members) (K.taken sink.old) (K.taken sink.new) (K.faults sink.old) (K.faults sink.new) page.new result }
 {
-    put_count(page, sink, b"value", value)?;
-    put_count(page, sink, b"balance", balance_of(side) as u64)?;
+    put_count(page, sink, b"value", value as u128)?;
+    put_count(page, sink, b"balance", balance)?;
     put_worded_side(page, sink, side)
 }
 
@@ -161,14 +153,15 @@ fn write_balanced<K: Sink>(
     page: &mut Page,
     sink: &mut K,
     value: u64,
+    balance: u128,
     side: &Side,
 ) -> Result<(), SinkFailed>
     requires { page.old ≡ [] }
-    ensures whole { OnOk result (Appends (K.taken sink.old) (K.taken sink.new) (balanced_text value side.now.vertices side.now.members)) }
-    ensures prefix { OnErr result (AppendsPrefix (K.taken sink.old) (K.taken sink.new) (balanced_text value side.now.vertices side.now.members)) }
+    ensures whole { OnOk result (Appends (K.taken sink.old) (K.taken sink.new) (balanced_text value balance side.now.members)) }
+    ensures prefix { OnErr result (AppendsPrefix (K.taken sink.old) (K.taken sink.new) (balanced_text value balance side.now.members)) }
     ensures cause { HasCause (K.faults sink.old) (K.faults sink.new) result }
 {
-    put_balanced(page, sink, value, side)?;
+    put_balanced(page, sink, value, balance, side)?;
     page.flush(sink)
 }
 
@@ -198,27 +191,27 @@ pub fn print_listing<K: Sink>(
     }
 }
 
-/// Writes the value, the balance of a side, which is the lesser of the numbers of its members and of all other
-/// vertices, and the side.
+/// Writes the value, the balance of a side, and the side.
 ///
 /// It takes one page of memory before the first byte; where that is wanting nothing is written, and the sink stays as
 /// it was. Where a write fails, what was taken is a first part of the text. Time in proportion to the text and to n/64.
 pub fn print_balanced<K: Sink>(
     alloc: Global,
     value: u64,
+    balance: u128,
     side: &Side,
     sink: &mut K,
 ) -> Result<(), PrintRefusal>
-    ensures whole { OnOk result (Appends (K.taken sink.old) (K.taken sink.new) (balanced_text value side.now.vertices side.now.members)) }
+    ensures whole { OnOk result (Appends (K.taken sink.old) (K.taken sink.new) (balanced_text value balance side.now.members)) }
     ensures same_count { OnOk result (K.faults sink.new ≡ K.faults sink.old) }
-    ensures prefix { IsErrOf result PrintRefusal.SinkFailed → AppendsPrefix (K.taken sink.old) (K.taken sink.new) (balanced_text value side.now.vertices side.now.members) }
+    ensures prefix { IsErrOf result PrintRefusal.SinkFailed → AppendsPrefix (K.taken sink.old) (K.taken sink.new) (balanced_text value balance side.now.members) }
     ensures rose { IsErrOf result PrintRefusal.SinkFailed → Rose (K.faults sink.old) (K.faults sink.new) }
     ensures memory { IsErrOf result PrintRefusal.NoMemory → sink.new ≡ sink.old }
 {
     let Ok(mut page) = Page::new(alloc) else {
         return Err(PrintRefusal::NoMemory);
     };
-    match write_balanced(&mut page, sink, value, side) {
+    match write_balanced(&mut page, sink, value, balance, side) {
         Ok(()) => Ok(()),
         Err(_) => Err(PrintRefusal::SinkFailed),
     }

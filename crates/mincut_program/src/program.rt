@@ -6,7 +6,7 @@ ghost use Rattle.cut_definitions.specs.Components.{IsConnected};
 ghost use Rattle.mincut_program.specs.declared.command.Command.{Command};
 ghost use Rattle.mincut_program.specs.Jobs.{IsInRange, IsWithin};
 ghost use Rattle.metis_reader.specs.declared.fault.Fault.{Fault};
-ghost use Rattle.metis_reader.specs.File.{graph_of};
+ghost use Rattle.metis_reader.specs.File.{graph_of, masses_of};
 ghost use Rattle.mincut_program.specs.Words.{texts, command_of, AsksNothing, IsMakeable, IsReading, ReadsGraph};
 ghost use Rattle.mincut_program.specs.Texts.{usage_line};
 ghost use Rattle.mincut_program.specs.Intake.{IsCause, IsJobAnswer, IsJobReply, IsReply};
@@ -62,7 +62,7 @@ fn reading_reply<R: Threads + Sync, S: Source, G: Gate>(
 ) -> Result<Reply, Stop>
     requires workers { (1 ≤ command.workers) × (command.workers ≤ 64) }
     requires reading { IsReading command.job }
-    ensures text { IfOk result (λ reply. IfSome (S.left source.old) (λ bytes. IsJobAnswer command.job bytes (text_of reply))) }
+    ensures text { IfOk result (λ reply. IfSome (S.left source.old) (λ bytes. IsJobAnswer command bytes (text_of reply))) }
     ensures printable { IfOk result IsPrintable }
     ensures ended { IfOk result (λ reply. IsAtEnd (S.left source.new)) }
     ensures same { IfOk result (λ reply. S.faults source.new ≡ S.faults source.old) }
@@ -71,7 +71,7 @@ fn reading_reply<R: Threads + Sync, S: Source, G: Gate>(
     ensures words { result ≢ Err Stop.BadWords }
 {
     let graph = take_in(alloc, source)?;
-    answer(rt, alloc, command, graph.edges, gate)
+    answer(rt, alloc, command, graph, gate)
 }
 
 // What a command answers. A trial leaves the source as it is.
@@ -84,7 +84,7 @@ fn job_reply<R: Threads + Sync, S: Source, G: Gate>(
 ) -> Result<Reply, Stop>
     requires workers { (1 ≤ command.workers) × (command.workers ≤ 64) }
     requires number { IsMakeable command.job }
-    ensures text { IfOk result (λ reply. IsJobReply command.job (S.left source.old) (text_of reply)) }
+    ensures text { IfOk result (λ reply. IsJobReply command (S.left source.old) (text_of reply)) }
     ensures printable { IfOk result IsPrintable }
     ensures ended { IfOk result (λ reply. IsReading command.job → IsAtEnd (S.left source.new)) }
     ensures ready { IfOk result (λ reply. TakesMemory reply → IsAtEnd (S.left source.new)) }
@@ -199,7 +199,7 @@ pub fn run<R: Threads + Sync, S: Source, K: Sink, E: Sink, G: Gate>(
     // large are told, and a fault is refused.
     ensures accepted { (bytes : List ℕ) (graph : Graph) (command : Command) → command_of (texts words.now) ≡ Some command
         → S.left source.old ≡ Some bytes → graph_of bytes ≡ Ok graph
-        → IsInRange command.job graph.vertices → (2 ≤ graph.vertices → IsConnected graph → IsWithin command.job graph) → ¬ Rose (S.faults source.old) (S.faults source.new)
+        → IsInRange command.job graph.vertices → (2 ≤ graph.vertices → IsConnected graph → IsWithin command (masses_of bytes) graph) → ¬ Rose (S.faults source.old) (S.faults source.new)
         → ¬ Rose (K.faults out.old) (K.faults out.new) → ¬ Rose (E.faults err.old) (E.faults err.new)
         → (result ≡ Status.Ok) ⊎ (result ≡ Status.OutOfMemory) }
     ensures outside { (bytes : List ℕ) (graph : Graph) (command : Command) → command_of (texts words.now) ≡ Some command
@@ -209,7 +209,7 @@ pub fn run<R: Threads + Sync, S: Source, K: Sink, E: Sink, G: Gate>(
         → (result ≡ Status.BadVertex) ⊎ (result ≡ Status.OutOfMemory) }
     ensures over_limit { (bytes : List ℕ) (graph : Graph) (command : Command) → command_of (texts words.now) ≡ Some command
         → S.left source.old ≡ Some bytes → graph_of bytes ≡ Ok graph
-        → IsInRange command.job graph.vertices → 2 ≤ graph.vertices → IsConnected graph → ¬ IsWithin command.job graph
+        → IsInRange command.job graph.vertices → 2 ≤ graph.vertices → IsConnected graph → ¬ IsWithin command (masses_of bytes) graph
         → ¬ Rose (S.faults source.old) (S.faults source.new)
         → ¬ Rose (K.faults out.old) (K.faults out.new) → ¬ Rose (E.faults err.old) (E.faults err.new)
         → (result ≡ Status.ListTooLarge) ⊎ (result ≡ Status.OutOfMemory) }

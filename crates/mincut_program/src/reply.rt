@@ -19,9 +19,16 @@ pub enum Reply {
     /// All minimum cuts, with their weight.
     Cactus(Solved),
     /// The weight of the minimum cuts, and the sides of a list of them.
-    Listing { value: u64, sides: Vec<Side> },
-    /// The weight of the minimum cuts, and a side of one.
-    Balanced { value: u64, side: Side },
+    Listing {
+        value: u64,
+        sides: Vec<Side>,
+    },
+    /// The weight of the minimum cuts, and the balance and the side of one.
+    Balanced {
+        value: u64,
+        balance: u128,
+        side: Side,
+    },
 }
 
 // Writes a text that is in memory.
@@ -50,6 +57,10 @@ pub fn write_reply<K: Sink>(alloc: Global, out: &mut K, reply: &Reply) -> Result
         Reply::Text(text) => write_text(out, text.as_str()),
         Reply::Cactus(solved) => print(alloc, &solved.cactus, solved.value, out),
         Reply::Listing { value, sides } => print_listing(alloc, *value, sides, out),
-        Reply::Balanced { value, side } => print_balanced(alloc, *value, side, out),
+        Reply::Balanced {
+            value,
+            balance,
+            side,
+        } => print_balanced(alloc, *value, *balance, side, out),
     }
 }

@@ -3,13 +3,13 @@
 ghost use Rattle.std.specs.Prelude.{◌≡◌, ◌≤◌, IfOk, string_bytes};
 ghost use Rattle.mincut_program.specs.Replies.{text_of, IsPrintable, TakesMemory};
 ghost use Rattle.mincut_program.specs.Solving.{IsSolved};
-ghost use Rattle.mincut_program.specs.Trials.{trial_text, IsFactsText, IsTrialText};
+ghost use Rattle.mincut_program.specs.Trials.{ones, trial_text, IsFactsText, IsTrialText};
 
 use crate::cuts::count_of_cuts;
-use crate::pages::balance_of;
 use crate::reply::Reply;
-use balanced_cut::best;
+use balanced_cut::{balance_of, best};
 use cactus_solver::{Solved, solve};
+use cut_definitions::VertexWeights;
 use graph_maker::laws::connected_making;
 use graph_maker::make;
 use outside::{Gate, NoMemory};
@@ -24,11 +24,19 @@ fn facts_text(
     m: usize,
     value: u64,
     count: u64,
-    balance: u32,
+    balance: u128,
 ) -> Result<String, NoMemory>
     ensures { IfOk result (λ text. string_bytes text ≡ trial_text n m value count balance) }
 {
     format!(in alloc; "vertices {n}\nedges {m}\nvalue {value}\ncount {count}\nbalance {balance}\n")
+}
+
+// Masses of 1, one for each vertex of the graph.
+fn masses_of_one(alloc: Global, graph: &Graph) -> Result<VertexWeights, NoMemory>
+    ensures { IfOk result (λ weights. weights ≡ ones graph.now.vertices) }
+{
+    let list = vec![in alloc; 1; graph.n() as usize]?;
+    Ok(VertexWeights::from_list(list))
 }
 
 // The text of a solved graph.
@@ -38,8 +46,9 @@ fn describe(alloc: Global, graph: &Graph, solved: &Solved) -> Result<String, NoM
     ensures { IfOk result (λ text. IsFactsText graph.now (string_bytes text)) }
 {
     let count = count_of_cuts(alloc, graph, solved)?;
-    let side = best(alloc, &solved.cactus)?;
-    let balance = balance_of(&side);
+    let weights = masses_of_one(alloc, graph)?;
+    let side = best(alloc, &solved.cactus, &weights)?;
+    let balance = balance_of(&side, &weights);
     facts_text(
         alloc,
         graph.n(),

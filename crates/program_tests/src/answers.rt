@@ -3,8 +3,8 @@
 ghost use Rattle.std.specs.Prelude.{◌≤◌};
 
 use crate::graphs::{
-    COMPLETE, HEAVY_PAIR, NO_VERTEX, ONE_EDGE, ONE_VERTEX, PATH, SQUARE, TRIANGLE, TWO_CYCLES,
-    TWO_PIECES,
+    COMPLETE, HEAVY_END, HEAVY_PAIR, NO_VERTEX, ONE_EDGE, ONE_VERTEX, PATH, SQUARE, TRIANGLE,
+    TWO_CYCLES, TWO_PIECES,
 };
 use crate::runs::{
     HONEST, Script, UNREADABLE, Wanted, answers, begins, gives, meets, passes_of, tells,
@@ -156,6 +156,24 @@ const LISTS: &[(&[&str], &[u8], &str)] = &[
         "value 4\nbalance 3\nside 4 5 6\n",
     ),
     (&["balanced"], NO_VERTEX, "no cut\n"),
+    (&["balanced"], HEAVY_END, "value 1\nbalance 3\nside 2 3 4\n"),
+    (
+        &["cuts", "--least", "2"],
+        HEAVY_END,
+        "value 1\ncuts 2\n2 3 4\n3 4\n",
+    ),
+    (&["--least=4", "cuts"], HEAVY_END, "value 1\ncuts 0\n"),
+    (&["cuts", "--least", "0"], TRIANGLE, TRIANGLE_CUTS),
+    (
+        &["cuts", "--least", "2"],
+        SQUARE,
+        "value 2\ncuts 2\n2 3\n3 4\n",
+    ),
+    (
+        &["balanced"],
+        b"2 1 011\n7 2 3\n4 1 3\n",
+        "value 3\nbalance 4\nside 2\n",
+    ),
 ];
 
 #[test]

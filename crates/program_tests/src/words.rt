@@ -42,6 +42,12 @@ const NO_COMMANDS: &[&[&str]] = &[
     &["value", "--workers", "8", "--workers", "9"],
     &["value", "--threads", "8"],
     &["value", "--help"],
+    &["count", "--least", "2"],
+    &["trial", "12", "--least", "2"],
+    &["cuts", "--least"],
+    &["cuts", "--least", "-1"],
+    &["cuts", "--least", "18446744073709551616"],
+    &["cuts", "--least", "2", "--least", "2"],
     &[""],
     &[],
 ];
@@ -67,9 +73,10 @@ const HELP: &str = "usage: mincut JOB [U V] [--workers N]\n\
     cuts: lists the minimum cuts, each by its side without vertex 1\n\
     part: lists those that part the vertices U and V\n\
     count: prints the number of all minimum cuts\n\
-    balanced: prints a minimum cut whose smaller side is greatest\n\
+    balanced: prints a minimum cut whose lighter side is heaviest\n\
     trial: prints five facts about a graph that it makes for the number U of 12 to 100000\n\
-    N, the number of workers, is 1 to 64, and 4 where it is not named\n";
+    N, the number of workers, is 1 to 64, and 4 where it is not named\n\
+    --least W with cuts: lists those whose lighter side weighs W or more\n";
 
 const NOTICES: &[(&str, &str)] = &[
     ("--help", HELP),
@@ -105,6 +112,7 @@ fn numbers_may_begin_with_zeros(rt: HostRuntime) -> Result<(), Fail> {
     let command = Command {
         job: Job::Part(7, 2),
         workers: 4,
+        least: None,
     };
     assert!(rt; are(rt.alloc(), &["part", "007", "2"], command)?);
     Ok(())

@@ -17,7 +17,7 @@ cuts_reply-requires-clause-connected g c =
     c.in_ok-components.ensures.counted c.in_ok-components.ensures.none (omega (arith, c.if-components-ge2.false))
 
 pub returns-clause-text : goal.returns-clause-text
-returns-clause-text g c = subst (λ (l : Graph). IfOk c.cuts_reply.result (λ reply. IsAnswerOf c.args.command.job l (text_of reply))) c.in_ok-graph.ensures c.cuts_reply.ensures.text
+returns-clause-text g c = subst (λ (l : Graph). IfOk c.cuts_reply.result (λ reply. IsAnswerOf c.args.command c.args.weights.now l (text_of reply))) c.in_ok-graph.ensures c.cuts_reply.ensures.text
 
 pub returns-clause-stop : goal.returns-clause-stop
-returns-clause-stop g c = subst (λ (l : Graph). IfErr c.cuts_reply.result (IsStopFor c.args.command.job l)) c.in_ok-graph.ensures c.cuts_reply.ensures.stop
+returns-clause-stop g c = subst (λ (l : Graph). IfErr c.cuts_reply.result (IsStopFor c.args.command c.args.weights.now l)) c.in_ok-graph.ensures c.cuts_reply.ensures.stop

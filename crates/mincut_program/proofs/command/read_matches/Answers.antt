@@ -6,6 +6,6 @@ use Rattle.mincut_program.proofs.command.read_matches.Goals as goal
 pub returns-clause-value : goal.returns-clause-value
 returns-clause-value c =
     let values_are = c.unwrap_or-values.ensures in
-    let ruled = read_by_rows (found_of c.args.matches.now) c.get_str.result c.get_str-2.result c.get_strs.result _ refl
-    c.get_str.ensures c.get_strs.ensures c.get_str-2.ensures in
+    let ruled = read_by_rows (found_of c.args.matches.now) c.get_str.result c.get_str-2.result c.get_str-3.result c.get_strs.result _ refl
+    c.get_str.ensures c.get_strs.ensures c.get_str-2.ensures c.get_str-3.ensures in
     c.read_command.ensures.value ∙ (rw values_are ruled)

@@ -1,4 +1,5 @@
 use Rattle.std.proofs.Common.{◌≡◌, inl, inr, refl, rules}
+use Rattle.metis_reader.specs.File.{masses_of}
 use Rattle.mincut_program.specs.Words.{texts}
 use Rattle.mincut_program.specs.Intake.{IsCause}
 use Rattle.mincut_program.specs.Replies.{TakesMemory}
@@ -107,7 +108,7 @@ returns-in-Ok-write_reply-clause-outside g c bytes graph command is left accepte
 
 pub returns-in-Ok-write_reply-clause-over_limit : goal.returns-in-Ok-write_reply-clause-over_limit
 returns-in-Ok-write_reply-clause-over_limit g c bytes graph command is left accepted inside two connected large reads writes tells =
-    absurd (too_large_reply command.job graph _ law_of_one_component (answered (texts c.args.words.now) command (g.S.Source.left c.args.source.now) bytes _ graph is (reading_of_large command.job graph large) left accepted c.in-Ok.ensures.text) two connected large)
+    absurd (too_large_reply command (masses_of bytes) graph _ law_of_one_component (answered (texts c.args.words.now) command (g.S.Source.left c.args.source.now) bytes _ graph is (reading_of_large command (masses_of bytes) graph large) left accepted c.in-Ok.ensures.text) two connected large)
 
 pub returns-clause-made : goal.returns-clause-made
 returns-clause-made g c command number is trial writes tells =

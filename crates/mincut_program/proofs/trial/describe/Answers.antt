@@ -1,15 +1,22 @@
-use Rattle.std.proofs.Common.{◌≡◌, string_bytes}
-use Rattle.mincut_program.specs.Trials.{trial_text, IsFactsText}
+use Rattle.std.proofs.Common.{◌≡◌, ◌∙◌, ap, length, replicate, string_bytes, sym}
+use Rattle.std.proofs.lemmas.List.{length-replicate}
+use Rattle.mincut_program.specs.Trials.{ones, trial_text, IsFactsText}
 use Rattle.mincut_program.proofs.Graphs.{facts_known, has_block, over_ok}
 use Rattle.mincut_program.proofs.trial.describe.Goals as goal
 
-pub best-requires : goal.best-requires
-best-requires c = has_block c.args.graph.now c.args.solved.now c.requires.enough c.requires.solved
+pub best-requires-clause-some : goal.best-requires-clause-some
+best-requires-clause-some c = has_block c.args.graph.now c.args.solved.now c.requires.enough c.requires.solved
+
+pub best-requires-clause-weights : goal.best-requires-clause-weights
+best-requires-clause-weights c = ap length c.in_ok-weights.ensures ∙ length-replicate c.args.graph.now.vertices 1 ∙ sym c.requires.solved.over
+
+pub balance_of-balance-requires : goal.balance_of-balance-requires
+balance_of-balance-requires c = ap length c.in_ok-weights.ensures ∙ length-replicate c.args.graph.now.vertices 1 ∙ sym c.requires.solved.over ∙ sym c.in_ok-side.ensures.n
 
 pub returns : goal.returns
 returns c =
     over_ok (λ text. string_bytes text ≡ trial_text c.n.result c.edges.result c.args.solved.now.value c.in_ok-count.count c.balance_of-balance.result)
     (λ text. IsFactsText c.args.graph.now (string_bytes text)) c.facts_text.result
-    (λ text is. facts_known c.args.graph.now c.args.solved.now c.in_ok-side.side c.n.result c.edges.result c.in_ok-count.count c.balance_of-balance.result c.requires.solved
-    c.in_ok-side.ensures.n c.in_ok-side.ensures.best c.n.ensures.value c.edges.ensures c.in_ok-count.ensures c.balance_of-balance.ensures (string_bytes text) is)
+    (λ text is. facts_known c.args.graph.now c.args.solved.now c.in_ok-weights.weights c.in_ok-side.side.members c.n.result c.edges.result c.in_ok-count.count c.balance_of-balance.result c.requires.solved
+    c.in_ok-weights.ensures c.in_ok-side.ensures.best c.n.ensures.value c.edges.ensures c.in_ok-count.ensures c.balance_of-balance.ensures (string_bytes text) is)
     c.facts_text.ensures
