@@ -16,3 +16,4 @@ pub mod Ordered
 pub mod Stars
 pub mod Draws
 pub mod Canonicals
+pub mod FirstBest

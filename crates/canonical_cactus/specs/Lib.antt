@@ -4,3 +4,4 @@ pub mod Laws
 pub mod Standing
 pub mod Taken
 pub mod Making
+pub mod FirstBest

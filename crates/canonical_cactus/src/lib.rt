@@ -18,12 +18,16 @@
 //! block is finished with its least vertex (`parts`), and blocks and cycles are put in order as they are made (`rows`).
 //! It takes O(n log n) for n vertices, in loops; `is_canonical` one step for each node and vertex, and a call for each
 //! level.
+//!
+//! `first_best` tells one side in the same way: of the sides of best balance the first, so it is a function of the sides
+//! and the masses alone. It weighs each cut, and puts the sides of best balance side by side.
 #![tactic(auto)]
 
 ghost use Rattle.std.specs.Prelude.{◌≡◌};
 ghost use Rattle.canonical_cactus.specs.Canonical.{is_canonical};
 
 mod entries;
+mod first_side;
 pub mod laws;
 mod making;
 mod order;
@@ -32,6 +36,7 @@ mod put;
 mod rows;
 
 use cactus_tree::Cactus;
+pub use first_side::first_best;
 pub use making::canonical;
 use order::node_standing;
 
