@@ -1,0 +1,143 @@
+-- Sides that are gathered vertex by vertex and side by side.
+use Rattle.std.proofs.Common.{◌≡◌, ℕ, ◌+◌, ◌≤◌, ◌<◌, ⊎_elim, Bool, true, false, ◌&&◌, ◌||◌, eqb, leb, List, [], ◌∷◌, ◌++◌, length, map, take, get_or, refl, sym, ◌∙◌, ap, arith}
+use Rattle.std.specs.Prelude.{◌≢◌}
+use Rattle.std.proofs.lemmas.Bool.{cases_eq, eq-eqb, ne_eqb}
+use Rattle.std.specs.List.{All}
+use Rattle.std.proofs.lemmas.List.{append_assoc, map-append, take_more}
+use Rattle.std.proofs.lemmas.List.Elements.{All-append, All-map, All-cons, All-nil}
+use Rattle.cut_definitions.specs.Weight.{VertexSet, either}
+use Rattle.cut_definitions.specs.Cuts.{has}
+use Rattle.cut_definitions.specs.Scan.{single}
+use Rattle.cut_definitions.proofs.ChainLaws.{leb_yes, leb_no}
+use Rattle.vertex_set.specs.Side.{VertexList, listed}
+use Rattle.vertex_set.proofs.Bits.{has-listed, listed-same, listed-none}
+use Rattle.component_cuts.specs.Parts.{divided, part_at}
+use Rattle.component_cuts.specs.Doubling.{joined_with, doubled, members_of, union_of}
+use Rattle.component_cuts.proofs.Divided.{part_divided}
+
+-- ---- the vertices of a number
+
+abbrev pub gathered_to : ℕ → List ℕ → ℕ → ℕ → VertexList
+gathered_to n part_of number v = listed n (λ u. eqb (get_or part_of u 0) number && leb u v)
+
+and_false : (a b : Bool) → b ≡ false → (a && b) ≡ false
+and_false a b h = grind arith
+
+and_true : (a b : Bool) → b ≡ true → (a && b) ≡ a
+and_true a b h = grind arith
+
+or_true : (a b : Bool) → b ≡ true → (a || b) ≡ true
+or_true a b h = grind arith
+
+or_false : (a b : Bool) → b ≡ false → (a || b) ≡ a
+or_false a b h = grind arith
+
+later_same : (u v : ℕ) → u ≢ v + 1 → leb u v ≡ leb u (v + 1)
+later_same u v ne = grind arith
+
+pub gathered_start : (n : ℕ) (part_of : List ℕ) (number : ℕ) (side : VertexList) → side ≡ record { vertices = n; members = [] } → side ≡ gathered_to n part_of number 0
+gathered_start n part_of number side e =
+    e ∙ sym (listed-same n (λ u. eqb (get_or part_of u 0) number && leb u 0) (λ u. false) (λ u one to. and_false (eqb (get_or part_of u 0) number) (leb u 0) (leb_no u 0 one))
+    ∙ listed-none n (λ u. false) (λ u. refl))
+
+pub gathered_in : (n : ℕ) (part_of : List ℕ) (number v : ℕ) → get_or part_of (v + 1) 0 ≡ number →
+    listed n (either (has (gathered_to n part_of number v).members) (single (v + 1))) ≡ gathered_to n part_of number (v + 1)
+gathered_in n part_of number v is =
+    listed-same n (either (has (gathered_to n part_of number v).members) (single (v + 1))) (λ u. eqb (get_or part_of u 0) number && leb u (v + 1))
+    (λ u one to.
+    let a = eqb (get_or part_of u 0) number in
+    let old = has-listed n (λ u. eqb (get_or part_of u 0) number && leb u v) u one to in
+    let b = has (gathered_to n part_of number v).members u in
+    ⊎_elim
+    (λ (e : u ≡ v + 1).
+    or_true b (eqb (v + 1) u) (eq-eqb (v + 1) u (sym e))
+    ∙ sym (and_true a (leb u (v + 1)) (leb_yes u (v + 1) (omega arith)) ∙ eq-eqb (get_or part_of u 0) number (ap (λ (x : ℕ). get_or part_of x 0) e ∙ is)))
+    (λ (ne : u ≢ v + 1). or_false b (eqb (v + 1) u) (ne_eqb (v + 1) u (λ q. ne (sym q))) ∙ (old ∙ ap (λ (x : Bool). a && x) (later_same u v ne)))
+    (cases_eq u (v + 1)))
+
+pub gathered_out : (n : ℕ) (part_of : List ℕ) (number v : ℕ) → get_or part_of (v + 1) 0 ≢ number → gathered_to n part_of number v ≡ gathered_to n part_of number (v + 1)
+gathered_out n part_of number v is_not =
+    listed-same n (λ u. eqb (get_or part_of u 0) number && leb u v) (λ u. eqb (get_or part_of u 0) number && leb u (v + 1))
+    (λ u one to. ⊎_elim
+    (λ (e : u ≡ v + 1).
+    let out : eqb (get_or part_of u 0) number ≡ false = ne_eqb (get_or part_of u 0) number (λ q. is_not (ap (λ (x : ℕ). get_or part_of x 0) (sym e) ∙ q)) in
+    ap (λ (x : Bool). x && leb u v) out ∙ sym (ap (λ (x : Bool). x && leb u (v + 1)) out))
+    (λ (ne : u ≢ v + 1). ap (λ (x : Bool). eqb (get_or part_of u 0) number && x) (later_same u v ne))
+    (cases_eq u (v + 1)))
+
+pub gathered_end : (n count : ℕ) (part_of : List ℕ) (number v : ℕ) → n ≤ v → 1 ≤ number → number ≤ count →
+    gathered_to n part_of number v ≡ record { vertices = n; members = part_at (divided n count part_of) number }
+gathered_end n count part_of number v le one to =
+    listed-same n (λ u. eqb (get_or part_of u 0) number && leb u v) (λ u. eqb (get_or part_of u 0) number)
+    (λ u low high. and_true (eqb (get_or part_of u 0) number) (leb u v) (leb_yes u v (omega arith)))
+    ∙ ap (λ (xs : List ℕ). let s : VertexList = record { vertices = n; members = xs } in s) (sym (part_divided n count part_of number one to))
+
+-- ---- unions with one part
+
+pub joined_twice : (part side : VertexList) → listed part.vertices (either (has (listed part.vertices (either (has []) (has part.members))).members) (has side.members)) ≡ joined_with part side
+joined_twice part side =
+    listed-same part.vertices (either (has (listed part.vertices (either (has []) (has part.members))).members) (has side.members)) (either (has part.members) (has side.members))
+    (λ v one to. ap (λ (b : Bool). b || has side.members v) (has-listed part.vertices (either (has []) (has part.members)) v one to))
+
+pub one_joined : (part : VertexList) (old items : List VertexList) (i : ℕ) (d : VertexList) → i < length old → items ≡ old ++ map (joined_with part) (take i old) →
+    items ++ joined_with part (get_or old i d) ∷ [] ≡ old ++ map (joined_with part) (take (i + 1) old)
+one_joined part old items i d l e =
+    let f = joined_with part in
+    ap (λ (xs : List VertexList). xs ++ f (get_or old i d) ∷ []) e
+    ∙ (append_assoc old (map f (take i old)) (f (get_or old i d) ∷ [])
+    ∙ ap (λ (xs : List VertexList). old ++ xs) (sym (map-append f (take i old) (get_or old i d ∷ [])) ∙ ap (map f) (sym (take_more old i d l))))
+
+pub joined_from : (part side first second : VertexList) (n : ℕ) (empty : VertexList) → n ≡ part.vertices → empty ≡ record { vertices = n; members = [] } →
+    first ≡ listed empty.vertices (either (has empty.members) (has part.members)) → second ≡ listed first.vertices (either (has first.members) (has side.members)) → second ≡ joined_with part side
+joined_from part side first second n empty over none e1 e2 =
+    let at : empty ≡ record { vertices = part.vertices; members = [] } = none ∙ ap (λ (k : ℕ). let s : VertexList = record { vertices = k; members = [] } in s) over in
+    let first_is = e1 ∙ ap (λ (s : VertexList). listed s.vertices (either (has s.members) (has part.members))) at in
+    e2 ∙ (ap (λ (s : VertexList). listed s.vertices (either (has s.members) (has side.members))) first_is ∙ joined_twice part side)
+
+members_joined : (part : VertexList) (xs : List VertexList) → members_of (map (joined_with part) xs) ≡ map (union_of part.vertices part.members) (members_of xs)
+members_joined part [] = refl
+members_joined part (x ∷ xs) = ap (λ (ys : List (List ℕ)). union_of part.vertices part.members x.members ∷ ys) (members_joined part xs)
+
+pub members_doubled : (part : VertexList) (xs : List VertexList) → members_of (doubled part xs) ≡ members_of xs ++ (map (union_of part.vertices part.members) (members_of xs) ++ part.members ∷ [])
+members_doubled part xs =
+    let f = λ (s : VertexList). s.members in
+    map-append f xs (map (joined_with part) xs ++ part ∷ [])
+    ∙ ap (λ (ys : List (List ℕ)). members_of xs ++ ys)
+    (map-append f (map (joined_with part) xs) (part ∷ []) ∙ ap (λ (ys : List (List ℕ)). ys ++ part.members ∷ []) (members_joined part xs))
+
+pub over_doubled : (n : ℕ) (part : VertexList) (xs : List VertexList) → part.vertices ≡ n → All (λ (s : VertexList). s.vertices ≡ n) xs → All (λ (s : VertexList). s.vertices ≡ n) (doubled part xs)
+over_doubled n part xs e over =
+    let P = λ (s : VertexList). s.vertices ≡ n in
+    All-append P xs (map (joined_with part) xs ++ part ∷ []) over
+    (All-append P (map (joined_with part) xs) (part ∷ []) (All-map P (joined_with part) xs (λ k d l. e)) (All-cons P part [] e (All-nil P)))
+
+-- ---- the vertices of a set, one after another
+
+abbrev pub taken_to : ℕ → VertexSet → ℕ → VertexList
+taken_to n s v = listed n (λ u. s u && leb u v)
+
+pub taken_start : (n : ℕ) (s : VertexSet) (side : VertexList) → side ≡ record { vertices = n; members = [] } → side ≡ taken_to n s 0
+taken_start n s side e =
+    e ∙ sym (listed-same n (λ u. s u && leb u 0) (λ u. false) (λ u one to. and_false (s u) (leb u 0) (leb_no u 0 one)) ∙ listed-none n (λ u. false) (λ u. refl))
+
+pub taken_in : (n : ℕ) (s : VertexSet) (v : ℕ) → s (v + 1) ≡ true → listed n (either (has (taken_to n s v).members) (single (v + 1))) ≡ taken_to n s (v + 1)
+taken_in n s v is =
+    listed-same n (either (has (taken_to n s v).members) (single (v + 1))) (λ u. s u && leb u (v + 1))
+    (λ u one to.
+    let old = has-listed n (λ u. s u && leb u v) u one to in
+    let b = has (taken_to n s v).members u in
+    ⊎_elim
+    (λ (e : u ≡ v + 1). or_true b (eqb (v + 1) u) (eq-eqb (v + 1) u (sym e)) ∙ sym (and_true (s u) (leb u (v + 1)) (leb_yes u (v + 1) (omega arith)) ∙ (ap s e ∙ is)))
+    (λ (ne : u ≢ v + 1). or_false b (eqb (v + 1) u) (ne_eqb (v + 1) u (λ q. ne (sym q))) ∙ (old ∙ ap (λ (x : Bool). s u && x) (later_same u v ne)))
+    (cases_eq u (v + 1)))
+
+pub taken_out : (n : ℕ) (s : VertexSet) (v : ℕ) → s (v + 1) ≡ false → taken_to n s v ≡ taken_to n s (v + 1)
+taken_out n s v out =
+    listed-same n (λ u. s u && leb u v) (λ u. s u && leb u (v + 1))
+    (λ u one to. ⊎_elim
+    (λ (e : u ≡ v + 1). let no : s u ≡ false = ap s e ∙ out in ap (λ (x : Bool). x && leb u v) no ∙ sym (ap (λ (x : Bool). x && leb u (v + 1)) no))
+    (λ (ne : u ≢ v + 1). ap (λ (x : Bool). s u && x) (later_same u v ne))
+    (cases_eq u (v + 1)))
+
+pub taken_end : (n : ℕ) (s : VertexSet) (v : ℕ) → n ≤ v → taken_to n s v ≡ listed n s
+taken_end n s v le = listed-same n (λ u. s u && leb u v) s (λ u low high. and_true (s u) (leb u v) (leb_yes u v (omega arith)))

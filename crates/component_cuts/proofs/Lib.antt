@@ -1,0 +1,11 @@
+pub mod Marked
+pub mod Numbered
+pub mod Divided
+pub mod Weightless
+pub mod Different
+pub mod Doubled
+pub mod Sorted
+pub mod Gathered
+pub mod Rows
+pub mod Totals
+pub mod Best

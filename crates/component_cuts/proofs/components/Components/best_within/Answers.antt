@@ -1,0 +1,91 @@
+use Rattle.std.proofs.Common.{◌≡◌, ◌+◌, ◌-◌, ◌*◌, ◌^◌, ◌≤◌, ℕ, List, Bool, true, false, length, get_or, min, refl, sym, ◌∙◌, ap, subst, arith}
+use Rattle.cut_definitions.specs.Balance.{mass, IsBest}
+use Rattle.vertex_set.specs.Side.{VertexList, listed}
+use Rattle.component_cuts.specs.Parts.{Parts, part_at, divided, unions}
+use Rattle.component_cuts.specs.Doubling.{chosen_vertices}
+use Rattle.component_cuts.specs.Sums.{has_sum, mass_of_number, sum_of_rows, AreRows}
+use Rattle.component_cuts.proofs.Divided.{length_divided}
+use Rattle.component_cuts.proofs.Rows.{sums_made, sum_none}
+use Rattle.component_cuts.proofs.Best.{AreSums, best_second, best_chosen, if_ok_more}
+use Rattle.component_cuts.proofs.components.Components.best_within.Goals as goal
+
+pub fill_rows-requires-clause-count : goal.fill_rows-requires-clause-count
+fill_rows-requires-clause-count c =
+    omega (arith, ap (λ (xs : List ℕ). length xs) c.deref-2.ensures.value, c.in_ok-sums.ensures.long, c.self.invariant.few_numbers, c.self.invariant.few)
+
+pub fill_rows-requires-clause-few : goal.fill_rows-requires-clause-few
+fill_rows-requires-clause-few c =
+    let s = c.self.inside in
+    let rows : length c.deref-2.result.now - 1 ≡ length c.args.self.now.parts = omega (
+      arith,
+      ap (λ (xs : List ℕ). length xs) c.deref-2.ensures.value,
+      c.in_ok-sums.ensures.long,
+      length_divided s.n s.count s.part_of.items,
+      ap (λ (p : Parts). length p.parts) c.self.view_is,
+    ) in
+    subst (λ (k : ℕ). k * (c.args.total + 1) ≤ 2 ^ 32) (sym rows) (subst (λ (t : ℕ). length c.args.self.now.parts * (t + 1) ≤ 2 ^ 32) (sym c.requires.total) c.requires.small)
+
+pub best_sum-sum-requires-clause-none : goal.best_sum-sum-requires-clause-none
+best_sum-sum-requires-clause-none c =
+    let s = c.self.inside in
+    let now = c.deref-2.result.now in
+    let table = c.in_ok-table.table in
+    let width = c.args.total + 1 in
+    let rows_is : length now - 2 ≡ s.count - 1 = omega (arith, ap (λ (xs : List ℕ). length xs) c.deref-2.ensures.value, c.in_ok-sums.ensures.long) in
+    let rows = subst (λ (k : ℕ). AreRows now width k table) rows_is c.in_ok-table.ensures.rows in
+    let none : sum_of_rows now (λ i. false) (s.count - 1) ≡ 0 = sum_none now (λ i. false) (s.count - 1) (λ i. refl) in
+    subst (λ (k : ℕ). has_sum table width (s.count - 1) k ≡ true) none (sums_made now width (s.count - 1) table rows (λ i. false) (s.count - 1) (omega arith) (omega arith))
+
+pub choose-requires-clause-rows : goal.choose-requires-clause-rows
+choose-requires-clause-rows c =
+    subst (λ (xs : List ℕ). AreRows xs (c.args.total + 1) (length xs - 2) c.in_ok-table.table) (c.deref-2.ensures.value ∙ sym c.deref-3.ensures.value) c.in_ok-table.ensures.rows
+
+pub returns-then-min-eq0-clause-best : goal.returns-then-min-eq0-clause-best
+returns-then-min-eq0-clause-best c =
+    let s = c.self.inside in
+    let masses = c.args.weights.now in
+    let part_of = s.part_of.items in
+    let sums = c.in_ok-sums.sums.items in
+    let table = c.in_ok-table.table in
+    let width = c.args.total + 1 in
+    let sum = c.best_sum-sum.result in
+    let p = divided s.n s.count part_of in
+    let long : length masses ≡ s.n = c.requires.weights ∙ ap (λ (q : Parts). q.vertices) (sym c.self.view_is) in
+    let two : 2 ≤ s.count = omega (arith, c.requires.two, length_divided s.n s.count part_of, ap (λ (q : Parts). length q.parts) c.self.view_is) in
+    let are : AreSums masses part_of s.count sums = record { each = λ i le. c.in_ok-sums.ensures.each i le ∙ ap (λ (xs : List ℕ). mass_of_number masses xs i) c.deref.ensures.value } in
+    let rows_is : length sums - 2 ≡ s.count - 1 = omega (arith, c.in_ok-sums.ensures.long) in
+    let rows = subst (λ (k : ℕ). AreRows sums width k table) rows_is (subst (λ (xs : List ℕ). AreRows xs width (length xs - 2) table) c.deref-2.ensures.value c.in_ok-table.ensures.rows) in
+    let width_is : width ≡ mass masses (λ v. true) + 1 = omega (arith, c.requires.total) in
+    let none : min sum (mass masses (λ v. true) - sum) ≡ 0 = omega (arith, c.min.ensures, c.if-min-eq0.true, c.requires.total) in
+    let best = best_second s.n s.count part_of masses sums table width sum c.self.invariant long are two width_is rows c.best_sum-sum.ensures none in
+    let best_self = subst (λ (q : Parts). IsBest masses (unions q) (part_at q 2)) c.self.view_is best in
+    if_ok_more (λ (t : VertexList). t ≡ record { vertices = c.args.self.now.vertices; members = part_at c.args.self.now 2 }) (λ (t : VertexList). IsBest masses (unions c.args.self.now) t.members) c.part_side.result
+    (λ t e. subst (λ (xs : List ℕ). IsBest masses (unions c.args.self.now) xs) (ap (λ (x : VertexList). x.members) (sym e)) best_self) c.part_side.ensures
+
+pub returns-clause-best : goal.returns-clause-best
+returns-clause-best c =
+    let s = c.self.inside in
+    let masses = c.args.weights.now in
+    let part_of = s.part_of.items in
+    let sums = c.in_ok-sums.sums.items in
+    let table = c.in_ok-table.table in
+    let width = c.args.total + 1 in
+    let sum = c.best_sum-sum.result in
+    let p = divided s.n s.count part_of in
+    let long : length masses ≡ s.n = c.requires.weights ∙ ap (λ (q : Parts). q.vertices) (sym c.self.view_is) in
+    let two : 2 ≤ s.count = omega (arith, c.requires.two, length_divided s.n s.count part_of, ap (λ (q : Parts). length q.parts) c.self.view_is) in
+    let are : AreSums masses part_of s.count sums = record { each = λ i le. c.in_ok-sums.ensures.each i le ∙ ap (λ (xs : List ℕ). mass_of_number masses xs i) c.deref.ensures.value } in
+    let rows_is : length sums - 2 ≡ s.count - 1 = omega (arith, c.in_ok-sums.ensures.long) in
+    let rows = subst (λ (k : ℕ). AreRows sums width k table) rows_is (subst (λ (xs : List ℕ). AreRows xs width (length xs - 2) table) c.deref-2.ensures.value c.in_ok-table.ensures.rows) in
+    let width_is : width ≡ mass masses (λ v. true) + 1 = omega (arith, c.requires.total) in
+    let some : 1 ≤ sum = omega (arith, c.min.ensures, c.if-min-eq0.false) in
+    let chosen = c.in_ok-chosen.chosen.items in
+    let sum_is : sum_of_rows sums (λ i. get_or chosen i false) (s.count - 1) ≡ sum =
+    subst (λ (k : ℕ). sum_of_rows sums (λ i. get_or chosen i false) k ≡ sum) rows_is
+    (subst (λ (xs : List ℕ). sum_of_rows xs (λ i. get_or chosen i false) (length xs - 2) ≡ sum) c.deref-3.ensures.value c.in_ok-chosen.ensures.sum) in
+    let best = best_chosen s.n s.count part_of masses sums table width sum c.self.invariant long are two width_is rows c.best_sum-sum.ensures some chosen in
+    if_ok_more (λ (t : VertexList). t ≡ listed s.n (chosen_vertices c.deref-4.result.now c.deref-5.result.now)) (λ (t : VertexList). IsBest masses (unions c.args.self.now) t.members) c.chosen_side.result
+    (λ t e. subst (λ (q : Parts). IsBest masses (unions q) t.members) c.self.view_is
+    (best t c.in_ok-chosen.ensures.first sum_is
+    (e ∙ (ap (λ (xs : List ℕ). listed s.n (chosen_vertices xs c.deref-5.result.now)) c.deref-4.ensures.value ∙ ap (λ (xs : List Bool). listed s.n (chosen_vertices part_of xs)) c.deref-5.ensures.value))))
+    c.chosen_side.ensures

@@ -1,0 +1,5 @@
+pub mod Parts
+pub mod Numbers
+pub mod Doubling
+pub mod Laws
+pub mod Sums

@@ -1,0 +1,13 @@
+//! Laws of components and minimum cuts. Each function does nothing, and its contract is a law.
+
+ghost use Rattle.component_cuts.specs.Laws.{LawOfMinimumCuts, LawOfNumber};
+
+/// In a graph of two or more components the minimum cuts are the unions of components without vertex 1.
+pub fn minimum_cuts()
+    ensures { LawOfMinimumCuts }
+{}
+
+/// With c components there are 2^(c-1) - 1 of them.
+pub fn number()
+    ensures { LawOfNumber }
+{}
