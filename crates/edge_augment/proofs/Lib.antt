@@ -1,0 +1,15 @@
+pub mod Heavier
+pub mod Raising
+pub mod Leaves
+pub mod Within
+pub mod OwnCuts
+pub mod Inside
+pub mod Outside
+pub mod EndSets
+pub mod Fewest
+pub mod Pairing
+pub mod Different
+pub mod Walked
+pub mod Opposite
+pub mod Sorted
+pub mod Planned

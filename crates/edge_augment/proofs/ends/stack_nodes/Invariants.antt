@@ -1,0 +1,17 @@
+use Rattle.std.proofs.Common.{◌≡◌, ◌≤◌, ◌++◌, length, drop}
+use Rattle.std.specs.List.{flat_map}
+use Rattle.cactus_tree.specs.Trees.{nodes_in}
+use Rattle.cactus_tree.specs.Entered.{entered, waiting}
+use Rattle.edge_augment.specs.Ends.{leaves}
+use Rattle.edge_augment.specs.Walks.{leaves_waiting}
+use Rattle.edge_augment.proofs.ends.stack_nodes.Given as goal
+
+abbrev pub invariant-back : goal.invariant-back
+invariant-back l = record {
+  within : l.i ≤ length (nodes_in l.nodes);
+  nodes : waiting l.stack.items ≡ flat_map entered (drop l.i (nodes_in l.nodes)) ++ waiting l.initial.stack.items;
+  leaves : leaves_waiting l.stack.items ≡ flat_map leaves (drop l.i (nodes_in l.nodes)) ++ leaves_waiting l.initial.stack.items;
+}
+
+abbrev pub decreases-back : goal.decreases-back
+decreases-back l = l.i

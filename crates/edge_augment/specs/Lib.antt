@@ -1,0 +1,5 @@
+pub mod Ends
+pub mod NewEdges
+pub mod Laws
+pub mod Augmentations
+pub mod Walks
