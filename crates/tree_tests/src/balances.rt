@@ -1,12 +1,13 @@
 //! Sides of best balance.
 
-ghost use Rattle.std.specs.Prelude.{◌≡◌, IfOk};
+ghost use Rattle.std.specs.Prelude.{◌≡◌, ◌≤◌, IfOk, length};
 
 use crate::cactuses::has_exactly;
 use crate::trees::{leaf, leaves, one_ring, with_bridge, with_cycle};
-use balanced_cut::best;
+use balanced_cut::{balance_of, best};
 use cactus_tree::Cactus;
-use cut_definitions::NoMemory;
+use canonical_cactus::first_best;
+use cut_definitions::{NoMemory, VertexWeights};
 use std::alloc::Global;
 use std::test::Fail;
 
@@ -46,11 +47,23 @@ fn one_path(alloc: Global) -> Result<Cactus, NoMemory>
     Ok(Cactus::from_root(4, tree))
 }
 
+// A mass for vertex 1, and 1 for each of the others of n.
+fn masses(alloc: Global, first: u64, n: usize) -> Result<VertexWeights, NoMemory>
+    requires some { 1 ≤ n }
+    requires few { n ≤ 4194304 }
+    ensures { IfOk result (λ w. length w ≡ n) }
+{
+    let mut list = vec![in alloc; 1u64; n]?;
+    list[0] = first;
+    Ok(VertexWeights::from_list(list))
+}
+
 #[test]
 fn a_ring_of_four_falls_into_halves(rt: HostRuntime) -> Result<(), Fail> {
     let cactus = one_ring(rt.alloc())?;
     assert!(rt; cactus.root().blocks.len() > 0);
-    let side = best(rt.alloc(), &cactus)?;
+    let weights = masses(rt.alloc(), 1, 4)?;
+    let side = best(rt.alloc(), &cactus, &weights)?;
     assert!(rt; has_exactly(&side, &[2, 3]) || has_exactly(&side, &[3, 4]));
     Ok(())
 }
@@ -59,7 +72,8 @@ fn a_ring_of_four_falls_into_halves(rt: HostRuntime) -> Result<(), Fail> {
 fn a_path_of_four_falls_into_halves(rt: HostRuntime) -> Result<(), Fail> {
     let cactus = one_path(rt.alloc())?;
     assert!(rt; cactus.root().blocks.len() > 0);
-    let side = best(rt.alloc(), &cactus)?;
+    let weights = masses(rt.alloc(), 1, 4)?;
+    let side = best(rt.alloc(), &cactus, &weights)?;
     assert_eq!(rt; side.n(), 4);
     assert!(rt; has_exactly(&side, &[3, 4]));
     Ok(())
@@ -69,7 +83,8 @@ fn a_path_of_four_falls_into_halves(rt: HostRuntime) -> Result<(), Fail> {
 fn a_ring_of_seven_falls_into_three_and_four(rt: HostRuntime) -> Result<(), Fail> {
     let cactus = long_ring(rt.alloc())?;
     assert!(rt; cactus.root().blocks.len() > 0);
-    let side = best(rt.alloc(), &cactus)?;
+    let weights = masses(rt.alloc(), 1, 7)?;
+    let side = best(rt.alloc(), &cactus, &weights)?;
     assert!(rt; side.len() == 3 || side.len() == 4);
     Ok(())
 }
@@ -78,7 +93,29 @@ fn a_ring_of_seven_falls_into_three_and_four(rt: HostRuntime) -> Result<(), Fail
 fn all_vertices_are_counted_and_not_those_below_a_cycle(rt: HostRuntime) -> Result<(), Fail> {
     let cactus = ring_below(rt.alloc())?;
     assert!(rt; cactus.root().blocks.len() > 0);
-    let side = best(rt.alloc(), &cactus)?;
+    let weights = masses(rt.alloc(), 1, 5)?;
+    let side = best(rt.alloc(), &cactus, &weights)?;
     assert!(rt; has_exactly(&side, &[4, 5]));
+    Ok(())
+}
+
+#[test]
+fn masses_decide_and_not_the_number_of_vertices(rt: HostRuntime) -> Result<(), Fail> {
+    let cactus = one_path(rt.alloc())?;
+    assert!(rt; cactus.root().blocks.len() > 0);
+    let weights = masses(rt.alloc(), 9, 4)?;
+    let side = best(rt.alloc(), &cactus, &weights)?;
+    assert!(rt; has_exactly(&side, &[2, 3, 4]));
+    assert_eq!(rt; balance_of(&side, &weights), 3);
+    Ok(())
+}
+
+#[test]
+fn of_two_best_sides_the_first_is_told(rt: HostRuntime) -> Result<(), Fail> {
+    let cactus = one_ring(rt.alloc())?;
+    assert!(rt; cactus.root().blocks.len() > 0);
+    let weights = masses(rt.alloc(), 1, 4)?;
+    let side = first_best(rt.alloc(), &cactus, &weights)?;
+    assert!(rt; has_exactly(&side, &[2, 3]));
     Ok(())
 }

@@ -77,9 +77,9 @@ fn is_single(cactus: &Cactus) -> bool {
 #[test]
 fn one_node_has_all_vertices(rt: HostRuntime) -> Result<(), Fail> {
     let cactus = Cactus::single(rt.alloc(), 2)?;
-    assert!(rt; is_single(&cactus));
+    let single = is_single(&cactus);
     let same = Cactus::from_root(2, cactus.into_root());
-    assert!(rt; is_single(&same));
+    assert!(rt; single && is_single(&same));
     Ok(())
 }
 
@@ -106,14 +106,23 @@ fn is_bridge_between(root: &Node, upper: &[u32], lower: &[u32]) -> bool {
     }
 }
 
+// Whether it is the cactus of 1 and 2 with a bridge down to 3, with its only side.
+fn is_spread(alloc: Global, cactus: &Cactus) -> Result<bool, NoMemory> {
+    let shown = has_sides(alloc, cactus, &[&[3]])?;
+    Ok(
+        shown
+            && cactus.n() == 3
+            && cactus.nodes() == 2
+            && is_bridge_between(cactus.root(), &[1, 2], &[3]),
+    )
+}
+
 #[test]
 fn classes_are_spread(rt: HostRuntime) -> Result<(), Fail> {
     let alloc = rt.alloc();
     let narrow = one_bridge(alloc)?;
     let cactus = narrow.spread(alloc, 3, &[1, 1, 2])?;
-    assert!(rt; cactus.n() == 3 && cactus.nodes() == 2);
-    assert!(rt; is_bridge_between(cactus.root(), &[1, 2], &[3]));
-    let holds = has_sides(alloc, &cactus, &[&[3]])?;
+    let holds = is_spread(alloc, &cactus)?;
     assert!(rt; holds);
     Ok(())
 }
@@ -133,9 +142,14 @@ fn the_cuts_of_a_cycle_are_ranges_between_its_borders(rt: HostRuntime) -> Result
     let cactus = one_ring(alloc)?;
     let places = cut_places(alloc, &cactus)?;
     assert!(rt; are_ring_places(&places));
-    let mut side = Side::empty(alloc, 4)?;
+    Ok(())
+}
+
+#[test]
+fn a_range_is_put_beside_what_is_there(rt: HostRuntime) -> Result<(), Fail> {
+    let mut side = Side::empty(rt.alloc(), 4)?;
     side.insert(4);
-    put_range(&mut side, &places.order, 1, 3);
+    put_range(&mut side, &[1, 2, 3, 4], 1, 3);
     assert!(rt; has_exactly(&side, &[2, 3, 4]));
     Ok(())
 }
@@ -151,10 +165,9 @@ fn the_vertices_of_a_tree_are_renamed(rt: HostRuntime) -> Result<(), Fail> {
     let cactus = ring_and_bridge(alloc)?;
     let root = cactus.into_root();
     let before = is_in_order(alloc, &root, &[1, 3, 4, 2])?;
-    assert!(rt; before);
     let root = rename_node(alloc, root, &[0, 5, 6, 7, 8])?;
     let after = is_in_order(alloc, &root, &[5, 7, 8, 6])?;
-    assert!(rt; after);
+    assert!(rt; before && after);
     Ok(())
 }
 
@@ -173,16 +186,21 @@ fn comes_apart(ring: Children) -> Result<bool, NoMemory> {
     )
 }
 
+// Whether a bridge is the last block, and the only one before it a ring that comes apart.
+fn is_taken_apart(root: &mut Node) -> Result<bool, NoMemory> {
+    let bridge = matches!(root.blocks.pop(), Some(Block::Bridge(_)));
+    let Some(Block::Cycle(ring)) = root.blocks.pop() else {
+        return Ok(false);
+    };
+    let apart = comes_apart(ring)?;
+    Ok(bridge && apart && root.blocks.len() == 0)
+}
+
 #[test]
 fn a_tree_is_taken_apart(rt: HostRuntime) -> Result<(), Fail> {
     let cactus = ring_and_bridge(rt.alloc())?;
     let mut root = cactus.into_root();
-    assert!(rt; matches!(root.blocks.pop(), Some(Block::Bridge(_))));
-    let Some(Block::Cycle(ring)) = root.blocks.pop() else {
-        return Err(Fail::from("no cycle"));
-    };
-    assert!(rt; root.blocks.len() == 0);
-    let holds = comes_apart(ring)?;
+    let holds = is_taken_apart(&mut root)?;
     assert!(rt; holds);
     Ok(())
 }
@@ -191,7 +209,7 @@ fn a_tree_is_taken_apart(rt: HostRuntime) -> Result<(), Fail> {
 fn a_list_of_vertices_grows_and_shrinks(rt: HostRuntime) -> Result<(), Fail> {
     let mut list = VertexList::new(rt.alloc());
     list.push(9)?;
-    assert!(rt; list.len() == 1 && list.as_slice() == [9].as_slice());
-    assert!(rt; list.pop() == Some(9) && list.pop().is_none());
+    let held = list.len() == 1 && list.as_slice() == [9].as_slice();
+    assert!(rt; held && list.pop() == Some(9) && list.pop().is_none());
     Ok(())
 }

@@ -2,6 +2,8 @@
 
 use crate::trees::{nested, one_ring, two_and_one};
 use cactus_tree::{FlatCactus, flatten};
+use cut_definitions::NoMemory;
+use std::alloc::Global;
 use std::test::Fail;
 
 fn has_nodes(flat: &FlatCactus, nodes: &[&[u32]]) -> bool {
@@ -28,9 +30,20 @@ fn has_cycles(flat: &FlatCactus, cycles: &[&[u64]]) -> bool {
     true
 }
 
-#[test]
-fn a_flat_cactus_keeps_its_lists(rt: HostRuntime) -> Result<(), Fail> {
-    let mut flat = FlatCactus::new(rt.alloc(), 3);
+// Whether the cactus is over n vertices and has these nodes, bridges and cycles.
+fn has_lists(
+    flat: &FlatCactus,
+    n: u32,
+    nodes: &[&[u32]],
+    bridges: &[(u64, u64)],
+    cycles: &[&[u64]],
+) -> bool {
+    flat.n() == n && has_nodes(flat, nodes) && flat.bridges() == bridges && has_cycles(flat, cycles)
+}
+
+// Nodes with 1 and 2, with none and with 3, a bridge and a cycle of two nodes.
+fn filled(alloc: Global) -> Result<FlatCactus, NoMemory> {
+    let mut flat = FlatCactus::new(alloc, 3);
     flat.push_node()?;
     flat.push_vertex(1)?;
     flat.push_vertex(2)?;
@@ -41,8 +54,13 @@ fn a_flat_cactus_keeps_its_lists(rt: HostRuntime) -> Result<(), Fail> {
     flat.push_cycle()?;
     flat.push_member(0)?;
     flat.push_member(2)?;
-    assert!(rt; flat.n() == 3 && has_nodes(&flat, &[&[1, 2], &[], &[3]]));
-    assert!(rt; flat.bridges() == [(0, 1)].as_slice() && has_cycles(&flat, &[&[0, 2]]));
+    Ok(flat)
+}
+
+#[test]
+fn a_flat_cactus_keeps_its_lists(rt: HostRuntime) -> Result<(), Fail> {
+    let flat = filled(rt.alloc())?;
+    assert!(rt; has_lists(&flat, 3, &[&[1, 2], &[], &[3]], &[(0, 1)], &[&[0, 2]]));
     Ok(())
 }
 
@@ -50,8 +68,7 @@ fn a_flat_cactus_keeps_its_lists(rt: HostRuntime) -> Result<(), Fail> {
 fn a_bridge_is_flattened(rt: HostRuntime) -> Result<(), Fail> {
     let cactus = two_and_one(rt.alloc())?;
     let flat = flatten(rt.alloc(), &cactus)?;
-    assert!(rt; flat.n() == 3 && has_nodes(&flat, &[&[1, 2], &[3]]));
-    assert!(rt; flat.bridges() == [(0, 1)].as_slice() && flat.cycles() == 0);
+    assert!(rt; has_lists(&flat, 3, &[&[1, 2], &[3]], &[(0, 1)], &[]));
     Ok(())
 }
 
@@ -59,17 +76,19 @@ fn a_bridge_is_flattened(rt: HostRuntime) -> Result<(), Fail> {
 fn a_cycle_is_flattened(rt: HostRuntime) -> Result<(), Fail> {
     let cactus = one_ring(rt.alloc())?;
     let flat = flatten(rt.alloc(), &cactus)?;
-    assert!(rt; has_nodes(&flat, &[&[1], &[2], &[3], &[4]]));
-    assert!(rt; flat.bridges().len() == 0 && has_cycles(&flat, &[&[0, 1, 2, 3]]));
+    assert!(rt; has_lists(&flat, 4, &[&[1], &[2], &[3], &[4]], &[], &[&[0, 1, 2, 3]]));
     Ok(())
 }
+
+// The nodes and the bridges of the tree with a way, a ring and a bridge.
+const NESTED_NODES: [&[u32]; 7] = [&[1], &[5], &[6], &[2], &[3], &[4], &[7]];
+
+const NESTED_BRIDGES: [(u64, u64); 4] = [(0, 1), (1, 2), (3, 4), (0, 6)];
 
 #[test]
 fn a_tree_is_flattened_in_the_order_of_entering(rt: HostRuntime) -> Result<(), Fail> {
     let cactus = nested(rt.alloc())?;
     let flat = flatten(rt.alloc(), &cactus)?;
-    assert!(rt; has_nodes(&flat, &[&[1], &[5], &[6], &[2], &[3], &[4], &[7]]));
-    assert!(rt; flat.bridges() == [(0, 1), (1, 2), (3, 4), (0, 6)].as_slice());
-    assert!(rt; has_cycles(&flat, &[&[0, 3, 5]]));
+    assert!(rt; has_lists(&flat, 7, &NESTED_NODES, &NESTED_BRIDGES, &[&[0, 3, 5]]));
     Ok(())
 }

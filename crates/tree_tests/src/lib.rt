@@ -1,6 +1,8 @@
-//! Tests of the rooted cactus, its canonical form, its listings, balances and texts, over small trees whose sides are known.
+//! Tests of the rooted cactus, its canonical form, its listings, balances, augmentations and texts, over small trees whose sides are known.
 #![tactic(auto)]
 
+#[cfg(test)]
+mod augments;
 #[cfg(test)]
 mod balances;
 #[cfg(test)]

@@ -1,11 +1,14 @@
 //! Listings of the sides of a cactus.
 
-ghost use Rattle.std.specs.Prelude.{◌≤◌};
+ghost use Rattle.std.specs.Prelude.{◌≡◌, ◌≤◌, length};
 ghost use Rattle.cut_listing.specs.Asks.{IsAskWithin};
+ghost use Rattle.cut_listing.specs.declared.ask.Ask.TheVariants.{Parting};
 
 use crate::cactuses::has_exactly;
 use crate::trees::{one_ring, two_rings};
+use balanced_cut::balance_of;
 use cactus_tree::Cactus;
+use cut_definitions::VertexWeights;
 use cut_listing::{Ask, Lister};
 use std::alloc::Global;
 use std::test::Fail;
@@ -16,30 +19,64 @@ fn has_at(sides: &[Side], at: usize, vertices: &[u32]) -> bool {
     at < sides.len() && has_exactly(&sides[at], vertices)
 }
 
-// The sides that an ask lets through, by a closure that tests it.
-fn listed(alloc: Global, cactus: &Cactus, ask: Ask) -> Result<Vec<Side>, Fail>
-    requires ask { IsAskWithin cactus.now.vertices ask }
+// The sides that a lister lets through.
+fn list_by(alloc: Global, cactus: &Cactus, lister: &Lister) -> Result<Vec<Side>, Fail>
+    requires n { cactus.now.vertices ≡ lister.now.n }
     requires few { cactus.now.vertices ≤ 4194304 }
 {
     if !cactus.is_normal() {
         return Err(Fail::from("not normal"));
     }
-    let keep = Box::new(
-        alloc,
-        move |side: &Side|
-            requires { IsAskWithin side.now.vertices ask }
-        {
-            match ask {
-                Ask::All => true,
-                Ask::Parting(u, v) => side.has(u) != side.has(v),
-            }
-        },
-    )?;
-    let lister = Lister::new(cactus.n(), ask, keep);
     match lister.list(alloc, cactus) {
         Ok(sides) => Ok(sides),
         Err(_) => Err(Fail::from("no listing")),
     }
+}
+
+// All sides.
+fn listed_all(alloc: Global, cactus: &Cactus) -> Result<Vec<Side>, Fail>
+    requires { cactus.now.vertices ≤ 4194304 }
+{
+    let keep = Box::new(alloc, |_: &Side| true)?;
+    let lister = Lister::new(cactus.n(), Ask::All, keep);
+    list_by(alloc, cactus, &lister)
+}
+
+// The sides that part two vertices, by a closure that tests it.
+fn listed_parting(alloc: Global, cactus: &Cactus, u: u32, v: u32) -> Result<Vec<Side>, Fail>
+    requires ask { IsAskWithin cactus.now.vertices (Parting u v) }
+    requires few { cactus.now.vertices ≤ 4194304 }
+{
+    let keep = Box::new(
+        alloc,
+        move |side: &Side|
+            requires { IsAskWithin side.now.vertices (Parting u v) }
+        { side.has(u) != side.has(v) },
+    )?;
+    let lister = Lister::new(cactus.n(), Ask::Parting(u, v), keep);
+    list_by(alloc, cactus, &lister)
+}
+
+// The sides of a least balance, by a closure that has the weights for itself.
+fn listed_least(
+    alloc: Global,
+    cactus: &Cactus,
+    least: u64,
+    weights: &VertexWeights,
+    own: VertexWeights,
+) -> Result<Vec<Side>, Fail>
+    requires same { own ≡ weights.now }
+    requires masses { length weights.now ≡ cactus.now.vertices }
+    requires few { cactus.now.vertices ≤ 4194304 }
+{
+    let keep = Box::new(
+        alloc,
+        move |side: &Side|
+            requires { length own ≡ side.now.vertices }
+        { balance_of(side, &own) >= least as u128 },
+    )?;
+    let lister = Lister::new(cactus.n(), Ask::Least(least, weights), keep);
+    list_by(alloc, cactus, &lister)
 }
 
 // Whether the sides are these lists, in this order.
@@ -55,7 +92,7 @@ fn are_listed(sides: &[Side], lists: &[&[u32]]) -> bool {
 #[test]
 fn sides_that_part_two_vertices(rt: HostRuntime) -> Result<(), Fail> {
     let cactus = one_ring(rt.alloc())?;
-    let sides = listed(rt.alloc(), &cactus, Ask::Parting(2, 4))?;
+    let sides = listed_parting(rt.alloc(), &cactus, 2, 4)?;
     assert!(rt; are_listed(&sides, &[&[2], &[2, 3], &[3, 4], &[4]]));
     Ok(())
 }
@@ -63,7 +100,7 @@ fn sides_that_part_two_vertices(rt: HostRuntime) -> Result<(), Fail> {
 #[test]
 fn all_sides_of_a_ring(rt: HostRuntime) -> Result<(), Fail> {
     let cactus = one_ring(rt.alloc())?;
-    let sides = listed(rt.alloc(), &cactus, Ask::All)?;
+    let sides = listed_all(rt.alloc(), &cactus)?;
     assert!(rt; are_listed(&sides, &[&[2], &[2, 3], &[2, 3, 4], &[3], &[3, 4], &[4]]));
     Ok(())
 }
@@ -72,7 +109,7 @@ fn all_sides_of_a_ring(rt: HostRuntime) -> Result<(), Fail> {
 #[test]
 fn a_repeat_comes_once(rt: HostRuntime) -> Result<(), Fail> {
     let cactus = two_rings(rt.alloc())?;
-    let sides = listed(rt.alloc(), &cactus, Ask::All)?;
+    let sides = listed_all(rt.alloc(), &cactus)?;
     assert!(rt; are_listed(&sides, &[&[2], &[2, 3], &[2, 3, 4], &[3], &[4]]));
     Ok(())
 }
@@ -80,6 +117,17 @@ fn a_repeat_comes_once(rt: HostRuntime) -> Result<(), Fail> {
 #[test]
 fn one_node_has_no_side(rt: HostRuntime) -> Result<(), Fail> {
     let cactus = Cactus::single(rt.alloc(), 2)?;
-    assert!(rt; listed(rt.alloc(), &cactus, Ask::All)?.is_empty());
+    assert!(rt; listed_all(rt.alloc(), &cactus)?.is_empty());
+    Ok(())
+}
+
+// The first vertex has most of the mass.
+#[test]
+fn sides_of_a_least_balance(rt: HostRuntime) -> Result<(), Fail> {
+    let cactus = one_ring(rt.alloc())?;
+    let weights = VertexWeights::from_list(vec![in rt.alloc(); 9, 1, 1, 1]?);
+    let own = VertexWeights::from_list(vec![in rt.alloc(); 9, 1, 1, 1]?);
+    let sides = listed_least(rt.alloc(), &cactus, 2, &weights, own)?;
+    assert!(rt; are_listed(&sides, &[&[2, 3], &[2, 3, 4], &[3, 4]]));
     Ok(())
 }

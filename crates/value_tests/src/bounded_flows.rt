@@ -90,44 +90,86 @@ fn agrees(flow: &mut Flow, graph: &Graph, s: u32, t: u32, amount: u64, source: u
     amount == 0 || flow.run(graph, s, t, amount) == Outcome::AtLeast
 }
 
-#[test]
-fn a_triangle(rt: HostRuntime) -> Result<(), Fail> {
-    let graph = graph_of(rt.alloc(), 3, &[(1, 2, 5), (1, 3, 1), (2, 3, 4)])?;
-    let mut flow = Flow::new(rt.alloc(), &graph)?;
-    match flow.run(&graph, 1, 3, 6) {
-        Outcome::AtLeast => return Err(Fail::from("the stop was reached")),
-        Outcome::Best(amount) => {
-            assert_eq!(rt; amount, 5);
-            assert_eq!(rt; digits(flow.source_side()), 12);
-            assert_eq!(rt; flow.residual_row(1), [1, 0].as_slice());
-            assert_eq!(rt; flow.residual_row(3), [2, 8].as_slice());
+// Whether each run, given by its two ends, its amount and its source side, agrees after those before it.
+fn agree_in_turn(flow: &mut Flow, graph: &Graph, runs: &[(u32, u32, u64, u32)]) -> bool
+    requires stands { StandsFor flow.old graph.now }
+    requires few { graph.now.vertices ≤ 9 }
+{
+    for &(s, t, amount, source) in runs {
+        let n = graph.n();
+        if s == 0 || s > n || t == 0 || t > n || s == t || amount > GREATEST_TOTAL {
+            return false;
+        }
+        if !agrees(flow, graph, s, t, amount, source) {
+            return false;
         }
     }
-    assert_eq!(rt; flow.run(&graph, 1, 3, 5), Outcome::AtLeast);
-    assert_eq!(rt; flow.run(&graph, 1, 2, 6), Outcome::AtLeast);
+    true
+}
+
+// Whether the runs agree in turn on one flow on the graph of the edges.
+fn all_agree(
+    alloc: Global,
+    n: u32,
+    edges: &[(u32, u32, u64)],
+    runs: &[(u32, u32, u64, u32)],
+) -> Result<bool, Fail>
+    requires { n ≤ 9 }
+{
+    let graph = graph_of(alloc, n, edges)?;
+    let mut flow = Flow::new(alloc, &graph)?;
+    Ok(agree_in_turn(&mut flow, &graph, runs))
+}
+
+// Whether the best flow of the triangle from 1 to 3 leaves these residuals at its ends.
+fn leaves_residuals(flow: &mut Flow, graph: &Graph) -> bool
+    requires stands { StandsFor flow.old graph.now }
+    requires three { graph.now.vertices ≡ 3 }
+{
+    let best = flow.run(graph, 1, 3, 6) == Outcome::Best(5);
+    best && flow.residual_row(1) == [1, 0].as_slice() && flow.residual_row(3) == [2, 8].as_slice()
+}
+
+#[test]
+fn residuals_of_a_triangle(rt: HostRuntime) -> Result<(), Fail> {
+    let graph = uneven_triangle(rt.alloc())?;
+    let mut flow = Flow::new(rt.alloc(), &graph)?;
+    assert!(rt; leaves_residuals(&mut flow, &graph));
     Ok(())
 }
 
-// Two triangles that one edge joins, and a vertex with no edge.
+const TRIANGLE: [(u32, u32, u64); 3] = [(1, 2, 5), (1, 3, 1), (2, 3, 4)];
+
+#[test]
+fn a_triangle(rt: HostRuntime) -> Result<(), Fail> {
+    let runs = [(1, 3, 5, 12), (1, 2, 6, 1)];
+    assert!(rt; all_agree(rt.alloc(), 3, &TRIANGLE, &runs)?);
+    Ok(())
+}
+
+// Two triangles that one edge joins.
+const TWO_TRIANGLES: [(u32, u32, u64); 7] = [
+    (1, 2, 3),
+    (1, 3, 3),
+    (2, 3, 3),
+    (3, 4, 2),
+    (4, 5, 7),
+    (4, 6, 7),
+    (5, 6, 7),
+];
+
+// With a vertex that has no edge.
 #[test]
 fn one_flow_for_several_runs(rt: HostRuntime) -> Result<(), Fail> {
-    let edges = [
-        (1, 2, 3),
-        (1, 3, 3),
-        (2, 3, 3),
-        (3, 4, 2),
-        (4, 5, 7),
-        (4, 6, 7),
-        (5, 6, 7),
+    let runs = [
+        (6, 1, 2, 456),
+        (1, 6, 2, 123),
+        (1, 7, 0, 123456),
+        (7, 1, 0, 7),
+        (5, 6, 14, 5),
+        (2, 1, 6, 2),
     ];
-    let graph = graph_of(rt.alloc(), 7, &edges)?;
-    let mut flow = Flow::new(rt.alloc(), &graph)?;
-    assert!(rt; agrees(&mut flow, &graph, 6, 1, 2, 456));
-    assert!(rt; agrees(&mut flow, &graph, 1, 6, 2, 123));
-    assert!(rt; agrees(&mut flow, &graph, 1, 7, 0, 123456));
-    assert!(rt; agrees(&mut flow, &graph, 7, 1, 0, 7));
-    assert!(rt; agrees(&mut flow, &graph, 5, 6, 14, 5));
-    assert!(rt; agrees(&mut flow, &graph, 2, 1, 6, 2));
+    assert!(rt; all_agree(rt.alloc(), 7, &TWO_TRIANGLES, &runs)?);
     Ok(())
 }
 
@@ -136,12 +178,13 @@ fn one_flow_for_several_runs(rt: HostRuntime) -> Result<(), Fail> {
 fn a_heavy_ring(rt: HostRuntime) -> Result<(), Fail> {
     let half = GREATEST_TOTAL / 2;
     let edges = [(1, 2, half), (1, 4, 1), (2, 3, half - 2), (3, 4, 1)];
-    let graph = graph_of(rt.alloc(), 5, &edges)?;
-    let mut flow = Flow::new(rt.alloc(), &graph)?;
-    assert!(rt; agrees(&mut flow, &graph, 1, 3, half - 1, 12));
-    assert!(rt; agrees(&mut flow, &graph, 2, 4, 2, 123));
-    assert!(rt; agrees(&mut flow, &graph, 4, 2, 2, 4));
-    assert!(rt; agrees(&mut flow, &graph, 3, 5, 0, 1234));
+    let runs = [
+        (1, 3, half - 1, 12),
+        (2, 4, 2, 123),
+        (4, 2, 2, 4),
+        (3, 5, 0, 1234),
+    ];
+    assert!(rt; all_agree(rt.alloc(), 5, &edges, &runs)?);
     Ok(())
 }
 
@@ -161,7 +204,8 @@ fn told_from_first(alloc: Global, graph: &Graph, t: u32, bound: u64) -> Result<B
 #[test]
 fn what_a_preflow_tells(rt: HostRuntime) -> Result<(), Fail> {
     let graph = uneven_triangle(rt.alloc())?;
-    assert!(rt; told_from_first(rt.alloc(), &graph, 2, 5)? == Beyond::Heavy);
-    assert!(rt; told_from_first(rt.alloc(), &graph, 3, 5)? == Beyond::Alone);
+    let second = told_from_first(rt.alloc(), &graph, 2, 5)?;
+    let third = told_from_first(rt.alloc(), &graph, 3, 5)?;
+    assert!(rt; second == Beyond::Heavy && third == Beyond::Alone);
     Ok(())
 }

@@ -2,52 +2,48 @@
 
 ghost use Rattle.std.specs.Prelude.{◌≡◌, ◌∷◌, [], IfOk};
 
-use crate::graphs::uneven_triangle;
+use crate::graphs::{triangle_list, uneven_triangle};
 use cut_definitions::{Edge, EdgeList, NoMemory};
 use std::alloc::Global;
 use std::test::Fail;
 use vertex_set::Side;
 use weighted_graph::{Arc, Graph, Labels};
 
-#[test]
-fn triangle(rt: HostRuntime) -> Result<(), Fail> {
-    let alloc = rt.alloc();
-    let mut list = EdgeList::new(alloc, 3);
-    list.push(Edge { u: 1, v: 2, w: 5 })?;
-    list.push(Edge { u: 1, v: 3, w: 1 })?;
-    list.push(Edge { u: 2, v: 3, w: 4 })?;
-    let graph = Graph::build(alloc, &list)?;
-    let row = graph.row(2);
-    assert_eq!(rt; row.len(), 2);
-    assert_eq!(rt;
-        row[0],
+// Whether it is the triangle by its counts, the row, the degree and an edge of vertex 2, and the weight of another edge.
+fn is_triangle(graph: &Graph) -> bool
+    requires { graph.now.vertices ≡ 3 }
+{
+    let row = [
         Arc {
             to: 1,
             edge: 0,
-            weight: 5
-        }
-    );
-    assert_eq!(rt;
-        row[1],
+            weight: 5,
+        },
         Arc {
             to: 3,
             edge: 2,
-            weight: 4
-        }
-    );
-    assert_eq!(rt; graph.n(), 3);
-    assert_eq!(rt; graph.edges(), 3);
-    assert_eq!(rt; graph.edge_list().len(), 3);
-    assert_eq!(rt; graph.degree(2), 9);
-    assert_eq!(rt; graph.weight(1, 3), 1);
-    assert_eq!(rt; graph.components(alloc)?, 1);
-    let mut side = Side::empty(alloc, 3)?;
-    side.insert(3);
-    assert_eq!(rt; graph.weight_of(&side), 5);
-    let small = graph.relabel(alloc, &one_one_two(alloc)?)?;
-    assert_eq!(rt; small.n(), 2);
-    assert_eq!(rt; small.edges(), 1);
-    assert_eq!(rt; small.edge(0), Edge { u: 1, v: 2, w: 5 });
+            weight: 4,
+        },
+    ];
+    let counts = (graph.n(), graph.edges(), graph.edge_list().len());
+    counts == (3, 3, 3)
+        && graph.row(2) == row.as_slice()
+        && graph.degree(2) == 9
+        && graph.weight(1, 3) == 1
+}
+
+#[test]
+fn a_triangle_is_built(rt: HostRuntime) -> Result<(), Fail> {
+    let list = triangle_list(rt.alloc())?;
+    let graph = Graph::build(rt.alloc(), &list)?;
+    assert!(rt; is_triangle(&graph));
+    Ok(())
+}
+
+#[test]
+fn a_triangle_has_one_component(rt: HostRuntime) -> Result<(), Fail> {
+    let graph = uneven_triangle(rt.alloc())?;
+    assert!(rt; graph.components(rt.alloc())? == 1);
     Ok(())
 }
 
@@ -58,8 +54,17 @@ fn two_components(rt: HostRuntime) -> Result<(), Fail> {
     list.push(Edge { u: 1, v: 2, w: 1 })?;
     list.push(Edge { u: 3, v: 4, w: 1 })?;
     let graph = Graph::from_list(alloc, list)?;
-    assert_eq!(rt; graph.components(alloc)?, 2);
-    assert_eq!(rt; graph.weight(2, 3), 0);
+    let count = graph.components(alloc)?;
+    assert!(rt; count == 2 && graph.weight(2, 3) == 0);
+    Ok(())
+}
+
+#[test]
+fn the_weight_of_a_side(rt: HostRuntime) -> Result<(), Fail> {
+    let graph = uneven_triangle(rt.alloc())?;
+    let mut side = Side::empty(rt.alloc(), 3)?;
+    side.insert(3);
+    assert!(rt; graph.weight_of(&side) == 5);
     Ok(())
 }
 
@@ -79,22 +84,52 @@ fn one_one(alloc: Global) -> Result<Labels, NoMemory>
     Ok(Labels::from_list(list))
 }
 
+// Whether two vertices are left, and this edge alone.
+fn has_one_edge(graph: &Graph, edge: Edge) -> bool {
+    graph.n() == 2 && graph.edges() == 1 && graph.edge(0) == edge
+}
+
 #[test]
-fn labels(rt: HostRuntime) -> Result<(), Fail> {
-    let alloc = rt.alloc();
-    let labels = one_one_two(alloc)?;
-    assert_eq!(rt; labels.n(), 3);
-    assert_eq!(rt; labels.classes(), 2);
-    assert_eq!(rt; labels.label(3), 2);
-    let composed = labels.compose(alloc, &one_one(alloc)?)?;
-    assert_eq!(rt; composed.n(), 3);
-    assert_eq!(rt; composed.classes(), 1);
-    assert_eq!(rt; composed.label(3), 1);
-    let mut two = Side::empty(alloc, 2)?;
+fn two_vertices_become_one(rt: HostRuntime) -> Result<(), Fail> {
+    let graph = uneven_triangle(rt.alloc())?;
+    let labels = one_one_two(rt.alloc())?;
+    let small = graph.relabel(rt.alloc(), &labels)?;
+    assert!(rt; has_one_edge(&small, Edge { u: 1, v: 2, w: 5 }));
+    Ok(())
+}
+
+// Whether they label three vertices with so many classes, the third with this one.
+fn has_labels(labels: &Labels, classes: u32, third: u32) -> bool {
+    labels.n() == 3 && labels.classes() == classes && labels.label(3) == third
+}
+
+#[test]
+fn labels_of_three_vertices(rt: HostRuntime) -> Result<(), Fail> {
+    let labels = one_one_two(rt.alloc())?;
+    assert!(rt; has_labels(&labels, 2, 2));
+    Ok(())
+}
+
+#[test]
+fn labels_are_composed(rt: HostRuntime) -> Result<(), Fail> {
+    let labels = one_one_two(rt.alloc())?;
+    let next = one_one(rt.alloc())?;
+    let composed = labels.compose(rt.alloc(), &next)?;
+    assert!(rt; has_labels(&composed, 1, 1));
+    Ok(())
+}
+
+// Whether it has vertex 3 of three alone.
+fn is_third(side: &Side) -> bool {
+    side.n() == 3 && side.len() == 1 && side.has(3)
+}
+
+#[test]
+fn a_side_of_classes_is_lifted(rt: HostRuntime) -> Result<(), Fail> {
+    let labels = one_one_two(rt.alloc())?;
+    let mut two = Side::empty(rt.alloc(), 2)?;
     two.insert(2);
-    let lifted = labels.lift(alloc, &two)?;
-    assert_eq!(rt; lifted.n(), 3);
-    assert_eq!(rt; lifted.len(), 1);
-    assert!(rt; lifted.has(3));
+    let lifted = labels.lift(rt.alloc(), &two)?;
+    assert!(rt; is_third(&lifted));
     Ok(())
 }

@@ -23,6 +23,17 @@ pub fn uneven_triangle(alloc: Global) -> Result<Graph, NoMemory>
     Ok(graph)
 }
 
+/// The edges of the same triangle, pushed one by one.
+pub fn triangle_list(alloc: Global) -> Result<EdgeList, NoMemory>
+    ensures { IfOk result (λ list. list.vertices ≡ 3) }
+{
+    let mut list = EdgeList::new(alloc, 3);
+    list.push(Edge { u: 1, v: 2, w: 5 })?;
+    list.push(Edge { u: 1, v: 3, w: 1 })?;
+    list.push(Edge { u: 2, v: 3, w: 4 })?;
+    Ok(list)
+}
+
 /// The edges of a file, if it has a graph.
 pub fn edges_of(alloc: Global, text: &str) -> Option<EdgeList> {
     let mut reader = Reader::new(alloc);

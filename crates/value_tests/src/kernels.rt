@@ -1,5 +1,7 @@
 //! Kernels, and graphs that are only reduced.
 
+ghost use Rattle.std.specs.Prelude.{◌≤◌};
+
 use crate::certificates::none_is_certified;
 use crate::graphs::{edges_of, uneven_triangle};
 use cut_definitions::{EdgeList, NoMemory};
@@ -16,42 +18,60 @@ const TWO_BLOCKS: &str =
     "16 34\n5 6 7 8 9\n5 6 7 8 10\n5 6 7 8\n5 6 7 8\n1 2 3 4\n1 2 3 4\n1 2 3 4\n1 2 3 4\n\
     1 13 14 15 16\n2 13 14 15 16\n13 14 15 16\n13 14 15 16\n9 10 11 12\n9 10 11 12\n9 10 11 12\n9 10 11 12\n";
 
-// Whether it is the kernel of the triangle: vertices 1 and 2 in one class.
-fn is_of_triangle(kernel: &Kernel) -> bool {
-    kernel.value == 5 && kernel.graph.n() == 2 && kernel.labels.as_slice() == [1, 1, 2].as_slice()
-}
+// The classes of the kernel of the triangle, and those of the two blocks.
+const TRIANGLE_CLASSES: [u32; 3] = [1, 1, 2];
 
-// Whether there is a smaller graph, and it is the kernel of the triangle.
-fn is_reduced_triangle(reduced: &Option<Kernel>) -> bool {
-    match reduced {
-        Some(kernel) => is_of_triangle(kernel),
-        None => false,
-    }
-}
+const BLOCK_CLASSES: [u32; 16] = [1, 1, 1, 1, 1, 1, 1, 1, 2, 2, 2, 2, 2, 2, 2, 2];
 
-// Whether the edges of a graph weigh at most 2 for each vertex but one.
-fn is_light(graph: &Graph) -> bool {
+// Whether the edges of a graph weigh at most the value for each vertex but one.
+fn is_light(graph: &Graph, value: u64) -> bool {
     let mut total = 0u64;
     for edge in graph.edge_list() {
         total = total.saturating_add(edge.w);
     }
-    total <= 2 * u64::from(graph.n().saturating_sub(1))
+    total <= value.saturating_mul(u64::from(graph.n().saturating_sub(1)))
 }
 
-// Whether the kernel has the value 2, is light, and has one vertex for each block.
-fn is_of_two_blocks(kernel: &Kernel) -> bool {
-    let classes = [1, 1, 1, 1, 1, 1, 1, 1, 2, 2, 2, 2, 2, 2, 2, 2];
-    kernel.value == 2 && is_light(&kernel.graph) && kernel.labels.as_slice() == classes.as_slice()
+// Whether the kernel has the value, two vertices and these classes, and is light.
+fn is_kernel(kernel: &Kernel, value: u64, classes: &[u32]) -> bool {
+    kernel.value == value
+        && kernel.graph.n() == 2
+        && kernel.labels.as_slice() == classes
+        && is_light(&kernel.graph, value)
+}
+
+// Whether so many workers find the kernel with the value and these classes.
+fn has_kernel<R: Threads + Sync>(
+    rt: &R,
+    alloc: Global,
+    graph: &Graph,
+    workers: u32,
+    value: u64,
+    classes: &[u32],
+) -> Result<bool, NoMemory>
+    requires enough { 2 ≤ graph.now.vertices }
+    requires workers { (1 ≤ workers) × (workers ≤ 64) }
+{
+    let found = kernel(rt, alloc, graph, workers, &OpenGate)?;
+    Ok(is_kernel(&found, value, classes))
 }
 
 #[test]
 fn the_kernel_of_a_triangle(rt: HostRuntime) -> Result<(), Fail> {
     let alloc = rt.alloc();
     let graph = uneven_triangle(alloc)?;
-    let by_one = kernel(&rt, alloc, &graph, 1, &OpenGate)?;
-    let by_four = kernel(&rt, alloc, &graph, 4, &OpenGate)?;
-    assert!(rt; is_of_triangle(&by_one) && is_of_triangle(&by_four));
+    let by_one = has_kernel(&rt, alloc, &graph, 1, 5, &TRIANGLE_CLASSES)?;
+    let by_four = has_kernel(&rt, alloc, &graph, 4, 5, &TRIANGLE_CLASSES)?;
+    assert!(rt; by_one && by_four);
     Ok(())
+}
+
+// Whether there is a smaller graph, and it is the kernel of the triangle.
+fn is_reduced_triangle(reduced: &Option<Kernel>) -> bool {
+    match reduced {
+        Some(kernel) => is_kernel(kernel, 5, &TRIANGLE_CLASSES),
+        None => false,
+    }
 }
 
 #[test]
@@ -75,17 +95,15 @@ fn has_kernels_of_two_blocks<R: Threads + Sync>(
         return Ok(false);
     }
     let graph = Graph::build(alloc, list)?;
-    let by_one = kernel(rt, alloc, &graph, 1, &OpenGate)?;
-    let by_four = kernel(rt, alloc, &graph, 4, &OpenGate)?;
-    let open = none_is_certified(&graph, 2, 1) && !is_light(&graph);
-    Ok(open && is_of_two_blocks(&by_one) && is_of_two_blocks(&by_four))
+    let by_one = has_kernel(rt, alloc, &graph, 1, 2, &BLOCK_CLASSES)?;
+    let by_four = has_kernel(rt, alloc, &graph, 4, 2, &BLOCK_CLASSES)?;
+    Ok(by_one && by_four && none_is_certified(&graph, 2, 1) && !is_light(&graph, 2))
 }
 
 #[test]
 fn two_blocks_leave_a_light_kernel(rt: HostRuntime) -> Result<(), Fail> {
     let Some(list) = edges_of(rt.alloc(), TWO_BLOCKS) else {
-        assert!(rt; false);
-        return Ok(());
+        return Err(Fail::from("no graph"));
     };
     assert!(rt; has_kernels_of_two_blocks(&rt, rt.alloc(), &list)?);
     Ok(())

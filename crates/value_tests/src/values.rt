@@ -1,9 +1,7 @@
 //! The value by phases of scans, by a sweep of flows, and by all means together.
 
-ghost use Rattle.std.specs.Prelude.{◌≡◌, ◌≤◌, IfOk};
-
-use crate::graphs::{edges_of, uneven_triangle};
-use cut_definitions::{Edge, EdgeList, NoMemory};
+use crate::graphs::{edges_of, triangle_list, uneven_triangle};
+use cut_definitions::{EdgeList, NoMemory};
 use least_cut::{Swept, least_weight, least_weight_below, least_weight_within};
 use min_value::value;
 use outside::OpenGate;
@@ -12,17 +10,6 @@ use std::alloc::Global;
 use std::test::Fail;
 use std::thread::Threads;
 use weighted_graph::Graph;
-
-// The edges of the triangle with the weights 5, 1 and 4.
-fn triangle_list(alloc: Global) -> Result<EdgeList, NoMemory>
-    ensures { IfOk result (λ list. list.vertices ≡ 3) }
-{
-    let mut list = EdgeList::new(alloc, 3);
-    list.push(Edge { u: 1, v: 2, w: 5 })?;
-    list.push(Edge { u: 1, v: 3, w: 1 })?;
-    list.push(Edge { u: 2, v: 3, w: 4 })?;
-    Ok(list)
-}
 
 #[test]
 fn the_last_pair_of_a_triangle(rt: HostRuntime) -> Result<(), Fail> {
@@ -42,18 +29,25 @@ fn the_last_pair_of_a_triangle(rt: HostRuntime) -> Result<(), Fail> {
 fn values_by_phases(rt: HostRuntime) -> Result<(), Fail> {
     let list = triangle_list(rt.alloc())?;
     assert!(rt; plain_value(rt.alloc(), &list)? == 5);
-    let two = EdgeList::new(rt.alloc(), 2);
-    assert!(rt; plain_value(rt.alloc(), &two)? == 0);
     Ok(())
 }
 
 #[test]
 fn values_by_a_sweep(rt: HostRuntime) -> Result<(), Fail> {
     let graph = uneven_triangle(rt.alloc())?;
-    assert!(rt; least_weight(rt.alloc(), &graph)? == 5);
-    assert!(rt; least_weight_below(rt.alloc(), &graph, 3)? == 3);
-    let two = Graph::build(rt.alloc(), &EdgeList::new(rt.alloc(), 2))?;
-    assert!(rt; least_weight(rt.alloc(), &two)? == 0);
+    let least = least_weight(rt.alloc(), &graph)?;
+    let below = least_weight_below(rt.alloc(), &graph, 3)?;
+    assert!(rt; least == 5 && below == 3);
+    Ok(())
+}
+
+#[test]
+fn two_vertices_with_no_edge(rt: HostRuntime) -> Result<(), Fail> {
+    let list = EdgeList::new(rt.alloc(), 2);
+    let phases = plain_value(rt.alloc(), &list)?;
+    let graph = Graph::build(rt.alloc(), &list)?;
+    let least = least_weight(rt.alloc(), &graph)?;
+    assert!(rt; phases == 0 && least == 0);
     Ok(())
 }
 
@@ -74,8 +68,7 @@ fn keeps_its_limit(alloc: Global, list: &EdgeList) -> Result<bool, NoMemory> {
 #[test]
 fn a_sweep_is_cut_short(rt: HostRuntime) -> Result<(), Fail> {
     let Some(list) = edges_of(rt.alloc(), FOUR) else {
-        assert!(rt; false);
-        return Ok(());
+        return Err(Fail::from("no graph"));
     };
     assert!(rt; keeps_its_limit(rt.alloc(), &list)?);
     Ok(())
@@ -84,8 +77,9 @@ fn a_sweep_is_cut_short(rt: HostRuntime) -> Result<(), Fail> {
 #[test]
 fn the_value_of_a_triangle(rt: HostRuntime) -> Result<(), Fail> {
     let graph = uneven_triangle(rt.alloc())?;
-    assert!(rt; value(&rt, rt.alloc(), &graph, 1, &OpenGate)? == 5);
-    assert!(rt; value(&rt, rt.alloc(), &graph, 4, &OpenGate)? == 5);
+    let by_one = value(&rt, rt.alloc(), &graph, 1, &OpenGate)?;
+    let by_four = value(&rt, rt.alloc(), &graph, 4, &OpenGate)?;
+    assert!(rt; by_one == 5 && by_four == 5);
     Ok(())
 }
 
@@ -122,8 +116,7 @@ fn is_value<R: Threads + Sync>(
 fn values_of_files(rt: HostRuntime) -> Result<(), Fail> {
     for (text, known) in FILES {
         let Some(list) = edges_of(rt.alloc(), text) else {
-            assert!(rt; false);
-            return Ok(());
+            return Err(Fail::from("no graph"));
         };
         assert!(rt; is_value(&rt, rt.alloc(), &list, known)?);
     }

@@ -1,4 +1,4 @@
 use Rattle.value_tests.proofs.scans.the_least_of_a_tie_comes_first.Goals as goal
 
-pub is_next-requires : goal.is_next-requires
-is_next-requires g c = c.start.ensures.stands _ c.in_ok-scan.ensures.stands
+pub goes_from_third-requires : goal.goes_from_third-requires
+goes_from_third-requires g c = c.start.ensures.stands _ c.in_ok-scan.ensures.stands

@@ -1,0 +1,28 @@
+use Rattle.std.proofs.Common.{[], ◌∷◌, refl}
+use Rattle.cactus_tree.proofs.Built.{is_cactus}
+use Rattle.tree_tests.proofs.augments.rings_at_an_empty_node.Goals as goal
+
+pub from_root-requires : goal.from_root-requires
+from_root-requires c = is_cactus 6 c.in_ok-tree.tree ((1 ∷ []) ∷ (2 ∷ []) ∷ (3 ∷ []) ∷ [] ∷ (4 ∷ []) ∷ (5 ∷ []) ∷ (6 ∷ []) ∷ []) (3 ∷ 3 ∷ [])
+    (rw (
+      c.in_ok-tree.ensures.entered,
+      c.in_ok-root.ensures.entered,
+      c.in_ok-upper.ensures.entered,
+      c.in_ok-ends.ensures.entered,
+      c.in_ok-between.ensures.entered,
+      c.in_ok-empty.ensures.entered,
+      c.in_ok-lower.ensures.entered,
+    ) refl)
+    (rw (
+      c.in_ok-tree.ensures.widths,
+      c.in_ok-root.ensures.widths,
+      c.in_ok-upper.ensures.count,
+      c.in_ok-upper.ensures.widths,
+      c.in_ok-ends.ensures.count,
+      c.in_ok-ends.ensures.widths,
+      c.in_ok-between.ensures.widths,
+      c.in_ok-empty.ensures.widths,
+      c.in_ok-lower.ensures.count,
+      c.in_ok-lower.ensures.widths,
+    ) refl)
+    refl
