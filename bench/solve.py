@@ -310,7 +310,7 @@ def check_answer(job, out_file, graph_file, m, facts):
             check.equal('balance', int(found['balance']), facts['balance'])
         if job == 'balanced':
             side = list(map(int, found['side'].split()))
-            check.equal('size of the side', hand.balance(n, side), int(found['balance']))
+            check.equal('size of the side', hand.balance([1] * n, side), int(found['balance']))
             check.sides([side], edges, int(found['value']))
         if job == 'trial':
             check.equal('size', (int(found['vertices']), int(found['edges'])), (n, m))

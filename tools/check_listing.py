@@ -5,7 +5,8 @@
                            [--threads 4] [--workers 1,4,64]
 
 Each graph is given to one of the named jobs, in turn. `value`, `cuts`, `count` and `part U V` (random pairs, equal ones and numbers out of
-range among them) have one right text, and it is compared whole. `balanced` may print any side of best balance. `trial N` reads
+range among them) have one right text, and it is compared whole. Half of the graphs give their vertices weights, up to three and
+often 0, some with sizes before them; `cuts` asks for a least balance in half of its runs. `balanced` may print any side of best balance. `trial N` reads
 nothing and is compared with the formulas of its graph. Exit status 1 on any difference.
 """
 import argparse
@@ -18,8 +19,27 @@ import running
 JOBS = [job for job in running.JOBS if job != 'cactus']
 
 
-def words_of(rng, job, n):
+def leading_of(rng, n):
+    """(whether there are sizes, the words that begin each vertex line or None, the masses of the vertices)."""
+    count = rng.choice([0, 0, 1, 1, 2, 3])
+    sizes = count > 0 and rng.random() < 0.3
+    greatest = rng.choice([1, 3, 10, (1 << 64) - 1])
+    weigh = lambda: rng.choice([0, 1, rng.randrange(greatest + 1), greatest])
+    leading = [[rng.randrange(5)] * sizes + [weigh() for _ in range(count)] for _ in range(n)]
+    masses = [words[int(sizes)] for words in leading] if count else [1] * n
+    return sizes, leading if count and n else None, masses
+
+
+def least_of(rng, masses):
+    """A least balance that is asked for: near the halves of the masses of some vertices."""
+    some = sum(mass for mass in masses if rng.random() < 0.4)
+    return max(0, min((1 << 64) - 1, rng.choice([0, 1, some, some + 1, sum(masses) // 2])))
+
+
+def words_of(rng, job, n, masses):
     """The words of the command."""
+    if job == 'cuts' and rng.random() < 0.5:
+        return ['cuts', '--least', str(least_of(rng, masses))]
     if job == 'trial':
         return ['trial', str(rng.choice([12, 13, 15, 16, 2000, 4000, rng.randrange(12, 20001)]))]
     if job != 'part':
@@ -45,13 +65,13 @@ def trial_text(number):
     return lines(*(f'{name} {fact}' for name, fact in hand.trial_facts(number).items()))
 
 
-def wanted(words, graph):
+def wanted(words, graph, masses):
     """The right answers: (status, list of the texts on standard output that are right, standard error)."""
     job = words[0]
     n = graph[0]
     if job == 'trial':
         return 0, [trial_text(int(words[1]))], ''
-    for number in map(int, words[1:]):
+    for number in map(int, words[1:] if job == 'part' else []):
         if not 1 <= number <= n:
             return 7, [''], lines(f'vertex {number} not in 1..{n}')
     if n < 2:
@@ -65,12 +85,14 @@ def wanted(words, graph):
     if job == 'count':
         return 0, [lines(f'value {value}', f'count {len(sides)}')], ''
     if job == 'balanced':
-        best = max(hand.balance(n, side) for side in sides)
-        right = [side for side in sides if hand.balance(n, side) == best]
+        best = max(hand.balance(masses, side) for side in sides)
+        right = [side for side in sides if hand.balance(masses, side) == best]
         return 0, [lines(f'value {value}', f'balance {best}', 'side ' + ' '.join(map(str, side))) for side in right], ''
     if job == 'part':
         u, v = map(int, words[1:])
         sides = [side for side in sides if (u in side) != (v in side)]
+    if len(words) > 1 and job == 'cuts':
+        sides = [side for side in sides if hand.balance(masses, side) >= int(words[2])]
     return 0, [listing(value, sides)], ''
 
 
@@ -85,6 +107,8 @@ def kind_of_answer(words, right):
     if words[0] == 'part':
         equal = int(words[1]) == int(words[2])
         return 'part: equal vertices' if equal else 'part: no cut parts them' if 'cuts 0\n' in outs[0] else 'part: some cuts'
+    if words[0] == 'cuts' and len(words) > 1:
+        return 'cuts of a least balance: none' if 'cuts 0\n' in outs[0] else 'cuts of a least balance: some'
     return words[0] + ': an answer'
 
 
@@ -92,10 +116,11 @@ def check(program, job, seed, options):
     """(names to count, what differs or None) of one random graph."""
     rng = random.Random(seed)
     kind, graph = hand.random_graph(rng, options.most)
-    words = words_of(rng, job, graph[0])
-    right = wanted(words, graph)
+    sizes, leading, masses = leading_of(rng, graph[0])
+    words = words_of(rng, job, graph[0], masses)
+    right = wanted(words, graph, masses)
     words += running.worker_words(options, rng)
-    text = '' if job == 'trial' else hand.metis_text(graph)
+    text = '' if job == 'trial' else hand.metis_text(graph, leading, sizes)
     status, out, err = running.run_program(program, words, text)
     wrong = None
     if status != right[0] or out not in right[1] or err != right[2]:

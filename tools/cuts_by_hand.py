@@ -218,23 +218,26 @@ def random_graph(rng, most=10):
     return name, graph
 
 
-def metis_lines(graph):
+def metis_lines(graph, leading=None, sizes=False):
     """The lines of the graph as METIS text, with weights only where some edge does not weigh 1. The ends of an edge may stand in
-    either order."""
+    either order. Where `leading` is given it has the words that begin each vertex line: a size, if there are sizes, and weights."""
     n, edges = graph
     weighted = any(w != 1 for _, _, w in edges)
     rows = [[] for _ in range(n)]
     for u, v, w in edges:
         rows[u - 1].append((v, w))
         rows[v - 1].append((u, w))
-    yield f'{n} {len(edges)}' + (' 001\n' if weighted else '\n')
-    for row in rows:
+    count = len(leading[0]) - sizes if leading else 0
+    form = f'{int(sizes)}{int(count > 0)}{int(weighted)}'
+    yield f'{n} {len(edges)}' + (f' {form} {count}\n' if count > 1 else f' {form}\n' if form != '000' else '\n')
+    for i, row in enumerate(rows):
         row.sort()
-        yield ' '.join(f'{v} {w}' if weighted else str(v) for v, w in row) + '\n'
+        before = [str(word) for word in leading[i]] if leading else []
+        yield ' '.join(before + [f'{v} {w}' if weighted else str(v) for v, w in row]) + '\n'
 
 
-def metis_text(graph):
-    return ''.join(metis_lines(graph))
+def metis_text(graph, leading=None, sizes=False):
+    return ''.join(metis_lines(graph, leading, sizes))
 
 
 def read_metis(text):
@@ -295,8 +298,10 @@ def trial_facts(number):
     return {'vertices': 4 * k, 'edges': 5 * k, 'value': 4, 'count': k * (k - 1) // 2 + 2 * k, 'balance': 4 * (k // 2)}
 
 
-def balance(n, side):
-    return min(len(side), n - len(side))
+def balance(masses, side):
+    """The lesser of the masses of the two sides of a cut, where the masses of the vertices stand in their order."""
+    mass = sum(masses[v - 1] for v in side)
+    return min(mass, sum(masses) - mass)
 
 
 def crossing(sides):
