@@ -20,10 +20,12 @@ import tempfile
 import running
 
 TRIANGLE = '3 3\n2 3\n1 3\n1 2\n'
+MASSES = '4 3 10\n9 2\n1 1 3\n1 2 4\n1 3\n'
 TWO_CYCLES = '6 8 1\n2 2 4 1 6 1\n1 2 3 2\n2 2 4 1 6 1\n1 1 3 1 5 2\n4 2 6 2\n1 1 3 1 5 2\n'
 
 CASES = [(['value'], TRIANGLE), (['cuts'], TRIANGLE), (['cactus'], TRIANGLE), (['cuts'], TWO_CYCLES), (['cactus'], TWO_CYCLES),
-         (['count'], TWO_CYCLES), (['part', '2', '5'], TWO_CYCLES), (['balanced'], TWO_CYCLES), (['trial', '1000'], '')]
+         (['count'], TWO_CYCLES), (['part', '2', '5'], TWO_CYCLES), (['balanced'], TWO_CYCLES),
+         (['cuts', '--least', '2'], MASSES), (['trial', '1000'], '')]
 
 SHIM = r'''
 #define _GNU_SOURCE
@@ -105,13 +107,15 @@ def is_before_main(answer):
 
 def bound_space(program, words, text, whole, step):
     """(runs, runs that ended with status 5, what is wrong) under bounds of the address space from small to ample."""
-    runs, refused, wrong, kilobytes, answered = 0, 0, [], step, 0
+    runs, refused, wrong, kilobytes, answered, told = 0, 0, [], step, 0, False
     while answered < 3 and kilobytes < 4_000_000:
         answer = run(program, words, text, None, kilobytes)
         runs += 1
         refused += answer[0] == 5
         answered = answered + 1 if answer == whole else 0
-        if not is_right(answer, whole) and not is_before_main(answer) and not (answer[0] in (-11, -9, -6) and refused == 0):
+        told = told or answer[2] != '' and not is_before_main(answer)
+        makes_words = answer == (5, '', '') and not told
+        if not is_right(answer, whole) and not makes_words and not is_before_main(answer) and not (answer[0] in (-11, -9, -6) and refused == 0):
             wrong.append(f'{kilobytes} KB for {words}: {answer}')
         kilobytes += step
     return runs, refused, wrong
