@@ -9,3 +9,4 @@ pub mod Gathered
 pub mod Rows
 pub mod Totals
 pub mod Best
+pub mod Counted
