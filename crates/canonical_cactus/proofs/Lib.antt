@@ -16,4 +16,9 @@ pub mod Ordered
 pub mod Stars
 pub mod Draws
 pub mod Canonicals
+pub mod MinTrees
+pub mod Firsts
 pub mod FirstBest
+pub mod Compared
+pub mod Bands
+pub mod Searched

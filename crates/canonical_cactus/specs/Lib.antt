@@ -5,3 +5,4 @@ pub mod Standing
 pub mod Taken
 pub mod Making
 pub mod FirstBest
+pub mod Minima

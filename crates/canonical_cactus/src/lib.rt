@@ -20,7 +20,8 @@
 //! level.
 //!
 //! `first_best` tells one side in the same way: of the sides of best balance the first, so it is a function of the sides
-//! and the masses alone. It weighs each cut, and puts the sides of best balance side by side.
+//! and the masses alone. It goes over the cuts of best balance only, and compares two sides by the least vertices of a few
+//! ranges, which trees of minima (`minima`) tell.
 #![tactic(auto)]
 
 ghost use Rattle.std.specs.Prelude.{◌≡◌};
@@ -30,6 +31,7 @@ mod entries;
 mod first_side;
 pub mod laws;
 mod making;
+mod minima;
 mod order;
 mod parts;
 mod put;

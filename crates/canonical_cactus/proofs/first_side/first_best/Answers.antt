@@ -1,71 +1,41 @@
--- The search begins with any best side, and has compared it with all others behind the last border.
-use Rattle.std.proofs.Common.{◌+◌, ◌∙◌, ap, subst, sym, arith}
-use Rattle.cut_definitions.specs.Cuts.{has}
+-- The first of all sides of best balance was found, since there is one.
+use Rattle.std.proofs.Common.{Some, ◌≡◌, ◌∙◌, length, ap, subst, sym, arith}
+use Rattle.std.proofs.lemmas.Result.{IfOk-weaker}
+use Rattle.balanced_cut.specs.Ends.{range_of}
+use Rattle.balanced_cut.proofs.Moving.{best_fits}
+use Rattle.cactus_tree.specs.Places.{side_at}
 use Rattle.cactus_tree.specs.Rooted.{sides_of}
-use Rattle.cactus_tree.proofs.Once.{each_there}
-use Rattle.balanced_cut.specs.Ends.{IsScaleOf}
-use Rattle.canonical_cactus.proofs.FirstBest.{IsKnown, known_begins, known_count, known_ends, known_ranked}
-use Rattle.canonical_cactus.specs.declared.first_side.Ranked.{Ranked}
+use Rattle.canonical_cactus.specs.FirstBest.{IsFirstBest, IsFound, IsNotAfter, IsRanked, count_of}
+use Rattle.canonical_cactus.proofs.Searched.{known_ends, known_ranked, known_some}
 use Rattle.canonical_cactus.proofs.first_side.first_best.Goals as goal
 
-pub starts-init : goal.starts-init
-starts-init c =
-    let n = c.args.cactus.now.vertices in
-    let masses = c.args.weights.now in
-    let sides = sides_of c.args.cactus.now in
-    let k : Ranked = record { places = c.in_ok-places.places; scale = c.in_ok-scale.scale; high = c.balance_of-high.result } in
-    let known : IsKnown n masses sides k = record {
-      counted = c.requires.weights;
-      long = c.in_ok-places.ensures.long;
-      vertices = c.in_ok-places.ensures.vertices;
-      once = c.in_ok-places.ensures.once;
-      every = λ v l m. ap (λ xs. has xs v) c.in_ok-places.ensures.order ∙ each_there n c.args.cactus.now.root c.n-n.ensures.cactus v l m;
-      borders = c.in_ok-places.ensures.borders;
-      chained = c.in_ok-places.ensures.chained;
-      scale = subst (λ o. IsScaleOf masses o c.in_ok-scale.scale) c.deref.ensures.value c.in_ok-scale.ensures;
-      shown = c.in_ok-places.ensures.sides;
-    } in
-    record {
-      last = omega (arith, c.len-start-end.ensures, c.in_ok-places.places.borders.ok.0);
-      n = c.in_ok-least.ensures.n ∙ sym (known_count n masses sides k known);
-      search = known_begins n masses sides k c.in_ok-least.least.members known c.in_ok-least.ensures.best c.balance_of-high.ensures;
-    }
+pub first-requires : goal.first-requires
+first-requires c = record {
+  ranked = known_ranked c.args.cactus.now.vertices c.args.weights.now (sides_of c.args.cactus.now) c.in_ok-ranked.ranked c.in_ok-some.some.members c.in_ok-ranked.ensures.cuts c.in_ok-some.ensures.best (c.in_ok-ranked.ensures.high ∙ c.balance_of-high.ensures);
+}
 
-pub first_from-requires-clause-ranked : goal.first_from-requires-clause-ranked
-first_from-requires-clause-ranked c =
-    let n = c.args.cactus.now.vertices in
-    let masses = c.args.weights.now in
-    let sides = sides_of c.args.cactus.now in
-    let k : Ranked = record { places = c.in_ok-places.places; scale = c.in_ok-scale.scale; high = c.balance_of-high.result } in
-    let known : IsKnown n masses sides k = record {
-      counted = c.requires.weights;
-      long = c.in_ok-places.ensures.long;
-      vertices = c.in_ok-places.ensures.vertices;
-      once = c.in_ok-places.ensures.once;
-      every = λ v l m. ap (λ xs. has xs v) c.in_ok-places.ensures.order ∙ each_there n c.args.cactus.now.root c.n-n.ensures.cactus v l m;
-      borders = c.in_ok-places.ensures.borders;
-      chained = c.in_ok-places.ensures.chained;
-      scale = subst (λ o. IsScaleOf masses o c.in_ok-scale.scale) c.deref.ensures.value c.in_ok-scale.ensures;
-      shown = c.in_ok-places.ensures.sides;
-    } in
-    known_ranked n masses sides k known
+pub side_at_span-requires-clause-to : goal.side_at_span-requires-clause-to
+side_at_span-requires-clause-to c =
+    let k = c.in_ok-ranked.ranked in
+    let ranked : IsRanked k = known_ranked c.args.cactus.now.vertices c.args.weights.now (sides_of c.args.cactus.now) c.in_ok-ranked.ranked c.in_ok-some.some.members c.in_ok-ranked.ensures.cuts c.in_ok-some.ensures.best (c.in_ok-ranked.ensures.high ∙ c.balance_of-high.ensures) in
+    let found : IsFound k (Some c.in-Some.span) = subst (IsFound k) c.in-Some.is c.first.ensures.found in
+    let fits = best_fits (count_of k) k.places.borders.items (range_of c.in-Some.span) ranked.borders ranked.chained found.0 in
+    omega (arith, fits.1, ranked.long, ap length c.deref.ensures.value)
 
-pub returns-clause-first : goal.returns-clause-first
-returns-clause-first c =
+pub returns-in-Some-clause-first : goal.returns-in-Some-clause-first
+returns-in-Some-clause-first c =
+    let k = c.in_ok-ranked.ranked in
     let n = c.args.cactus.now.vertices in
-    let masses = c.args.weights.now in
-    let sides = sides_of c.args.cactus.now in
-    let k : Ranked = record { places = c.in_ok-places.places; scale = c.in_ok-scale.scale; high = c.balance_of-high.result } in
-    let known : IsKnown n masses sides k = record {
-      counted = c.requires.weights;
-      long = c.in_ok-places.ensures.long;
-      vertices = c.in_ok-places.ensures.vertices;
-      once = c.in_ok-places.ensures.once;
-      every = λ v l m. ap (λ xs. has xs v) c.in_ok-places.ensures.order ∙ each_there n c.args.cactus.now.root c.n-n.ensures.cactus v l m;
-      borders = c.in_ok-places.ensures.borders;
-      chained = c.in_ok-places.ensures.chained;
-      scale = subst (λ o. IsScaleOf masses o c.in_ok-scale.scale) c.deref.ensures.value c.in_ok-scale.ensures;
-      shown = c.in_ok-places.ensures.sides;
-    } in
-    known_ends n masses sides k c.in_ok-least.least.members c.starts.least.members c.starts.start (c.starts.start + 1) known c.in_ok-least.ensures.best c.balance_of-high.ensures
-    (omega (arith, c.starts-test.false, c.starts.invariant.last)) c.starts.invariant.search
+    let span = c.in-Some.span in
+    let first : IsFirstBest c.args.weights.now (sides_of c.args.cactus.now) (side_at n k.places.order.items (range_of span)) =
+    known_ends c.args.cactus.now.vertices c.args.weights.now (sides_of c.args.cactus.now) c.in_ok-ranked.ranked c.in_ok-some.some.members span c.in_ok-ranked.ensures.cuts c.in_ok-some.ensures.best (c.in_ok-ranked.ensures.high ∙ c.balance_of-high.ensures)
+    (subst (IsFound k) c.in-Some.is c.first.ensures.found) (λ r member wanted. subst (λ o. IsNotAfter k o r) c.in-Some.is (c.first.ensures.first r member wanted)) in
+    let is : side_at c.n.result c.deref.result.now (range_of span) ≡ side_at n k.places.order.items (range_of span) =
+    ap (λ m. side_at m c.deref.result.now (range_of span)) c.n.ensures.value ∙ ap (λ o. side_at n o (range_of span)) c.deref.ensures.value in
+    IfOk-weaker c.side_at_span.result _ _ (λ s h. subst (IsFirstBest c.args.weights.now (sides_of c.args.cactus.now)) (sym (h ∙ is)) first) c.side_at_span.ensures.side
+
+pub returns-in-None-clause-first : goal.returns-in-None-clause-first
+returns-in-None-clause-first c =
+    let k = c.in_ok-ranked.ranked in
+    absurd (known_some c.args.cactus.now.vertices c.args.weights.now (sides_of c.args.cactus.now) c.in_ok-ranked.ranked c.in_ok-some.some.members c.in_ok-ranked.ensures.cuts c.in_ok-some.ensures.best (c.in_ok-ranked.ensures.high ∙ c.balance_of-high.ensures)
+    (λ r member wanted. subst (λ o. IsNotAfter k o r) c.in-None.is (c.first.ensures.first r member wanted)))
