@@ -164,9 +164,9 @@ impl Body {
             → BodyShows self.new header (done ++ record { number = line; mass = self.old.mass; entries = here } ∷ []) all }
     {
         sort_row(self.greater.as_mut_slice(), self.start);
-        let _ = self.numbers.push(line);
-        let _ = self.cursors.push(self.start as u32);
-        let _ = self.masses.push(self.mass);
+        self.numbers.push_reserved(line);
+        self.cursors.push_reserved(self.start as u32);
+        self.masses.push_reserved(self.mass);
         self.mass = 1;
         self.start = self.greater.len();
     }
@@ -239,14 +239,14 @@ impl Body {
         self.total += w;
         self.entries += 1;
         if vertex < neighbour {
-            let _ = self.greater.push(Edge {
+            self.greater.push_reserved(Edge {
                 u: vertex,
                 v: neighbour,
                 w,
             });
             return;
         }
-        let _ = self.lesser.push(Edge {
+        self.lesser.push_reserved(Edge {
             u: neighbour,
             v: vertex,
             w,

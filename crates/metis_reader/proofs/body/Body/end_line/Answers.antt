@@ -20,7 +20,7 @@ greater_is : (c : After-len-self) → greater_now c ≡ c.sort_row.new.edges
 greater_is c = take_at c.sort_row.new.edges (drop (length c.sort_row.new.edges) c.args.self.now.greater.items) c.args.self.now.greater.len
     (c.sort_row.auto.edges ∙ c.as_mut_slice.ensures.len)
 
-cursors_are : (c : After-len-self) → c.push-2.new.self.items ≡ c.args.self.now.cursors.items ++ c.args.self.now.start ∷ []
+cursors_are : (c : After-len-self) → c.push_reserved-2.new.self.items ≡ c.args.self.now.cursors.items ++ c.args.self.now.start ∷ []
 cursors_are c = grind (arith, common_steps)
 
 length_is : (c : After-len-self) → length (greater_now c) ≡ length c.args.self.now.greater.items
@@ -34,7 +34,7 @@ ends c =
     (subst (λ xs. IsPermutation (drop b.start b.greater.items) (drop b.start xs)) (sym (greater_is c))
     (subst (λ xs. IsPermutation (drop b.start xs) (drop b.start c.sort_row.new.edges)) c.as_mut_slice.ensures.value c.sort_row.ensures.row))
 
-same_met : (c : After-len-self) → with_met (greater_now c) c.push-2.new.self.items c.args.self.now.lesser.items ≡ with_met c.args.self.now.greater.items c.args.self.now.cursors.items c.args.self.now.lesser.items
+same_met : (c : After-len-self) → with_met (greater_now c) c.push_reserved-2.new.self.items c.args.self.now.lesser.items ≡ with_met c.args.self.now.greater.items c.args.self.now.cursors.items c.args.self.now.lesser.items
 same_met c =
     let e = ends c in
     ap (λ cursors. with_met (greater_now c) cursors c.args.self.now.lesser.items) (cursors_are c) ∙ ap (λ xs. xs ++ c.args.self.now.lesser.items) e.met
@@ -61,7 +61,7 @@ invariant_of-self-clause-finished_rows c =
 pub invariant_of-self-clause-open_row : goal.invariant_of-self-clause-open_row
 invariant_of-self-clause-open_row c =
     let end : length (greater_now c) ≡ c.len-self.result = at_end c in
-    All-same (IsOfNext (length c.push-2.new.self.items)) (drop c.len-self.result (greater_now c)) [] (drop_all c.len-self.result (greater_now c) (omega arith)) (All-nil (IsOfNext (length c.push-2.new.self.items)))
+    All-same (IsOfNext (length c.push_reserved-2.new.self.items)) (drop c.len-self.result (greater_now c)) [] (drop_all c.len-self.result (greater_now c) (omega arith)) (All-nil (IsOfNext (length c.push_reserved-2.new.self.items)))
 
 pub invariant_of-self-clause-total_is : goal.invariant_of-self-clause-total_is
 invariant_of-self-clause-total_is c =
@@ -76,10 +76,10 @@ invariant_of-self-clause-greater_within c =
     let e = ends c in
     All-permutation (IsEdgeWithin c.args.self.now.header.vertices) c.args.self.now.greater.items (greater_now c) e.moved c.args.self.now.greater_within
 
-numbers_are : (c : After-len-self) → c.push.new.self.items ≡ c.args.self.now.numbers.items ++ c.args.line ∷ []
+numbers_are : (c : After-len-self) → c.push_reserved.new.self.items ≡ c.args.self.now.numbers.items ++ c.args.line ∷ []
 numbers_are c = grind (arith, common_steps)
 
-masses_are : (c : After-len-self) → c.push-3.new.self.items ≡ c.args.self.now.masses.items ++ c.args.self.now.mass ∷ []
+masses_are : (c : After-len-self) → c.push_reserved-3.new.self.items ≡ c.args.self.now.masses.items ++ c.args.self.now.mass ∷ []
 masses_are c = grind (arith, common_steps)
 
 pub returns-clause-shows : goal.returns-clause-shows

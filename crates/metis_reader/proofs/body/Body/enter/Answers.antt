@@ -16,20 +16,20 @@ use Rattle.metis_reader.specs.Meeting.{met_from, with_met, IsOfFinished, IsOfNex
 use Rattle.metis_reader.proofs.Table.{met_pushed, open_pushed, front_pushed, weight_pushed, shows_up, shows_down}
 use Rattle.metis_reader.proofs.Faults.{Sizes, sizes}
 use Rattle.metis_reader.proofs.body.Body.enter.Goals as goal
-use Rattle.metis_reader.proofs.body.Body.enter.Goals.{After-push, After-push-2}
+use Rattle.metis_reader.proofs.body.Body.enter.Goals.{After-push_reserved, After-push_reserved-2}
 
 -- An entry to a greater neighbour.
 
-abbrev up_edge : After-push → Edge
+abbrev up_edge : After-push_reserved → Edge
 up_edge c = record { u = c.vertex-vertex.result; v = c.args.neighbour; w = c.args.w }
 
-up_items : (c : After-push) → c.push.new.self.items ≡ c.args.self.now.greater.items ++ up_edge c ∷ []
+up_items : (c : After-push_reserved) → c.push_reserved.new.self.items ≡ c.args.self.now.greater.items ++ up_edge c ∷ []
 up_items c = grind (arith, common_steps)
 
-up_next : (c : After-push) → IsOfNext (length c.args.self.now.cursors.items) (up_edge c)
+up_next : (c : After-push_reserved) → IsOfNext (length c.args.self.now.cursors.items) (up_edge c)
 up_next c = c.vertex-vertex.ensures ∙ ap (λ n. suc n) (sym c.args.self.now.cursors_of_lines)
 
-up_met : (c : After-push) → with_met c.push.new.self.items c.args.self.now.cursors.items c.args.self.now.lesser.items ≡ with_met c.args.self.now.greater.items c.args.self.now.cursors.items c.args.self.now.lesser.items
+up_met : (c : After-push_reserved) → with_met c.push_reserved.new.self.items c.args.self.now.cursors.items c.args.self.now.lesser.items ≡ with_met c.args.self.now.greater.items c.args.self.now.cursors.items c.args.self.now.lesser.items
 up_met c = ap (λ xs. with_met xs c.args.self.now.cursors.items c.args.self.now.lesser.items) (up_items c)
     ∙ ap (λ xs. xs ++ c.args.self.now.lesser.items) (met_pushed c.args.self.now.cursors.items c.args.self.now.greater.items (up_edge c) (up_next c))
 
@@ -44,7 +44,7 @@ invariant_of-self-clause-counted c =
     let b = c.args.self.now in
     more b.entries (length b.greater.items) (length (with_met b.greater.items b.cursors.items b.lesser.items)) b.counted
     ∙ ap (λ n. n + length (with_met b.greater.items b.cursors.items b.lesser.items)) (sym (ap length (up_items c) ∙ length_push b.greater.items (up_edge c)))
-    ∙ ap (λ xs. length c.push.new.self.items + length xs) (sym (up_met c))
+    ∙ ap (λ xs. length c.push_reserved.new.self.items + length xs) (sym (up_met c))
 
 pub invariant_of-self-clause-finished_rows : goal.invariant_of-self-clause-finished_rows
 invariant_of-self-clause-finished_rows c =
@@ -64,7 +64,7 @@ invariant_of-self-clause-total_is c =
     let rest : ℕ = sum_by (λ (e : Edge). e.w) (with_met b.greater.items b.cursors.items b.lesser.items) in
     heavier b.total (sum_by (λ (e : Edge). e.w) b.greater.items) rest c.args.w b.total_is
     ∙ ap (λ n. n + rest) (sym (ap (λ xs. sum_by (λ (e : Edge). e.w) xs) (up_items c) ∙ weight_pushed b.greater.items (up_edge c)))
-    ∙ ap (λ xs. sum_by (λ (e : Edge). e.w) c.push.new.self.items + sum_by (λ (e : Edge). e.w) xs) (sym (up_met c))
+    ∙ ap (λ xs. sum_by (λ (e : Edge). e.w) c.push_reserved.new.self.items + sum_by (λ (e : Edge). e.w) xs) (sym (up_met c))
 
 pub invariant_of-self-clause-greater_within : goal.invariant_of-self-clause-greater_within
 invariant_of-self-clause-greater_within c =
@@ -81,7 +81,7 @@ falls v n h = grind (arith, nat_tests)
 
 pub returns-then-vertex-neighbour-clause-shows : goal.returns-then-vertex-neighbour-clause-shows
 returns-then-vertex-neighbour-clause-shows c = λ header done all shows.
-    let at = (goal.at.returns-then-vertex-neighbour-clause-shows c).After-push in
+    let at = (goal.at.returns-then-vertex-neighbour-clause-shows c).After-push_reserved in
     let size : Sizes c.args.self.now header done all = sizes c.args.self.now header done all shows in
     let is : c.vertex-vertex.result ≡ vertex done = c.vertex-vertex.ensures ∙ sym size.vertex in
     let entry : Entry = record { from = vertex done; to = c.args.neighbour; weight = c.args.w } in
@@ -91,13 +91,13 @@ returns-then-vertex-neighbour-clause-shows c = λ header done all shows.
 
 -- An entry to a lesser one.
 
-abbrev down_edge : After-push-2 → Edge
+abbrev down_edge : After-push_reserved-2 → Edge
 down_edge c = record { u = c.args.neighbour; v = c.vertex-vertex.result; w = c.args.w }
 
-down_items : (c : After-push-2) → c.push-2.new.self.items ≡ c.args.self.now.lesser.items ++ down_edge c ∷ []
+down_items : (c : After-push_reserved-2) → c.push_reserved-2.new.self.items ≡ c.args.self.now.lesser.items ++ down_edge c ∷ []
 down_items c = grind (arith, common_steps)
 
-down_met : (c : After-push-2) → with_met c.args.self.now.greater.items c.args.self.now.cursors.items c.push-2.new.self.items
+down_met : (c : After-push_reserved-2) → with_met c.args.self.now.greater.items c.args.self.now.cursors.items c.push_reserved-2.new.self.items
     ≡ with_met c.args.self.now.greater.items c.args.self.now.cursors.items c.args.self.now.lesser.items ++ down_edge c ∷ []
 down_met c = ap (λ xs. with_met c.args.self.now.greater.items c.args.self.now.cursors.items xs) (down_items c)
     ∙ sym (append_assoc (met_from 0 c.args.self.now.cursors.items c.args.self.now.greater.items) c.args.self.now.lesser.items (down_edge c ∷ []))
@@ -133,8 +133,8 @@ invariant_of-self-2-clause-lesser_within c =
     (All-push (IsEdgeWithin b.header.vertices) b.lesser.items (down_edge c) b.lesser_within
     (c.requires.can_enter.from_one, other c.args.neighbour c.vertex-vertex.result (λ same. c.requires.can_enter.is_other (same ∙ is)) c.if-vertex-neighbour.false, omega (arith, c.requires.line), c.requires.positive))
 
-moved : (c : After-push-2) (v : ℕ) → c.vertex-vertex.result ≡ v → (now : List Edge)
-    → IsPermutation (with_met c.args.self.now.greater.items c.args.self.now.cursors.items c.push-2.new.self.items) now
+moved : (c : After-push_reserved-2) (v : ℕ) → c.vertex-vertex.result ≡ v → (now : List Edge)
+    → IsPermutation (with_met c.args.self.now.greater.items c.args.self.now.cursors.items c.push_reserved-2.new.self.items) now
     → IsPermutation (with_met c.args.self.now.greater.items c.args.self.now.cursors.items c.args.self.now.lesser.items ++ record { u = c.args.neighbour; v = v; w = c.args.w } ∷ []) now
 moved c v is now h =
     subst (λ (v : ℕ). IsPermutation (with_met c.args.self.now.greater.items c.args.self.now.cursors.items c.args.self.now.lesser.items ++ record { u = c.args.neighbour; v = v; w = c.args.w } ∷ []) now) is
@@ -142,7 +142,7 @@ moved c v is now h =
 
 pub returns-then-len-self-ge-BATCH-clause-shows : goal.returns-then-len-self-ge-BATCH-clause-shows
 returns-then-len-self-ge-BATCH-clause-shows c = λ header done all shows.
-    let at = (goal.at.returns-then-len-self-ge-BATCH-clause-shows c).After-push-2 in
+    let at = (goal.at.returns-then-len-self-ge-BATCH-clause-shows c).After-push_reserved-2 in
     let size : Sizes c.args.self.now header done all = sizes c.args.self.now header done all shows in
     let is : c.vertex-vertex.result ≡ vertex done = c.vertex-vertex.ensures ∙ sym size.vertex in
     let entry : Entry = record { from = vertex done; to = c.args.neighbour; weight = c.args.w } in
@@ -152,11 +152,11 @@ returns-then-len-self-ge-BATCH-clause-shows c = λ header done all shows.
 
 pub returns-else-len-self-ge-BATCH-clause-shows : goal.returns-else-len-self-ge-BATCH-clause-shows
 returns-else-len-self-ge-BATCH-clause-shows c = λ header done all shows.
-    let at = (goal.at.returns-else-len-self-ge-BATCH-clause-shows c).After-push-2 in
+    let at = (goal.at.returns-else-len-self-ge-BATCH-clause-shows c).After-push_reserved-2 in
     let size : Sizes c.args.self.now header done all = sizes c.args.self.now header done all shows in
     let is : c.vertex-vertex.result ≡ vertex done = c.vertex-vertex.ensures ∙ sym size.vertex in
     let entry : Entry = record { from = vertex done; to = c.args.neighbour; weight = c.args.w } in
-    let same : List Edge = with_met c.args.self.now.greater.items c.args.self.now.cursors.items c.push-2.new.self.items in
+    let same : List Edge = with_met c.args.self.now.greater.items c.args.self.now.cursors.items c.push_reserved-2.new.self.items in
     shows_down c.args.self.now _ header done all entry (record { header = refl; numbers = refl; masses = refl })
     (subst (λ v. nat_lt v c.args.neighbour ≡ false) is (falls c.vertex-vertex.result c.args.neighbour c.if-vertex-neighbour.false))
     refl (moved at (vertex done) is same (IsPermutation-refl same)) refl shows
