@@ -7,6 +7,7 @@ ghost use Rattle.scan_forest.specs.Scan.{StandsFor};
 ghost use Rattle.round_workers.specs.Round.{SomeIsMarked};
 ghost use Rattle.min_value.specs.Kernels.{NoneIsCertified, IsKept, IsLight};
 
+use crate::bare::is_bare;
 use crate::kept_graph::{contract_safely, round_at_value};
 use cut_definitions::NoMemory;
 use mark_board::Marks;
@@ -127,8 +128,8 @@ fn scan_once(alloc: Global, graph: &Graph, value: u64) -> Result<Option<(Graph, 
 }
 
 /// Whole scans and their contractions, as long as each takes away a tenth of the vertices. It answers what is left and the
-/// labels that lead there, or none where the first scan marks nothing, and the graph is light then. There are O(log n) scans,
-/// each of O((n + m) log n).
+/// labels that lead there, or none where the graph is bare or the first scan marks nothing, and the graph is light then. There
+/// are O(log n) scans, each of O((n + m) log n).
 pub(crate) fn contract_by_scans(
     alloc: Global,
     graph: &Graph,
@@ -139,6 +140,9 @@ pub(crate) fn contract_by_scans(
     ensures kept { IfOk result (λ found. IfSome found (λ r. IsKept graph.now value r.0 r.1)) }
     ensures light { IfOk result (λ found. IfNone found (IsLight graph.now value)) }
 {
+    if is_bare(graph, value) {
+        return Ok(None);
+    }
     let Some((mut small, mut labels)) = scan_once(alloc, graph, value)? else {
         return Ok(None);
     };

@@ -4,6 +4,7 @@
 //! and Orlin (1994). All memory is O(n + m).
 #![tactic(auto)]
 
+mod bare;
 mod closing;
 mod kept_graph;
 mod kernels;

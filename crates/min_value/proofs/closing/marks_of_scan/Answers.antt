@@ -1,4 +1,4 @@
-use Rattle.std.proofs.Common.{◌+◌, arith}
+use Rattle.std.proofs.Common.{arith}
 use Rattle.round_workers.proofs.Marking.{fair_small}
 use Rattle.min_value.proofs.Kept.{fair_is}
 use Rattle.min_value.proofs.closing.marks_of_scan.Goals as goal
