@@ -1,5 +1,5 @@
 -- A tree whose nodes all have a vertex, and whose cycles are wide enough, is normal.
-use Rattle.std.proofs.Common.{ne_eqb, ◌≡◌, ℕ, suc, ◌≤◌, Bool, true, false, ◌&&◌, List, [], ◌∷◌, ◌++◌, length, map, reverse, take, drop, IsPermutation, refl, sym, ◌∙◌, subst, ap, arith}
+use Rattle.std.proofs.Common.{ne_eqb, ◌≡◌, ℕ, suc, ◌≤◌, Bool, true, false, ◌&&◌, List, [], ◌∷◌, ◌++◌, length, map, take, drop, IsPermutation, refl, sym, ◌∙◌, subst, ap, arith}
 use Rattle.std.specs.List.{All, AllByRecursion, Contains, flat_map, list_all}
 use Rattle.std.proofs.lemmas.List.{append-nil, length-map}
 use Rattle.std.proofs.lemmas.List.Elements.{All-cons, All-head, All-nil, All-tail}

@@ -1,14 +1,14 @@
 -- The tree of a smaller graph with the vertices of each class in place of the class.
-use Rattle.std.proofs.Common.{◌≡◌, ℕ, zero, suc, ◌+◌, ◌-◌, ◌<◌, ◌≤◌, ⊎_elim, Bool, true, false, List, ◌∷◌, length, map, get_or, refl, sym, ◌∙◌, subst, ap, arith}
-use Rattle.std.specs.List.{All, Contains}
+use Rattle.std.proofs.Common.{◌≡◌, ℕ, zero, suc, ◌+◌, ◌-◌, ◌<◌, ◌≤◌, ⊎_elim, true, false, List, ◌∷◌, length, map, get_or, refl, sym, ◌∙◌, subst, ap, arith}
+use Rattle.std.specs.List.{All}
 use Rattle.std.proofs.lemmas.Bool.{cases_lt}
 use Rattle.std.proofs.lemmas.List.{get_or_default, get_or-map, get_or_past, length-map}
 use Rattle.cut_definitions.specs.Graph.{Graph, IsGraph}
 use Rattle.cut_definitions.specs.Weight.{VertexSet, IsMinimumCut, either}
 use Rattle.cut_definitions.specs.Chain.{SameOn}
-use Rattle.cut_definitions.specs.Cuts.{has, mincuts, side_of}
+use Rattle.cut_definitions.specs.Cuts.{has, side_of}
 use Rattle.cut_definitions.specs.Contraction.{label, classes, lift}
-use Rattle.cut_definitions.proofs.Bridge.{has_low, has-side_of, IsMinimumCut-from_mincuts, Contains-mincuts_side_of, has_within}
+use Rattle.cut_definitions.proofs.Bridge.{has_low, IsMinimumCut-from_mincuts, Contains-mincuts_side_of, has_within}
 use Rattle.cut_definitions.proofs.Contracted.{has-lift}
 use Rattle.cut_definitions.proofs.Values.{IsSide-from_mincuts}
 use Rattle.cut_definitions.proofs.Vertices.{IsMinimumCut-agree}

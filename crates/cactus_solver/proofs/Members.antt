@@ -11,7 +11,7 @@ use Rattle.cut_definitions.specs.Cuts.{has, IsAscendingWithin, sides, least, val
 use Rattle.cut_definitions.specs.Components.{IsConnected}
 use Rattle.cut_definitions.proofs.Bridge.{has_low, has_within, has-side_of, IsAscendingWithin-filter, same_ascending, side_of-has, IsCut-has, IsMinimumCut-from_weight, IsMinimumCut-from_mincuts, Contains-mincuts_side_of, two_vertices, value-le_cut}
 use Rattle.cut_definitions.proofs.Values.{value_is_weight, Contains-mincuts, IsSide-from_mincuts}
-use Rattle.cut_definitions.proofs.Lists.{Contains-map, Contains-from_map}
+use Rattle.cut_definitions.proofs.Lists.{Contains-from_map}
 use Rattle.cactus_tree.specs.Rooted.{Rooted, sides_of}
 use Rattle.cactus_tree.specs.Sides.{cuts}
 use Rattle.min_value.specs.Kernels.{KeepsAllMinimumCuts}

@@ -1,5 +1,5 @@
 -- The tree of all minimum cuts, with the node of each vertex.
-use Rattle.std.specs.Prelude.{ℕ, ◌≡◌, ◌+◌, false, length, slice_index}
+use Rattle.std.specs.Prelude.{◌≡◌, ◌+◌, false, length, slice_index}
 use Rattle.cut_definitions.specs.Graph.{Graph}
 use Rattle.cut_definitions.specs.Weight.{VertexSet, IsMinimumCut}
 use Rattle.cactus_solver.specs.declared.homed_tree.HomedTree.{HomedTree}

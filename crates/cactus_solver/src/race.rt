@@ -18,6 +18,10 @@ use crate::region::{Region, STEP};
 use crate::search::{Reached, Search};
 use crate::side::Side;
 
+/// How many arcs the search from beside a list looks at before that of the hub begins, which often ends at once. It looks at
+/// more each time, up to `STEP`. A search that finds no more than a short row is done in the first step, and does not pause.
+const FIRST_STEP: usize = 8;
+
 /// How a race between a search from beside a list and that of the hub ended.
 #[derive(Clone, Copy, Debug, PartialEq, Eq)]
 pub enum Race {
@@ -29,7 +33,7 @@ pub enum Race {
     HubEnded,
 }
 
-/// Lets a search of a side go on for a few steps. What is good, or was met by the search of the hub, halts it.
+/// Lets a search of a side go on for about so many steps. What is good, or was met by the search of the hub, halts it.
 fn go_near(
     near: &mut Search,
     met: &[bool],
@@ -37,6 +41,7 @@ fn go_near(
     side: Side,
     own: &[u32],
     good: &[bool],
+    steps: usize,
 ) -> Reached
     requires graph { IsGraph region.graph.now }
     requires flow { IsRegionFlow region.graph.now region.flow.now }
@@ -61,7 +66,7 @@ fn go_near(
         met,
     };
     let arcs = region.arcs(side);
-    near.advance(&arcs, &halts, own, STEP)
+    near.advance(&arcs, &halts, own, steps)
 }
 
 /// Lets a search of a side, from beside its list, and that of the hub, from the other side, go on in turn, each a few steps
@@ -105,8 +110,9 @@ pub fn run_race(
     ensures ended { result ≡ Race.Ended → (near.new.place ≡ near.new.count) × IsQuiet (stops side region.entry.flow.now region.entry.t) near.new }
     ensures hub_ended { result ≡ Race.HubEnded → HasAll (list_at fronts.new.lists (slice_index region.entry.flow.now.labels region.entry.t)) hub.new }
 {
+    let mut steps = FIRST_STEP;
     loop {
-        match go_near(near, hub.seen(), region, side, own, good) {
+        match go_near(near, hub.seen(), region, side, own, good, steps) {
             Reached::Halted => return Race::Met,
             Reached::Ended => return Race::Ended,
             Reached::Paused => {}
@@ -114,5 +120,6 @@ pub fn run_race(
         if hub.advance(region, fronts, side.other(), other) {
             return Race::HubEnded;
         }
+        steps = steps.saturating_mul(2).min(STEP);
     }
 }

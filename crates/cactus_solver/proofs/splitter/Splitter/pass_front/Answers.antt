@@ -1,9 +1,8 @@
 -- One entry of the front more is passed.
-use Rattle.std.proofs.Common.{◌≡◌, ℕ, ◌+◌, ◌-◌, ◌<◌, ◌≤◌, take, length, get_or, ◌∙◌, arith}
+use Rattle.std.proofs.Common.{◌≡◌, ◌+◌, ◌-◌, ◌<◌, ◌≤◌, take, length, get_or, arith}
 use Rattle.std.specs.Prelude.{Some, slice_get}
 use Rattle.std.proofs.lemmas.Option.{slice_get_within}
 use Rattle.cactus_solver.specs.Fronts.{list_at}
-use Rattle.cactus_solver.specs.Passed.{IsFrontPassed}
 use Rattle.cactus_solver.proofs.Passing.{front_kept, front_more}
 use Rattle.cactus_solver.proofs.RacesAround.{front_read}
 use Rattle.cactus_solver.proofs.splitter.Splitter.pass_front.Goals as goal

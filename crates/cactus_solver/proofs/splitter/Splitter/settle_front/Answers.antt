@@ -6,7 +6,7 @@ use Rattle.cactus_solver.specs.declared.side.Side.TheVariants.{Outer}
 use Rattle.cactus_solver.specs.Fronts.{FrontsState, list_at}
 use Rattle.cactus_solver.proofs.RacesAround.{goes_on_more, hub_inside, begun_none, front_on as fronts_on, front_read, front_settled, open_settled}
 use Rattle.cactus_solver.specs.Passed.{IsFrontPassed}
-use Rattle.cactus_solver.proofs.Passing.{front_kept, front_on, listed_settled}
+use Rattle.cactus_solver.proofs.Passing.{front_kept, front_on}
 use Rattle.cactus_solver.proofs.splitter.Splitter.settle_front.Goals as goal
 
 pub settle-requires-clause-begun : goal.settle-requires-clause-begun

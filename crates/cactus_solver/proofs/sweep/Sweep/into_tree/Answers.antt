@@ -1,5 +1,5 @@
 -- The tree has all minimum cuts.
-use Rattle.std.proofs.Common.{◌≡◌, ℕ, List, get_or, length, ap, sym, ◌∙◌, subst}
+use Rattle.std.proofs.Common.{ℕ, List, get_or, length, ap, sym, ◌∙◌, subst}
 use Rattle.cactus_solver.specs.Finished.{IsTreeOfAll}
 use Rattle.cactus_solver.specs.Flat.{AreNodes, sets_of}
 use Rattle.cactus_solver.specs.TreeSets.{IsTreeOfCuts}
