@@ -1,0 +1,156 @@
+-- Blocks that are hung one after another, nodes that become one, and nodes that are merged up.
+use Rattle.std.proofs.Common.{◌≡◌, ℕ, ◌+◌, ◌<◌, ◌≤◌, inl, inr, Bool, true, false, cond, ◌||◌, List, [], ◌∷◌, ◌++◌, Option, Some, None, length, map, refl, ap, ◌∙◌, sym, subst, arith, append-nil}
+use Rattle.std.specs.Prelude.{option_to_list}
+use Rattle.std.specs.List.{Contains, flat_map}
+use Rattle.std.proofs.lemmas.Bool.{cases_Bool}
+use Rattle.std.proofs.lemmas.List.{append_assoc}
+use Rattle.std.proofs.lemmas.List.Elements.{All-append, All-cons, All-head, All-tail, Contains-append_left, Contains-append_right, Contains-append_cases}
+use Rattle.cut_definitions.specs.Cuts.{has, IsAscendingWithin}
+use Rattle.cut_definitions.proofs.Lists.{Contains-nil}
+use Rattle.cactus_tree.specs.Sides.{Part, part, block_part, all_of, belows, all_cuts, with_below}
+use Rattle.cactus_tree.specs.Entered.{entered, entered_block}
+use Rattle.cactus_tree.specs.Trees.{vertices, blocks}
+use Rattle.cactus_tree.specs.Widths.{widths, block_widths, joined}
+use Rattle.cactus_tree.proofs.Widths.{widths_out}
+use Rattle.cactus_tree.specs.declared.tree.Node.{Node}
+use Rattle.cactus_tree.specs.declared.tree.Block.{Block}
+use Rattle.cactus_tree.proofs.Parts.{part_out}
+use Rattle.cactus_tree.proofs.Orders.{entered_out}
+use Rattle.cactus_growth.specs.Growth.{times, AreAscending, AreWide, AreHung, IsAbsorbed}
+use Rattle.cactus_growth.proofs.Counts.{count_both, All_left, All_right}
+
+pub popped : {X : Type 0} (cur new : List X) (r : Option X) (x : X) → cur ≡ new ++ option_to_list r → r ≡ Some x → cur ≡ new ++ x ∷ []
+popped cur new r x p q = p ∙ ap (λ o. new ++ option_to_list o) q
+
+pub popped_none : {X : Type 0} (cur new : List X) (r : Option X) → cur ≡ new ++ option_to_list r → r ≡ None → cur ≡ new
+popped_none cur new r p q = p ∙ ap (λ o. new ++ option_to_list o) q ∙ append-nil new
+
+pub none_left : {X : Type 0} (xs : List X) → (0 < length xs → ⊥) → xs ≡ []
+none_left [] h = refl
+none_left (x ∷ xs) h = absurd (h (omega arith))
+
+-- one more block at the head of those that were taken
+pub more_done : {X : Type 0} (all cur new done : List X) (x : X) → all ≡ cur ++ done → cur ≡ new ++ x ∷ [] → all ≡ new ++ (x ∷ done)
+more_done all cur new done x e f = e ∙ ap (λ l. l ++ done) f ∙ append_assoc new (x ∷ []) done
+
+pub turn_or : (a b c : Bool) → ((a || b) || c) ≡ (a || (c || b))
+turn_or true b c = refl
+turn_or false true true = refl
+turn_or false true false = refl
+turn_or false false true = refl
+turn_or false false false = refl
+
+pub or_none : (a : Bool) → a ≡ (a || false)
+or_none true = refl
+or_none false = refl
+
+-- ---- hung
+pub hung_nothing : (x : Node) → AreHung x [] x
+hung_nothing x = record {
+  below = λ v. or_none ((part x).below v);
+  cuts = λ s. (λ c. inl c, λ c. elim c [ inl a ↦ a | inr a ↦ absurd (Contains-nil s a) ]);
+  counts = λ v. omega arith;
+  ascending = λ n a b. a;
+  wide = λ a b. a;
+  own = refl;
+}
+
+pub hung_step : (node y x : Node) (b : Block) (done : List Block) → part x ≡ with_below (part y) (block_part b) → entered x ≡ entered y ++ entered_block b → widths x ≡ widths y ++ block_widths b →
+    vertices x ≡ vertices y → AreHung node done y → AreHung node (b ∷ done) x
+hung_step node y x b done p e w o h =
+    let later = all_cuts (map block_part done) in
+    record {
+      below = λ v. ap (λ (q : Part). q.below v) p ∙ ap (λ k. k || (block_part b).below v) (h.below v) ∙ turn_or ((part node).below v) (all_of (belows (map block_part done)) v) ((block_part b).below v);
+      cuts = λ s. (
+        (λ c. elim (Contains-append_cases (part y).cuts (block_part b).cuts s (subst (λ (q : Part). Contains q.cuts s) p c)) [
+          | inl a ↦ elim ((h.cuts s).0 a) [ inl k ↦ inl k | inr k ↦ inr (Contains-append_right (block_part b).cuts later s k) ]
+          | inr a ↦ inr (Contains-append_left (block_part b).cuts later s a)
+        ]),
+        (λ c. subst (λ (q : Part). Contains q.cuts s) (sym p) (elim c [
+          | inl k ↦ Contains-append_left (part y).cuts (block_part b).cuts s ((h.cuts s).1 (inl k))
+          | inr k ↦ elim (Contains-append_cases (block_part b).cuts later s k) [
+            | inl a ↦ Contains-append_right (part y).cuts (block_part b).cuts s a
+            | inr a ↦ Contains-append_left (part y).cuts (block_part b).cuts s ((h.cuts s).1 (inr a))
+          ]
+        ])),
+      );
+      counts = λ v. let split : times v (entered x) ≡ times v (entered y) + times v (entered_block b) = ap (times v) e ∙ count_both v (entered y) (entered_block b) in
+          omega (arith, split, h.counts v, count_both v (entered_block b) (flat_map entered_block done));
+      ascending = λ n a d. subst (AreAscending n) (sym e)
+          (All-append (IsAscendingWithin 1 n) (entered y) (entered_block b) (h.ascending n a (All_right (IsAscendingWithin 1 n) (entered_block b) (flat_map entered_block done) d)) (All_left (IsAscendingWithin 1 n) (entered_block b) (flat_map entered_block done) d));
+      wide = λ a d. subst AreWide (sym w)
+          (All-append (λ k. 2 ≤ k) (widths y) (block_widths b) (h.wide a (All_right (λ k. 2 ≤ k) (block_widths b) (flat_map block_widths done) d)) (All_left (λ k. 2 ≤ k) (block_widths b) (flat_map block_widths done) d));
+      own = o ∙ h.own;
+    }
+
+-- ---- two nodes as one
+pub times_more : (v : ℕ) (l : List ℕ) (ls : List (List ℕ)) → times v (l ∷ ls) ≡ cond (has l v) 1 0 + times v ls
+times_more v l ls = elim (cases_Bool (has l v)) [ inl e ↦ rw e (omega arith) | inr e ↦ rw e (omega arith) ]
+
+either_times : (a b c : Bool) → c ≡ (a || b) → cond c 1 0 ≤ cond a 1 0 + cond b 1 0
+either_times true b c e = rw e (omega arith)
+either_times false true c e = rw e (omega arith)
+either_times false false c e = rw e (omega arith)
+
+four_or : (a b c d : Bool) → (((a || b) || c) || d) ≡ ((a || c) || (b || d))
+four_or true b c d = refl
+four_or false true true d = refl
+four_or false true false d = refl
+four_or false false c d = refl
+
+same_list : (xs ys : List ℕ) → xs ≡ ys → AreWide xs → AreWide ys
+same_list xs ys e h = subst AreWide e h
+
+joined_map : {X : Type 0} (f : X → List ℕ) (xs : List X) → joined (map f xs) ≡ flat_map f xs
+joined_map f [] = refl
+joined_map f (x ∷ xs) = ap (λ l. f x ++ l) (joined_map f xs)
+
+pub widths_flat : (x : Node) → widths x ≡ flat_map block_widths (blocks x)
+widths_flat x = widths_out x ∙ joined_map block_widths (blocks x)
+
+pub below_at : (x : Node) (v : ℕ) → (part x).below v ≡ (has (vertices x) v || all_of (belows (map block_part (blocks x))) v)
+below_at x v = ap (λ (p : Part). p.below v) (part_out x)
+
+pub cuts_of : (x : Node) → (part x).cuts ≡ all_cuts (map block_part (blocks x))
+cuts_of x = ap (λ (p : Part). p.cuts) (part_out x)
+
+pub absorbed : (node other mid x : Node) → blocks mid ≡ blocks node → ((v : ℕ) → has (vertices mid) v ≡ (has (vertices node) v || has (vertices other) v)) →
+    ((n : ℕ) → IsAscendingWithin 1 n (vertices node) → IsAscendingWithin 1 n (vertices other) → IsAscendingWithin 1 n (vertices mid)) → AreHung mid (blocks other) x → IsAbsorbed node other x
+absorbed node other mid x e members rising h =
+    let mid_cuts : (part mid).cuts ≡ (part node).cuts = cuts_of mid ∙ ap (λ bs. all_cuts (map block_part bs)) e ∙ sym (cuts_of node) in
+    let mid_entered : entered mid ≡ vertices mid ∷ flat_map entered_block (blocks node) = entered_out mid ∙ ap (λ bs. vertices mid ∷ flat_map entered_block bs) e in
+    let mid_widths : widths mid ≡ widths node = widths_flat mid ∙ ap (flat_map block_widths) e ∙ sym (widths_flat node) in
+    record {
+      below = λ v. h.below v
+          ∙ ap (λ k. k || all_of (belows (map block_part (blocks other))) v)
+          (below_at mid v ∙ ap (λ bs. has (vertices mid) v || all_of (belows (map block_part bs)) v) e ∙ ap (λ k. k || all_of (belows (map block_part (blocks node))) v) (members v))
+          ∙ four_or (has (vertices node) v) (has (vertices other) v) (all_of (belows (map block_part (blocks node))) v) (all_of (belows (map block_part (blocks other))) v)
+          ∙ ap (λ k. k || (has (vertices other) v || all_of (belows (map block_part (blocks other))) v)) (sym (below_at node v))
+          ∙ ap (λ k. (part node).below v || k) (sym (below_at other v));
+      cuts = λ s. (
+        (λ c. elim ((h.cuts s).0 c) [ inl a ↦ inl (subst (λ l. Contains l s) mid_cuts a) | inr a ↦ inr (subst (λ l. Contains l s) (sym (cuts_of other)) a) ]),
+        (λ c. elim c [ inl a ↦ (h.cuts s).1 (inl (subst (λ l. Contains l s) (sym mid_cuts) a)) | inr a ↦ (h.cuts s).1 (inr (subst (λ l. Contains l s) (cuts_of other) a)) ]),
+      );
+      counts = λ v. omega (
+        arith,
+        h.counts v,
+        ap (times v) mid_entered,
+        times_more v (vertices mid) (flat_map entered_block (blocks node)),
+        ap (times v) (entered_out node),
+        times_more v (vertices node) (flat_map entered_block (blocks node)),
+        ap (times v) (entered_out other),
+        times_more v (vertices other) (flat_map entered_block (blocks other)),
+        either_times (has (vertices node) v) (has (vertices other) v) (has (vertices mid) v) (members v),
+      );
+      ascending = λ n a b.
+          let P = IsAscendingWithin 1 n in
+          let a2 : AreAscending n (vertices node ∷ flat_map entered_block (blocks node)) = subst (AreAscending n) (entered_out node) a in
+          let b2 : AreAscending n (vertices other ∷ flat_map entered_block (blocks other)) = subst (AreAscending n) (entered_out other) b in
+          h.ascending n
+          (subst (AreAscending n) (sym mid_entered) (All-cons P (vertices mid) (flat_map entered_block (blocks node))
+          (rising n (All-head P (vertices node) (flat_map entered_block (blocks node)) a2) (All-head P (vertices other) (flat_map entered_block (blocks other)) b2))
+          (All-tail P (vertices node) (flat_map entered_block (blocks node)) a2)))
+          (All-tail P (vertices other) (flat_map entered_block (blocks other)) b2);
+      wide = λ a b. h.wide (subst AreWide (sym mid_widths) a) (subst AreWide (widths_flat other) b);
+      own = λ v. ap (λ l. has l v) h.own ∙ members v;
+    }

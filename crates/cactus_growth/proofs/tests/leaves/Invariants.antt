@@ -1,0 +1,14 @@
+use Rattle.std.proofs.Common.{◌≡◌, [], ◌∷◌, length, map, take}
+use Rattle.std.specs.List.{flat_map}
+use Rattle.cactus_tree.specs.Entered.{entered}
+use Rattle.cactus_tree.specs.Trees.{nodes_in}
+use Rattle.cactus_tree.specs.Widths.{widths}
+use Rattle.cactus_growth.proofs.tests.leaves.Given as goal
+
+abbrev pub invariant-each_vertex : goal.invariant-each_vertex
+invariant-each_vertex l = record {
+  end : l.i-end ≡ length l.own;
+  count : length (nodes_in l.nodes) ≡ l.i;
+  lists : flat_map entered (nodes_in l.nodes) ≡ map (λ v. v ∷ []) (take l.i l.own);
+  counts : flat_map widths (nodes_in l.nodes) ≡ [];
+}

@@ -1,0 +1,17 @@
+use Rattle.std.proofs.Common.{◌++◌, ◌∷◌, [], length, ◌∙◌, ap, refl, arith, length-append}
+use Rattle.cactus_tree.specs.Entered.{entered}
+use Rattle.cactus_tree.specs.Trees.{blocks}
+use Rattle.cactus_tree.specs.Widths.{widths}
+use Rattle.cactus_tree.specs.declared.tree.Block.TheVariants.{Cycle}
+use Rattle.cactus_tree.proofs.Orders.{hung_entered, entered_cycle}
+use Rattle.cactus_tree.proofs.Built.{hung_widths, ring_widths}
+use Rattle.cactus_growth.proofs.tests.with_cycle.Goals as goal
+
+pub returns-clause-entered : goal.returns-clause-entered
+returns-clause-entered c = hung_entered c.args.node _ _ refl c.in_ok-push.ensures.ok ∙ ap (λ l. entered c.args.node ++ l) (entered_cycle c.args.ring)
+
+pub returns-clause-widths : goal.returns-clause-widths
+returns-clause-widths c = hung_widths c.args.node _ _ c.in_ok-push.ensures.ok ∙ ap (λ l. widths c.args.node ++ l) (ring_widths c.args.ring)
+
+pub returns-clause-blocks : goal.returns-clause-blocks
+returns-clause-blocks c = omega (arith, ap length c.in_ok-push.ensures.ok, length-append (blocks c.args.node) (Cycle c.args.ring ∷ []))

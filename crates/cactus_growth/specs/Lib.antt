@@ -1,0 +1,4 @@
+pub mod Insertion
+pub mod Laws
+pub mod Growth
+pub mod After

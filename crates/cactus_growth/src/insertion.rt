@@ -1,0 +1,172 @@
+//! The edge list after an insertion.
+
+ghost use Rattle.std.specs.Prelude.{IsTrue, ◌↔◌, not, length, ◌≡◌, ◌≢◌, ◌≤◌, ◌+◌, ◌^◌, if◌then◌else◌, ◌++◌, IfOk, OnOk};
+ghost use Rattle.std.specs.List.{filter, sum_by};
+ghost use Rattle.cut_definitions.specs.Graph.{IsEdgeList};
+ghost use Rattle.cactus_growth.specs.Insertion.{comes_before, edge_between, enlarged, inserted, same_ends, weight_there};
+
+use cut_definitions::{Edge, EdgeList, NoMemory};
+use std::alloc::Global;
+
+/// Whether an edge comes before another by its ends.
+fn comes_before(first: &Edge, second: &Edge) -> bool
+    ensures { result ≡ comes_before first.now second.now }
+{
+    first.u < second.u || (first.u == second.u && first.v < second.v)
+}
+
+/// Whether two edges have the same ends.
+fn has_same_ends(first: &Edge, second: &Edge) -> bool
+    ensures { result ≡ same_ends first.now second.now }
+{
+    first.u == second.u && first.v == second.v
+}
+
+/// The weight of an edge where it has the ends of another, and 0 where it has not.
+fn weight_at(edge: &Edge, ends: &Edge) -> u64
+    ensures { result ≡ (if same_ends edge.now ends.now then edge.now.w else 0) }
+{
+    if has_same_ends(edge, ends) { edge.w } else { 0 }
+}
+
+/// The weight of the edges of a list that have the ends of an edge.
+fn weight_between(edges: &[Edge], ends: &Edge) -> u64
+    requires { sum_by (λ d. d.w) edges.now ≤ 2 ^ 61 }
+    ensures { result ≡ weight_there ends.now edges.now }
+{
+    let mut weight = 0;
+    'edges: for edge in edges {
+        weight += weight_at(edge, ends);
+    }
+    weight
+}
+
+/// Appends the edges of a list that come before an edge.
+fn push_before(out: &mut Vec<Edge>, edges: &[Edge], ends: &Edge) -> Result<(), NoMemory>
+    ensures { OnOk result (out.new.items ≡ out.old.items ++ filter (λ d. comes_before d ends.now) edges.now) }
+{
+    'edges: for edge in edges {
+        if comes_before(edge, ends) {
+            out.push(*edge)?;
+        }
+    }
+    Ok(())
+}
+
+/// Appends the edges of a list that come behind an edge.
+fn push_behind(out: &mut Vec<Edge>, edges: &[Edge], ends: &Edge) -> Result<(), NoMemory>
+    ensures { OnOk result (out.new.items ≡ out.old.items ++ filter (λ d. comes_before ends.now d) edges.now) }
+{
+    'edges: for edge in edges {
+        if comes_before(ends, edge) {
+            out.push(*edge)?;
+        }
+    }
+    Ok(())
+}
+
+/// The edge between two vertices, the lesser first.
+fn edge_between(u: u32, v: u32, w: u64) -> Edge
+    ensures { result ≡ edge_between u v w }
+{
+    Edge {
+        u: u.min(v),
+        v: u.max(v),
+        w,
+    }
+}
+
+/// The list with an edge put in its place, where its weight is added to that of the edge with its ends.
+fn inserted(alloc: Global, edges: &[Edge], added: &Edge) -> Result<Vec<Edge>, NoMemory>
+    requires total { sum_by (λ d. d.w) edges.now ≤ 2 ^ 61 }
+    requires room { added.now.w + weight_there added.now edges.now ≤ 2 ^ 61 }
+    ensures { IfOk result (λ l. l.items ≡ inserted added.now edges.now) }
+{
+    let weight = added.w + weight_between(edges, added);
+    let mut list = Vec::new(alloc);
+    push_before(&mut list, edges, added)?;
+    list.push(Edge {
+        u: added.u,
+        v: added.v,
+        w: weight,
+    })?;
+    push_behind(&mut list, edges, added)?;
+    Ok(list)
+}
+
+/// The most that the weights of a graph add up to.
+const MOST_WEIGHT: u64 = 1 << 61;
+
+/// The most edges of a graph.
+const MOST_EDGES: usize = 16777216;
+
+/// The weight of all edges of a list.
+fn total_weight(edges: &[Edge]) -> u64
+    requires { sum_by (λ d. d.w) edges.now ≤ 2 ^ 61 }
+    ensures { result ≡ sum_by (λ d. d.w) edges.now }
+{
+    let mut weight = 0;
+    'edges: for edge in edges {
+        weight += edge.w;
+    }
+    weight
+}
+
+/// The number of the edges of a list that have other ends than an edge.
+fn count_others(edges: &[Edge], ends: &Edge) -> usize
+    requires { length edges.now ≤ 16777216 }
+    ensures { result ≡ length (filter (λ d. not (same_ends d ends.now)) edges.now) }
+{
+    let mut count = 0;
+    'edges: for edge in edges {
+        if !has_same_ends(edge, ends) {
+            count += 1;
+        }
+    }
+    count
+}
+
+/// Whether the list with the weight `w` added between `u` and `v` is within the limits of a graph: its weights add up to
+/// at most 2^61, and it has at most 16,777,216 edges. So `with_edge` may be called.
+///
+/// Two passes over the edges, so time O(m). It takes no memory.
+pub fn is_within_limits(list: &EdgeList, u: u32, v: u32, w: u64) -> bool
+    requires u_from_one { 1 ≤ u }
+    requires u_to_n { u ≤ list.now.vertices }
+    requires v_from_one { 1 ≤ v }
+    requires v_to_n { v ≤ list.now.vertices }
+    requires different { u ≢ v }
+    requires weight { 1 ≤ w }
+    ensures { IsTrue result ↔ IsEdgeList (enlarged list.now (edge_between u v w)) }
+{
+    let added = edge_between(u, v, w);
+    let edges = list.edges();
+    let weight = total_weight(edges);
+    let others = count_others(edges, &added);
+    w <= MOST_WEIGHT - weight && others < MOST_EDGES
+}
+
+/// The list with the weight `w` added between `u` and `v`: to the edge that joins them, or as a new edge.
+///
+/// Time and memory in proportion to the edges; it is refused only where memory is wanting.
+pub fn with_edge(
+    alloc: Global,
+    list: &EdgeList,
+    u: u32,
+    v: u32,
+    w: u64,
+) -> Result<EdgeList, NoMemory>
+    requires u_from_one { 1 ≤ u }
+    requires u_to_n { u ≤ list.now.vertices }
+    requires v_from_one { 1 ≤ v }
+    requires v_to_n { v ≤ list.now.vertices }
+    requires different { u ≢ v }
+    requires weight { 1 ≤ w }
+    requires fits { IsEdgeList (enlarged list.now (edge_between u v w)) }
+    ensures { IfOk result (λ l. l ≡ enlarged list.now (edge_between u v w)) }
+{
+    let n = list.n();
+    let added = edge_between(u, v, w);
+    let edges = inserted(alloc, list.edges(), &added)?;
+    Ok(EdgeList::from_edges(n, edges))
+}
