@@ -1,13 +1,14 @@
 -- What a solved graph is printed as.
-use Rattle.std.proofs.Common.{◌≡◌, ℕ, List, [], ◌∷◌, get_or, ◌<◌, ◌≤◌, ◌^◌, ◌∙◌, append_assoc, append-nil, arith, refl, sym, ap, subst, inr, Result, Ok, Err}
-use Rattle.std.proofs.lemmas.List.Elements.{All-contains, Contains-get_or}
+use Rattle.std.proofs.Common.{◌≡◌, ℕ, List, [], ◌∷◌, get_or, ◌<◌, ◌≤◌, ◌^◌, ◌∙◌, append_assoc, append-nil, arith, refl, sym, ap, subst, inr, true, Result, Ok, Err}
+use Rattle.std.proofs.lemmas.List.Elements.{All-contains, All-contains_itself, All-weaker, Contains-get_or}
 use Rattle.std.specs.Fmt.{decimal}
 use Rattle.std.specs.Prelude.{◌↔◌, codes, ◌++◌, ◌*◌, IfOk, IfErr, length}
 use Rattle.cut_definitions.specs.Components.{IsConnected, HasComponents}
-use Rattle.weighted_graph.specs.Components.{LawOfOneComponent}
+use Rattle.weighted_graph.proofs.OneComponent.{law_of_one_component}
 use Rattle.cut_definitions.specs.Graph.{Graph, IsEdgeList}
 use Rattle.cut_definitions.specs.Cuts.{has, value, mincuts}
-use Rattle.cut_definitions.proofs.Values.{value_is_weight, Contains-mincuts}
+use Rattle.cut_definitions.proofs.Values.{value_is_weight, Contains-mincuts, IsSide-from_mincuts}
+use Rattle.cactus_tree.specs.Different.{HasNoEmptySide, HaveSameSides}
 use Rattle.cactus_tree.specs.Trees.{blocks}
 use Rattle.mincut_program.proofs.Single.{no_sides}
 use Rattle.cut_definitions.proofs.Running.{weight-le_total}
@@ -16,9 +17,11 @@ use Rattle.cactus_tree.specs.Rooted.{Rooted, IsCactus, sides_of}
 use Rattle.cactus_tree.specs.FlatCuts.{HasSides}
 use Rattle.cactus_tree.specs.Flattened.{flat_of}
 use Rattle.cactus_tree.specs.FlatLaws.{LawOfFlatForm, LawOfFlatSides}
+use Rattle.canonical_cactus.specs.Canonical.{is_canonical}
+use Rattle.canonical_cactus.specs.FirstBest.{IsFirstBest}
 use Rattle.cactus_solver.specs.Solved.{SameMembers}
 use Rattle.cactus_text.specs.Text.{cactus_text, line}
-use Rattle.mincut_program.specs.Jobs.{StandsFor, IsCactusText, IsBalancedText, IsTextFor, IsListed, IsInRange, IsAnswerOf, IsStopFor, asked_cuts}
+use Rattle.mincut_program.specs.Jobs.{AsksCuts, StandsFor, IsCactusOf, IsCactusText, IsBalancedText, IsTextFor, IsListed, IsListWithin, IsInRange, IsAnswerOf, IsStopFor, IsWithin, KeepsLimit, asked_cuts}
 use Rattle.mincut_program.specs.Solving.{IsSolved, IsListReply, IsListStop, cuts_for}
 use Rattle.mincut_program.specs.Listings.{listing_text, count_text, balanced_text}
 use Rattle.mincut_program.specs.Trials.{ones, trial_text, IsFactsText}
@@ -37,6 +40,8 @@ use Rattle.cut_listing.specs.declared.ask.Ask.{Ask}
 use Rattle.cut_listing.specs.declared.ask.Ask.TheVariants as ask
 use Rattle.std.specs.List.{Contains, filter}
 use Rattle.mincut_program.specs.declared.command.Command.{Command}
+use Rattle.mincut_program.specs.declared.command.Job.{Job}
+use Rattle.mincut_program.specs.declared.command.Job.TheVariants.{Value, Cactus, Cuts, Part, Count, Balanced, Augment, Grow, Trial}
 
 -- the value of a graph that the program takes is small
 pub value_small : (g : Graph) → IsEdgeList g → 2 ≤ g.vertices → value g ≤ 2 ^ 62
@@ -50,66 +55,133 @@ sides_of_list : (flat : Flat) (k l : List (List ℕ)) → HasSides flat k → Sa
 sides_of_list flat k l sides same = λ side. (λ cut. (same side).0 ((sides side).0 cut), λ member. (sides side).1 ((same side).1 member))
 
 -- a cactus with the sides of the minimum cuts stands for the graph when it is made flat
-stands : (g : Graph) (c : Rooted) → LawOfFlatForm → LawOfFlatSides → IsCactus c.vertices c.root → c.vertices ≡ g.vertices → SameMembers (sides_of c) (mincuts g) → StandsFor (flat_of c) g
+pub stands : (g : Graph) (c : Rooted) → LawOfFlatForm → LawOfFlatSides → IsCactus c.vertices c.root → c.vertices ≡ g.vertices → SameMembers (sides_of c) (mincuts g) → StandsFor (flat_of c) g
 stands g c form law is over same = record {
   well_formed = form c.vertices c.root is;
   over = over;
   sides = sides_of_list (flat_of c) (sides_of c) (mincuts g) (law c.vertices c.root is) same;
 }
 
-pub solved_text : (g : Graph) (c : Rooted) (v : ℕ) → LawOfFlatForm → LawOfFlatSides → IsCactus c.vertices c.root → c.vertices ≡ g.vertices → SameMembers (sides_of c) (mincuts g) → v ≡ value g →
-    IsCactusText g (cactus_text v (flat_of c))
-solved_text g c v form law is over same least = record {
-  flat = flat_of c;
-  stands = stands g c form law is over same;
+-- the canonical cactus with the sides of that of a solved graph
+pub canonical_is : (g : Graph) (solved : Solved) (c : Rooted) → IsSolved g solved → c.vertices ≡ solved.cactus.vertices → is_canonical c.root ≡ true → HaveSameSides c solved.cactus →
+    IsCactus c.vertices c.root → IsCactusOf g c
+canonical_is g solved c s over canonical same is = record {
+  is_cactus = is;
+  over = over ∙ s.over;
+  canonical = canonical;
+  sides = λ side. (λ at. (s.sides side).0 ((same side).0 at), λ at. (same side).1 ((s.sides side).1 at));
+}
+
+pub canonical_text : (g : Graph) (c : Rooted) (v : ℕ) → LawOfFlatForm → LawOfFlatSides → IsCactusOf g c → v ≡ value g → IsCactusText g (cactus_text v (flat_of c))
+canonical_text g c v form law of_graph least = record {
+  cactus = c;
+  of_graph = of_graph;
+  stands = stands g c form law of_graph.is_cactus of_graph.over of_graph.sides;
   text_is = rw least refl;
 }
 
--- a graph with vertices and fewer than two components is connected
-pub one_component : (g : Graph) (count : ℕ) → LawOfOneComponent → 2 ≤ g.vertices → HasComponents g count → (count ≡ 0) ↔ (g.vertices ≡ 0) → count < 2 → IsConnected g
-one_component g count law two counted none few =
+some_member : (side : List ℕ) → (side ≡ [] → ⊥) → 0 < length side
+some_member [] some = absurd (some refl)
+some_member (v ∷ vs) some = omega arith
+
+-- no minimum cut has an empty side
+pub none_empty : (g : Graph) (solved : Solved) → IsSolved g solved → HasNoEmptySide solved.cactus
+none_empty g solved s =
+    All-weaker (Contains (sides_of solved.cactus)) (λ side. 0 < length side)
+    (λ side at. some_member side (IsSide-from_mincuts g side ((s.sides side).0 at)).0.nonempty)
+    (sides_of solved.cactus) (All-contains_itself (sides_of solved.cactus))
+
+-- a graph with vertices and fewer than two components has one
+pub one_component : (g : Graph) (count : ℕ) → 2 ≤ g.vertices → HasComponents g count → (count ≡ 0) ↔ (g.vertices ≡ 0) → count < 2 → HasComponents g 1
+one_component g count two counted none few =
     let some : (count ≡ 0) → ⊥ = λ is. omega (arith, none.0 is, two) in
-    (law g count counted).0 (omega (arith, some, few))
+    let one : count ≡ 1 = omega (arith, some, few) in
+    subst (HasComponents g) one counted
+
+-- and is connected
+pub connected_of : (g : Graph) → HasComponents g 1 → IsConnected g
+connected_of g one = (law_of_one_component g 1 one).0 refl
 
 -- ---- what a solved graph is answered
 
 -- the minimum cuts that a job lists are those that its ask lets through
-all_let_through : (xs : List (List ℕ)) → filter (lets ask.All) xs ≡ xs
+pub all_let_through : (xs : List (List ℕ)) → filter (lets ask.All) xs ≡ xs
 all_let_through [] = refl
 all_let_through (x ∷ xs) = ap (λ l. x ∷ l) (all_let_through xs)
 
 pub cuts_of_all : (g : Graph) → cuts_for ask.All g ≡ mincuts g
 cuts_of_all g = all_let_through (mincuts g)
 
+-- a connected graph has one component
+fewer_than_two : (g : Graph) (components : ℕ) → IsConnected g → HasComponents g components → components < 2
+fewer_than_two g components connected counted = omega (arith, (law_of_one_component g components counted).1 connected)
+
+-- the limit of a list, in the words of a job
+pub listed_keeps : (job : Job) (cuts : List (List ℕ)) (masses : List ℕ) (g : Graph) (components : ℕ) → IsListed job → IsListWithin cuts g components → KeepsLimit job cuts masses g components
+listed_keeps Cuts cuts masses g components listed within = within
+listed_keeps (Part u v) cuts masses g components listed within = within
+listed_keeps Value cuts masses g components listed within = absurd listed
+listed_keeps Cactus cuts masses g components listed within = absurd listed
+listed_keeps Count cuts masses g components listed within = absurd listed
+listed_keeps Balanced cuts masses g components listed within = absurd listed
+listed_keeps Augment cuts masses g components listed within = absurd listed
+listed_keeps (Grow is) cuts masses g components listed within = absurd listed
+listed_keeps (Trial number) cuts masses g components listed within = absurd listed
+
+-- a list of a connected graph within its limit
+list_kept : (command : Command) (masses : List ℕ) (g : Graph) → IsListed command.job → IsConnected g → length (asked_cuts command masses g) * g.vertices ≤ 2 ^ 30 → IsWithin command masses g
+list_kept command masses g listed connected few components counted =
+    let one : components < 2 = fewer_than_two g components connected counted in
+    listed_keeps command.job (asked_cuts command masses g) masses g components listed (record {
+      asked = λ _. few;
+      all = λ two. absurd (omega (arith, one, two));
+    })
+
+-- the other jobs on the cuts of a connected graph keep their limits
+unlisted_keeps : (job : Job) (cuts : List (List ℕ)) (masses : List ℕ) (g : Graph) (components : ℕ) → AsksCuts job → (IsListed job → ⊥) → components < 2 → KeepsLimit job cuts masses g components
+unlisted_keeps Cuts cuts masses g components asks unlisted one = absurd (unlisted tt)
+unlisted_keeps (Part u v) cuts masses g components asks unlisted one = absurd (unlisted tt)
+unlisted_keeps Value cuts masses g components asks unlisted one = absurd asks
+unlisted_keeps Cactus cuts masses g components asks unlisted one = tt
+unlisted_keeps Count cuts masses g components asks unlisted one = omega (arith, one)
+unlisted_keeps Balanced cuts masses g components asks unlisted one = λ two. absurd (omega (arith, one, two))
+unlisted_keeps Augment cuts masses g components asks unlisted one = tt
+unlisted_keeps (Grow is) cuts masses g components asks unlisted one = absurd asks
+unlisted_keeps (Trial number) cuts masses g components asks unlisted one = absurd asks
+
 -- a listing in the words of a job
-pub listed_answer : (command : Command) (masses : List ℕ) (a : Ask) (g : Graph) → cuts_for a g ≡ asked_cuts command masses g → IsListed command.job → IsInRange command.job g.vertices → 2 ≤ g.vertices → IsConnected g →
+pub listed_answer : (command : Command) (masses : List ℕ) (a : Ask) (g : Graph) → cuts_for a g ≡ asked_cuts command masses g → IsListed command.job → IsInRange command.job g.vertices → 2 ≤ g.vertices → HasComponents g 1 →
     ((text : List ℕ) → text ≡ listing_text (value g) (asked_cuts command masses g) → IsTextFor command masses g text) → (text : List ℕ) → IsListReply a g text → IsAnswerOf command masses g text
-listed_answer command masses a g same listed inside two connected fits text r = record {
+listed_answer command masses a g same listed inside two one fits text r = record {
   in_range = inside;
   answer = inr (inr (record {
     enough = two;
-    connected = λ _. connected;
-    within = λ _. subst (λ (l : List (List ℕ)). length l * g.vertices ≤ 2 ^ 30) same r.within;
+    connected = λ _. connected_of g one;
+    within = list_kept command masses g listed (connected_of g one) (subst (λ (l : List (List ℕ)). length l * g.vertices ≤ 2 ^ 30) same r.within);
     text_is = fits text (r.text_is ∙ ap (λ (l : List (List ℕ)). listing_text (value g) l) same);
   }));
 }
 
-pub listed_stop : (command : Command) (masses : List ℕ) (a : Ask) (g : Graph) → cuts_for a g ≡ asked_cuts command masses g → IsListed command.job → IsInRange command.job g.vertices → 2 ≤ g.vertices → IsConnected g →
+pub listed_stop : (command : Command) (masses : List ℕ) (a : Ask) (g : Graph) → cuts_for a g ≡ asked_cuts command masses g → IsListed command.job → IsInRange command.job g.vertices → 2 ≤ g.vertices → HasComponents g 1 →
     (s : Stop) → IsListStop a g s → IsStopFor command masses g s
-listed_stop command masses a g same listed inside two connected (stop.TooLarge cuts n) r = record {
+listed_stop command masses a g same listed inside two one (stop.TooLarge cuts n) r = record {
   in_range = inside;
   enough = two;
-  connected = connected;
+  one = one;
   listed = listed;
   counted = r.counted ∙ ap (λ (l : List (List ℕ)). length l) same;
   over = r.over;
   large = r.large;
 }
-listed_stop command masses a g same listed inside two connected stop.NoMemory r = tt
-listed_stop command masses a g same listed inside two connected (stop.BadVertex x n) r = absurd r
-listed_stop command masses a g same listed inside two connected stop.BadWords r = absurd r
-listed_stop command masses a g same listed inside two connected (stop.Refused f) r = absurd r
-listed_stop command masses a g same listed inside two connected stop.ReadFailed r = absurd r
+listed_stop command masses a g same listed inside two one (stop.TooManyUnions c n) r = absurd r
+listed_stop command masses a g same listed inside two one (stop.CountTooLarge c) r = absurd r
+listed_stop command masses a g same listed inside two one (stop.BalanceTooLarge c total) r = absurd r
+listed_stop command masses a g same listed inside two one (stop.GrowTooLarge number) r = absurd r
+listed_stop command masses a g same listed inside two one stop.NoMemory r = tt
+listed_stop command masses a g same listed inside two one (stop.BadVertex x n) r = absurd r
+listed_stop command masses a g same listed inside two one stop.BadWords r = absurd r
+listed_stop command masses a g same listed inside two one (stop.Refused f) r = absurd r
+listed_stop command masses a g same listed inside two one stop.ReadFailed r = absurd r
 
 pub over_ok : {X E : Type 0} (P Q : X → Type 0) (r : Result X E) → ((x : X) → P x → Q x) → IfOk r P → IfOk r Q
 over_ok P Q (Ok x) f p = f x p
@@ -119,38 +191,58 @@ pub over_err : {X E : Type 0} (P Q : E → Type 0) (r : Result X E) → ((e : E)
 over_err P Q (Ok x) f p = tt
 over_err P Q (Err e) f p = f e p
 
-pub whole_answer : (command : Command) (masses : List ℕ) (g : Graph) → IsInRange command.job g.vertices → 2 ≤ g.vertices → IsConnected g → (IsListed command.job → ⊥) → (text : List ℕ) → IsTextFor command masses g text → IsAnswerOf command masses g text
-whole_answer command masses g inside two connected unlisted text is = record {
+pub whole_answer : (command : Command) (masses : List ℕ) (g : Graph) → IsInRange command.job g.vertices → 2 ≤ g.vertices → HasComponents g 1 → AsksCuts command.job → (IsListed command.job → ⊥) → (text : List ℕ) → IsTextFor command masses g text → IsAnswerOf command masses g text
+whole_answer command masses g inside two one asks unlisted text is = record {
   in_range = inside;
-  answer = inr (inr (record { enough = two; connected = λ _. connected; within = λ listed. absurd (unlisted listed); text_is = is }));
+  answer = inr (inr (record {
+    enough = two;
+    connected = λ _. connected_of g one;
+    within = λ components counted. unlisted_keeps command.job (asked_cuts command masses g) masses g components asks unlisted (fewer_than_two g components (connected_of g one) counted);
+    text_is = is;
+  }));
 }
+
+-- a best one of some sides is a best one of others with the same members
+best_of_same : (masses : List ℕ) (k l : List (List ℕ)) (side : List ℕ) → SameMembers k l → IsBest masses k side → IsBest masses l side
+best_of_same masses k l side same best = record {
+  member = (same side).0 best.member;
+  none_greater = λ i d lt. no_greater (get_or l i d) (Contains-get_or l i d lt);
+}
+  where
+    no_greater : (other : List ℕ) → Contains l other → balance masses other ≤ balance masses side
+    no_greater other m = All-contains (λ (o : List ℕ). balance masses o ≤ balance masses side) k other best.none_greater ((same other).1 m)
 
 -- the best side of a solved graph is a best minimum cut
 best_of_cuts : (g : Graph) (solved : Solved) (masses side : List ℕ) → IsSolved g solved → IsBest masses (sides_of solved.cactus) side → IsBest masses (mincuts g) side
-best_of_cuts g solved masses side s best = record {
-  member = (s.sides side).0 best.member;
-  none_greater = λ i d lt. no_greater (get_or (mincuts g) i d) (Contains-get_or (mincuts g) i d lt);
-}
-  where
-    no_greater : (other : List ℕ) → Contains (mincuts g) other → balance masses other ≤ balance masses side
-    no_greater other m = All-contains (λ (o : List ℕ). balance masses o ≤ balance masses side) (sides_of solved.cactus) other best.none_greater ((s.sides other).1 m)
+best_of_cuts g solved masses side s best = best_of_same masses (sides_of solved.cactus) (mincuts g) side s.sides best
 
-pub best_text : (g : Graph) (solved : Solved) (masses side : List ℕ) (b : ℕ) → IsSolved g solved → b ≡ balance masses side → IsBest masses (sides_of solved.cactus) side →
+turned : (k l : List (List ℕ)) → SameMembers k l → SameMembers l k
+turned k l same side = ((same side).1, (same side).0)
+
+-- the first of the best sides of a solved graph is the first of its best minimum cuts
+pub best_text : (g : Graph) (solved : Solved) (masses side : List ℕ) (b : ℕ) → IsSolved g solved → b ≡ balance masses side → IsFirstBest masses (sides_of solved.cactus) side →
     IsBalancedText masses g (balanced_text solved.value b side)
-best_text g solved masses side b s even best = record {
+best_text g solved masses side b s even first = record {
   side = side;
-  best = best_of_cuts g solved masses side s best;
+  best = best_of_cuts g solved masses side s first.best;
+  first = λ _. record {
+    best = best_of_cuts g solved masses side s first.best;
+    first = λ other best. first.first other (best_of_same masses (mincuts g) (sides_of solved.cactus) other (turned (sides_of solved.cactus) (mincuts g) s.sides) best);
+  };
   text_is = λ i. balanced_text (s.value i) (even i) side;
 }
 
--- a graph that has a cut has a cactus with a block
-pub has_block : (g : Graph) (solved : Solved) → 2 ≤ g.vertices → IsSolved g solved → blocks solved.cactus.root ≡ [] → ⊥
-has_block g solved two s none =
+-- a cactus of a graph that has a cut has a block
+pub some_block : (g : Graph) (c : Rooted) → 2 ≤ g.vertices → SameMembers (sides_of c) (mincuts g) → blocks c.root ≡ [] → ⊥
+some_block g c two same none =
     let least = value_is_weight g two in
     let m : Contains (mincuts g) least.0 = Contains-mincuts g least.0 least.1 least.2 in
-    let empty : sides_of solved.cactus ≡ [] = no_sides solved.cactus none in
-    let gone : Contains [] least.0 = subst (λ (l : List (List ℕ)). Contains l least.0) empty ((s.sides least.0).1 m) in
+    let empty : sides_of c ≡ [] = no_sides c none in
+    let gone : Contains [] least.0 = subst (λ (l : List (List ℕ)). Contains l least.0) empty ((same least.0).1 m) in
     omega (arith, gone.1)
+
+pub has_block : (g : Graph) (solved : Solved) → 2 ≤ g.vertices → IsSolved g solved → blocks solved.cactus.root ≡ [] → ⊥
+has_block g solved two s none = some_block g solved.cactus two s.sides none
 
 -- the list of a solved graph
 pub list_reply : (g : Graph) (solved : Solved) (a : Ask) (n : ℕ) (list : List VertexList) → LawOfMinimumCuts → IsSolved g solved → n ≡ g.vertices → IsList (2 ^ 30) n a solved.cactus list →

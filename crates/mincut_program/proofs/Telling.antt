@@ -1,11 +1,10 @@
 -- What was replied, and what was told where there is no reply.
-use Rattle.std.proofs.Common.{◌++◌, ◌≡◌, ℕ, ◌⊎◌, ◌≤◌, ◌<◌, ◌*◌, ◌^◌, length, arith, inl, inr, ⊎_elim, List, Option, Some, None, Result, Ok, Err, refl, sym, ◌∙◌, subst, ap}
+use Rattle.std.proofs.Common.{◌++◌, ◌∷◌, ◌≡◌, ℕ, ◌⊎◌, ◌≤◌, ◌<◌, ◌+◌, ◌-◌, ◌*◌, ◌^◌, length, arith, inl, inr, ⊎_elim, List, Option, Some, None, Result, Ok, Err, refl, sym, ◌∙◌, subst, ap}
 use Rattle.std.specs.Prelude.{◌≢◌, IsSome, IfSome, IfOk, MatchOption}
 use Rattle.std.specs.Io.KnownBytes.{Appends}
 use Rattle.outside.specs.Faults.{Rose}
 use Rattle.cut_definitions.specs.Graph.{Graph}
-use Rattle.cut_definitions.specs.Components.{IsConnected}
-use Rattle.weighted_graph.specs.Components.{LawOfOneComponent}
+use Rattle.cut_definitions.specs.Components.{HasComponents}
 use Rattle.metis_reader.specs.declared.fault.Fault.{Fault}
 use Rattle.metis_reader.specs.File.{graph_of, masses_of}
 use Rattle.metis_reader.proofs.FixedFaults.{graph_of_fixed, fixed_stays}
@@ -17,12 +16,16 @@ use Rattle.mincut_program.specs.declared.notice.Notice.{Notice}
 use Rattle.mincut_program.specs.Notices.{notice_of, text_of}
 use Rattle.mincut_program.specs.declared.command.Command.{Command}
 use Rattle.mincut_program.specs.declared.command.Job.{Job}
-use Rattle.mincut_program.specs.declared.command.Job.TheVariants.{Value, Cactus, Cuts, Part, Count, Balanced, Trial}
-use Rattle.mincut_program.specs.Jobs.{IsAnswerOf, IsStopFor, IsInRange, IsListed, IsOutside, IsWithin, asked_cuts}
+use Rattle.mincut_program.specs.declared.command.Job.TheVariants.{Value, Cactus, Cuts, Part, Count, Balanced, Augment, Grow, Trial}
+use Rattle.mincut_program.specs.Jobs.{IsAnswerOf, IsStopFor, IsInRange, IsVertex, IsListed, IsListWithin, IsOutside, IsWithin, KeepsLimit, asked_cuts, total_of}
+use Rattle.mincut_program.specs.Insertions.{Insertion, StaysWithin}
+use Rattle.std.specs.List.{Contains}
+use Rattle.std.proofs.lemmas.List.Elements.{All-contains, Contains-append_right}
+use Rattle.cut_definitions.proofs.Lists.{Contains-here}
 use Rattle.mincut_program.specs.Words.{IsReading, ReadsGraph, command_of}
 use Rattle.mincut_program.specs.Stops.{status_of, line_of}
 use Rattle.mincut_program.specs.Intake.{IsRefused, IsAnswer, IsJobAnswer, IsJobReply, RepliesAs, IsStopped, IsReply, IsCause}
-use Rattle.mincut_program.specs.Answers.{Writes, Tells, TellsFault, TellsVertex, TellsTooLarge, TellingFailed}
+use Rattle.mincut_program.specs.Answers.{over_status, Writes, Told, TellingFailed}
 use Rattle.mincut_program.proofs.NoticeWords.{notice_is_no_command}
 use Rattle.mincut_program.proofs.Bytes.{read_all}
 use Rattle.mincut_program.proofs.Trials.{some_is, is_reading}
@@ -92,6 +95,8 @@ reading_replied Cuts command left bytes text reading from reply = subst (λ (o :
 reading_replied (Part u v) command left bytes text reading from reply = subst (λ (o : Option (List ℕ)). IfSome o (λ bytes. IsJobAnswer command bytes text)) from reply
 reading_replied Count command left bytes text reading from reply = subst (λ (o : Option (List ℕ)). IfSome o (λ bytes. IsJobAnswer command bytes text)) from reply
 reading_replied Balanced command left bytes text reading from reply = subst (λ (o : Option (List ℕ)). IfSome o (λ bytes. IsJobAnswer command bytes text)) from reply
+reading_replied Augment command left bytes text reading from reply = subst (λ (o : Option (List ℕ)). IfSome o (λ bytes. IsJobAnswer command bytes text)) from reply
+reading_replied (Grow is) command left bytes text reading from reply = subst (λ (o : Option (List ℕ)). IfSome o (λ bytes. IsJobAnswer command bytes text)) from reply
 reading_replied (Trial number) command left bytes text reading from reply = absurd reading
 
 -- the reply to a command for a graph that was read
@@ -117,19 +122,23 @@ reading_of_outside Cactus n outside = tt
 reading_of_outside Cuts n outside = tt
 reading_of_outside Count n outside = tt
 reading_of_outside Balanced n outside = tt
+reading_of_outside Augment n outside = tt
+reading_of_outside (Grow is) n outside = tt
 reading_of_outside (Trial number) n outside = absurd (outside tt)
 
-listed_reads : (job : Job) (P : Type 0) → ((IsListed job → P) → ⊥) → IsReading job
-listed_reads (Part u v) P large = tt
-listed_reads Value P large = tt
-listed_reads Cactus P large = tt
-listed_reads Cuts P large = tt
-listed_reads Count P large = tt
-listed_reads Balanced P large = tt
-listed_reads (Trial number) P large = absurd (large (λ listed. absurd listed))
+limit_reads : (job : Job) (cuts : List (List ℕ)) (masses : List ℕ) (g : Graph) → (((components : ℕ) → HasComponents g components → KeepsLimit job cuts masses g components) → ⊥) → IsReading job
+limit_reads (Part u v) cuts masses g large = tt
+limit_reads Value cuts masses g large = tt
+limit_reads Cactus cuts masses g large = tt
+limit_reads Cuts cuts masses g large = tt
+limit_reads Count cuts masses g large = tt
+limit_reads Balanced cuts masses g large = tt
+limit_reads Augment cuts masses g large = tt
+limit_reads (Grow is) cuts masses g large = tt
+limit_reads (Trial number) cuts masses g large = absurd (large (λ components counted. tt))
 
 pub reading_of_large : (command : Command) (masses : List ℕ) (g : Graph) → (IsWithin command masses g → ⊥) → IsReading command.job
-reading_of_large command masses g large = listed_reads command.job (length (asked_cuts command masses g) * g.vertices ≤ 2 ^ 30) large
+reading_of_large command masses g large = limit_reads command.job (asked_cuts command masses g) masses g large
 
 -- the stop of a command for a graph
 stopped : (words : List (List ℕ)) (command : Command) (left : Option (List ℕ)) (bytes : List ℕ) (graph : Graph) (s : Stop) → command_of words ≡ Some command →
@@ -153,6 +162,10 @@ out_of_range Cactus n x outside inside = outside
 out_of_range Cuts n x outside inside = outside
 out_of_range Count n x outside inside = outside
 out_of_range Balanced n x outside inside = outside
+out_of_range Augment n x outside inside = outside
+out_of_range (Grow is) n x outside inside =
+    let at = All-contains (λ i. IsVertex n i.0 × IsVertex n i.1) is outside.insertion inside (subst (λ (l : List Insertion). Contains l outside.insertion) (sym outside.parts) (Contains-append_right outside.before (outside.insertion ∷ outside.after) outside.insertion (Contains-here outside.insertion outside.after))) in
+    ⊎_elim (λ a. a.1 at.0) (λ b. b.2 at.1) outside.outside
 out_of_range (Trial number) n x outside inside = outside
 out_of_range (Part u v) n x outside inside = ⊎_elim (λ a. a.1 inside.0) (λ b. b.2 inside.1) outside
 
@@ -160,19 +173,62 @@ out_of_range (Part u v) n x outside inside = ⊎_elim (λ a. a.1 inside.0) (λ b
 bad_vertex_stops : (command : Command) (masses : List ℕ) (g : Graph) (x n : ℕ) → IsStopFor command masses g (stop.BadVertex x n) → IsInRange command.job g.vertices → ⊥
 bad_vertex_stops command masses g x n why inside = out_of_range command.job n x why.1 (subst (λ (k : ℕ). IsInRange command.job k) (sym why.0) inside)
 
--- nor does a list within its limit
-too_large_stops : (command : Command) (masses : List ℕ) (g : Graph) (cuts n : ℕ) → IsStopFor command masses g (stop.TooLarge cuts n) → (2 ≤ g.vertices → IsConnected g → IsWithin command masses g) → ⊥
-too_large_stops command masses g cuts n why within =
-    let most : length (asked_cuts command masses g) * g.vertices ≤ 2 ^ 30 = within why.enough why.connected why.listed in
-    let least : 2 ^ 30 < length (asked_cuts command masses g) * g.vertices = subst (λ (k : ℕ). 2 ^ 30 < k * g.vertices) why.counted (subst (λ (k : ℕ). 2 ^ 30 < cuts * k) why.over why.large) in
-    omega (arith, most, least)
+-- ---- limits
 
--- no reply lists more cuts than it may
-pub too_large_reply : (command : Command) (masses : List ℕ) (g : Graph) (text : List ℕ) → LawOfOneComponent → IsAnswerOf command masses g text → 2 ≤ g.vertices → IsConnected g → (IsWithin command masses g → ⊥) → ⊥
-too_large_reply command masses g text law a two connected large =
-    ⊎_elim (λ few. omega (arith, few.few, two))
-    (⊎_elim (λ apart. omega (arith, apart.several, (law g apart.count apart.components).1 connected)) (λ whole. large whole.within))
-    a.answer
+kept_list : (job : Job) (cuts : List (List ℕ)) (masses : List ℕ) (g : Graph) (components : ℕ) → IsListed job → KeepsLimit job cuts masses g components → IsListWithin cuts g components
+kept_list Cuts cuts masses g components listed kept = kept
+kept_list (Part u v) cuts masses g components listed kept = kept
+kept_list Value cuts masses g components listed kept = absurd listed
+kept_list Cactus cuts masses g components listed kept = absurd listed
+kept_list Count cuts masses g components listed kept = absurd listed
+kept_list Balanced cuts masses g components listed kept = absurd listed
+kept_list Augment cuts masses g components listed kept = absurd listed
+kept_list (Grow is) cuts masses g components listed kept = absurd listed
+kept_list (Trial number) cuts masses g components listed kept = absurd listed
+
+listed_status : (job : Job) → IsListed job → over_status job ≡ status.ListTooLarge
+listed_status Cuts listed = refl
+listed_status (Part u v) listed = refl
+listed_status Value listed = absurd listed
+listed_status Cactus listed = absurd listed
+listed_status Count listed = absurd listed
+listed_status Balanced listed = absurd listed
+listed_status Augment listed = absurd listed
+listed_status (Grow is) listed = absurd listed
+listed_status (Trial number) listed = absurd listed
+
+-- a job within its limit is not stopped by one, nor is one whose vertices are there by a vertex
+limit_stops : (command : Command) (masses : List ℕ) (g : Graph) (s : Stop) → IsStopFor command masses g s → IsInRange command.job g.vertices →
+    (2 ≤ g.vertices → IsWithin command masses g) → s ≡ stop.NoMemory
+limit_stops command masses g (stop.BadVertex x n) why inside within = absurd (bad_vertex_stops command masses g x n why inside)
+limit_stops command masses g (stop.TooLarge cuts n) why inside within =
+    let kept = kept_list command.job (asked_cuts command masses g) masses g 1 why.listed (within why.enough 1 why.one) in
+    let most : length (asked_cuts command masses g) * g.vertices ≤ 2 ^ 30 = kept.asked (omega arith) in
+    let least : 2 ^ 30 < length (asked_cuts command masses g) * g.vertices = subst (λ (k : ℕ). 2 ^ 30 < k * g.vertices) why.counted (subst (λ (k : ℕ). 2 ^ 30 < cuts * k) why.over why.large) in
+    absurd (omega (arith, most, least))
+limit_stops command masses g (stop.TooManyUnions c n) why inside within =
+    let kept = kept_list command.job (asked_cuts command masses g) masses g c why.listed (within why.enough c why.has_components) in
+    let least : 2 ^ 30 < (2 ^ (c - 1) - 1) * g.vertices = subst (λ (k : ℕ). 2 ^ 30 < (2 ^ (c - 1) - 1) * k) why.over why.large in
+    absurd (omega (arith, kept.all why.several, least))
+limit_stops command masses g (stop.CountTooLarge c) why inside within =
+    let kept : c ≤ 127 = subst (λ (j : Job). KeepsLimit j (asked_cuts command masses g) masses g c) why.job (within why.enough c why.has_components) in
+    absurd (omega (arith, kept, why.large))
+limit_stops command masses g (stop.BalanceTooLarge c total) why inside within =
+    let kept : 2 ≤ c → c * (total_of masses + 1) ≤ 2 ^ 32 = subst (λ (j : Job). KeepsLimit j (asked_cuts command masses g) masses g c) why.job (within why.enough c why.has_components) in
+    let large : 2 ^ 32 < c * (total_of masses + 1) = subst (λ (k : ℕ). 2 ^ 32 < c * (k + 1)) why.counted why.large in
+    absurd (omega (arith, kept why.several, large))
+limit_stops command masses g (stop.GrowTooLarge number) why inside within =
+    let kept : StaysWithin g why.insertions = subst (λ (j : Job). KeepsLimit j (asked_cuts command masses g) masses g why.components) why.job (within why.enough why.components why.has_components) in
+    absurd (why.first.beyond (kept number why.first.to_end))
+limit_stops command masses g stop.NoMemory why inside within = refl
+limit_stops command masses g stop.BadWords why inside within = absurd why
+limit_stops command masses g (stop.Refused fault) why inside within = absurd why
+limit_stops command masses g stop.ReadFailed why inside within = absurd why
+
+-- no reply goes beyond the limit of its job
+pub too_large_reply : (command : Command) (masses : List ℕ) (g : Graph) (text : List ℕ) → IsAnswerOf command masses g text → 2 ≤ g.vertices → (IsWithin command masses g → ⊥) → ⊥
+too_large_reply command masses g text a two large =
+    ⊎_elim (λ few. omega (arith, few.few, two)) (⊎_elim (λ apart. large apart.within) (λ whole. large whole.within)) a.answer
 
 -- ---- what was told
 
@@ -193,6 +249,10 @@ no_write_fault stop.ReadFailed e = cc
 no_write_fault stop.NoMemory e = cc
 no_write_fault (stop.BadVertex x k) e = cc
 no_write_fault (stop.TooLarge cuts k) e = cc
+no_write_fault (stop.TooManyUnions c k) e = cc
+no_write_fault (stop.CountTooLarge c) e = cc
+no_write_fault (stop.BalanceTooLarge c total) e = cc
+no_write_fault (stop.GrowTooLarge number) e = cc
 
 module _ (words : List (List ℕ)) (left now : Option (List ℕ)) (m n : ℕ) (before after : Option (List ℕ)) (p q : ℕ) (result : Status) where
   -- what was taken where no write failed
@@ -200,75 +260,8 @@ module _ (words : List (List ℕ)) (left now : Option (List ℕ)) (m n : ℕ) (b
       (result ≡ status_of s) × Appends before after (line_of s)
   whole s w fine = ⊎_elim (λ t. (t.0, t.1.text_taken)) (λ t. absurd (fine t.0)) w
 
-  pub fault_told : Telling words left now m n before after p q result → result ≡ status.Refused → TellsFault words left now m n before after
-  fault_told t is = of t.stop t.cause (whole t.stop t.writes (λ e. off (sym is ∙ e)))
-    where
-      off : status.Refused ≡ status.WriteFault → ⊥
-      off e = cc
-
-      of : (s : Stop) → IsCause words left now m n s → (result ≡ status_of s) × Appends before after (line_of s) → TellsFault words left now m n before after
-      of stop.BadWords cause w = let e : result ≡ status.BadWords = w.0 in absurd (cc (e, is))
-      of (stop.Refused fault) cause w = record { fault = fault; told = record { cause = cause; line_taken = w.1 } }
-      of stop.ReadFailed cause w = let e : result ≡ status.ReadFault = w.0 in absurd (cc (e, is))
-      of stop.NoMemory cause w = let e : result ≡ status.OutOfMemory = w.0 in absurd (cc (e, is))
-      of (stop.BadVertex x k) cause w = let e : result ≡ status.BadVertex = w.0 in absurd (cc (e, is))
-      of (stop.TooLarge cuts k) cause w = let e : result ≡ status.ListTooLarge = w.0 in absurd (cc (e, is))
-
-  pub read_told : Telling words left now m n before after p q result → result ≡ status.ReadFault → Tells words left now m n before after stop.ReadFailed
-  read_told t is = of t.stop t.cause (whole t.stop t.writes (λ e. off (sym is ∙ e)))
-    where
-      off : status.ReadFault ≡ status.WriteFault → ⊥
-      off e = cc
-
-      of : (s : Stop) → IsCause words left now m n s → (result ≡ status_of s) × Appends before after (line_of s) → Tells words left now m n before after stop.ReadFailed
-      of stop.BadWords cause w = let e : result ≡ status.BadWords = w.0 in absurd (cc (e, is))
-      of (stop.Refused fault) cause w = let e : result ≡ status.Refused = w.0 in absurd (cc (e, is))
-      of stop.ReadFailed cause w = record { cause = cause; line_taken = w.1 }
-      of stop.NoMemory cause w = let e : result ≡ status.OutOfMemory = w.0 in absurd (cc (e, is))
-      of (stop.BadVertex x k) cause w = let e : result ≡ status.BadVertex = w.0 in absurd (cc (e, is))
-      of (stop.TooLarge cuts k) cause w = let e : result ≡ status.ListTooLarge = w.0 in absurd (cc (e, is))
-
-  pub memory_told : Telling words left now m n before after p q result → result ≡ status.OutOfMemory → Tells words left now m n before after stop.NoMemory
-  memory_told t is = of t.stop t.cause (whole t.stop t.writes (λ e. off (sym is ∙ e)))
-    where
-      off : status.OutOfMemory ≡ status.WriteFault → ⊥
-      off e = cc
-
-      of : (s : Stop) → IsCause words left now m n s → (result ≡ status_of s) × Appends before after (line_of s) → Tells words left now m n before after stop.NoMemory
-      of stop.BadWords cause w = let e : result ≡ status.BadWords = w.0 in absurd (cc (e, is))
-      of (stop.Refused fault) cause w = let e : result ≡ status.Refused = w.0 in absurd (cc (e, is))
-      of stop.ReadFailed cause w = let e : result ≡ status.ReadFault = w.0 in absurd (cc (e, is))
-      of stop.NoMemory cause w = record { cause = cause; line_taken = w.1 }
-      of (stop.BadVertex x k) cause w = let e : result ≡ status.BadVertex = w.0 in absurd (cc (e, is))
-      of (stop.TooLarge cuts k) cause w = let e : result ≡ status.ListTooLarge = w.0 in absurd (cc (e, is))
-
-  pub vertex_told : Telling words left now m n before after p q result → result ≡ status.BadVertex → TellsVertex words left now m n before after
-  vertex_told t is = of t.stop t.cause (whole t.stop t.writes (λ e. off (sym is ∙ e)))
-    where
-      off : status.BadVertex ≡ status.WriteFault → ⊥
-      off e = cc
-
-      of : (s : Stop) → IsCause words left now m n s → (result ≡ status_of s) × Appends before after (line_of s) → TellsVertex words left now m n before after
-      of stop.BadWords cause w = let e : result ≡ status.BadWords = w.0 in absurd (cc (e, is))
-      of (stop.Refused fault) cause w = let e : result ≡ status.Refused = w.0 in absurd (cc (e, is))
-      of stop.ReadFailed cause w = let e : result ≡ status.ReadFault = w.0 in absurd (cc (e, is))
-      of stop.NoMemory cause w = let e : result ≡ status.OutOfMemory = w.0 in absurd (cc (e, is))
-      of (stop.BadVertex x k) cause w = record { vertex = x; vertices = k; told = record { cause = cause; line_taken = w.1 } }
-      of (stop.TooLarge cuts k) cause w = let e : result ≡ status.ListTooLarge = w.0 in absurd (cc (e, is))
-
-  pub too_large_told : Telling words left now m n before after p q result → result ≡ status.ListTooLarge → TellsTooLarge words left now m n before after
-  too_large_told t is = of t.stop t.cause (whole t.stop t.writes (λ e. off (sym is ∙ e)))
-    where
-      off : status.ListTooLarge ≡ status.WriteFault → ⊥
-      off e = cc
-
-      of : (s : Stop) → IsCause words left now m n s → (result ≡ status_of s) × Appends before after (line_of s) → TellsTooLarge words left now m n before after
-      of stop.BadWords cause w = let e : result ≡ status.BadWords = w.0 in absurd (cc (e, is))
-      of (stop.Refused fault) cause w = let e : result ≡ status.Refused = w.0 in absurd (cc (e, is))
-      of stop.ReadFailed cause w = let e : result ≡ status.ReadFault = w.0 in absurd (cc (e, is))
-      of stop.NoMemory cause w = let e : result ≡ status.OutOfMemory = w.0 in absurd (cc (e, is))
-      of (stop.BadVertex x k) cause w = let e : result ≡ status.BadVertex = w.0 in absurd (cc (e, is))
-      of (stop.TooLarge cuts k) cause w = record { cuts = cuts; vertices = k; told = record { cause = cause; line_taken = w.1 } }
+  pub told : Telling words left now m n before after p q result → result ≢ status.WriteFault → Told words left now m n before after result
+  told t fine = let w = whole t.stop t.writes fine in record { stop = t.stop; status = w.0; cause = t.cause; line_taken = w.1 }
 
   pub telling_failed : Telling words left now m n before after p q result → result ≡ status.WriteFault → TellingFailed words left now m n before after p q
   telling_failed t is =
@@ -296,6 +289,10 @@ module _ (words : List (List ℕ)) (left now : Option (List ℕ)) (m n : ℕ) (b
       of stop.NoMemory cause e = inr e
       of (stop.BadVertex x k) cause e = absurd (no_reading cause.0)
       of (stop.TooLarge cuts k) cause e = absurd (no_reading cause.0)
+      of (stop.TooManyUnions c k) cause e = absurd (no_reading cause.0)
+      of (stop.CountTooLarge c) cause e = absurd (no_reading cause.0)
+      of (stop.BalanceTooLarge c total) cause e = absurd (no_reading cause.0)
+      of (stop.GrowTooLarge number) cause e = absurd (no_reading cause.0)
 
   module _ (has : HasCommand words) (reads : ¬ Rose m n) (tells : ¬ Rose p q) (bytes : List ℕ) (from : left ≡ Some bytes)
       (t : Telling words left now m n before after p q result) where
@@ -310,20 +307,19 @@ module _ (words : List (List ℕ)) (left now : Option (List ℕ)) (m n : ℕ) (b
     stop_for command graph is accepted stop.NoMemory cause = inl refl
     stop_for command graph is accepted (stop.BadVertex x k) cause = inr (stopped words command left bytes graph (stop.BadVertex x k) is from accepted cause.3)
     stop_for command graph is accepted (stop.TooLarge cuts k) cause = inr (stopped words command left bytes graph (stop.TooLarge cuts k) is from accepted cause.3)
+    stop_for command graph is accepted (stop.TooManyUnions c k) cause = inr (stopped words command left bytes graph (stop.TooManyUnions c k) is from accepted cause.3)
+    stop_for command graph is accepted (stop.CountTooLarge c) cause = inr (stopped words command left bytes graph (stop.CountTooLarge c) is from accepted cause.3)
+    stop_for command graph is accepted (stop.BalanceTooLarge c total) cause = inr (stopped words command left bytes graph (stop.BalanceTooLarge c total) is from accepted cause.3)
+    stop_for command graph is accepted (stop.GrowTooLarge number) cause = inr (stopped words command left bytes graph (stop.GrowTooLarge number) is from accepted cause.3)
 
     -- for a graph whose job has a text only memory can be wanting
     pub graph_told : (command : Command) (graph : Graph) → command_of words ≡ Some command → graph_of bytes ≡ Ok graph → IsInRange command.job graph.vertices →
-        (2 ≤ graph.vertices → IsConnected graph → IsWithin command (masses_of bytes) graph) → (result ≡ status.Ok) ⊎ (result ≡ status.OutOfMemory)
+        (2 ≤ graph.vertices → IsWithin command (masses_of bytes) graph) → (result ≡ status.Ok) ⊎ (result ≡ status.OutOfMemory)
     graph_told command graph is accepted inside within = of t.stop (stop_for command graph is accepted t.stop t.cause) (calm t tells)
       where
         of : (s : Stop) → (s ≡ stop.NoMemory) ⊎ IsStopFor command (masses_of bytes) graph s → result ≡ status_of s → (result ≡ status.Ok) ⊎ (result ≡ status.OutOfMemory)
         of s (inl memory) e = inr (e ∙ ap status_of memory)
-        of (stop.BadVertex x k) (inr why) e = absurd (bad_vertex_stops command (masses_of bytes) graph x k why inside)
-        of (stop.TooLarge cuts k) (inr why) e = absurd (too_large_stops command (masses_of bytes) graph cuts k why within)
-        of stop.NoMemory (inr why) e = inr e
-        of stop.BadWords (inr why) e = absurd why
-        of (stop.Refused fault) (inr why) e = absurd why
-        of stop.ReadFailed (inr why) e = absurd why
+        of s (inr why) e = inr (e ∙ ap status_of (limit_stops command (masses_of bytes) graph s why inside within))
 
     -- a vertex that is not there is told
     pub outside_told : (command : Command) (graph : Graph) → command_of words ≡ Some command → graph_of bytes ≡ Ok graph → (IsInRange command.job graph.vertices → ⊥) →
@@ -334,20 +330,28 @@ module _ (words : List (List ℕ)) (left now : Option (List ℕ)) (m n : ℕ) (b
         of s (inl memory) e = inr (e ∙ ap status_of memory)
         of (stop.BadVertex x k) (inr why) e = inl e
         of (stop.TooLarge cuts k) (inr why) e = absurd (outside why.in_range)
+        of (stop.TooManyUnions c k) (inr why) e = absurd (outside why.in_range)
+        of (stop.CountTooLarge c) (inr why) e = absurd (outside (subst (λ (j : Job). IsInRange j graph.vertices) (sym why.job) tt))
+        of (stop.BalanceTooLarge c total) (inr why) e = absurd (outside (subst (λ (j : Job). IsInRange j graph.vertices) (sym why.job) tt))
+        of (stop.GrowTooLarge number) (inr why) e = absurd (outside why.in_range)
         of stop.NoMemory (inr why) e = inr e
         of stop.BadWords (inr why) e = absurd why
         of (stop.Refused fault) (inr why) e = absurd why
         of stop.ReadFailed (inr why) e = absurd why
 
-    -- a list that is too large is told
+    -- a limit that is not kept is told
     pub over_limit_told : (command : Command) (graph : Graph) → command_of words ≡ Some command → graph_of bytes ≡ Ok graph → IsInRange command.job graph.vertices →
-        (result ≡ status.ListTooLarge) ⊎ (result ≡ status.OutOfMemory)
+        (result ≡ over_status command.job) ⊎ (result ≡ status.OutOfMemory)
     over_limit_told command graph is accepted inside = of t.stop (stop_for command graph is accepted t.stop t.cause) (calm t tells)
       where
-        of : (s : Stop) → (s ≡ stop.NoMemory) ⊎ IsStopFor command (masses_of bytes) graph s → result ≡ status_of s → (result ≡ status.ListTooLarge) ⊎ (result ≡ status.OutOfMemory)
+        of : (s : Stop) → (s ≡ stop.NoMemory) ⊎ IsStopFor command (masses_of bytes) graph s → result ≡ status_of s → (result ≡ over_status command.job) ⊎ (result ≡ status.OutOfMemory)
         of s (inl memory) e = inr (e ∙ ap status_of memory)
         of (stop.BadVertex x k) (inr why) e = absurd (bad_vertex_stops command (masses_of bytes) graph x k why inside)
-        of (stop.TooLarge cuts k) (inr why) e = inl e
+        of (stop.TooLarge cuts k) (inr why) e = inl (e ∙ sym (listed_status command.job why.listed))
+        of (stop.TooManyUnions c k) (inr why) e = inl (e ∙ sym (listed_status command.job why.listed))
+        of (stop.CountTooLarge c) (inr why) e = inl (e ∙ sym (ap over_status why.job))
+        of (stop.BalanceTooLarge c total) (inr why) e = inl (e ∙ sym (ap over_status why.job))
+        of (stop.GrowTooLarge number) (inr why) e = inl (e ∙ sym (ap over_status why.job))
         of stop.NoMemory (inr why) e = inr e
         of stop.BadWords (inr why) e = absurd why
         of (stop.Refused fault) (inr why) e = absurd why
@@ -364,3 +368,7 @@ module _ (words : List (List ℕ)) (left now : Option (List ℕ)) (m n : ℕ) (b
         of stop.NoMemory cause e = inr e
         of (stop.BadVertex x k) cause e = absurd (accepted_twice words left bytes fault (stop.BadVertex x k) from wrong cause.3)
         of (stop.TooLarge cuts k) cause e = absurd (accepted_twice words left bytes fault (stop.TooLarge cuts k) from wrong cause.3)
+        of (stop.TooManyUnions c k) cause e = absurd (accepted_twice words left bytes fault (stop.TooManyUnions c k) from wrong cause.3)
+        of (stop.CountTooLarge c) cause e = absurd (accepted_twice words left bytes fault (stop.CountTooLarge c) from wrong cause.3)
+        of (stop.BalanceTooLarge c total) cause e = absurd (accepted_twice words left bytes fault (stop.BalanceTooLarge c total) from wrong cause.3)
+        of (stop.GrowTooLarge number) cause e = absurd (accepted_twice words left bytes fault (stop.GrowTooLarge number) from wrong cause.3)

@@ -3,11 +3,11 @@ use Rattle.std.specs.Prelude.{◌≡◌, ◌⊎◌, ℕ, List, Option}
 use Rattle.std.specs.Io.KnownBytes.{Appends}
 use Rattle.outside.specs.Faults.{Rose, AppendsPrefix}
 use Rattle.mincut_program.specs.declared.status.Status.{Status}
-use Rattle.mincut_program.specs.declared.status.Status.TheVariants.{Ok, Refused, BadWords, ReadFault, WriteFault, OutOfMemory, ListTooLarge, BadVertex}
-use Rattle.metis_reader.specs.declared.fault.Fault.{Fault}
+use Rattle.mincut_program.specs.declared.status.Status.TheVariants.{Ok, Refused, BadWords, ReadFault, WriteFault, OutOfMemory, ListTooLarge, BadVertex, CountTooLarge, BalanceTooLarge, GrowTooLarge}
 use Rattle.mincut_program.specs.declared.stop.Stop.{Stop}
-use Rattle.mincut_program.specs.declared.stop.Stop.TheVariants as stop
-use Rattle.mincut_program.specs.Stops.{line_of}
+use Rattle.mincut_program.specs.Stops.{line_of, status_of}
+use Rattle.mincut_program.specs.declared.command.Job.{Job}
+use Rattle.mincut_program.specs.declared.command.Job.TheVariants.{Count, Balanced, Grow}
 use Rattle.mincut_program.specs.Intake.{IsReply, IsCause}
 
 abbrev pub code_of : Status → ℕ
@@ -19,6 +19,16 @@ code_of WriteFault = 4
 code_of OutOfMemory = 5
 code_of ListTooLarge = 6
 code_of BadVertex = 7
+code_of CountTooLarge = 8
+code_of BalanceTooLarge = 9
+code_of GrowTooLarge = 10
+
+-- the status of a job that is above its limit
+abbrev pub over_status : Job → Status
+over_status Count = CountTooLarge
+over_status Balanced = BalanceTooLarge
+over_status (Grow insertions) = GrowTooLarge
+over_status _ = ListTooLarge
 
 -- the whole text was taken, and no write failed
 pub record Wrote (text : List ℕ) (taken_before taken_after : Option (List ℕ)) (before now : ℕ) : Type 0 where
@@ -49,27 +59,12 @@ pub record ReplyFailed (words : List (List ℕ)) (left taken_before taken_after 
   pub reply : IsReply words left text
   pub part_taken : AppendsPrefix taken_before taken_after text
 
--- the line that tells of this stop was taken whole
-pub record Tells (words : List (List ℕ)) (left_before left_now : Option (List ℕ)) (m n : ℕ) (taken_before taken_after : Option (List ℕ)) (stop : Stop) : Type 0 where
+-- a stop with its cause was told: its line was taken whole, and the status is that of the stop
+pub record Told (words : List (List ℕ)) (left_before left_now : Option (List ℕ)) (m n : ℕ) (taken_before taken_after : Option (List ℕ)) (result : Status) : Type 0 where
+  pub stop : Stop
+  pub status : result ≡ status_of stop
   pub cause : IsCause words left_before left_now m n stop
   pub line_taken : Appends taken_before taken_after (line_of stop)
-
--- the line that names the fault of the bytes was taken whole
-pub record TellsFault (words : List (List ℕ)) (left_before left_now : Option (List ℕ)) (m n : ℕ) (taken_before taken_after : Option (List ℕ)) : Type 0 where
-  pub fault : Fault
-  pub told : Tells words left_before left_now m n taken_before taken_after (stop.Refused fault)
-
--- the line that names the vertex that is not there was taken whole
-pub record TellsVertex (words : List (List ℕ)) (left_before left_now : Option (List ℕ)) (m n : ℕ) (taken_before taken_after : Option (List ℕ)) : Type 0 where
-  pub vertex : ℕ
-  pub vertices : ℕ
-  pub told : Tells words left_before left_now m n taken_before taken_after (stop.BadVertex vertex vertices)
-
--- the line that says how large the list is was taken whole
-pub record TellsTooLarge (words : List (List ℕ)) (left_before left_now : Option (List ℕ)) (m n : ℕ) (taken_before taken_after : Option (List ℕ)) : Type 0 where
-  pub cuts : ℕ
-  pub vertices : ℕ
-  pub told : Tells words left_before left_now m n taken_before taken_after (stop.TooLarge cuts vertices)
 
 -- a write failed of the line that tells why there is no answer: a first part of it was taken
 pub record TellingFailed (words : List (List ℕ)) (left_before left_now : Option (List ℕ)) (m n : ℕ)

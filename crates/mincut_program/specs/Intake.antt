@@ -7,7 +7,7 @@ use Rattle.metis_reader.specs.declared.fault.Fault.{Fault}
 use Rattle.metis_reader.specs.File.{graph_of, masses_of, fixed}
 use Rattle.metis_reader.specs.Fed.{HeaderEndsIn}
 use Rattle.mincut_program.specs.declared.stop.Stop.{Stop}
-use Rattle.mincut_program.specs.declared.stop.Stop.TheVariants.{BadWords, Refused, ReadFailed, NoMemory, BadVertex, TooLarge}
+use Rattle.mincut_program.specs.declared.stop.Stop.TheVariants.{BadWords, Refused, ReadFailed, NoMemory, BadVertex, TooLarge, TooManyUnions, CountTooLarge, BalanceTooLarge, GrowTooLarge}
 use Rattle.mincut_program.specs.declared.command.Command.{Command}
 use Rattle.mincut_program.specs.declared.command.Job.{Job}
 use Rattle.mincut_program.specs.declared.command.Job.TheVariants.{Trial}
@@ -77,6 +77,10 @@ IsCause words before now m n ReadFailed = ReadsGraph words × Rose m n × IsUnre
 IsCause words before now m n NoMemory = (n ≡ m) × IsMemoryPlace before now
 IsCause words before now m n (BadVertex x k) = IsJobStop words before now m n (BadVertex x k)
 IsCause words before now m n (TooLarge cuts k) = IsJobStop words before now m n (TooLarge cuts k)
+IsCause words before now m n (TooManyUnions components k) = IsJobStop words before now m n (TooManyUnions components k)
+IsCause words before now m n (CountTooLarge components) = IsJobStop words before now m n (CountTooLarge components)
+IsCause words before now m n (BalanceTooLarge components total) = IsJobStop words before now m n (BalanceTooLarge components total)
+IsCause words before now m n (GrowTooLarge number) = IsJobStop words before now m n (GrowTooLarge number)
 
 -- the text is what the command answers for the graph and the masses of the bytes
 pub record IsJobAnswer (command : Command) (bytes text : List ℕ) : Type 0 where

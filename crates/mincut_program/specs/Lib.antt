@@ -5,9 +5,15 @@ pub mod Line
 pub mod Words
 pub mod Stops
 pub mod Listings
+pub mod Augmenting
+pub mod Growing
+pub mod Insertions
 pub mod Trials
 pub mod Jobs
 pub mod Replies
 pub mod Solving
+pub mod Apart
+pub mod Growth
 pub mod Intake
 pub mod Answers
+pub mod TextLaws

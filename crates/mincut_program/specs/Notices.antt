@@ -16,6 +16,8 @@ text_of Help =
     ++ line (codes "part: lists those that part the vertices U and V")
     ++ line (codes "count: prints the number of all minimum cuts")
     ++ line (codes "balanced: prints a minimum cut whose lighter side is heaviest")
+    ++ line (codes "augment: prints the fewest unit edges that raise the value, and the sets that show it")
+    ++ line (codes "grow: inserts the edges U V of weight W that follow, three numbers each, and prints the cuts after them")
     ++ line (codes "trial: prints five facts about a graph that it makes for the number U of 12 to 100000")
     ++ line (codes "N, the number of workers, is 1 to 64, and 4 where it is not named")
     ++ line (codes "--least W with cuts: lists those whose lighter side weighs W or more")

@@ -3,8 +3,10 @@ use Rattle.std.specs.Prelude.{ℕ, ◌≤◌, ◌^◌, ⊤, List, string_bytes}
 use Rattle.cactus_tree.specs.Flattened.{flat_of}
 use Rattle.cactus_text.specs.Text.{cactus_text}
 use Rattle.mincut_program.specs.declared.reply.Reply.{Reply}
-use Rattle.mincut_program.specs.declared.reply.Reply.TheVariants.{Text, Cactus, Listing, Balanced}
+use Rattle.mincut_program.specs.declared.reply.Reply.TheVariants.{Text, Cactus, Listing, Balanced, Growth, Augmentation}
 use Rattle.cut_listing.specs.Listings.{members_of}
+use Rattle.mincut_program.specs.Augmenting.{augment_text}
+use Rattle.mincut_program.specs.Growing.{growth_text}
 use Rattle.mincut_program.specs.Listings.{listing_text, balanced_text}
 
 abbrev pub text_of : Reply → List ℕ
@@ -12,10 +14,13 @@ text_of (Text text) = string_bytes text
 text_of (Cactus solved) = cactus_text solved.value (flat_of solved.cactus)
 text_of (Listing value sides) = listing_text value (members_of sides.items)
 text_of (Balanced value balance side) = balanced_text value balance side.members
+text_of (Growth steps solved) = growth_text steps.items solved.value (flat_of solved.cactus)
+text_of (Augmentation value plan) = augment_text value plan
 
 -- the numbers are within the limits of the text of a cactus
 abbrev pub IsPrintable : Reply → Type 0
 IsPrintable (Cactus solved) = (solved.value ≤ 2 ^ 62) × (solved.cactus.vertices ≤ 4194304)
+IsPrintable (Growth steps solved) = (solved.value ≤ 2 ^ 62) × (solved.cactus.vertices ≤ 4194304)
 IsPrintable _ = ⊤
 
 -- memory is taken for writing it

@@ -1,16 +1,18 @@
 //! From the graph to what is written.
 
-ghost use Rattle.std.specs.Prelude.{◌≡◌, ◌≢◌, ◌<◌, ◌≤◌, ◌⊎◌, ℕ, List, IfOk, IfErr, OnOk, length, true, false};
-ghost use Rattle.cut_definitions.specs.Components.{IsConnected};
+ghost use Rattle.std.specs.Prelude.{◌≡◌, ◌≤◌, IfOk, IfErr, IfSome, IsNone, length, true, false};
 ghost use Rattle.cut_definitions.specs.Cuts.{value};
-ghost use Rattle.cut_definitions.specs.Graph.{IsEdgeList, Graph as EdgeGraph};
-ghost use Rattle.mincut_program.specs.Jobs.{IsAnswerOf, IsInRange, IsStopFor, IsVertex};
+ghost use Rattle.cut_definitions.specs.Graph.{IsEdgeList};
+ghost use Rattle.mincut_program.specs.Jobs.{AreInRange, AsksCuts, IsAnswerOf, IsFirstOutside, IsInRange, IsOutside, IsOutsidePair, IsStopFor, IsVertex};
 ghost use Rattle.mincut_program.specs.Replies.{text_of, IsPrintable};
-ghost use Rattle.mincut_program.specs.Texts.{no_cut_line, disconnected_line, value_line};
-ghost use Rattle.mincut_program.specs.Words.{IsReading};
+ghost use Rattle.mincut_program.specs.Texts.{no_cut_line, value_line};
+ghost use Rattle.mincut_program.specs.Words.{IsMakeable, IsReading};
 
+use crate::apart::apart_reply;
 use crate::command::{Command, Job};
 use crate::cuts::cuts_reply;
+use crate::growth::grow_reply;
+use crate::insertions::Insertions;
 use crate::reply::Reply;
 use crate::stop::Stop;
 use cactus_solver::solve;
@@ -20,7 +22,7 @@ use min_value::value as least_weight;
 use outside::{Gate, NoMemory};
 use std::alloc::Global;
 use std::thread::Threads;
-use weighted_graph::{Graph, laws};
+use weighted_graph::Graph;
 
 // A graph of fewer than two vertices has no cut.
 fn no_cut(alloc: Global) -> Result<Reply, NoMemory>
@@ -28,15 +30,6 @@ fn no_cut(alloc: Global) -> Result<Reply, NoMemory>
     ensures printable { IfOk result IsPrintable }
 {
     let text = String::from_str(alloc, "no cut\n")?;
-    Ok(Reply::Text(text))
-}
-
-// The answer for two or more components.
-fn disconnected(alloc: Global, components: u32) -> Result<Reply, NoMemory>
-    ensures text { IfOk result (λ reply. text_of reply ≡ disconnected_line components) }
-    ensures printable { IfOk result IsPrintable }
-{
-    let text = format!(in alloc; "disconnected {components}\n")?;
     Ok(Reply::Text(text))
 }
 
@@ -75,15 +68,41 @@ fn is_vertex(n: u32, v: u64) -> bool
     1 <= v && v <= n as u64
 }
 
-// The first vertex that a command names that is not of 1 to n.
-fn check_vertices(command: Command, n: u32) -> Result<(), Stop>
-    ensures in_range { OnOk result (IsInRange command.job n) }
-    ensures outside { (masses : List ℕ) (g : EdgeGraph) → g.vertices ≡ n → IfErr result (IsStopFor command masses g) }
+// The first of two vertices that is not of 1 to n.
+fn check_pair(u: u64, v: u64, n: u32) -> Option<u64>
+    ensures none { IsNone result → IsVertex n u × IsVertex n v }
+    ensures some { IfSome result (IsOutsidePair n u v) }
 {
-    match command.job {
-        Job::Part(u, _) if !is_vertex(n, u) => Err(Stop::BadVertex { vertex: u, n }),
-        Job::Part(_, v) if !is_vertex(n, v) => Err(Stop::BadVertex { vertex: v, n }),
-        _ => Ok(()),
+    if !is_vertex(n, u) {
+        return Some(u);
+    }
+    if is_vertex(n, v) { None } else { Some(v) }
+}
+
+// The first vertex of insertions that is not of 1 to n.
+fn check_insertions(insertions: &Insertions, n: u32) -> Option<u64>
+    ensures none { IsNone result → AreInRange n insertions.now }
+    ensures some { IfSome result (IsFirstOutside n insertions.now) }
+{
+    'insertions: for i in 0..insertions.len() {
+        let (u, v, _) = insertions.at(i);
+        match check_pair(u, v, n) {
+            Some(vertex) => return Some(vertex),
+            None => {}
+        }
+    }
+    None
+}
+
+// The first vertex that a job names that is not of 1 to n.
+fn first_outside(job: &Job, n: u32) -> Option<u64>
+    ensures none { IsNone result → IsInRange job.now n }
+    ensures some { IfSome result (IsOutside job.now n) }
+{
+    match job {
+        Job::Part(u, v) => check_pair(*u, *v, n),
+        Job::Grow(insertions) => check_insertions(insertions, n),
+        _ => None,
     }
 }
 
@@ -99,19 +118,16 @@ fn reply_on_cuts<R: Threads + Sync, G: Gate>(
     requires enough { 2 ≤ list.vertices }
     requires weighed { length weights.now ≡ list.vertices }
     requires in_range { IsInRange command.job list.vertices }
-    requires job { command.job ≢ Job.Value }
-    requires reading { IsReading command.job }
+    requires job { AsksCuts command.job }
     requires workers { (1 ≤ command.workers) × (command.workers ≤ 64) }
     ensures text { IfOk result (λ reply. IsAnswerOf command weights.now list (text_of reply)) }
     ensures printable { IfOk result IsPrintable }
     ensures stop { IfErr result (IsStopFor command weights.now list) }
 {
-    laws::connected_is_one_component();
     let graph = with_rows(alloc, list)?;
     let components = graph.components(alloc)?;
     if components >= 2 {
-        let reply = disconnected(alloc, components)?;
-        return Ok(reply);
+        return apart_reply(alloc, command, &graph, components, weights);
     }
     let solved = solve(rt, alloc, &graph, command.workers, gate)?;
     cuts_reply(alloc, command, &graph, weights, solved)
@@ -128,6 +144,7 @@ pub fn answer<R: Threads + Sync, G: Gate>(
     requires weighed { length read.weights ≡ read.edges.vertices }
     requires workers { (1 ≤ command.workers) × (command.workers ≤ 64) }
     requires reading { IsReading command.job }
+    requires makeable { IsMakeable command.job }
     ensures text { IfOk result (λ reply. IsAnswerOf command read.weights read.edges (text_of reply)) }
     ensures printable { IfOk result IsPrintable }
     ensures stop { IfErr result (IsStopFor command read.weights read.edges) }
@@ -136,8 +153,9 @@ pub fn answer<R: Threads + Sync, G: Gate>(
         edges: list,
         weights,
     } = read;
-    if let Err(stop) = check_vertices(command, list.n()) {
-        return Err(stop);
+    let n = list.n();
+    if let Some(vertex) = first_outside(&command.job, n) {
+        return Err(Stop::BadVertex { vertex, n });
     }
     if list.n() < 2 {
         let reply = no_cut(alloc)?;
@@ -146,6 +164,9 @@ pub fn answer<R: Threads + Sync, G: Gate>(
     if let Job::Value = command.job {
         let reply = value_reply(rt, alloc, list, command.workers, gate)?;
         return Ok(reply);
+    }
+    if let Job::Grow(insertions) = &command.job {
+        return grow_reply(rt, alloc, insertions, list, command.workers, gate);
     }
     reply_on_cuts(rt, alloc, command, list, &weights, gate)
 }

@@ -1,13 +1,13 @@
 //! From a solved graph to what is written.
 
 ghost use Rattle.std.specs.Prelude.{◌≡◌, ◌≢◌, ◌≤◌, ◌^◌, ℕ, IfOk, IfErr, length};
-ghost use Rattle.cut_definitions.specs.Components.{IsConnected};
+ghost use Rattle.cut_definitions.specs.Components.{HasComponents};
 ghost use Rattle.cut_definitions.specs.Cuts.{mincuts, value};
 ghost use Rattle.cut_definitions.specs.Graph.{Graph as EdgeGraph};
-ghost use Rattle.mincut_program.specs.Jobs.{asked_of, IsAnswerOf, IsInRange, IsStopFor, IsCactusText, IsBalancedText};
+ghost use Rattle.cactus_tree.specs.Different.{HasNoEmptySide};
+ghost use Rattle.mincut_program.specs.Jobs.{asked_of, AsksCuts, IsAnswerOf, IsInRange, IsStopFor, IsCactusOf, IsCactusText, IsBalancedText, IsAugmentText};
 ghost use Rattle.mincut_program.specs.Listings.{count_text};
 ghost use Rattle.mincut_program.specs.Solving.{cuts_for, IsSolved, IsListReply, IsListStop};
-ghost use Rattle.mincut_program.specs.Words.{IsReading};
 ghost use Rattle.cut_listing.specs.Asks.{IsAskWithin};
 ghost use Rattle.cut_listing.specs.Listings.{IsList, IsRefusal};
 ghost use Rattle.mincut_program.specs.Replies.{text_of, IsPrintable};
@@ -15,12 +15,15 @@ ghost use Rattle.mincut_program.specs.Replies.{text_of, IsPrintable};
 use crate::command::{Command, Job};
 use crate::reply::Reply;
 use crate::stop::Stop;
-use balanced_cut::{balance_of, best};
+use balanced_cut::balance_of;
 use cactus_solver::Solved;
-use cactus_tree::laws;
+use cactus_tree::{Cactus, laws};
+use canonical_cactus::{canonical, first_best};
 use cut_definitions::VertexWeights;
 use cut_listing::laws::{count_of_minimum_cuts, minimum_cuts_in_order, number_of_minimum_cuts};
 use cut_listing::{Ask, ListRefusal, Lister};
+use edge_augment::augment;
+use edge_augment::laws::augmentation;
 use std::alloc::{AllocError, Global};
 use vertex_set::Side;
 use weighted_graph::Graph;
@@ -63,8 +66,8 @@ fn parting_sides(
     lister.list(alloc, &solved.cactus)
 }
 
-// A copy of weights.
-fn copied(alloc: Global, weights: &VertexWeights) -> Result<VertexWeights, AllocError>
+/// A copy of weights.
+pub fn copied(alloc: Global, weights: &VertexWeights) -> Result<VertexWeights, AllocError>
     ensures { IfOk result (λ copy. copy ≡ weights.now) }
 {
     // known by this call: there are few enough
@@ -161,7 +164,7 @@ fn count_reply(alloc: Global, graph: &Graph, solved: &Solved) -> Result<Reply, A
     Ok(Reply::Text(text))
 }
 
-// A most balanced minimum cut.
+// The first of the most balanced minimum cuts, in the order of lists.
 fn balanced_reply(
     alloc: Global,
     graph: &Graph,
@@ -174,7 +177,7 @@ fn balanced_reply(
     ensures text { IfOk result (λ reply. IsBalancedText weights.now graph.now (text_of reply)) }
     ensures printable { IfOk result IsPrintable }
 {
-    let side = best(alloc, &solved.cactus, weights)?;
+    let side = first_best(alloc, &solved.cactus, weights)?;
     let balance = balance_of(&side, weights);
     Ok(Reply::Balanced {
         value: solved.value,
@@ -183,8 +186,8 @@ fn balanced_reply(
     })
 }
 
-// What the job `cuts` lists: all minimum cuts, or those of at least a balance.
-fn ask_of(least: Option<u64>, weights: &VertexWeights) -> Ask
+/// What the job `cuts` lists: all minimum cuts, or those of at least a balance.
+pub fn ask_of(least: Option<u64>, weights: &VertexWeights) -> Ask
     ensures cuts { (g : EdgeGraph) → cuts_for result g ≡ asked_of Job.Cuts least weights.now (mincuts g) }
     ensures within { (n : ℕ) → length weights.now ≡ n → IsAskWithin n result }
 {
@@ -204,10 +207,9 @@ pub fn cuts_reply(
 ) -> Result<Reply, Stop>
     requires enough { 2 ≤ graph.now.vertices }
     requires weighed { length weights.now ≡ graph.now.vertices }
-    requires connected { IsConnected graph.now }
+    requires one { HasComponents graph.now 1 }
     requires in_range { IsInRange command.job graph.now.vertices }
-    requires job { command.job ≢ Job.Value }
-    requires reading { IsReading command.job }
+    requires job { AsksCuts command.job }
     requires solved { IsSolved graph.now solved }
     ensures text { IfOk result (λ reply. IsAnswerOf command weights.now graph.now (text_of reply)) }
     ensures printable { IfOk result IsPrintable }
@@ -218,21 +220,49 @@ pub fn cuts_reply(
         Job::Part(u, v) => listing_reply(alloc, Ask::Parting(u as u32, v as u32), graph, solved),
         Job::Count => Ok(count_reply(alloc, graph, &solved)?),
         Job::Balanced => Ok(balanced_reply(alloc, graph, weights, solved)?),
-        Job::Cactus => Ok(cactus_reply(graph, solved)),
-        Job::Value | Job::Trial(_) => unreachable!(),
+        Job::Cactus => Ok(cactus_reply(alloc, graph, solved)?),
+        Job::Augment => Ok(augment_reply(alloc, graph, solved)?),
+        Job::Value | Job::Grow(_) | Job::Trial(_) => unreachable!(),
     }
 }
 
+/// The canonical cactus of a solved graph.
+pub fn canonical_of(alloc: Global, solved: Solved) -> Result<Cactus, AllocError>
+    requires { HasNoEmptySide solved.cactus }
+    ensures { (g : EdgeGraph) → IsSolved g solved → IfOk result (λ cactus. IsCactusOf g cactus) }
+{
+    let cactus = canonical(alloc, solved.cactus)?;
+    // known by this call: that it is a cactus
+    let _n = cactus.n();
+    Ok(cactus)
+}
+
 // All minimum cuts.
-fn cactus_reply(graph: &Graph, solved: Solved) -> Reply
+fn cactus_reply(alloc: Global, graph: &Graph, solved: Solved) -> Result<Reply, AllocError>
     requires enough { 2 ≤ graph.now.vertices }
     requires solved { IsSolved graph.now solved }
-    ensures text { IsCactusText graph.now (text_of result) }
-    ensures printable { IsPrintable result }
+    ensures text { IfOk result (λ reply. IsCactusText graph.now (text_of reply)) }
+    ensures printable { IfOk result IsPrintable }
 {
     laws::flat_form();
     laws::flat_sides();
-    let _ = graph.n();
-    let _ = solved.cactus.n();
-    Reply::Cactus(solved)
+    // known by this call: the graph has at most 4,194,304 vertices
+    let _n = graph.n();
+    let value = solved.value;
+    let cactus = canonical_of(alloc, solved)?;
+    Ok(Reply::Cactus(Solved { value, cactus }))
+}
+
+// The fewest unit edges that raise the value.
+fn augment_reply(alloc: Global, graph: &Graph, solved: Solved) -> Result<Reply, AllocError>
+    requires enough { 2 ≤ graph.now.vertices }
+    requires solved { IsSolved graph.now solved }
+    ensures text { IfOk result (λ reply. IsAugmentText graph.now (text_of reply)) }
+    ensures printable { IfOk result IsPrintable }
+{
+    augmentation();
+    let value = solved.value;
+    let cactus = canonical_of(alloc, solved)?;
+    let plan = augment(alloc, &cactus)?;
+    Ok(Reply::Augmentation { value, plan })
 }

@@ -4,9 +4,15 @@
 #![tactic(auto)]
 
 mod answer;
+mod apart;
+mod augment_pages;
 mod command;
 mod cuts;
+mod growth;
+mod growth_pages;
+mod insertions;
 mod intake;
+pub mod laws;
 mod line;
 mod notice;
 mod number;
@@ -18,5 +24,6 @@ mod stop;
 mod trial;
 
 pub use command::{Command, Job, WordsRefusal, read_words};
+pub use insertions::Insertions;
 pub use program::run;
 pub use status::Status;

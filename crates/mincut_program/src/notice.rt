@@ -13,6 +13,8 @@ const HELP: &str = "usage: mincut JOB [U V] [--workers N]\n\
     part: lists those that part the vertices U and V\n\
     count: prints the number of all minimum cuts\n\
     balanced: prints a minimum cut whose lighter side is heaviest\n\
+    augment: prints the fewest unit edges that raise the value, and the sets that show it\n\
+    grow: inserts the edges U V of weight W that follow, three numbers each, and prints the cuts after them\n\
     trial: prints five facts about a graph that it makes for the number U of 12 to 100000\n\
     N, the number of workers, is 1 to 64, and 4 where it is not named\n\
     --least W with cuts: lists those whose lighter side weighs W or more\n";

@@ -80,7 +80,7 @@ fn put_sides<K: Sink>(page: &mut Page, sink: &mut K, sides: &[Side]) -> Result<(
 }
 
 /// Puts a line: a word and a number.
-fn put_count<K: Sink>(
+pub(crate) fn put_count<K: Sink>(
     page: &mut Page,
     sink: &mut K,
     word: &[u8],

@@ -2,18 +2,16 @@ ghost use Rattle.std.specs.Prelude.{◌≡◌, ◌≢◌, ◌≤◌, ◌⊎◌, 
 ghost use Rattle.std.specs.Io.KnownBytes.{Appends, IsAtEnd};
 ghost use Rattle.outside.specs.Faults.{Rose};
 ghost use Rattle.cut_definitions.specs.Graph.{Graph};
-ghost use Rattle.cut_definitions.specs.Components.{IsConnected};
 ghost use Rattle.mincut_program.specs.declared.command.Command.{Command};
 ghost use Rattle.mincut_program.specs.Jobs.{IsInRange, IsWithin};
 ghost use Rattle.metis_reader.specs.declared.fault.Fault.{Fault};
 ghost use Rattle.metis_reader.specs.File.{graph_of, masses_of};
 ghost use Rattle.mincut_program.specs.Words.{texts, command_of, AsksNothing, IsMakeable, IsReading, ReadsGraph};
-ghost use Rattle.mincut_program.specs.Texts.{usage_line};
 ghost use Rattle.mincut_program.specs.Intake.{IsCause, IsJobAnswer, IsJobReply, IsReply};
 ghost use Rattle.mincut_program.specs.Replies.{text_of, IsPrintable, TakesMemory};
 ghost use Rattle.mincut_program.specs.Stops.{status_of, line_of};
 ghost use Rattle.mincut_program.specs.Notices as notices;
-ghost use Rattle.mincut_program.specs.Answers.{Writes, TakesReply, ReplyFailed, Tells, TellsFault, TellsVertex, TellsTooLarge, TellingFailed};
+ghost use Rattle.mincut_program.specs.Answers.{over_status, Writes, TakesReply, ReplyFailed, Told, TellingFailed};
 
 use crate::answer::answer;
 use crate::command::{Command, Job, WordsRefusal, read_words};
@@ -62,6 +60,7 @@ fn reading_reply<R: Threads + Sync, S: Source, G: Gate>(
 ) -> Result<Reply, Stop>
     requires workers { (1 ≤ command.workers) × (command.workers ≤ 64) }
     requires reading { IsReading command.job }
+    requires makeable { IsMakeable command.job }
     ensures text { IfOk result (λ reply. IfSome (S.left source.old) (λ bytes. IsJobAnswer command bytes (text_of reply))) }
     ensures printable { IfOk result IsPrintable }
     ensures ended { IfOk result (λ reply. IsAtEnd (S.left source.new)) }
@@ -96,9 +95,14 @@ fn job_reply<R: Threads + Sync, S: Source, G: Gate>(
 {
     match command.job {
         Job::Trial(number) => Ok(trial_reply(rt, alloc, number, command.workers, gate)?),
-        Job::Value | Job::Cactus | Job::Cuts | Job::Part(..) | Job::Count | Job::Balanced => {
-            reading_reply(rt, alloc, command, source, gate)
-        }
+        Job::Value
+        | Job::Cactus
+        | Job::Cuts
+        | Job::Part(..)
+        | Job::Count
+        | Job::Balanced
+        | Job::Augment
+        | Job::Grow(_) => { reading_reply(rt, alloc, command, source, gate) }
     }
 }
 
@@ -146,30 +150,17 @@ pub fn run<R: Threads + Sync, S: Source, K: Sink, E: Sink, G: Gate>(
     err: &mut E,
     gate: &G,
 ) -> Status
-    // Words that are no command and ask for no notice are told as such. Nothing is read where they are no command that
-    // reads a graph.
-    ensures bad_words { result ≡ Status.BadWords → AsksNothing (texts words.now) }
+    // A run that writes no reply tells why: the status and the line are those of a stop that has its cause. Words that are no
+    // command and ask for no notice are bad; a fault is the first one of the bytes, and no read follows the one with which
+    // they fix it; a failed read is told where no fault was fixed before it; a vertex that is not there and a limit that is
+    // not kept are named after all was read; memory is wanting before anything is read, at the read that has the end of the
+    // header, or once all was read, and nowhere else.
+    ensures told { result ≢ Status.Ok → result ≢ Status.WriteFault → Told (texts words.now) (S.left source.old) (S.left source.new)
+        (S.faults source.old) (S.faults source.new) (E.taken err.old) (E.taken err.new) result }
     ensures asks_nothing { AsksNothing (texts words.now) →
         (result ≡ Status.BadWords) ⊎ (result ≡ Status.OutOfMemory)
         ⊎ ((result ≡ Status.WriteFault) × Rose (E.faults err.old) (E.faults err.new)) }
     ensures unread { ¬ ReadsGraph (texts words.now) → source.new ≡ source.old }
-
-    // The line of a fault names the first fault of the bytes, and no read follows the one with which they fix it.
-    ensures refused { result ≡ Status.Refused → TellsFault (texts words.now) (S.left source.old) (S.left source.new)
-        (S.faults source.old) (S.faults source.new) (E.taken err.old) (E.taken err.new) }
-
-    // A vertex that is not there and a list that is too large are named, after all was read.
-    ensures bad_vertex { result ≡ Status.BadVertex → TellsVertex (texts words.now) (S.left source.old) (S.left source.new)
-        (S.faults source.old) (S.faults source.new) (E.taken err.old) (E.taken err.new) }
-    ensures too_large { result ≡ Status.ListTooLarge → TellsTooLarge (texts words.now) (S.left source.old) (S.left source.new)
-        (S.faults source.old) (S.faults source.new) (E.taken err.old) (E.taken err.new) }
-
-    // A failed read is told where no fault was fixed before it. Memory is wanting before anything is read, at the read that has
-    // the end of the header, or once all was read, and nowhere else.
-    ensures read_fault { result ≡ Status.ReadFault → Tells (texts words.now) (S.left source.old) (S.left source.new)
-        (S.faults source.old) (S.faults source.new) (E.taken err.old) (E.taken err.new) Stop.ReadFailed }
-    ensures memory { result ≡ Status.OutOfMemory → Tells (texts words.now) (S.left source.old) (S.left source.new)
-        (S.faults source.old) (S.faults source.new) (E.taken err.old) (E.taken err.new) Stop.NoMemory }
 
     // A fault of writing comes only where a count rose, and a first part of the text was taken.
     ensures write_fault { result ≡ Status.WriteFault →
@@ -193,13 +184,12 @@ pub fn run<R: Threads + Sync, S: Source, K: Sink, E: Sink, G: Gate>(
 
     // With another status nothing was replied, unless a write failed.
     ensures out_kept { result ≢ Status.Ok → result ≢ Status.WriteFault → out.new ≡ out.old }
-    ensures told_words { result ≡ Status.BadWords → Appends (E.taken err.old) (E.taken err.new) usage_line }
 
-    // Where memory suffices and no count rose, a graph is answered, a vertex that is not there and a list that is too
-    // large are told, and a fault is refused.
+    // Where memory suffices and no count rose, a graph is answered, a vertex that is not there and a limit that is not
+    // kept are told, and a fault is refused.
     ensures accepted { (bytes : List ℕ) (graph : Graph) (command : Command) → command_of (texts words.now) ≡ Some command
         → S.left source.old ≡ Some bytes → graph_of bytes ≡ Ok graph
-        → IsInRange command.job graph.vertices → (2 ≤ graph.vertices → IsConnected graph → IsWithin command (masses_of bytes) graph) → ¬ Rose (S.faults source.old) (S.faults source.new)
+        → IsInRange command.job graph.vertices → (2 ≤ graph.vertices → IsWithin command (masses_of bytes) graph) → ¬ Rose (S.faults source.old) (S.faults source.new)
         → ¬ Rose (K.faults out.old) (K.faults out.new) → ¬ Rose (E.faults err.old) (E.faults err.new)
         → (result ≡ Status.Ok) ⊎ (result ≡ Status.OutOfMemory) }
     ensures outside { (bytes : List ℕ) (graph : Graph) (command : Command) → command_of (texts words.now) ≡ Some command
@@ -209,10 +199,10 @@ pub fn run<R: Threads + Sync, S: Source, K: Sink, E: Sink, G: Gate>(
         → (result ≡ Status.BadVertex) ⊎ (result ≡ Status.OutOfMemory) }
     ensures over_limit { (bytes : List ℕ) (graph : Graph) (command : Command) → command_of (texts words.now) ≡ Some command
         → S.left source.old ≡ Some bytes → graph_of bytes ≡ Ok graph
-        → IsInRange command.job graph.vertices → 2 ≤ graph.vertices → IsConnected graph → ¬ IsWithin command (masses_of bytes) graph
+        → IsInRange command.job graph.vertices → 2 ≤ graph.vertices → ¬ IsWithin command (masses_of bytes) graph
         → ¬ Rose (S.faults source.old) (S.faults source.new)
         → ¬ Rose (K.faults out.old) (K.faults out.new) → ¬ Rose (E.faults err.old) (E.faults err.new)
-        → (result ≡ Status.ListTooLarge) ⊎ (result ≡ Status.OutOfMemory) }
+        → (result ≡ over_status command.job) ⊎ (result ≡ Status.OutOfMemory) }
     ensures faulty { (bytes : List ℕ) (fault : Fault) → ReadsGraph (texts words.now)
         → S.left source.old ≡ Some bytes → graph_of bytes ≡ Err fault → ¬ Rose (S.faults source.old) (S.faults source.new)
         → ¬ Rose (K.faults out.old) (K.faults out.new) → ¬ Rose (E.faults err.old) (E.faults err.new)

@@ -4,9 +4,12 @@ ghost use Rattle.std.specs.Prelude.{◌≡◌, ◌≢◌, Err, IsErrOf, OnOk};
 ghost use Rattle.mincut_program.specs.Answers.{Wrote, Failed};
 ghost use Rattle.mincut_program.specs.Replies.{text_of, IsPrintable, TakesMemory};
 
+use crate::augment_pages::print_augmentation;
+use crate::growth_pages::{Step, print_growth};
 use crate::pages::{print_balanced, print_listing};
 use cactus_solver::Solved;
 use cactus_text::{PrintRefusal, print};
+use edge_augment::Plan;
 use outside::{Sink, write_whole};
 use std::alloc::Global;
 use vertex_set::Side;
@@ -28,6 +31,16 @@ pub enum Reply {
         value: u64,
         balance: u128,
         side: Side,
+    },
+    /// What is told after each of some insertions, and all minimum cuts after the last, with their weight.
+    Growth {
+        steps: Vec<Step>,
+        solved: Solved,
+    },
+    /// The weight of the minimum cuts, and the fewest unit edges that raise it.
+    Augmentation {
+        value: u64,
+        plan: Plan,
     },
 }
 
@@ -62,5 +75,9 @@ pub fn write_reply<K: Sink>(alloc: Global, out: &mut K, reply: &Reply) -> Result
             balance,
             side,
         } => print_balanced(alloc, *value, *balance, side, out),
+        Reply::Growth { steps, solved } => {
+            print_growth(alloc, steps, solved.value, &solved.cactus, out)
+        }
+        Reply::Augmentation { value, plan } => print_augmentation(alloc, *value, plan, out),
     }
 }

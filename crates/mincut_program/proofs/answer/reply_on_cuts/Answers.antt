@@ -3,17 +3,17 @@ use Rattle.std.specs.Prelude.{IfErr}
 use Rattle.cut_definitions.specs.Graph.{Graph}
 use Rattle.mincut_program.specs.Jobs.{IsAnswerOf, IsStopFor}
 use Rattle.mincut_program.specs.Replies.{text_of}
-use Rattle.mincut_program.proofs.Graphs.{one_component}
+use Rattle.mincut_program.proofs.Graphs.{connected_of, one_component}
 use Rattle.mincut_program.proofs.answer.reply_on_cuts.Goals as goal
 
 pub solve-requires-clause-connected : goal.solve-requires-clause-connected
 solve-requires-clause-connected g c κs lives =
-    one_component c.in_ok-graph.graph c.in_ok-components.components c.connected_is_one_component.ensures (subst (λ (l : Graph). 2 ≤ l.vertices) (sym c.in_ok-graph.ensures) c.requires.enough)
-    c.in_ok-components.ensures.counted c.in_ok-components.ensures.none (omega (arith, c.if-components-ge2.false))
+    connected_of c.in_ok-graph.graph (one_component c.in_ok-graph.graph c.in_ok-components.components (subst (λ (l : Graph). 2 ≤ l.vertices) (sym c.in_ok-graph.ensures) c.requires.enough)
+    c.in_ok-components.ensures.counted c.in_ok-components.ensures.none (omega (arith, c.if-components-ge2.false)))
 
-pub cuts_reply-requires-clause-connected : goal.cuts_reply-requires-clause-connected
-cuts_reply-requires-clause-connected g c =
-    one_component c.in_ok-graph.graph c.in_ok-components.components c.connected_is_one_component.ensures (subst (λ (l : Graph). 2 ≤ l.vertices) (sym c.in_ok-graph.ensures) c.requires.enough)
+pub cuts_reply-requires-clause-one : goal.cuts_reply-requires-clause-one
+cuts_reply-requires-clause-one g c =
+    one_component c.in_ok-graph.graph c.in_ok-components.components (subst (λ (l : Graph). 2 ≤ l.vertices) (sym c.in_ok-graph.ensures) c.requires.enough)
     c.in_ok-components.ensures.counted c.in_ok-components.ensures.none (omega (arith, c.if-components-ge2.false))
 
 pub returns-clause-text : goal.returns-clause-text

@@ -1,5 +1,7 @@
-use Rattle.std.proofs.Common.{◌∙◌, refl}
+use Rattle.std.proofs.Common.{◌∙◌, ap, refl, Option, option_map}
 use Rattle.clap.specs.Words.{found_of}
+use Rattle.mincut_program.specs.Words.{command_of_job}
+use Rattle.mincut_program.specs.declared.command.Job.{Job}
 use Rattle.mincut_program.proofs.Reading.{read_by_rows}
 use Rattle.mincut_program.proofs.command.read_matches.Goals as goal
 
@@ -8,4 +10,4 @@ returns-clause-value c =
     let values_are = c.unwrap_or-values.ensures in
     let ruled = read_by_rows (found_of c.args.matches.now) c.get_str.result c.get_str-2.result c.get_str-3.result c.get_strs.result _ refl
     c.get_str.ensures c.get_strs.ensures c.get_str-2.ensures c.get_str-3.ensures in
-    c.read_command.ensures.value ∙ (rw values_are ruled)
+    c.read_command.ensures.value ∙ (ap (λ (j : Option Job). command_of_job j (option_map (λ s. s.now) c.get_str-2.result) (option_map (λ s. s.now) c.get_str-3.result)) c.in_ok-job.ensures ∙ (rw values_are ruled))

@@ -1,5 +1,8 @@
 use Rattle.std.proofs.Common.{List, map, ap, ◌∙◌, sym}
 use Rattle.vertex_set.specs.Side.{VertexList}
+use Rattle.cactus_tree.specs.Flattened.{flat_of}
+use Rattle.mincut_program.specs.Growing.{growth_text}
+use Rattle.mincut_program.specs.declared.growth_pages.Step.{Step}
 use Rattle.mincut_program.specs.Listings.{listing_text}
 use Rattle.mincut_program.specs.Replies.{text_of}
 use Rattle.mincut_program.proofs.Writing.{wrote_by, failed_by}
@@ -21,3 +24,14 @@ returns-in-Listing-clause-failed g c failed =
     let same = ap (λ (xs : List VertexList). listing_text c.in-Listing.value (map (λ (s : VertexList). s.members) xs)) c.deref.ensures.value ∙ ap text_of (sym c.in-Listing.is) in
     failed_by (text_of c.args.reply.now) _ (g.K.Sink.taken c.args.out.now) (g.K.Sink.taken c.print_listing.new.sink) (g.K.Sink.faults c.args.out.now) (g.K.Sink.faults c.print_listing.new.sink)
     same (c.print_listing.ensures.prefix failed) (c.print_listing.ensures.rose failed)
+
+pub returns-in-Augmentation-clause-failed : goal.returns-in-Augmentation-clause-failed
+returns-in-Augmentation-clause-failed g c failed =
+    failed_by (text_of c.args.reply.now) _ (g.K.Sink.taken c.args.out.now) (g.K.Sink.taken c.print_augmentation.new.sink) (g.K.Sink.faults c.args.out.now) (g.K.Sink.faults c.print_augmentation.new.sink)
+    (ap text_of (sym c.in-Augmentation.is)) (c.print_augmentation.ensures.prefix failed) (c.print_augmentation.ensures.rose failed)
+
+pub returns-in-Growth-clause-failed : goal.returns-in-Growth-clause-failed
+returns-in-Growth-clause-failed g c failed =
+    failed_by (text_of c.args.reply.now) _ (g.K.Sink.taken c.args.out.now) (g.K.Sink.taken c.print_growth.new.sink) (g.K.Sink.faults c.args.out.now) (g.K.Sink.faults c.print_growth.new.sink)
+    (ap (λ (xs : List Step). growth_text xs c.in-Growth.solved.value (flat_of c.in-Growth.solved.cactus)) c.deref-in-Growth.ensures.value ∙ ap text_of (sym c.in-Growth.is))
+    (c.print_growth.ensures.prefix failed) (c.print_growth.ensures.rose failed)

@@ -1,6 +1,6 @@
-use Rattle.std.proofs.Common.{◌≡◌, ◌∙◌, ap, length, replicate, string_bytes, sym}
+use Rattle.std.proofs.Common.{◌≡◌, ◌∙◌, ap, length, string_bytes, sym}
 use Rattle.std.proofs.lemmas.List.{length-replicate}
-use Rattle.mincut_program.specs.Trials.{ones, trial_text, IsFactsText}
+use Rattle.mincut_program.specs.Trials.{trial_text, IsFactsText}
 use Rattle.mincut_program.proofs.Graphs.{facts_known, has_block, over_ok}
 use Rattle.mincut_program.proofs.trial.describe.Goals as goal
 

@@ -1,0 +1,155 @@
+-- Of the texts of an augmentation a graph has one: the end nodes of its canonical cactus stand in one order.
+use Rattle.std.proofs.Common.{◌≡◌, ℕ, inl, inr, true, Bool, false, List, [], ◌∷◌, map, ap, ◌∙◌, sym, subst, refl, arith}
+use Rattle.std.specs.BTreeSet.{BTreeSet}
+use Rattle.std.specs.Cmp.{IsTotalOrder}
+use Rattle.std.specs.List.{Contains, filter, concat, range_with_len}
+use Rattle.std.specs.List.Sorted.{IsStrictlySortedBy}
+use Rattle.std.specs.Ordering.{nat_cmp}
+use Rattle.std.specs.Prelude.{◌↔◌}
+use Rattle.std.specs.declared.cmp.Ordering.{Ordering}
+use Rattle.std.proofs.lemmas.Cmp.{nat_cmp_total, nat_list_cmp_total, on_total, then_total}
+use Rattle.std.proofs.lemmas.List.Elements.{All-contains}
+use Rattle.std.proofs.lemmas.Map.Lookups.{CmpEqualImpliesEq, btree_set_from_contains, exact_bytes, exact_pairs, exact_unsigned}
+use Rattle.std.proofs.lemmas.Map.Views.{btree_set_contains_iff}
+use Rattle.cut_definitions.specs.Graph.{Graph}
+use Rattle.cut_definitions.specs.Weight.{VertexSet}
+use Rattle.cut_definitions.specs.Cuts.{has, value}
+use Rattle.cut_definitions.proofs.Bridge.{has_within}
+use Rattle.cut_definitions.proofs.Lists.{Contains-map, Contains-from_map, Contains-here, Contains-there, Contains-cons_cases}
+use Rattle.cactus_tree.specs.Sides.{part}
+use Rattle.cactus_tree.specs.Rooted.{Rooted, IsCactus, sides_of}
+use Rattle.cactus_tree.specs.Different.{HaveSameSides}
+use Rattle.cactus_tree.specs.Places.{IsVertex}
+use Rattle.cactus_tree.specs.Entered.{entered, in_order}
+use Rattle.cactus_tree.specs.Trees.{nodes_in}
+use Rattle.cactus_tree.specs.declared.tree.Node.{Node}
+use Rattle.cactus_tree.proofs.Once.{all_vertices_within, each_there}
+use Rattle.cactus_tree.proofs.Groups.{has_contains}
+use Rattle.cactus_tree.proofs.Sets.{IsIn, same_set}
+use Rattle.canonical_cactus.specs.Canonical.{is_canonical}
+use Rattle.canonical_cactus.specs.Laws.{over}
+use Rattle.canonical_cactus.proofs.Arrangement.{node_covered}
+use Rattle.canonical_cactus.proofs.Fits.{IsFit, root_fit, root_solid}
+use Rattle.canonical_cactus.proofs.Sound.{node_sound}
+use Rattle.canonical_cactus.proofs.Unique.{read_alike}
+use Rattle.edge_augment.specs.Augmentations.{pair_cmp}
+use Rattle.edge_augment.specs.Ends.{block_leaves, end_sets, ends_of, leaves, leaves_of}
+use Rattle.edge_augment.specs.NewEdges.{new_edges}
+use Rattle.edge_augment.proofs.Leaves.{leaves_bridge, leaves_cycle, leaves_out}
+use Rattle.mincut_program.specs.Augmenting.{augment_text}
+use Rattle.mincut_program.specs.Jobs.{IsAugmentText, IsCactusOf}
+use Rattle.mincut_program.specs.TextLaws.{LawOfOneAugmentText}
+use Rattle.mincut_program.proofs.OneText.{same_sides}
+
+-- ---- sides as lists and as sets
+abbrev AreVertices : ℕ → VertexSet → Type 0
+AreVertices n s = (v : ℕ) → s v ≡ true → IsVertex n v
+
+listed_in : (n : ℕ) (s t : VertexSet) → AreVertices n s → filter s (range_with_len 1 n) ≡ filter t (range_with_len 1 n) → IsIn s t
+listed_in n s t a e v h =
+    let w : IsVertex n v = a v h in
+    sym (has_within n 1 v t w.0 (omega (arith, w.1))) ∙ sym (ap (λ l. has l v) e) ∙ has_within n 1 v s w.0 (omega (arith, w.1)) ∙ h
+
+listed_same : (n : ℕ) (s t : VertexSet) → AreVertices n s → AreVertices n t → filter s (range_with_len 1 n) ≡ filter t (range_with_len 1 n) → s ≡ t
+listed_same n s t a b e = same_set s t (listed_in n s t a e) (listed_in n t s b (sym e))
+
+root_vertices : (n : ℕ) (root : Node) → IsCactus n root → AreVertices n (part root).below
+root_vertices n root h v e =
+    All-contains (IsVertex n) (concat (entered root)) v (all_vertices_within n root h)
+    (has_contains (concat (entered root)) v (ap (λ (s : VertexSet). s v) (node_covered root).listed ∙ e))
+
+root_all : (n : ℕ) (root : Node) → IsCactus n root → (v : ℕ) → IsVertex n v → (part root).below v ≡ true
+root_all n root h v w = sym (ap (λ (s : VertexSet). s v) (node_covered root).listed) ∙ each_there n root h v w.0 w.1
+
+cuts_over : (n : ℕ) (c d : Node) → IsCactus n c → IsCactus n d → IsFit n c → IsFit n d →
+    ((side : List ℕ) → Contains (sides_of (over n c)) side → Contains (sides_of (over n d)) side) → (s : VertexSet) → Contains (part c).cuts s → Contains (part d).cuts s
+cuts_over n c d hc hd fc fd f s k =
+    let list : VertexSet → List ℕ = λ t. filter t (range_with_len 1 n) in
+    let r = Contains-from_map list (part d).cuts (list s) (f (list s) (Contains-map list (part c).cuts s k)) in
+    let one : AreVertices n s = λ v e. root_vertices n c hc v ((node_sound n c fc).0.within s k v e) in
+    let other : AreVertices n r.0 = λ v e. root_vertices n d hd v ((node_sound n d fd).0.within r.0 r.1 v e) in
+    subst (λ t. Contains (part d).cuts t) (listed_same n r.0 s other one r.2) r.1
+
+with_whole : (b c : VertexSet) (ks ls : List VertexSet) → b ≡ c → ((s : VertexSet) → Contains ks s → Contains ls s) → (s : VertexSet) → Contains (b ∷ ks) s → Contains (c ∷ ls) s
+with_whole b c ks ls e f s h = elim (Contains-cons_cases b ks s h) [
+  | inl k ↦ subst (λ t. Contains (c ∷ ls) t) (sym e ∙ k) (Contains-here c ls)
+  | inr k ↦ Contains-there c ls s (f s k)
+]
+
+-- ---- the end nodes
+abbrev Lists : Type 0
+Lists = List (List ℕ)
+
+-- what is read off a node where it lies below a block, and where it is the root
+abbrev ends : Node → Lists × Lists
+ends x = (leaves x, end_sets x)
+
+firsts : (xs : List Node) → map leaves xs ≡ map (λ (a : Lists × Lists). a.0) (map ends xs)
+firsts [] = refl
+firsts (x ∷ xs) = ap (λ l. leaves x ∷ l) (firsts xs)
+
+ends_alike : (n : ℕ) (c d : Node) → IsCactus n c → IsCactus n d → is_canonical c ≡ true → is_canonical d ≡ true → HaveSameSides (over n c) (over n d) → end_sets c ≡ end_sets d
+ends_alike n c d hc hd kc kd s =
+    let fc : IsFit n c = root_fit n c hc kc in
+    let fd : IsFit n d = root_fit n d hd kd in
+    let below : (part c).below ≡ (part d).below =
+    same_set (part c).below (part d).below (λ v e. root_all n d hd v (root_vertices n c hc v e)) (λ v e. root_all n c hc v (root_vertices n d hd v e)) in
+    let there : (t : VertexSet) → Contains (part c).cuts t → Contains (part d).cuts t = cuts_over n c d hc hd fc fd (λ l. (s l).0) in
+    let back : (t : VertexSet) → Contains (part d).cuts t → Contains (part c).cuts t = cuts_over n d c hd hc fd fc (λ l. (s l).1) in
+    ap (λ (a : Lists × Lists). a.1) (read_alike n (Lists × Lists) Lists ends block_leaves (λ vs bs. (leaves_of vs bs, ends_of vs bs)) (λ a. a.0) (λ xs. in_order (map (λ (a : Lists × Lists). a.0) xs))
+    (λ x. ap (λ l. (l, end_sets x)) (leaves_out x)) leaves_bridge (λ nodes. leaves_cycle nodes ∙ ap in_order (firsts (nodes_in nodes)))
+    c d fc fd (inl (root_solid n c hc)) (inl (root_solid n d hd)) below
+    (λ t. (with_whole (part c).below (part d).below (part c).cuts (part d).cuts below there t, with_whole (part d).below (part c).below (part d).cuts (part c).cuts (sym below) back t)))
+
+ends_over : (m n : ℕ) (c d : Node) → m ≡ n → IsCactus m c → IsCactus n d → is_canonical c ≡ true → is_canonical d ≡ true →
+    HaveSameSides (over m c) (over n d) → end_sets c ≡ end_sets d
+ends_over m n c d e hc hd kc kd =
+    subst (λ k. IsCactus k d → HaveSameSides (over m c) (over k d) → end_sets c ≡ end_sets d) e (λ h s. ends_alike m c d hc h kc kd s) hd
+
+one_ends : (g : Graph) (c d : Rooted) → IsCactusOf g c → IsCactusOf g d → end_sets c.root ≡ end_sets d.root
+one_ends g c d a b =
+    ends_over c.vertices d.vertices c.root d.root (a.over ∙ sym b.over) a.is_cactus b.is_cactus a.canonical b.canonical (same_sides g c d a b)
+
+-- ---- two lists in strict order with the same members are one
+both_ways : (s t : Bool) → (s ≡ true → t ≡ true) → (t ≡ true → s ≡ true) → s ≡ t
+both_ways true t f g = sym (f refl)
+both_ways false true f g = g refl
+both_ways false false f g = refl
+
+one_listed : {K : Type 0} {R : K → K → Ordering} → IsTotalOrder R → CmpEqualImpliesEq R → (xs ys : List K) → IsStrictlySortedBy R xs → IsStrictlySortedBy R ys →
+    ((k : K) → Contains xs k ↔ Contains ys k) → xs ≡ ys
+one_listed {K} {R} o exact xs ys a b h =
+    let s : BTreeSet K = record { keys = xs } in
+    let t : BTreeSet K = record { keys = ys } in
+    btree_set_from_contains o s t a b
+    (λ q. both_ways _ _
+    (λ e. (btree_set_contains_iff o exact t q).1 ((h q).0 ((btree_set_contains_iff o exact s q).0 e)))
+    (λ e. (btree_set_contains_iff o exact s q).1 ((h q).1 ((btree_set_contains_iff o exact t q).0 e))))
+    exact
+
+pair_total : IsTotalOrder pair_cmp
+pair_total = then_total (on_total (λ (p : ℕ × ℕ). p.0) nat_cmp_total) (on_total (λ (p : ℕ × ℕ). p.1) nat_cmp_total)
+
+-- ---- the text
+module _ (g : Graph) (t u : List ℕ) (a : IsAugmentText g t) (b : IsAugmentText g u) where
+  one_sets : a.plan.sets ≡ b.plan.sets
+  one_sets = one_listed nat_list_cmp_total exact_bytes a.plan.sets b.plan.sets a.of_cactus.sets_ascend b.of_cactus.sets_ascend
+      (λ s. ((λ c. (b.least.sets s).1 ((a.least.sets s).0 c)), (λ c. (a.least.sets s).1 ((b.least.sets s).0 c))))
+
+  new_alike : new_edges (end_sets a.cactus.root) ≡ new_edges (end_sets b.cactus.root)
+  new_alike = ap new_edges (one_ends g a.cactus b.cactus a.of_graph b.of_graph)
+
+  one_edges : a.plan.edges ≡ b.plan.edges
+  one_edges = one_listed pair_total (exact_pairs nat_cmp nat_cmp exact_unsigned exact_unsigned) a.plan.edges b.plan.edges a.of_cactus.edges_ascend b.of_cactus.edges_ascend
+      (λ e. (
+        (λ c. (b.of_cactus.edges e).1 (subst (λ l. Contains l e) new_alike ((a.of_cactus.edges e).0 c))),
+        (λ c. (a.of_cactus.edges e).1 (subst (λ l. Contains l e) (sym new_alike) ((b.of_cactus.edges e).0 c))),
+      ))
+
+  one_plan_text : t ≡ u
+  one_plan_text =
+      a.text_is ∙ ap (λ l. augment_text (value g) (record { edges = a.plan.edges; sets = l })) one_sets
+      ∙ ap (λ l. augment_text (value g) (record { edges = l; sets = b.plan.sets })) one_edges ∙ sym b.text_is
+
+pub one_augment_text : LawOfOneAugmentText
+one_augment_text g t u a b = one_plan_text g t u a b

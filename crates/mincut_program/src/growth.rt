@@ -1,0 +1,252 @@
+//! The job `grow`: insertions of edges, one after another, and the minimum cuts after each.
+//!
+//! The cactus of all minimum cuts is kept from step to step: an insertion leaves just the cuts that do not part its two
+//! vertices, as long as there is one, and then the value stays. Where none is left the graph is solved anew.
+
+ghost use Rattle.std.specs.Prelude.{ℕ, ◌≡◌, ◌≤◌, ◌⊎◌, ◌+◌, IfOk, IfErr, OnOk, IsErrOf, length};
+ghost use Rattle.std.specs.List.{All};
+ghost use Rattle.cut_definitions.specs.Components.{IsConnected};
+ghost use Rattle.cut_definitions.specs.Graph.{IsEdgeList};
+ghost use Rattle.mincut_program.specs.Growth.{HasGrown, IsGrowing, IsGrowReply, IsGrowStop};
+ghost use Rattle.mincut_program.specs.Insertions.{step_of, with_insertion, IsFirstBeyond, IsInsertion, StaysWithin};
+ghost use Rattle.mincut_program.specs.Jobs.{AreInRange, IsGrowText, IsVertex};
+ghost use Rattle.mincut_program.specs.Replies.{text_of, IsPrintable};
+ghost use Rattle.mincut_program.specs.Solving.{IsSolved};
+
+use crate::apart::disconnected;
+use crate::cuts::canonical_of;
+use crate::growth_pages::Step;
+use crate::insertions::Insertions;
+use crate::reply::Reply;
+use crate::stop::Stop;
+use cactus_growth::{Grown, grow, is_within_limits, laws, with_edge};
+use cactus_solver::{Solved, solve};
+use cactus_tree::laws as tree_laws;
+use cut_definitions::EdgeList;
+use cut_listing::laws::number_of_minimum_cuts;
+use outside::{Gate, NoMemory};
+use std::alloc::Global;
+use std::thread::Threads;
+use weighted_graph::Graph;
+
+/// A graph, and its value and all its minimum cuts.
+#[derive(Drop)]
+pub struct Growing {
+    pub list: EdgeList,
+    pub solved: Solved,
+}
+
+// A copy of an edge list.
+fn copied_list(alloc: Global, list: &EdgeList) -> Result<EdgeList, NoMemory>
+    ensures { IfOk result (λ copy. copy ≡ list.now) }
+{
+    let edges = list.edges().to_vec(alloc)?;
+    Ok(EdgeList::from_edges(list.n(), edges))
+}
+
+// The list with one insertion, or the stop where the graph would be too large after it.
+fn inserted(
+    alloc: Global,
+    list: &EdgeList,
+    insertion: (u64, u64, u64),
+    number: usize,
+) -> Result<EdgeList, Stop>
+    requires first { IsVertex list.now.vertices insertion.0 }
+    requires second { IsVertex list.now.vertices insertion.1 }
+    requires insertion { IsInsertion insertion }
+    ensures list { IfOk result (λ l. l ≡ with_insertion list.now insertion) }
+    ensures within { OnOk result (IsEdgeList (with_insertion list.now insertion)) }
+    ensures stop { IfErr result (λ stop. (stop ≡ Stop.NoMemory) ⊎ ((stop ≡ Stop.GrowTooLarge number) × (IsEdgeList (with_insertion list.now insertion) → ⊥))) }
+{
+    let (u, v, w) = insertion;
+    // known by this call: there are at most 4,194,304 vertices
+    let _n = list.n();
+    if !is_within_limits(list, u as u32, v as u32, w) {
+        return Err(Stop::GrowTooLarge { number });
+    }
+    let longer = with_edge(alloc, list, u as u32, v as u32, w)?;
+    Ok(longer)
+}
+
+// The first insertion after which the graph would be too large.
+fn check_limits(alloc: Global, insertions: &Insertions, list: &EdgeList) -> Result<(), Stop>
+    requires in_range { AreInRange list.now.vertices insertions.now }
+    requires insertions { All IsInsertion insertions.now }
+    ensures within { OnOk result (StaysWithin list.now insertions.now) }
+    ensures stop { IfErr result (λ stop. (stop ≡ Stop.NoMemory) ⊎ ((number : ℕ) × (stop ≡ Stop.GrowTooLarge number) × IsFirstBeyond list.now insertions.now number)) }
+{
+    // known by this call: that it is an edge list
+    let _n = list.n();
+    let mut current = copied_list(alloc, list)?;
+    'limits: for i in 0..insertions.len() {
+        match inserted(alloc, &current, insertions.at(i), i + 1) {
+            Ok(next) => current = next,
+            Err(stop) => return Err(stop),
+        }
+    }
+    Ok(())
+}
+
+// The value and all minimum cuts of a graph, found anew.
+fn solve_list<R: Threads + Sync, G: Gate>(
+    rt: &R,
+    alloc: Global,
+    list: &EdgeList,
+    workers: u32,
+    gate: &G,
+) -> Result<Solved, NoMemory>
+    requires enough { 2 ≤ list.now.vertices }
+    requires connected { IsConnected list.now }
+    requires workers { (1 ≤ workers) × (workers ≤ 64) }
+    ensures { IfOk result (IsSolved list.now) }
+{
+    let graph = Graph::build(alloc, list)?;
+    let solved = solve(rt, alloc, &graph, workers, gate)?;
+    Ok(solved)
+}
+
+// The graph with one insertion.
+fn grow_by<R: Threads + Sync, G: Gate>(
+    rt: &R,
+    alloc: Global,
+    growing: Growing,
+    insertion: (u64, u64, u64),
+    workers: u32,
+    gate: &G,
+) -> Result<Growing, NoMemory>
+    requires growing { IsGrowing growing }
+    requires first { IsVertex growing.list.vertices insertion.0 }
+    requires second { IsVertex growing.list.vertices insertion.1 }
+    requires insertion { IsInsertion insertion }
+    requires fits { IsEdgeList (with_insertion growing.list insertion) }
+    requires workers { (1 ≤ workers) × (workers ≤ 64) }
+    ensures list { IfOk result (λ next. next.list ≡ with_insertion growing.list insertion) }
+    ensures growing { IfOk result IsGrowing }
+{
+    laws::weights();
+    laws::kept_cuts();
+    let (u, v, w) = insertion;
+    let Growing { list, solved } = growing;
+    // known by this call: there are at most 4,194,304 vertices
+    let _n = list.n();
+    let longer = with_edge(alloc, &list, u as u32, v as u32, w)?;
+    let value = solved.value;
+    match grow(alloc, solved.cactus, u as u32, v as u32)? {
+        Grown::Kept(cactus) => Ok(Growing {
+            list: longer,
+            solved: Solved { value, cactus },
+        }),
+        Grown::Gone => {
+            let solved = solve_list(rt, alloc, &longer, workers, gate)?;
+            Ok(Growing {
+                list: longer,
+                solved,
+            })
+        }
+    }
+}
+
+// What is told of a graph: its value and the number of its minimum cuts.
+fn step_for(alloc: Global, growing: &Growing) -> Result<Step, NoMemory>
+    requires { IsGrowing growing.now }
+    ensures { IfOk result (λ step. step ≡ step_of growing.now.list) }
+{
+    number_of_minimum_cuts();
+    // known by this call: there are at most 4,194,304 vertices
+    let _n = growing.list.n();
+    let count = growing.solved.cactus.count_within(alloc)?;
+    Ok(Step {
+        value: growing.solved.value,
+        count,
+    })
+}
+
+// The graph after all insertions, and what is told of it after each.
+fn grow_all<R: Threads + Sync, G: Gate>(
+    rt: &R,
+    alloc: Global,
+    insertions: &Insertions,
+    start: Growing,
+    workers: u32,
+    gate: &G,
+) -> Result<(Growing, Vec<Step>), NoMemory>
+    requires growing { IsGrowing start }
+    requires in_range { AreInRange start.list.vertices insertions.now }
+    requires insertions { All IsInsertion insertions.now }
+    requires within { StaysWithin start.list insertions.now }
+    requires workers { (1 ≤ workers) × (workers ≤ 64) }
+    ensures { IfOk result (λ r. HasGrown start.list insertions.now r.0 r.1.items) }
+{
+    let mut growing = start;
+    let mut steps = Vec::new(alloc);
+    'insertions: for i in 0..insertions.len() {
+        growing = grow_by(rt, alloc, growing, insertions.at(i), workers, gate)?;
+        steps.push(step_for(alloc, &growing)?)?;
+    }
+    Ok((growing, steps))
+}
+
+// The answer for a connected graph that stays within the limits.
+fn growth_reply<R: Threads + Sync, G: Gate>(
+    rt: &R,
+    alloc: Global,
+    insertions: &Insertions,
+    list: EdgeList,
+    workers: u32,
+    gate: &G,
+) -> Result<Reply, NoMemory>
+    requires enough { 2 ≤ list.vertices }
+    requires connected { IsConnected list }
+    requires in_range { AreInRange list.vertices insertions.now }
+    requires insertions { All IsInsertion insertions.now }
+    requires within { StaysWithin list insertions.now }
+    requires workers { (1 ≤ workers) × (workers ≤ 64) }
+    ensures text { IfOk result (λ reply. IsGrowText list insertions.now (text_of reply)) }
+    ensures printable { IfOk result IsPrintable }
+{
+    tree_laws::flat_form();
+    tree_laws::flat_sides();
+    let solved = solve_list(rt, alloc, &list, workers, gate)?;
+    let start = Growing { list, solved };
+    let (growing, steps) = grow_all(rt, alloc, insertions, start, workers, gate)?;
+    let Growing { list, solved } = growing;
+    // known by this call: there are at most 4,194,304 vertices
+    let _n = list.n();
+    let value = solved.value;
+    let cactus = canonical_of(alloc, solved)?;
+    Ok(Reply::Growth {
+        steps,
+        solved: Solved { value, cactus },
+    })
+}
+
+/// What the job `grow` answers for a graph, or the first insertion after which the graph would be too large.
+pub fn grow_reply<R: Threads + Sync, G: Gate>(
+    rt: &R,
+    alloc: Global,
+    insertions: &Insertions,
+    list: EdgeList,
+    workers: u32,
+    gate: &G,
+) -> Result<Reply, Stop>
+    requires enough { 2 ≤ list.vertices }
+    requires in_range { AreInRange list.vertices insertions.now }
+    requires insertions { All IsInsertion insertions.now }
+    requires workers { (1 ≤ workers) × (workers ≤ 64) }
+    ensures text { IfOk result (λ reply. IsGrowReply list insertions.now (text_of reply)) }
+    ensures printable { IfOk result IsPrintable }
+    ensures stop { IfErr result (IsGrowStop list insertions.now) }
+{
+    let graph = Graph::build(alloc, &list)?;
+    let components = graph.components(alloc)?;
+    match check_limits(alloc, insertions, &list) {
+        Ok(()) => {}
+        Err(stop) => return Err(stop),
+    }
+    if components >= 2 {
+        let reply = disconnected(alloc, components)?;
+        return Ok(reply);
+    }
+    let reply = growth_reply(rt, alloc, insertions, list, workers, gate)?;
+    Ok(reply)
+}
