@@ -172,7 +172,7 @@ fn a_file_may_end_anywhere(rt: HostRuntime) -> Result<(), Fail> {
     Ok(())
 }
 
-const JOBS: &[&str] = &["value", "cactus", "cuts", "count", "balanced"];
+const JOBS: &[&str] = &["value", "cactus", "cuts", "count", "balanced", "augment"];
 
 #[test]
 fn a_sink_may_take_one_byte_at_a_time(rt: HostRuntime) -> Result<(), Fail> {

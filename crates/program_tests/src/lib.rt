@@ -4,12 +4,18 @@
 #[cfg(test)]
 mod answers;
 #[cfg(test)]
+mod augments;
+#[cfg(test)]
 mod deliveries;
 #[cfg(test)]
 mod failures;
 #[cfg(test)]
 mod graphs;
 #[cfg(test)]
+mod growths;
+#[cfg(test)]
 mod runs;
+#[cfg(test)]
+mod unions;
 #[cfg(test)]
 mod words;

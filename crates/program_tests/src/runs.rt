@@ -144,30 +144,6 @@ pub fn answers<R: Threads + Sync>(
     gives(rt, alloc, words, text, &HONEST, &wanted)
 }
 
-/// Whether an honest run answers `Ok`, and writes a text that begins with these lines.
-pub fn begins<R: Threads + Sync>(
-    rt: &R,
-    alloc: Global,
-    words: &[&str],
-    text: &[u8],
-    lines: &str,
-) -> Result<bool, Fail> {
-    let strings = strings_of(alloc, words)?;
-    let mut source = source_of(alloc, text, &HONEST)?;
-    let mut out = sink_of(alloc, 1_000, &[])?;
-    let mut err = sink_of(alloc, 100, &[])?;
-    let status = run(
-        rt,
-        alloc,
-        &strings,
-        &mut source,
-        &mut out,
-        &mut err,
-        &OpenGate,
-    );
-    Ok(status == Status::Ok && out.taken().starts_with(lines.as_bytes()))
-}
-
 /// Whether an honest run answers this status, writes nothing, and tells this line.
 pub fn tells<R: Threads + Sync>(
     rt: &R,

@@ -2,7 +2,7 @@
 
 use crate::graphs::TRIANGLE;
 use crate::runs::{UNREADABLE, Wanted, answers, gives, strings_of};
-use mincut_program::{Command, Job, Status, read_words};
+use mincut_program::{Job, Status, read_words};
 use std::alloc::Global;
 use std::test::Fail;
 
@@ -31,6 +31,11 @@ const NO_COMMANDS: &[&[&str]] = &[
     &["part", "1", "2", "3"],
     &["part", "1", "x"],
     &["cuts", "2"],
+    &["augment", "3"],
+    &["grow", "1", "1", "1"],
+    &["grow", "1", "2"],
+    &["grow", "1", "2", "0"],
+    &["grow", "1", "2", "1", "3"],
     &["trial"],
     &["trial", "11"],
     &["trial", "100001"],
@@ -74,6 +79,8 @@ const HELP: &str = "usage: mincut JOB [U V] [--workers N]\n\
     part: lists those that part the vertices U and V\n\
     count: prints the number of all minimum cuts\n\
     balanced: prints a minimum cut whose lighter side is heaviest\n\
+    augment: prints the fewest unit edges that raise the value, and the sets that show it\n\
+    grow: inserts the edges U V of weight W that follow, three numbers each, and prints the cuts after them\n\
     trial: prints five facts about a graph that it makes for the number U of 12 to 100000\n\
     N, the number of workers, is 1 to 64, and 4 where it is not named\n\
     --least W with cuts: lists those whose lighter side weighs W or more\n";
@@ -101,24 +108,25 @@ fn notices_are_printed_unread(rt: HostRuntime) -> Result<(), Fail> {
     Ok(())
 }
 
-// Whether these words are this command.
-fn are(alloc: Global, words: &[&str], command: Command) -> Result<bool, Fail> {
+// Whether these words are the job that parts these two vertices.
+fn are_part(alloc: Global, words: &[&str], u: u64, v: u64) -> Result<bool, Fail> {
     let strings = strings_of(alloc, words)?;
-    Ok(read_words(alloc, &strings) == Ok(command))
+    let Ok(command) = read_words(alloc, &strings) else {
+        return Ok(false);
+    };
+    let Job::Part(first, second) = command.job else {
+        return Ok(false);
+    };
+    Ok(first == u && second == v)
 }
 
 #[test]
 fn numbers_may_begin_with_zeros(rt: HostRuntime) -> Result<(), Fail> {
-    let command = Command {
-        job: Job::Part(7, 2),
-        workers: 4,
-        least: None,
-    };
-    assert!(rt; are(rt.alloc(), &["part", "007", "2"], command)?);
+    assert!(rt; are_part(rt.alloc(), &["part", "007", "2"], 7, 2)?);
     Ok(())
 }
 
-const CODES: [Status; 8] = [
+const CODES: [Status; 11] = [
     Status::Ok,
     Status::Refused,
     Status::BadWords,
@@ -127,6 +135,9 @@ const CODES: [Status; 8] = [
     Status::OutOfMemory,
     Status::ListTooLarge,
     Status::BadVertex,
+    Status::CountTooLarge,
+    Status::BalanceTooLarge,
+    Status::GrowTooLarge,
 ];
 
 #[test]
