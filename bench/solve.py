@@ -187,6 +187,29 @@ def network_dual(n, rng):
     return n, edges, {'value': 2, 'count': pairs}
 
 
+def shuffled(n, edges, rng):
+    """The same edges with the vertices numbered at random."""
+    names = list(range(1, n + 1))
+    rng.shuffle(names)
+    return [(names[u - 1], names[v - 1], w) for u, v, w in edges]
+
+
+def thick_ring(n, rng):
+    """A ring of edges of weight 2, numbered at random, with one further vertex at an edge of weight 3: two edges of the ring weigh more
+    than the one cut, and that shows only all around it."""
+    n = max(n, 5)
+    edges = ring_edges(range(1, n), 2) + [(1, n, 3)]
+    return n, shuffled(n, edges, rng), {'value': 3, 'count': 1, 'shape': (2, 1, 0), 'balance': 1}
+
+
+def prism(n, rng):
+    """Two rings with a rung from each vertex to its mate, numbered at random; one rung has a vertex in its middle."""
+    k = max(n // 2, 4)
+    edges = ring_edges(range(1, k + 1)) + ring_edges(range(k + 1, 2 * k + 1)) + [(v, k + v, 1) for v in range(2, k + 1)]
+    edges += [(1, 2 * k + 1, 1), (k + 1, 2 * k + 1, 1)]
+    return 2 * k + 1, shuffled(2 * k + 1, edges, rng), {'value': 2, 'count': 1, 'shape': (2, 1, 0), 'balance': 1}
+
+
 # Each family with its number of vertices for a number of edges.
 FAMILIES = {
     'ring': (ring, lambda m: m),
@@ -194,6 +217,8 @@ FAMILIES = {
     'squares': (squares, lambda m: m * 4 // 5),
     'grid': (grid, lambda m: m // 2),
     'torus': (torus, lambda m: m // 2),
+    'thick_ring': (thick_ring, lambda m: m),
+    'prism': (prism, lambda m: m * 2 // 3),
     'path': (path, lambda m: m + 1),
     'star': (star, lambda m: m + 1),
     'tree': (tree, lambda m: m + 1),

@@ -6,12 +6,14 @@
 
 Each graph is given to one of the named jobs, in turn. `value`, `cuts`, `count` and `part U V` (random pairs, equal ones and numbers out of
 range among them) have one right text, and it is compared whole. Half of the graphs give their vertices weights, up to three and
-often 0, some with sizes before them; `cuts` asks for a least balance in half of its runs. `balanced` may print any side of best balance. `trial N` reads
-nothing and is compared with the formulas of its graph. Exit status 1 on any difference.
+often 0, some with sizes before them; `cuts` asks for a least balance in half of its runs. `balanced` prints the first side of best
+balance, and any where the graph is in several components (`check_components.py` has more of these). `trial N` reads nothing and is
+compared with the formulas of its graph. Exit status 1 on any difference.
 """
 import argparse
 import random
 
+import answers_by_hand as answers
 import cuts_by_hand as hand
 import running
 
@@ -53,57 +55,21 @@ def words_of(rng, job, n, masses):
     return [job, zeros + str(u), str(v)]
 
 
-def lines(*parts):
-    return ''.join(part + '\n' for part in parts)
-
-
-def listing(value, sides):
-    return lines(f'value {value}', f'cuts {len(sides)}', *(' '.join(map(str, side)) for side in sides))
-
-
-def trial_text(number):
-    return lines(*(f'{name} {fact}' for name, fact in hand.trial_facts(number).items()))
-
-
 def wanted(words, graph, masses):
     """The right answers: (status, list of the texts on standard output that are right, standard error)."""
-    job = words[0]
-    n = graph[0]
-    if job == 'trial':
-        return 0, [trial_text(int(words[1]))], ''
-    for number in map(int, words[1:] if job == 'part' else []):
-        if not 1 <= number <= n:
-            return 7, [''], lines(f'vertex {number} not in 1..{n}')
-    if n < 2:
-        return 0, [lines('no cut')], ''
-    pieces = hand.components(graph)
-    if pieces > 1:
-        return 0, [lines('value 0') if job == 'value' else lines(f'disconnected {pieces}')], ''
-    value, sides = hand.minimum_cuts(graph)
-    if job == 'value':
-        return 0, [lines(f'value {value}')], ''
-    if job == 'count':
-        return 0, [lines(f'value {value}', f'count {len(sides)}')], ''
-    if job == 'balanced':
-        best = max(hand.balance(masses, side) for side in sides)
-        right = [side for side in sides if hand.balance(masses, side) == best]
-        return 0, [lines(f'value {value}', f'balance {best}', 'side ' + ' '.join(map(str, side))) for side in right], ''
-    if job == 'part':
-        u, v = map(int, words[1:])
-        sides = [side for side in sides if (u in side) != (v in side)]
-    if len(words) > 1 and job == 'cuts':
-        sides = [side for side in sides if hand.balance(masses, side) >= int(words[2])]
-    return 0, [listing(value, sides)], ''
+    if words[0] == 'trial':
+        return 0, [answers.lines(*(f'{name} {fact}' for name, fact in hand.trial_facts(int(words[1])).items()))], ''
+    return answers.wanted(words, graph, masses)
 
 
 def kind_of_answer(words, right):
     status, outs, _ = right
     if status == 7:
         return 'part: vertex out of range'
-    if outs[0].startswith(('no cut', 'disconnected')):
-        return words[0] + (': no cut' if outs[0].startswith('no') else ': disconnected')
-    if words[0] == 'balanced':
-        return 'balanced: one side of best balance' if len(outs) == 1 else 'balanced: several sides of best balance'
+    if outs[0].startswith('no cut'):
+        return words[0] + ': no cut'
+    if status or outs[0].startswith('value 0\n'):
+        return words[0] + (': several components' if status == 0 else f': status {status}')
     if words[0] == 'part':
         equal = int(words[1]) == int(words[2])
         return 'part: equal vertices' if equal else 'part: no cut parts them' if 'cuts 0\n' in outs[0] else 'part: some cuts'
