@@ -2,10 +2,12 @@
 """Draws a cactus as an SVG picture, and beside it the network whose cactus it is.
 
     ./mincut cactus < examples/network.graph | tools/draw_cactus.py docs/network-cactus.svg --graph examples/network.graph
+    ./mincut augment < examples/network.graph > plan
+    ./mincut cactus < examples/network.graph | tools/draw_cactus.py docs/network-plan.svg --graph examples/network.graph --plan plan
 
 The text of the cactus comes on standard input. A box is a node with its vertices, a dot a node without vertices, a thick line a
 bridge, a closed figure a cycle. In the network each vertex has the colour of its node, and a link is coloured where some minimum
-cut has it. Made for up to about fifty nodes; more than 300 are refused.
+cut has it. The edges of a plan, which the job `augment` prints, are dashed lines in the network. Made for up to about fifty nodes; more than 300 are refused.
 """
 import argparse
 import colorsys
@@ -19,6 +21,7 @@ import cuts_by_hand as hand
 UNIT = 104                     # pixels between two nodes that a bridge joins
 MARGIN = 64
 BRIDGE, RING, RING_FILL, PLAIN, INK, SOFT = '#c8553d', '#2f6f9f', '#e6f0f7', '#a7adb3', '#22303c', '#66727d'
+NEW = '#3f8f4f'
 MOST_NODES = 300
 
 
@@ -208,8 +211,9 @@ def words(x, y, text, size, fill=INK, anchor='middle', bold=False):
     return f'<text x="{x:.1f}" y="{y:.1f}" font-size="{size}" fill="{fill}" text-anchor="{anchor}"{weight}{halo}>{escape(text)}</text>'
 
 
-def line(a, b, stroke, width):
-    return f'<line x1="{a[0]:.1f}" y1="{a[1]:.1f}" x2="{b[0]:.1f}" y2="{b[1]:.1f}" stroke="{stroke}" stroke-width="{width}" stroke-linecap="round"/>'
+def line(a, b, stroke, width, dashed=False):
+    dashes = ' stroke-dasharray="9 8"' if dashed else ''
+    return f'<line x1="{a[0]:.1f}" y1="{a[1]:.1f}" x2="{b[0]:.1f}" y2="{b[1]:.1f}" stroke="{stroke}" stroke-width="{width}" stroke-linecap="round"{dashes}/>'
 
 
 def label_lines(vertices):
@@ -272,7 +276,13 @@ def place_on(at, u, v, share):
     return at[u][0] + share * (at[v][0] - at[u][0]), at[u][1] + share * (at[v][1] - at[u][1])
 
 
-def draw_network(cactus, graph, at):
+def plan_edges(text):
+    """The new edges in the text of the job `augment`."""
+    rows = [words.split() for words in text.splitlines()]
+    return [(int(row[1]), int(row[2])) for row in rows if len(row) == 3 and row[0] == 'edge']
+
+
+def draw_network(cactus, graph, at, plan):
     node_of = {v: i for i, node in enumerate(cactus.nodes) for v in node}
     weighted = any(w != 1 for _, _, w in graph[1])
     parts, labels = [], []
@@ -285,14 +295,14 @@ def draw_network(cactus, graph, at):
             if any(math.hypot(x - a, y - b) < 18 for a, b in middles):
                 x, y = place_on(at, u, v, 0.3)
             labels.append(words(x, y + 4.5, str(w), 13, RING if in_some_cut else SOFT, bold=in_some_cut))
-    parts += labels
+    parts += [line(at[u], at[v], NEW, 4, dashed=True) for u, v in plan] + labels
     for v, (x, y) in at.items():
         parts.append(f'<circle cx="{x:.1f}" cy="{y:.1f}" r="17" fill="{colour(node_of[v])}" stroke="{INK}" stroke-width="1.5"/>')
         parts.append(f'<text x="{x:.1f}" y="{y + 5.5:.1f}" font-size="16" fill="{INK}" text-anchor="middle">{v}</text>')
     return parts
 
 
-def legend(cactus, with_network, left, top):
+def legend(cactus, with_network, with_plan, left, top):
     """Lines that say what is what, and how high they are."""
     entries = []
     if cactus.bridges:
@@ -305,13 +315,15 @@ def legend(cactus, with_network, left, top):
     if with_network:
         entries.append((line((left, top), (left + 34, top), RING, 3.5), 'link of the network that some minimum cut has'))
         entries.append((line((left, top), (left + 34, top), PLAIN, 2.5), 'link that no minimum cut has'))
+    if with_plan:
+        entries.append((line((left, top), (left + 34, top), NEW, 4, dashed=True), 'new link: together they raise the value, and fewer do not'))
     parts = []
     for k, (shape, text) in enumerate(entries):
         parts.append(f'<g transform="translate(0 {24 * k})">{shape}{words(left + 46, top + 4.5, text, 13, anchor="start")}</g>')
     return parts, 24 * len(entries)
 
 
-def picture(cactus, graph):
+def picture(cactus, graph, plan):
     """The whole SVG text."""
     places = first_places(cactus)
     spread(places, cactus_lengths(cactus), 8.0, [(i, j) for i, j, _ in hand.cactus_edges(cactus)])
@@ -319,7 +331,7 @@ def picture(cactus, graph):
     top, left, parts, height = 34, 0.0, [], 0.0
     if graph is not None:
         at, width, height = to_pixels(network_places(cactus, graph, places), left, top, MARGIN)
-        parts += draw_network(cactus, graph, at) + [words(left + MARGIN - 17, 38, 'network', 19, anchor='start', bold=True)]
+        parts += draw_network(cactus, graph, at, plan) + [words(left + MARGIN - 17, 38, 'network', 19, anchor='start', bold=True)]
         left += width + 24
     widest = max(box_size(node)[0] for node in cactus.nodes)
     at, width, cactus_height = to_pixels(places, left, top, max(MARGIN, widest / 2 + 56))
@@ -329,7 +341,7 @@ def picture(cactus, graph):
     parts += draw_cactus(cactus, at) + [words(left + MARGIN - 17, 38, title, 19, anchor='start', bold=True)]
     height = top + max(height, cactus_height)
     left += max(width, MARGIN + 11 * len(title), 0)
-    entries, more = legend(cactus, graph is not None, MARGIN - 17, height + 6)
+    entries, more = legend(cactus, graph is not None, bool(plan), MARGIN - 17, height + 6)
     height += more + 16
     width = max(left + 24, 420)
     head = (f'<svg xmlns="http://www.w3.org/2000/svg" viewBox="0 0 {width:.0f} {height:.0f}" width="{width:.0f}" height="{height:.0f}" '
@@ -341,6 +353,7 @@ def main():
     parser = argparse.ArgumentParser(description=__doc__, formatter_class=argparse.RawDescriptionHelpFormatter)
     parser.add_argument('picture', help='the SVG file to write')
     parser.add_argument('--graph', help='the METIS file of the network, to be drawn beside the cactus')
+    parser.add_argument('--plan', help='the text of the job `augment`, whose edges are drawn in the network')
     options = parser.parse_args()
     text = sys.stdin.buffer.read()
     try:
@@ -353,10 +366,14 @@ def main():
             graph, _ = hand.read_metis(source.read())
         if graph[0] != cactus.n or hand.components(graph) != 1:
             sys.exit('draw_cactus: the graph is not that of the cactus')
+    plan = []
+    if options.plan:
+        with open(options.plan) as source:
+            plan = plan_edges(source.read())
     if max(len(cactus.nodes), cactus.n if graph else 0) > MOST_NODES:
         sys.exit(f'draw_cactus: more than {MOST_NODES} nodes or vertices')
     with open(options.picture, 'w') as out:
-        out.write(picture(cactus, graph))
+        out.write(picture(cactus, graph, plan))
 
 
 if __name__ == '__main__':
