@@ -52,6 +52,7 @@ pub mod Tallies
 pub mod Trims
 pub mod Makes
 pub mod Normals
+pub mod AllFine
 pub mod Bounds
 pub mod Distinct
 pub mod Formula

@@ -5,6 +5,7 @@ pub mod Entries
 pub mod Widths
 pub mod Rooted
 pub mod Normal
+pub mod Placed
 pub mod Spread
 pub mod Walks
 pub mod Flat

@@ -15,8 +15,8 @@ ghost use Rattle.cactus_tree.specs.Formula.{census};
 ghost use Rattle.cactus_tree.specs.Numbers.{number, total, triangle};
 
 use crate::tree::{
-    Blocks, Node, blocks_are_normal, count_cuts, count_node, entries_of, number_of, put_trimmed,
-    spread_node,
+    Blocks, Node, blocks_are_normal, count_cuts, count_node, entries_of, is_normal_below,
+    number_of, put_trimmed, spread_node,
 };
 use crate::vertex_list::VertexList;
 use std::alloc::{AllocError, Global};
@@ -120,6 +120,17 @@ impl Cactus {
         ensures { result ≡ is_normal self.now.root }
     {
         blocks_are_normal(&self.root.blocks)
+    }
+
+    /// The same as by `is_normal`, by a loop with a stack, so that a deep tree does not run out of stack.
+    ///
+    /// One step for each node and block. It takes memory for the nodes on the stack, at most 8 bytes a node, and is
+    /// refused only where that is wanting.
+    pub fn is_normal_within(&self, alloc: Global) -> Result<bool, AllocError>
+        ensures { IfOk result (λ b. b ≡ is_normal self.now.root) }
+    {
+        let is_normal = is_normal_below(alloc, self.root())?;
+        Ok(is_normal)
     }
 
     /// The cactus without what can be spared: normal, with the same set of sides.

@@ -9,8 +9,8 @@
 //! The representation of all minimum cuts by such a tree is due to Dinitz, Karzanov and Lomonosov (1976). Each call takes
 //! time in proportion to the nodes and vertices that it reads, and `spread` sorts what it writes. A tree is dropped, its
 //! vertices are listed, its subtrees are measured, `spread` and `rename_node` put other vertices in their place, `normal`
-//! leaves out the nodes and bridges that can be spared, and `count_within` counts the sides of a normal cactus, all by
-//! loops; `nodes`, `is_normal` and `count` take no memory and call themselves once for each level. A `Walk` gives the sides one after
+//! leaves out the nodes and bridges that can be spared, `is_normal_within` tells whether there are any, and `count_within`
+//! counts the sides of a normal cactus, all by loops; `nodes`, `is_normal` and `count` take no memory and call themselves once for each level. A `Walk` gives the sides one after
 //! another, those of a normal cactus each once, by loops and without a borrow: in the order of entering each side is one
 //! range of the vertices, so each step changes only what two sides do not share. `cut_places` gives these ranges by the borders of the blocks, so that
 //! cuts can be weighed by their places alone, and `put_range` the vertices of one range.

@@ -17,7 +17,7 @@ mod spread;
 mod trim;
 
 pub use count::count_node;
-pub use normal::blocks_are_normal;
+pub use normal::{blocks_are_normal, is_normal_below};
 pub use number::{count_cuts, number_of};
 pub use order::{InOrder, in_order, vertices_in_order};
 pub use outline::{Entry, outline_of, sizes_along, subtree_sizes};
@@ -108,6 +108,18 @@ impl Blocks {
         ensures some { IsSome result ↔ (0 < length (blocks_in self.old)) }
     {
         self.items.pop()
+    }
+
+    /// Takes the blocks from the place `at` on out of the list, in order, and gives them as a list of their own. It takes
+    /// memory for that list; where it is wanting the list stays as it was.
+    pub fn split_off(&mut self, at: usize) -> Result<Blocks, AllocError>
+        requires { at ≤ length (blocks_in self.old) }
+        ensures front { OnOk result (blocks_in self.new ≡ take at (blocks_in self.old)) }
+        ensures back { IfOk result (λ b. blocks_in b ≡ drop at (blocks_in self.old)) }
+        ensures err { OnErr result (blocks_in self.new ≡ blocks_in self.old) }
+    {
+        let behind = self.items.split_off(at)?;
+        Ok(Blocks { items: behind })
     }
 
     /// The number of blocks.

@@ -1,11 +1,14 @@
 //! Whether a tree is normal: no node and no block of it can be spared.
 
-ghost use Rattle.std.specs.Prelude.{◌≡◌, ◌==◌, ◌∷◌, length, map, true};
+ghost use Rattle.std.specs.Prelude.{◌≡◌, ◌==◌, ◌∷◌, length, map, true, IfOk};
 ghost use Rattle.std.specs.List.{list_all};
 ghost use Rattle.cactus_tree.specs.Trees.{blocks, blocks_in, nodes_in, vertices};
 ghost use Rattle.cactus_tree.specs.Normal.{BlockShape, shape, block_shape, child_fine, well_placed};
+ghost use Rattle.cactus_tree.specs.Placed.{is_placed, is_set};
 
+use super::number::stack_blocks;
 use super::{Block, Blocks, Children, Node};
+use std::alloc::{AllocError, Global};
 
 /// Whether a node below a block lies in blocks enough, where it has no vertex.
 fn is_well_placed(node: &Node, above_is_cycle: bool) -> bool
@@ -71,4 +74,53 @@ fn children_are_normal(nodes: &Children) -> bool
         }
     }
     true
+}
+
+/// Whether the nodes of a cycle below its upper node are well placed.
+fn nodes_are_placed(nodes: &Children) -> bool
+    ensures { result ≡ list_all (is_set true) (nodes_in nodes.now) }
+{
+    'each_node: for i in 0..nodes.len() {
+        if !is_well_placed(nodes.at(i), true) {
+            return false;
+        }
+    }
+    true
+}
+
+/// Whether the nodes of a block below its upper node are well placed, and enough of them where it is a cycle.
+fn block_is_placed(block: &Block) -> bool
+    ensures { result ≡ is_placed block.now }
+{
+    match block {
+        Block::Bridge(node) => is_well_placed(node, false),
+        Block::Cycle(nodes) => nodes.len() >= 2 && nodes_are_placed(nodes),
+    }
+}
+
+/// Whether this holds of all blocks.
+fn blocks_are_placed(blocks: &Blocks) -> bool
+    ensures { result ≡ list_all is_placed (blocks_in blocks.now) }
+{
+    'each_block: for i in 0..blocks.len() {
+        if !block_is_placed(blocks.at(i)) {
+            return false;
+        }
+    }
+    true
+}
+
+/// Whether all below a node is normal, as by `blocks_are_normal`, by a loop with a stack.
+pub fn is_normal_below(alloc: Global, root: &Node) -> Result<bool, AllocError>
+    ensures { IfOk result (λ b. b ≡ list_all (λ b. (block_shape b).fine) (blocks root.now)) }
+{
+    let mut stack = Vec::new(alloc);
+    stack.push(root)?;
+    'walk: while let Some(node) = stack.pop() {
+        if !blocks_are_placed(&node.blocks) {
+            return Ok(false);
+        }
+        stack_blocks(&mut stack, &node.blocks)?;
+    }
+    Ok(true)
 }

@@ -89,7 +89,7 @@ fn stack_block<'a>(stack: &mut Vec<&'a Node>, block: &'a Block) -> Result<(), Al
 }
 
 /// Puts the nodes of some blocks on the stack.
-fn stack_blocks<'a>(stack: &mut Vec<&'a Node>, blocks: &'a Blocks) -> Result<(), AllocError>
+pub fn stack_blocks<'a>(stack: &mut Vec<&'a Node>, blocks: &'a Blocks) -> Result<(), AllocError>
     ensures { OnOk result (seen stack.new.items ≡ seen stack.old.items ++ flat_map nodes_of (blocks_in blocks.now)) }
 {
     'each_block: for i in 0..blocks.len() {
