@@ -1,10 +1,10 @@
--- Blocks that are hung one after another, nodes that become one, and nodes that are merged up.
+-- Blocks that are hung one after another, and nodes that become one.
 use Rattle.std.proofs.Common.{◌≡◌, ℕ, ◌+◌, ◌<◌, ◌≤◌, inl, inr, Bool, true, false, cond, ◌||◌, List, [], ◌∷◌, ◌++◌, Option, Some, None, length, map, refl, ap, ◌∙◌, sym, subst, arith, append-nil}
 use Rattle.std.specs.Prelude.{option_to_list}
 use Rattle.std.specs.List.{Contains, flat_map}
 use Rattle.std.proofs.lemmas.Bool.{cases_Bool}
 use Rattle.std.proofs.lemmas.List.{append_assoc}
-use Rattle.std.proofs.lemmas.List.Elements.{All-append, All-cons, All-head, All-tail, Contains-append_left, Contains-append_right, Contains-append_cases}
+use Rattle.std.proofs.lemmas.List.Elements.{All-nil, All-append, All-cons, All-head, All-tail, Contains-append_left, Contains-append_right, Contains-append_cases}
 use Rattle.cut_definitions.specs.Cuts.{has, IsAscendingWithin}
 use Rattle.cut_definitions.proofs.Lists.{Contains-nil}
 use Rattle.cactus_tree.specs.Sides.{Part, part, block_part, all_of, belows, all_cuts, with_below}
@@ -16,7 +16,8 @@ use Rattle.cactus_tree.specs.declared.tree.Node.{Node}
 use Rattle.cactus_tree.specs.declared.tree.Block.{Block}
 use Rattle.cactus_tree.proofs.Parts.{part_out}
 use Rattle.cactus_tree.proofs.Orders.{entered_out}
-use Rattle.cactus_growth.specs.Growth.{times, AreAscending, AreWide, AreHung, IsAbsorbed}
+use Rattle.cactus_tree.proofs.Segments.{has_append_at}
+use Rattle.cactus_growth.specs.Growth.{times, AreAscending, AreWithin, AreWide, AreHung, IsTakenIn}
 use Rattle.cactus_growth.proofs.Counts.{count_both, All_left, All_right}
 
 pub popped : {X : Type 0} (cur new : List X) (r : Option X) (x : X) → cur ≡ new ++ option_to_list r → r ≡ Some x → cur ≡ new ++ x ∷ []
@@ -45,6 +46,12 @@ or_none true = refl
 or_none false = refl
 
 -- ---- hung
+-- the lists of the nodes below a node that has more of them
+pub rest_lists : (x y : Node) (more : List (List ℕ)) → entered x ≡ entered y ++ more → flat_map entered_block (blocks x) ≡ flat_map entered_block (blocks y) ++ more
+rest_lists x y more e =
+    let h : vertices x ∷ flat_map entered_block (blocks x) ≡ vertices y ∷ (flat_map entered_block (blocks y) ++ more) = sym (entered_out x) ∙ e ∙ ap (λ l. l ++ more) (entered_out y) in
+    (let q : flat_map entered_block (blocks x) ≡ flat_map entered_block (blocks y) ++ more = cc in q)
+
 pub hung_nothing : (x : Node) → AreHung x [] x
 hung_nothing x = record {
   below = λ v. or_none ((part x).below v);
@@ -76,8 +83,8 @@ hung_step node y x b done p e w o h =
       );
       counts = λ v. let split : times v (entered x) ≡ times v (entered y) + times v (entered_block b) = ap (times v) e ∙ count_both v (entered y) (entered_block b) in
           omega (arith, split, h.counts v, count_both v (entered_block b) (flat_map entered_block done));
-      ascending = λ n a d. subst (AreAscending n) (sym e)
-          (All-append (IsAscendingWithin 1 n) (entered y) (entered_block b) (h.ascending n a (All_right (IsAscendingWithin 1 n) (entered_block b) (flat_map entered_block done) d)) (All_left (IsAscendingWithin 1 n) (entered_block b) (flat_map entered_block done) d));
+      ascending = λ n a d. subst (AreAscending n) (sym (rest_lists x y (entered_block b) e))
+          (All-append (IsAscendingWithin 1 n) (flat_map entered_block (blocks y)) (entered_block b) (h.ascending n a (All_right (IsAscendingWithin 1 n) (entered_block b) (flat_map entered_block done) d)) (All_left (IsAscendingWithin 1 n) (entered_block b) (flat_map entered_block done) d));
       wide = λ a d. subst AreWide (sym w)
           (All-append (λ k. 2 ≤ k) (widths y) (block_widths b) (h.wide a (All_right (λ k. 2 ≤ k) (block_widths b) (flat_map block_widths done) d)) (All_left (λ k. 2 ≤ k) (block_widths b) (flat_map block_widths done) d));
       own = o ∙ h.own;
@@ -114,9 +121,13 @@ below_at x v = ap (λ (p : Part). p.below v) (part_out x)
 pub cuts_of : (x : Node) → (part x).cuts ≡ all_cuts (map block_part (blocks x))
 cuts_of x = ap (λ (p : Part). p.cuts) (part_out x)
 
-pub absorbed : (node other mid x : Node) → blocks mid ≡ blocks node → ((v : ℕ) → has (vertices mid) v ≡ (has (vertices node) v || has (vertices other) v)) →
-    ((n : ℕ) → IsAscendingWithin 1 n (vertices node) → IsAscendingWithin 1 n (vertices other) → IsAscendingWithin 1 n (vertices mid)) → AreHung mid (blocks other) x → IsAbsorbed node other x
-absorbed node other mid x e members rising h =
+pub ascending_within : (low n : ℕ) (l : List ℕ) → ((v : ℕ) → low ≤ v → 1 ≤ v) → IsAscendingWithin low n l → AreWithin n l
+ascending_within low n [] f a = All-nil (λ v. (1 ≤ v) × (v ≤ n))
+ascending_within low n (x ∷ xs) f a = All-cons (λ v. (1 ≤ v) × (v ≤ n)) x xs (f x a.0, a.1) (ascending_within (x + 1) n xs (λ v h. omega (arith, f x a.0, h)) a.2)
+
+pub taken_in : (node other mid x : Node) → blocks mid ≡ blocks node → vertices mid ≡ vertices node ++ vertices other → AreHung mid (blocks other) x → IsTakenIn node other x
+taken_in node other mid x e f h =
+    let members : (v : ℕ) → has (vertices mid) v ≡ (has (vertices node) v || has (vertices other) v) = λ v. ap (λ l. has l v) f ∙ has_append_at (vertices node) (vertices other) v in
     let mid_cuts : (part mid).cuts ≡ (part node).cuts = cuts_of mid ∙ ap (λ bs. all_cuts (map block_part bs)) e ∙ sym (cuts_of node) in
     let mid_entered : entered mid ≡ vertices mid ∷ flat_map entered_block (blocks node) = entered_out mid ∙ ap (λ bs. vertices mid ∷ flat_map entered_block bs) e in
     let mid_widths : widths mid ≡ widths node = widths_flat mid ∙ ap (flat_map block_widths) e ∙ sym (widths_flat node) in
@@ -144,13 +155,10 @@ absorbed node other mid x e members rising h =
       );
       ascending = λ n a b.
           let P = IsAscendingWithin 1 n in
-          let a2 : AreAscending n (vertices node ∷ flat_map entered_block (blocks node)) = subst (AreAscending n) (entered_out node) a in
-          let b2 : AreAscending n (vertices other ∷ flat_map entered_block (blocks other)) = subst (AreAscending n) (entered_out other) b in
-          h.ascending n
-          (subst (AreAscending n) (sym mid_entered) (All-cons P (vertices mid) (flat_map entered_block (blocks node))
-          (rising n (All-head P (vertices node) (flat_map entered_block (blocks node)) a2) (All-head P (vertices other) (flat_map entered_block (blocks other)) b2))
-          (All-tail P (vertices node) (flat_map entered_block (blocks node)) a2)))
-          (All-tail P (vertices other) (flat_map entered_block (blocks other)) b2);
+          let b2 : AreAscending n (vertices other ∷ flat_map entered_block (blocks other)) = subst (AreAscending n) (entered_out other) b in (
+            subst (AreWithin n) (sym (h.own ∙ f)) (All-append (λ v. (1 ≤ v) × (v ≤ n)) (vertices node) (vertices other) a.0 (ascending_within 1 n (vertices other) (λ v low. low) (All-head P (vertices other) (flat_map entered_block (blocks other)) b2))),
+            h.ascending n (subst (λ bs. AreAscending n (flat_map entered_block bs)) (sym e) a.1) (All-tail P (vertices other) (flat_map entered_block (blocks other)) b2),
+          );
       wide = λ a b. h.wide (subst AreWide (sym mid_widths) a) (subst AreWide (widths_flat other) b);
       own = λ v. ap (λ l. has l v) h.own ∙ members v;
     }

@@ -35,10 +35,10 @@ fn has_block(node: &Node) -> bool
 /// has a block. The nodes on the way between the two become one: bridges on the way go, and each cycle on it falls into
 /// two closed walks at that node (Dinitz and Westbrook, 1998).
 ///
-/// It moves the blocks and children beside the way, and asks of those at each level of the way what is below them: time
-/// in proportion to the nodes and vertices for each level, one pass where the way is short. It calls itself once for each
-/// level of the tree. Only where something can be spared in what is left, the tree is put together anew. It takes memory
-/// in proportion to what it moves, and is refused only where that is wanting; the cactus is dropped then.
+/// It looks for the two vertices and asks whether the cactus is normal before and after: a step for each node, block and
+/// vertex each time. It moves the blocks and nodes beside the ways to the two; only where something can be spared in what
+/// is left, the tree is put together anew. All by loops, so that a deep tree does not run out of stack. It takes memory in
+/// proportion to the nodes, and is refused only where that is wanting; the cactus is dropped then.
 pub fn grow(alloc: Global, cactus: Cactus, u: u32, v: u32) -> Result<Grown, NoMemory>
     requires some { 1 ≤ length (blocks cactus.root) }
     requires u_from_one { 1 ≤ u }
@@ -48,7 +48,7 @@ pub fn grow(alloc: Global, cactus: Cactus, u: u32, v: u32) -> Result<Grown, NoMe
     requires different { u ≢ v }
     ensures { IfOk result (λ r. IsAfter u v cactus r) }
 {
-    let was_normal = cactus.is_normal();
+    let was_normal = cactus.is_normal_within(alloc)?;
     let n = cactus.n();
     let root = grow_node(alloc, cactus.into_root(), u, v)?;
     if !has_block(&root) {
@@ -69,7 +69,8 @@ fn trimmed(alloc: Global, cactus: Cactus) -> Result<Cactus, NoMemory>
     ensures normal { IfOk result (λ c. is_normal c.root ≡ true) }
     ensures sides { IfOk result (λ c. HaveSameSides c cactus) }
 {
-    if cactus.is_normal() {
+    let is_normal = cactus.is_normal_within(alloc)?;
+    if is_normal {
         return Ok(cactus);
     }
     let cactus = cactus.normal(alloc)?;

@@ -9,9 +9,9 @@
 //! one: a bridge on the way goes, and a cycle on it falls into two closed walks at that node, of which one of two edges is
 //! a bridge. A cactus that is normal stays normal.
 //!
-//! Costs: `with_edge` and `is_within_limits` take O(m). `grow` asks of each block and each child on the way down what is
-//! below it, so it takes at most one step for each node and vertex at each level of the way, and moves the nodes and blocks
-//! beside the way only; it calls itself once for each level of the tree.
+//! Costs: `with_edge` and `is_within_limits` take O(m). `grow` looks for the nodes of the two vertices, so it takes a step
+//! for each node and vertex, and moves the nodes and blocks beside the ways to them only; all by loops, so that a deep
+//! cactus does not run out of stack.
 //!
 //! Source: Y. Dinitz, A. Karzanov and M. Lomonosov (1976), the cactus; Y. Dinitz and J. Westbrook (1998), what becomes of
 //! it where an edge is inserted.
@@ -21,6 +21,8 @@ mod growing;
 mod grown;
 mod insertion;
 pub mod laws;
+mod pieces;
+mod ways;
 
 pub use grown::{Grown, grow};
 pub use insertion::{is_within_limits, with_edge};

@@ -14,7 +14,7 @@ use std::test::Fail;
 fn counts(alloc: Global, cactus: &Cactus, number: u64) -> Result<bool, NoMemory>
     requires { cactus.now.vertices ≤ 4194304 }
 {
-    if !cactus.is_normal_within(alloc)? {
+    if !cactus.is_normal() {
         return Ok(false);
     }
     let within = cactus.count_within(alloc)?;

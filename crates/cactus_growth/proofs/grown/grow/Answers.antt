@@ -39,7 +39,7 @@ trimmed-requires c =
     let is : c.from_root-kept.result ≡ record { vertices = c.args.cactus.vertices; root = x } = c.from_root-kept.ensures ∙ ap (λ n. let r : Rooted = record { vertices = n; root = x } in r) c.n-n.ensures.value in
     let cactus = subst (IsCactus c.args.cactus.vertices) c.into_root.ensures.value c.into_root.ensures.cactus in
     let grown = grown_root c.args.u c.args.v c.args.cactus c.into_root.result x c.into_root.ensures.value c.in_ok-root.ensures in
-    none_empty c.args.u c.args.v c.args.cactus c.requires.u_from_one c.requires.u_to_n c.requires.v_from_one c.requires.v_to_n x c.from_root-kept.result is cactus grown (sym c.is_normal-was_normal.ensures ∙ c.if-was_normal.true)
+    none_empty c.args.u c.args.v c.args.cactus c.requires.u_from_one c.requires.u_to_n c.requires.v_from_one c.requires.v_to_n x c.from_root-kept.result is cactus grown (sym c.in_ok-was_normal.ensures ∙ c.if-was_normal.true)
 
 pub returns-then-was_normal : goal.returns-then-was_normal
 returns-then-was_normal c =
@@ -57,4 +57,4 @@ returns c =
     let cactus = subst (IsCactus c.args.cactus.vertices) c.into_root.ensures.value c.into_root.ensures.cactus in
     let grown = grown_root c.args.u c.args.v c.args.cactus c.into_root.result x c.into_root.ensures.value c.in_ok-root.ensures in
     kept_after c.args.u c.args.v c.args.cactus c.requires.u_from_one c.requires.u_to_n c.requires.v_from_one c.requires.v_to_n x c.from_root-kept.result c.from_root-kept.result is cactus grown (grind (arith, c.if-not-has_block.false, c.has_block.ensures))
-    refl (λ side. ((λ m. m), (λ m. m))) (λ e. absurd (false≢true (sym c.if-was_normal.false ∙ c.is_normal-was_normal.ensures ∙ e)))
+    refl (λ side. ((λ m. m), (λ m. m))) (λ e. absurd (false≢true (sym c.if-was_normal.false ∙ c.in_ok-was_normal.ensures ∙ e)))

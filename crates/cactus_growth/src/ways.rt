@@ -1,0 +1,150 @@
+//! The way from a node down to the node below it that has a vertex, found by a loop over the tree.
+
+ghost use Rattle.std.specs.Prelude.{ℕ, ◌≡◌, ◌≢◌, ◌≤◌, ◌<◌, ◌==◌, ◌&&◌, take, length, map, slice_get, true, OnOk, IfOk};
+ghost use Rattle.std.specs.List.{flat_map};
+ghost use Rattle.cut_definitions.specs.Cuts.{has};
+ghost use Rattle.cactus_tree.specs.declared.tree.Node.{Node};
+ghost use Rattle.cactus_tree.specs.declared.tree.Block.{Block};
+ghost use Rattle.cactus_tree.specs.Entries.{nodes_of};
+ghost use Rattle.cactus_tree.specs.Sides.{below};
+ghost use Rattle.cactus_tree.specs.Trees.{blocks, nodes_in};
+ghost use Rattle.cactus_growth.specs.Ways.{AreAdded, LeadsTo, same_step};
+
+use cactus_tree::{Block, Children, Node, VertexList};
+use cut_definitions::NoMemory;
+use std::alloc::Global;
+
+/// A step from a node to a node right below it.
+#[derive(Clone, Copy)]
+pub struct Step {
+    /// The place of the block among those of the upper node.
+    pub block: usize,
+    /// The place of the lower node in that block, 0 below a bridge.
+    pub child: usize,
+}
+
+/// A node that is still to be looked at.
+#[derive(Drop)]
+pub struct Visit<'a> {
+    pub node: &'a Node,
+    /// The number of steps down to the node above it.
+    pub depth: usize,
+    /// The step from there.
+    pub step: Step,
+}
+
+/// Whether a list has a vertex.
+fn has_vertex(list: &VertexList, v: u32) -> bool
+    ensures { result ≡ has list.now v }
+{
+    let mut found = false;
+    'vertices: for i in 0..list.len() {
+        found |= list.at(i) == v;
+    }
+    found
+}
+
+/// Puts the nodes of a cycle on the stack.
+fn visit_nodes<'a>(
+    stack: &mut Vec<Visit<'a>>,
+    nodes: &'a Children,
+    block: usize,
+    depth: usize,
+) -> Result<(), NoMemory>
+    ensures { OnOk result ((x : Node) (b : Block) → slice_get (blocks x) block ≡ Some b → nodes_of b ≡ nodes_in nodes.now → AreAdded x depth (nodes_in nodes.now) stack.old.items stack.new.items) }
+{
+    'each_node: for child in 0..nodes.len() {
+        stack.push(Visit {
+            node: nodes.at(child),
+            depth,
+            step: Step { block, child },
+        })?;
+    }
+    Ok(())
+}
+
+/// Puts the nodes of a block on the stack.
+fn visit_block<'a>(
+    stack: &mut Vec<Visit<'a>>,
+    block: &'a Block,
+    place: usize,
+    depth: usize,
+) -> Result<(), NoMemory>
+    ensures { OnOk result ((x : Node) → slice_get (blocks x) place ≡ Some block.now → AreAdded x depth (nodes_of block.now) stack.old.items stack.new.items) }
+{
+    match block {
+        Block::Bridge(node) => {
+            stack.push(Visit {
+                node,
+                depth,
+                step: Step {
+                    block: place,
+                    child: 0,
+                },
+            })?;
+            Ok(())
+        }
+        Block::Cycle(nodes) => {
+            visit_nodes(stack, nodes, place, depth)?;
+            Ok(())
+        }
+    }
+}
+
+/// Puts the nodes right below a node on the stack, where so many steps lead to that node.
+fn visit_below<'a>(stack: &mut Vec<Visit<'a>>, node: &'a Node, depth: usize) -> Result<(), NoMemory>
+    ensures { OnOk result (AreAdded node.now depth (flat_map nodes_of (blocks node.now)) stack.old.items stack.new.items) }
+{
+    'each_block: for place in 0..node.blocks.len() {
+        visit_block(stack, node.blocks.at(place), place, depth)?;
+    }
+    Ok(())
+}
+
+/// The steps from a node to the node that has a vertex, which is the node itself or below it.
+///
+/// One step for each node and vertex until it is found, in a loop with a stack. It takes memory in proportion to the
+/// nodes, and is refused only where that is wanting.
+pub fn way_to(alloc: Global, root: &Node, v: u32) -> Result<Vec<Step>, NoMemory>
+    requires { below root.now v ≡ true }
+    ensures { IfOk result (λ way. LeadsTo v root.now way.items) }
+{
+    let mut way: Vec<Step> = Vec::new(alloc);
+    if has_vertex(&root.vertices, v) {
+        return Ok(way);
+    }
+    let mut stack = Vec::new(alloc);
+    visit_below(&mut stack, root, 0)?;
+    'search: while let Some(visit) = stack.pop() {
+        way.truncate(visit.depth);
+        way.push(visit.step)?;
+        if has_vertex(&visit.node.vertices, v) {
+            return Ok(way);
+        }
+        visit_below(&mut stack, visit.node, way.len())?;
+    }
+    unreachable!()
+}
+
+/// Whether two steps lead to the same node.
+fn is_same(a: &Step, b: &Step) -> bool
+    ensures { result ≡ same_step a.now b.now }
+{
+    a.block == b.block && a.child == b.child
+}
+
+/// How many of the first steps two ways have in common.
+pub fn shared_steps(first: &[Step], second: &[Step]) -> usize
+    ensures first { result ≤ length first.now }
+    ensures second { result ≤ length second.now }
+    ensures same { take result first.now ≡ take result second.now }
+    ensures apart { (s t : Step) → slice_get first.now result ≡ Some s → slice_get second.now result ≡ Some t → s ≢ t }
+{
+    let count = first.len().min(second.len());
+    'steps: for i in 0..count {
+        if !is_same(&first[i], &second[i]) {
+            return i;
+        }
+    }
+    count
+}
