@@ -1,8 +1,9 @@
 -- What a sweep knows of the value of a graph.
-use Rattle.std.specs.Prelude.{ℕ, ◌≡◌, ◌-◌, ◌<◌, ◌≤◌, ◌^◌, List, min, slice_index}
+use Rattle.std.specs.Prelude.{ℕ, ◌≡◌, ◌-◌, ◌%◌, ◌<◌, ◌≤◌, ◌^◌, List, min, slice_index}
 use Rattle.cut_definitions.specs.Graph.{Graph}
 use Rattle.cut_definitions.specs.Weight.{VertexSet, weight, HasVertex}
 use Rattle.cut_definitions.specs.Cuts.{value}
+use Rattle.cut_definitions.specs.Scan.{single}
 use Rattle.region_flow.specs.Regions.{IsInside}
 use Rattle.least_cut.specs.declared.sweep.Swept.{Swept}
 use Rattle.least_cut.specs.declared.sweep.Swept.TheVariants.{Whole, Part}
@@ -27,3 +28,7 @@ pub record IsSwept (g : Graph) (bound : ℕ) (labels : List ℕ) (best : ℕ) : 
 abbrev pub TellsLeast : Graph → ℕ → ℕ → Swept → Type 0
 TellsLeast g bound most (Whole weight) = weight ≡ min bound (value g)
 TellsLeast g bound most (Part weight) = (min bound (value g) ≤ weight) × (weight ≤ bound) × (most < 2 ^ 64 - 1)
+
+-- each vertex has an even degree
+abbrev pub HasEvenDegrees : Graph → Type 0
+HasEvenDegrees g = (v : ℕ) → 1 ≤ v → v ≤ g.vertices → weight g (single v) % 2 ≡ 0

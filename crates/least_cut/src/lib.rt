@@ -3,7 +3,9 @@
 //! One vertex after another enters the source. Before it does, a flow into it tells the least weight of the sets outside
 //! the source that have it, up to the least weight of a cut that is known. So once all have entered, that is the value.
 //! The order is free; busy vertices that are joined to the source come first, and among the others the one that was joined
-//! last, since the flow into it has the shortest way.
+//! last, since the flow into it has the shortest way. No cut of a connected graph weighs less than 1, and
+//! none less than 2 where all degrees are even; so the sweep ends where it knows of a cut that light, and makes no flow at
+//! all where a vertex is one.
 //!
 //! The sweep is that of Hao and Orlin (1994), without distances. It takes memory for one flow, and for each vertex 5 bytes
 //! more. No good bound in n and m is known for its time; a limit on its work can be given.

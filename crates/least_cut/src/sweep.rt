@@ -1,9 +1,10 @@
 //! The sweep.
 
-ghost use Rattle.std.specs.Prelude.{◌≡◌, ◌≤◌, ◌<◌, ◌-◌, ◌^◌, ℕ, None, IfOk, IfSome, min, slice_index, slice_set};
+ghost use Rattle.std.specs.Prelude.{◌≡◌, ◌≤◌, ◌<◌, ◌-◌, ◌^◌, ℕ, None, IfOk, IfSome, IsTrue, min, slice_index, slice_set};
+ghost use Rattle.cut_definitions.specs.Components.{IsConnected};
 ghost use Rattle.cut_definitions.specs.Cuts.{value};
 ghost use Rattle.region_flow.specs.Regions.{IsRegionFlow};
-ghost use Rattle.least_cut.specs.Sweep.{IsSwept, TellsLeast};
+ghost use Rattle.least_cut.specs.Sweep.{HasEvenDegrees, IsSwept, TellsLeast};
 
 use crate::front::Front;
 use cut_definitions::NoMemory;
@@ -38,6 +39,46 @@ fn least_degree(graph: &Graph) -> u64
         least = least.min(graph.degree(v));
     }
     least
+}
+
+/// Whether each vertex has an even degree, and so each set an even weight.
+fn has_even_degrees(graph: &Graph) -> bool
+    ensures { IsTrue result → HasEvenDegrees graph.now }
+{
+    for v in 1..graph.n() + 1 {
+        if graph.degree(v) % 2 != 0 {
+            return false;
+        }
+    }
+    true
+}
+
+/// What each cut weighs at least where the graph is connected: 1, or 2 where all degrees are even.
+fn least_if_connected(graph: &Graph) -> u64
+    requires { 2 ≤ graph.now.vertices }
+    ensures { IsConnected graph.now → result ≤ value graph.now }
+{
+    if has_even_degrees(graph) { 2 } else { 1 }
+}
+
+/// Whether no cut undercuts a weight, as far as the degrees and the components tell. It is refused only where memory is
+/// wanting.
+fn is_settled(alloc: Global, graph: &Graph, weight: u64) -> Result<bool, NoMemory>
+    requires { 2 ≤ graph.now.vertices }
+    ensures { IfOk result (λ settled. IsTrue settled → weight ≤ value graph.now) }
+{
+    if weight == 0 {
+        return Ok(true);
+    }
+    if weight > 2 {
+        return Ok(false);
+    }
+    let least = least_if_connected(graph);
+    if weight > least {
+        return Ok(false);
+    }
+    let components = graph.components(alloc)?;
+    Ok(components == 1)
 }
 
 /// Lets a vertex enter the source, and answers the least weight of a cut that is known then. None where the flows went along
@@ -86,7 +127,8 @@ pub enum Swept {
 ///
 /// `Part` comes only where there is a limit, a number below 2^64 - 1; what it tells lies between the lesser of the two and
 /// the bound. It takes memory O(n + m), and want of memory is its only refusal. It is one sweep with n flows, each of which
-/// looks only at what it reaches until the least weight that is known is reached.
+/// looks only at what it reaches until the least weight that is known is reached. It ends early where that is 0 or, in a
+/// connected graph, 1, or 2 where all degrees are even.
 pub fn least_weight_within(
     alloc: Global,
     graph: &Graph,
@@ -98,9 +140,12 @@ pub fn least_weight_within(
 {
     // known by this call: the graph is an edge list
     let _n = graph.n();
+    let mut best = least_degree(graph).min(bound);
+    if is_settled(alloc, graph, best)? {
+        return Ok(Swept::Whole(best));
+    }
     let mut flow = RegionFlow::new(alloc, graph)?;
     let mut front = Front::new(alloc, graph)?;
-    let mut best = least_degree(graph).min(bound);
     let start = busiest(graph);
     flow.enter(graph, start);
     front.put_neighbours(graph, start);
@@ -108,6 +153,9 @@ pub fn least_weight_within(
         let Some(weight) = take_in(graph, &mut flow, t, bound, best, most) else {
             return Ok(Swept::Part(best));
         };
+        if weight < best && is_settled(alloc, graph, weight)? {
+            return Ok(Swept::Whole(weight));
+        }
         best = weight;
         front.put_neighbours(graph, t);
     }
