@@ -2,21 +2,25 @@
 """Measures the program beside LEMON, Boost, igraph and networkx, and writes tables and plots into docs/FIGURES.md.
 
     apt-get install g++ pkg-config liblemon-dev libboost-graph-dev libigraph-dev python3-networkx python3-matplotlib    # once
-    bench/figures.py [--program PATH] [--families ring,grid,..] [--sizes 100,1000,..,1000000]
-                     [--files GRAPH ..] [--jobs value,count,cactus] [--peers lemon-ni,..] [--repetitions 3]
-                     [--limit 60] [--memory MB] [--workers N] [--folder docs] [--save FILE.json]
+    /usr/bin/python3 bench/figures.py [--program PATH] [--families ring,grid,..] [--sizes 100,1000,..,1000000]
+                     [--files GRAPH ..] [--jobs value,count,cactus] [--peers lemon-ni,..] [--repetitions 3] [--long 1]
+                     [--limit 10] [--memory MB] [--workers N] [--checked 100000] [--note TEXT] [--folder docs] [--save FILE.json]
     bench/figures.py --load FILE.json        # only writes the page again
 
-The Python that runs it should have networkx and matplotlib, as that of Debian has; without them no such peer and no plots are there.
-The graphs are those of bench/solve.py of about so many edges, and any METIS files. Each contender gets the same file on its standard
-input, in turn, so many times; the least processor time counts, with its seconds by the clock and its memory. A contender that takes
-longer than the limit, or fails, is not given the larger graphs of that family. The small programs of bench/peers are built in a
-folder of their own where their libraries are there, and left out where not. All values and counts are compared, and those of
-the program also with what is known of the family. Exit status 1 where two answers differ, or the program fails.
+PATH is the built program, as crates/mincut/out/mincut; without `--program` it is ./mincut. The Python that runs it should have
+networkx and matplotlib, as that of Debian has; without them no such peer and no plots are there. The graphs are those of
+bench/solve.py of about so many edges, and any METIS files. Each contender gets the same file on its standard input, in turn, so
+many times, and once where its first run took more than `--long` seconds; the run of the least processor time counts, with its
+seconds by the clock and its memory. A run is ended by the limit, in seconds of the processor. A contender is not given a graph where
+its times at the smaller ones of that family, carried on, would pass the limit, nor where it failed at a smaller one. The small
+programs of bench/peers are built in a folder of their own where their libraries are there, and left out where not. All values and
+counts are compared, and those of the program also with what is known of the family; up to `--checked` edges its whole text is read.
+Exit status 1 where two answers differ, or the program fails.
 """
 import argparse
 import datetime
 import json
+import math
 import os
 import platform
 import re
@@ -24,6 +28,7 @@ import shlex
 import subprocess
 import sys
 import tempfile
+import time
 
 HERE = os.path.dirname(os.path.abspath(__file__))
 sys.path.insert(0, os.path.join(HERE, os.pardir, 'tools'))
@@ -34,6 +39,9 @@ import running  # noqa: E402
 import solve  # noqa: E402
 
 PEERS_FOLDER = os.path.join(HERE, 'peers')
+COMPILING = ['-O3', '-march=native', '-DNDEBUG', '-std=c++17']
+CLOCK = 20           # a run that takes so many times the limit by the clock is ended too
+STEADY = 0.02        # seconds; shorter times are not carried on to larger graphs
 
 
 class Peer:
@@ -69,7 +77,7 @@ def built(source, package, folder):
     if os.path.exists(binary):
         return binary
     flags = shlex.split(output_of(['pkg-config', '--cflags', '--libs', package])) if package else []
-    command = ['g++', '-O3', '-march=native', '-std=c++17', os.path.join(PEERS_FOLDER, source), '-o', binary, *flags]
+    command = ['g++', *COMPILING, os.path.join(PEERS_FOLDER, source), '-o', binary, *flags]
     try:
         done = subprocess.run(command, stdout=subprocess.DEVNULL, stderr=subprocess.DEVNULL)
     except OSError:
@@ -90,7 +98,7 @@ def peer_commands(names, folder):
             binary = built(peer.source, peer.flags, folder)
             command = [binary, *words] if binary else None
         if command is None:
-            print(f'{name} is left out: {peer.package} is not there, or did not build')
+            print(f'{name} is not measured: {peer.package} is not there, or did not build')
         else:
             commands[name] = command
     return commands
@@ -133,8 +141,20 @@ def record_of(run, name, job, graph, out_file):
         answer['value'] = int(head[0].split()[1])
     search = re.match(r'search ([\d.]+)', run.error)
     outcome = 'late' if run.timed_out else 'done' if run.status == 0 else f'status {run.status}'
+    if outcome == 'done' and not answer:
+        outcome = 'no answer'
     return {'job': job, 'family': family, 'n': n, 'm': m, 'contender': name, 'outcome': outcome, 'cpu': run.cpu, 'wall': run.wall,
-            'peak': run.peak, 'search': float(search[1]) if search else None, 'answer': answer}
+            'peak': run.peak, 'search': float(search[1]) if search else None, 'answer': answer, 'error': run.error}
+
+
+def wrong_answers(record, graph, out_file, options):
+    """What the program's answer and the facts that are known of the graph do not have in common."""
+    _, file, _, m, facts = graph
+    if facts is None:
+        return []
+    if m <= options.checked:
+        return solve.apart(solve.check_answer, record['job'], out_file, file, m, facts)[1]
+    return [f'{word} is {number} and not {facts[word]}' for word, number in record['answer'].items() if facts.get(word, number) != number]
 
 
 def measure_graph(job, graph, commands, options, folder):
@@ -142,16 +162,41 @@ def measure_graph(job, graph, commands, options, folder):
     best, wrong = {}, []
     for repetition in range(options.repetitions):
         for name, command in commands.items():
-            if name in best and best[name]['outcome'] != 'done':
+            if name in best and (best[name]['outcome'] != 'done' or best[name]['cpu'] > options.long):
                 continue
             out_file = os.path.join(folder, 'answer')
-            run = running.run_measured(command, graph[1], out_file, options.limit, options.memory)
+            run = running.run_measured(command, graph[1], out_file, CLOCK * options.limit, options.memory, options.limit)
             record = record_of(run, name, job, graph, out_file)
-            if name == 'program' and repetition == 0 and record['outcome'] == 'done' and graph[4] is not None:
-                wrong += solve.apart(solve.check_answer, job, out_file, graph[1], graph[3], graph[4])[1]
+            if name == 'program' and repetition == 0 and record['outcome'] == 'done':
+                wrong += wrong_answers(record, graph, out_file, options)
+            record['runs'] = 1 + (best[name]['runs'] if name in best else 0)
             if name not in best or record['outcome'] != 'done' or record['cpu'] < best[name]['cpu']:
                 best[name] = record
+            best[name]['runs'] = record['runs']
     return list(best.values()), wrong
+
+
+def is_hopeless(name, job, graph, records, limit):
+    """Whether the times of a contender at the smaller graphs of the family, carried on, would pass the limit: by the growth from
+    the last but one to the last, and at least in proportion to the edges. Also where it had no answer at a smaller one."""
+    earlier = [record for record in records if (record['family'], record['job'], record['contender']) == (graph[0], job, name)]
+    if not earlier:
+        return False
+    last = earlier[-1]
+    if last['outcome'] != 'done':
+        return True
+    times = [record['cpu'] if record['search'] is None else record['search'] for record in earlier]
+    exponent = 1.0
+    if len(earlier) > 1 and min(times[-2:]) >= STEADY and last['m'] > earlier[-2]['m']:
+        exponent = max(1.0, math.log(times[-1] / times[-2]) / math.log(last['m'] / earlier[-2]['m']))
+    return times[-1] >= STEADY and times[-1] * (graph[3] / last['m']) ** exponent > limit
+
+
+def left_out(name, job, graph):
+    """The record of a contender that is not given a graph."""
+    family, _, n, m, _ = graph
+    return {'job': job, 'family': family, 'n': n, 'm': m, 'contender': name, 'outcome': 'left out', 'cpu': None, 'wall': None, 'peak': None,
+            'search': None, 'answer': {}, 'error': '', 'runs': 0}
 
 
 def differences(records):
@@ -169,20 +214,19 @@ def differences(records):
 
 def measure(options, peers, folder):
     """(all records, number of differences)"""
-    records, differing, given_up = [], 0, set()
+    records, differing = [], 0
     for graph in graphs_of(options, folder):
         for job in options.jobs:
             words = [job] + (['--workers', str(options.workers)] if options.workers else [])
             commands = {'program': [options.program, *words]}
             commands.update((name, command) for name, command in peers.items() if PEERS[name].job == job)
-            commands = {name: command for name, command in commands.items() if (graph[0], job, name) not in given_up}
-            found, wrong = measure_graph(job, graph, commands, options, folder)
-            records += found
+            hopeless = [name for name in commands if is_hopeless(name, job, graph, records, options.limit)]
+            given = {name: command for name, command in commands.items() if name not in hopeless}
+            found, wrong = measure_graph(job, graph, given, options, folder)
             wrong += differences(found)
             differing += len(wrong)
-            for record in found:
-                if record['outcome'] != 'done' or record['cpu'] > options.limit / 4:
-                    given_up.add((graph[0], job, record['contender']))
+            found += [left_out(name, job, graph) for name in hopeless]
+            records += found
             times = '  '.join(f'{r["contender"]} {r["cpu"]:.3f}' if r['outcome'] == 'done' else f'{r["contender"]} {r["outcome"]}' for r in found)
             print(f'{job:>6} {graph[0]:>16} {graph[2]:9d} {graph[3]:9d}  {times}' + ''.join(f'  DIFFERS: {text}' for text in wrong), flush=True)
     return records, differing
@@ -209,11 +253,24 @@ def circumstances(options, peers):
     versions = {package: package_version(package) for package in sorted({PEERS[name].package for name in peers})}
     if 'python3-networkx' in versions:
         versions['python3-networkx'] = output_of([sys.executable, '-W', 'ignore', '-c', 'import networkx; print(networkx.__version__)'])
-    return {'date': datetime.date.today().isoformat(), 'machine': f'{processor_name()}, {os.cpu_count()} processors, {memory:.0f} GiB',
+        versions['Python'] = platform.python_version()
+    return {'date': datetime.datetime.now(datetime.timezone.utc).strftime('%Y-%m-%d %H:%M UTC'), 'peers': list(peers), 'flags': ' '.join(COMPILING),
+            'commit': output_of(['git', '-C', HERE, 'describe', '--always', '--dirty', '--exclude', '*']), 'machine': f'{processor_name()}, {os.cpu_count()} processors, {memory:.0f} GiB',
             'system': f'{platform.system()} {platform.release()}', 'load': f'{os.getloadavg()[0]:.1f}', 'versions': versions,
             'program': output_of([options.program, '--version']), 'compiler': output_of(['g++', '--version']).split('\n')[0],
-            'command': options.command, 'repetitions': options.repetitions, 'limit': options.limit,
-            'memory': options.memory}
+            'command': options.command, 'repetitions': options.repetitions, 'long': options.long, 'limit': options.limit,
+            'memory': options.memory, 'workers': options.workers, 'checked': options.checked, 'note': options.note}
+
+
+def command_of(words):
+    """The command as the page tells it: of paths their last names, and without the note."""
+    told, rest = ['bench/figures.py'], iter(words)
+    for word in rest:
+        if word == '--note':
+            next(rest)
+        else:
+            told.append(os.path.basename(word) if os.sep in word else word)
+    return ' '.join(map(shlex.quote, told))
 
 
 def read_options():
@@ -225,10 +282,13 @@ def read_options():
     parser.add_argument('--jobs', default='value,count,cactus')
     parser.add_argument('--peers', default=','.join(PEERS))
     parser.add_argument('--repetitions', type=int, default=3)
-    parser.add_argument('--limit', type=float, default=60, help='seconds by the clock of one run')
+    parser.add_argument('--long', type=float, default=1, help='a first run of more seconds of the processor is not repeated')
+    parser.add_argument('--limit', type=int, default=10, help='seconds of the processor of one run')
     parser.add_argument('--memory', type=int, default=8000, help='most address space of a contender in MB')
-    parser.add_argument('--workers', type=int, default=0)
+    parser.add_argument('--workers', type=int, default=0, help='workers of the program; its own number where it is 0')
+    parser.add_argument('--checked', type=int, default=100_000, help='most edges of a graph at which the whole text is checked')
     parser.add_argument('--seed', type=int, default=1)
+    parser.add_argument('--note', default='', help='a sentence on the program that was measured, for the page')
     parser.add_argument('--folder', default=os.path.join(running.TOP, 'docs'), help='where FIGURES.md and the plots go')
     parser.add_argument('--save', help='a file for all that was measured')
     parser.add_argument('--load', help='such a file, in the place of measuring')
@@ -239,8 +299,7 @@ def read_options():
     for names, known in ((options.families, solve.FAMILIES), (options.jobs, ['value', 'count', 'cactus']), (options.peers, PEERS)):
         if not set(names) <= set(known):
             parser.error(f'the choices are {", ".join(known)}')
-    words = (os.path.basename(word) if os.sep in word else word for word in sys.argv[1:])
-    options.command = ' '.join(['bench/figures.py', *map(shlex.quote, words)])
+    options.command = command_of(sys.argv[1:])
     return options
 
 
@@ -255,8 +314,9 @@ def main():
         with tempfile.TemporaryDirectory() as folder:
             peers = peer_commands(options.peers, folder)
             told = {'about': circumstances(options, peers)}
+            start = time.monotonic()
             told['records'], differing = measure(options, peers, folder)
-        told['about']['differing'] = differing
+        told['about'].update(differing=differing, minutes=(time.monotonic() - start) / 60, load_after=f'{os.getloadavg()[0]:.1f}')
         if options.save:
             with open(options.save, 'w') as out:
                 json.dump(told, out, indent=1)

@@ -5,6 +5,7 @@ import solve
 
 STEEP = 1.5          # exponents of growth that are said in words
 SHORT = 0.02         # seconds; shorter runs are mostly the start of a program, and are not compared
+MUCH = 30e6          # bytes; less is mostly that of the start of a program
 COLOURS = {'program': '#c8553d', 'lemon-ni': '#2f6f9f', 'lemon-ho': '#5b8c5a', 'boost': '#8a6bb1', 'igraph': '#b98b2d', 'networkx': '#7a7f85',
            'igraph-count': '#b98b2d', 'value': '#2f6f9f', 'count': '#b98b2d', 'cactus': '#c8553d'}
 JOBS = {'value': 'the least weight of a cut', 'count': 'the number of all minimum cuts', 'cactus': 'all minimum cuts at once'}
@@ -28,8 +29,9 @@ def by_place(records):
 
 
 def points_of(records, family, contender, what='cpu'):
-    """(edges, seconds or bytes) of what one contender did on one family; of the search alone where that is asked for and known."""
-    return [(record['m'], record['cpu'] if record[what] is None else record[what]) for record in records
+    """(edges, seconds or MB) of what one contender did on one family; of the search alone where that is asked for and known."""
+    unit = 1e6 if what == 'peak' else 1
+    return [(record['m'], (record['cpu'] if record[what] is None else record[what]) / unit) for record in records
             if record['family'] == family and record['contender'] == contender and record['outcome'] == 'done']
 
 
@@ -40,13 +42,11 @@ def seconds(number):
 
 
 def cell_of(record, what):
-    """A cell of a table: nothing where the contender was given up, or what came instead of an answer."""
+    """A cell of a table: nothing where the contender is not for this graph, or what came instead of an answer."""
     if record is None:
         return ''
-    if record['outcome'] == 'late':
-        return 'late'
     if record['outcome'] != 'done':
-        return 'failed'
+        return {'late': 'over the limit', 'left out': '–'}.get(record['outcome'], 'failed')
     return f'{record["peak"] / 1e6:.0f}' if what == 'peak' else seconds(record[what])
 
 
@@ -91,62 +91,115 @@ def growth_table(records, titles):
     return table(['Graph'] + [titles[name] for name in names], rows)
 
 
-def comparisons(records, what):
-    """(times as long as the peer's, peer, graph, the program's seconds, the peer's) of all pairs that are long enough; the peer's
-    time is that of its whole run, or of its search alone."""
-    found = by_place(records)
+def comparisons(records, what, least=SHORT):
+    """(times as much as the peer, peer, graph, the program's figure, the peer's) of all pairs that are large enough. The figure is
+    the processor time or the peak memory of whole runs; for `search` the program's whole run and the peer's search alone. Times are
+    large enough by the program's whole run or the peer's search, so that the start of a peer does not count."""
+    found, own_what = by_place(records), 'cpu' if what == 'search' else what
     rows = []
     for (family, n, m, name), record in found.items():
         own = found.get((family, n, m, 'program'))
         if name != 'program' and record['outcome'] == 'done' and own and own['outcome'] == 'done' and record[what] is not None:
-            if max(own['cpu'], record[what]) >= SHORT:
-                rows.append((own['cpu'] / max(record[what], 1e-4), name, (family, n, m), own['cpu'], record[what]))
+            if max(own[own_what], record['search' if what == 'cpu' and record['search'] is not None else what]) >= least:
+                rows.append((own[own_what] / max(record[what], 1e-4), name, (family, n, m), own[own_what], record[what]))
     return sorted(rows, key=lambda row: -row[0])
+
+
+def factor(number):
+    return f'{number:.2f}' if number < 0.1 else f'{number:.1f}' if number < 100 else f'{number:,.0f}'
 
 
 def own_lines(records):
     """Where the program itself is late or steep, in words."""
     own = [record for record in records if record['contender'] == 'program']
-    missing = [f'{record["family"]} of {record["m"]:,} edges' for record in own if record['outcome'] != 'done']
+    missing = {}
+    for record in own:
+        if record['outcome'] != 'done':
+            words = {'late': 'ended by the limit', 'left out': 'not tried'}.get(record['outcome'], 'failed')
+            missing.setdefault(record['family'], []).append(f'{record["m"]:,} edges ({words})')
     slopes = [(solve.exponent(points_of(own, family, 'program')), family) for family in dict.fromkeys(record['family'] for record in own)]
     steep = [f'{family} {slope:.2f}' for slope, family in slopes if slope is not None and slope > STEEP]
-    lines = [f'**No answer of mincut in time**: {", ".join(missing)}.', ''] if missing else []
-    return lines + ([f'**mincut grows by an exponent above {STEEP}** in the number of edges: {", ".join(steep)}.', ''] if steep else [])
-
-
-def comparison_lines(records, titles):
-    """Where the program is slower, and where it is faster, in words."""
     lines = []
-    for what, words in (('cpu', 'whole runs compared'), ('search', "the peer's search alone, without its reading, compared with the whole run of the program")):
-        rows = comparisons(records, what)
-        slower = [row for row in rows if row[0] > 1]
-        lines += [f'**Slower than a peer**, {words}: {len(slower)} of {len(rows)} pairs in which either took {SHORT} s or more.', '']
-        if slower:
-            lines += table(['Peer', 'Graph', 'Edges', 'mincut, s', 'peer, s', 'times as long'],
-                           [[titles[name], graph[0], f'{graph[2]:,}', seconds(own), seconds(other), f'{ratio:.1f}'] for ratio, name, graph, own, other in slower])
-    late = [record for record in records if record['contender'] != 'program' and record['outcome'] != 'done']
-    faster = [1 / row[0] for row in comparisons(records, 'cpu') if row[0] < 1]
-    if faster:
-        middle = sorted(faster)[len(faster) // 2]
-        lines += [f'**Faster than a peer**, whole runs compared: {len(faster)} pairs, by a factor of {middle:.0f} in the middle and {max(faster):,.0f} at most;'
-                  f' {len(late)} runs of peers ended without an answer, by the limit of time or otherwise.', '']
+    if missing:
+        lines += ['**mincut has no answer** within the limit for ' + '; '.join(f'{family} of {", ".join(which)}' for family, which in missing.items()) + '.', '']
+    if steep:
+        lines += [f'**mincut grows steeply**, by an exponent above {STEEP} in the number of edges, on {", ".join(steep)}.', '']
     return lines
 
 
-def about_lines(about):
+def balance_table(records, titles):
+    """For each peer: at how many graphs the program took less and more, and by how much."""
+    rows = []
+    for what, words, least in (('cpu', 'time, whole runs', SHORT), ('search', "time, the peer's search alone", SHORT), ('peak', 'peak memory', MUCH)):
+        pairs = comparisons(records, what, least)
+        for name in contenders_in(records):
+            ratios = sorted(1 / row[0] for row in pairs if row[1] == name)
+            if ratios:
+                less, middle = sum(1 for ratio in ratios if ratio > 1), ratios[len(ratios) // 2]
+                rows.append([titles[name], words, str(len(ratios)), str(less), str(len(ratios) - less), factor(ratios[0]), factor(middle), factor(ratios[-1])])
+    return table(['Peer', 'Compared', 'Graphs', 'mincut less', 'mincut more', 'peer / mincut: least', 'middle', 'greatest'], rows)
+
+
+def slower_lines(records, titles):
+    """The pairs in which the program took more time."""
+    lines = []
+    for what, words in (('cpu', 'whole runs compared'), ('search', "the whole run of mincut compared with the peer's search alone, without its reading")):
+        slower = [row for row in comparisons(records, what) if row[0] > 1]
+        if not slower:
+            lines += [f'**Slower than a peer**, {words}: nowhere.', '']
+            continue
+        lines += [f'**Slower than a peer**, {words}: {len(slower)} pairs.', '']
+        lines += table(['Peer', 'Graph', 'Edges', 'mincut, s', 'peer, s', 'times as long'],
+                       [[titles[name], graph[0], f'{graph[2]:,}', seconds(own), seconds(other), factor(ratio)] for ratio, name, graph, own, other in slower])
+    return lines
+
+
+def ends_lines(records, titles):
+    """How often each contender had an answer, and what those that failed said."""
+    rows, said = [], []
+    for name in contenders_in(records):
+        own = [record for record in records if record['contender'] == name]
+        outcomes = [record['outcome'] for record in own]
+        failed = [record for record in own if record['outcome'] not in ('done', 'late', 'left out')]
+        rows.append([titles[name]] + [str(number) for number in (len(own), outcomes.count('done'), outcomes.count('late'), len(failed), outcomes.count('left out'))])
+        said += [f'{titles[name]} failed on {record["family"]} of {record["m"]:,} edges, with {record["outcome"]}'
+                 + (f': "{record["error"]}"' if record['error'] else '') for record in failed]
+    return table(['', 'Graphs', 'answered', 'over the limit', 'failed', 'not tried'], rows) + (['; '.join(said) + '.', ''] if said else [])
+
+
+def comparison_lines(records, titles):
+    """Where the program is slower and where it is faster than its peers."""
+    lines = [f'Graphs that both answered, where the run of mincut or the search of the peer took {SHORT} s or more, or one of the two {MUCH / 1e6:.0f} MB:', '',
+             *balance_table(records, titles)]
+    return lines + slower_lines(records, titles)
+
+
+def about_lines(about, records):
     versions = ', '.join(f'{name} {version}' for name, version in about['versions'].items())
-    return ['# Figures', '', 'The program beside the libraries that a Debian machine can install, on graphs of known kinds. `bench/figures.py` wrote this page.', '',
-            f'- Date: {about["date"]}. Machine: {about["machine"]}; {about["system"]}; load at the start {about["load"]}.',
-            f'- Program: `{about["program"]}`. Peers: {versions or "none"}, built by {about["compiler"]} with `-O3 -march=native`.',
-            f'- Command: `{about["command"]}`.',
-            f'- Each time is the least of {about["repetitions"]} runs, with reading and printing. A run of more than {about["limit"]:.0f} s by the clock is `late`, '
-            f'one that ends without an answer `failed`, as where it wants more than {about["memory"]:,} MB, or by an error of its own; '
-            'a contender that was late, failed or took a quarter of that time was not given the larger graphs of that kind, whose cells are empty. '
-            'Peak memory below about 20 MB is that of the script.',
-            f'- All contenders read the same file. The peers trust it; the program tests it. Answers that differ: {about["differing"]}.',
-            '- igraph lists the least cuts between two vertices of a directed graph; as a peer of `count` it does so between the first vertex and each other '
-            'one, with each edge in both directions, and the different sides are counted.',
-            '- The processor time of all threads counts. Runs of less than about 0.02 s are mostly the start of a program.', '']
+    starts = [record['cpu'] - record['search'] for record in records if record['contender'] == 'networkx' and record['outcome'] == 'done']
+    start_of_python = f', and of a run of networkx {min(starts):.1f} s are the start of Python' if starts else ''
+    workers = f'{about["workers"]} workers' if about['workers'] else 'its own number of workers, 4'
+    return ['# Figures', '', 'mincut beside the libraries that a Debian machine can install, on graphs of known kinds: processor time, time by the clock, memory, '
+            'and growth. `bench/figures.py` wrote this page and its plots in one run.', '',
+            f'- **When and where**: {about["date"]}, {about["minutes"]:.0f} minutes; {about["machine"]}; {about["system"]}.',
+            f'- **The machine was shared**: the load was {about["load"]} at the start and {about["load_after"]} at the end, with other work. So compare processor time. '
+            'Time by the clock has waiting in it, and processor time too is longer than on an idle machine, since others fill the caches and the memory bus.',
+            f'- **mincut**: `{about["program"]}` of commit {about["commit"]}, with {workers}.' + (f' {about["note"]}' if about.get('note') else ''),
+            f'- **Peers**: {versions or "none"}. Those in C++ are small programs of `bench/peers`, built by {about["compiler"]} with `{about["flags"]}`.',
+            f'- **Command**: `{about["command"]}`.',
+            f'- **What is timed**: one process from its start to its end, which reads a METIS file on standard input and prints the answer; user and system time of '
+            'all its threads. mincut tests the file, the peers trust it. Of a peer its search alone is timed too, between reading and printing.',
+            f'- **How often**: {about["repetitions"]} runs in turn with the other contenders, or one where the first took more than {about["long"]:g} s; the run of '
+            'the least processor time counts, with its seconds by the clock and its memory.',
+            f'- **Limits**: a run is ended after {about["limit"]} s of the processor (`over the limit`) or at {about["memory"]:,} MB of address space (`failed`, as any '
+            'other end without an answer). `–`: not tried, since the times at the smaller graphs of the kind, carried on by their growth and at least in '
+            'proportion to the edges, would pass the limit, or since a smaller one had no answer.',
+            f'- **Answers**: all values and numbers of cuts were compared with each other and with what is known of the kind; up to {about["checked"]:,} edges '
+            f"the whole text of mincut was read, and some of its cuts weighed. Different answers: {about['differing']}.",
+            '- **Memory**: the most that was resident; 1 MB is 10^6 bytes.',
+            f'- **Short runs**: less than {SHORT} s is mostly the start of a program{start_of_python}. Short runs stand in '
+            'the tables, and are not compared.', '',
+            'The kinds are those of `bench/solve.py`; a graph of a kind has about 100, 1,000 and so on edges.', '']
 
 
 # Plots
@@ -183,8 +236,10 @@ def plot_families(plots, records, lines_of, titles, unit, file):
     figure.supxlabel('edges', fontsize=8)
     figure.supylabel(unit, fontsize=8)
     order = [name for name in COLOURS if name in shown]
-    figure.legend([shown[name] for name in order], [titles.get(name, name) for name in order], loc='upper center', ncol=min(6, len(order)), frameon=False)
-    figure.tight_layout(rect=(0, 0, 1, 1 - 0.35 / (2.1 * rows + 0.5)))
+    legend_columns = min(columns, 3, len(order))
+    head = 0.2 + 0.17 * -(-len(order) // legend_columns)
+    figure.legend([shown[name] for name in order], [titles.get(name, name) for name in order], loc='upper center', ncol=legend_columns, frameon=False)
+    figure.tight_layout(rect=(0, 0, 1, 1 - head / (2.1 * rows + 0.5)))
     figure.savefig(file, metadata={'Date': None})
     plots.close(figure)
 
@@ -199,31 +254,43 @@ def write_plots(records, titles, folder):
     lines = []
     if value:
         names = contenders_in(value)
-        for what, unit, name in (('cpu', 'seconds of the processor', 'figures-value.svg'), ('peak', 'bytes', 'figures-memory.svg')):
+        for what, unit, name in (('cpu', 'seconds of the processor', 'figures-value.svg'), ('peak', 'MB', 'figures-memory.svg')):
             plot_families(plots, value, lambda family: [(name, points_of(value, family, name, what)) for name in names], titles, unit,
                           os.path.join(folder, name))
-        lines += ['![The job value beside its peers, processor time](figures-value.svg)', '', '![The same, memory](figures-memory.svg)', '']
+        lines += ['The job `value` beside its peers, processor time of whole runs; both axes are logarithmic:', '', '![The job value beside its peers, processor time](figures-value.svg)', '',
+                  'The same, peak memory:', '', '![The job value beside its peers, peak memory](figures-memory.svg)', '']
     if own:
         by_job = {job: [record for record in own if record['job'] == job] for job in JOBS}
         plot_families(plots, own, lambda family: [(job, points_of(by_job[job], family, 'program')) for job in JOBS], {}, 'seconds of the processor',
                       os.path.join(folder, 'figures-jobs.svg'))
-        lines += ['![The jobs of the program, processor time](figures-jobs.svg)', '']
+        lines += ['The jobs of mincut, processor time of whole runs:', '', '![The jobs of mincut, processor time](figures-jobs.svg)', '']
     return lines
+
+
+def job_lines(job, answer, records, titles):
+    """The section of a job."""
+    lines = [f'## The job `{job}`: {answer}', '', *ends_lines(records, titles), *own_lines(records)]
+    if len(contenders_in(records)) > 1:
+        lines += comparison_lines(records, titles)
+    if job == 'count':
+        lines += ['igraph lists the least cuts between two vertices of a directed graph; as a peer of `count` it does so between the first vertex and each other '
+                  'one, with each edge in both directions, and the different sides are counted. mincut counts without listing.', '']
+    if job == 'cactus':
+        lines += ['None of these libraries makes a cactus of all minimum cuts, so mincut stands alone here.', '']
+    lines += ['Seconds of the processor, whole runs:', '', *times_table(records, titles)]
+    lines += ['The largest graph of each kind, seconds by the clock and peak memory in MB:', '', *clock_table(records, titles)]
+    return lines + ['Growth: the exponent of the processor time in the number of edges, by the straight line through the logarithms of all times of '
+                    f'{solve.SHORTEST} s or more; of a peer its search alone counts. 1 is in proportion to the edges, 2 to their square.', '',
+                    *growth_table(records, titles)]
 
 
 def write(told, titles, folder):
     """Writes the page and its plots into the folder; `titles` has a title for each contender."""
     records = told['records']
-    lines = about_lines(told['about']) + write_plots(records, titles, folder)
+    lines = about_lines(told['about'], records) + write_plots(records, titles, folder)
     for job, answer in JOBS.items():
         some = [record for record in records if record['job'] == job]
         if some:
-            lines += [f'## The job `{job}`: {answer}', '', 'Seconds of the processor.', '', *times_table(some, titles)]
-            lines += own_lines(some)
-            if len(contenders_in(some)) > 1:
-                lines += comparison_lines(some, titles)
-            lines += ['On the largest graph of each kind, seconds by the clock and peak memory:', '', *clock_table(some, titles)]
-            lines += ['Growth: the exponent of the processor time in the number of edges, by the straight line through the logarithms of times of '
-                      f'{solve.SHORTEST} s or more; of a peer its search alone counts.', '', *growth_table(some, titles)]
+            lines += job_lines(job, answer, some, titles)
     with open(os.path.join(folder, 'FIGURES.md'), 'w') as out:
         out.write('\n'.join(lines))

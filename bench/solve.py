@@ -6,10 +6,9 @@
 
 It makes a graph of each family with about `size` edges (or vertices), then twice as many, and so on, and runs the job on it. It
 prints the best seconds by the clock and of the processor, the peak memory, and what was checked (some printed sides are weighed
-in the graph); then, over the steps, the exponents of growth in vertices and edges. Peak memory below about 20 MB is that of this
-script. COMMAND is run on the same files: `{}` in it is the file's path, without it the file comes on standard input. No gate
-runs this script. Exit status 1 where an answer differs, or where the program ends with a status other than 0; a run that was
-stopped at the time limit is no difference.
+in the graph); then, over the steps, the exponents of growth in vertices and edges. COMMAND is run on the same files: `{}` in it
+is the file's path, without it the file comes on standard input. No gate runs this script. Exit status 1 where an answer differs,
+or where the program ends with a status other than 0; a run that was stopped at the time limit is no difference.
 """
 import argparse
 import math

@@ -1,4 +1,5 @@
 """How the scripts of tools/ and bench/ come by the program, run it, and tell what differs. It is imported by them."""
+import ctypes
 import os
 import resource
 import signal
@@ -22,7 +23,8 @@ PLAIN_JOBS = [job for job in JOBS if job not in ('part', 'trial')]
 # The program
 
 def add_program(parser):
-    parser.add_argument('--program', default=WRAPPER, help='the program, ./mincut if not named; it is built first where it is not')
+    parser.add_argument('--program', default=WRAPPER, help='path of the built program that is run; ./mincut if not named, which is proved and built first '
+                        'where that was not done yet')
 
 
 def ready(program):
@@ -50,25 +52,48 @@ class Measured:
         self.status, self.timed_out, self.error = status, timed_out, error
 
 
-def run_measured(command, source_file, out_file, timeout=3600, memory=0):
-    """Runs a command with these files as its standard input and output; peak memory is in bytes, its limit in MB."""
+# A shell forks the command, which waits for a line, and leaves it to this process: the memory of this process is not counted as its own.
+STARTER = 'exec 3<&0; in=$1 out=$2 err=$3; shift 3; { read -r go <&3; exec "$@" <"$in" >"$out" 2>"$err" 3<&-; } & echo $!'
+PR_SET_CHILD_SUBREAPER = 36
+
+
+def waiting_child(command, files, limit):
+    """(number of a process that waits, the pipe for its line): it then becomes the command with these files as its standard input,
+    output and error. It is a child of this process, which takes over what its own children leave."""
+    if ctypes.CDLL(None, use_errno=True).prctl(PR_SET_CHILD_SUBREAPER, 1, 0, 0, 0) != 0:
+        raise OSError(ctypes.get_errno(), 'no process can be taken over')
+    shell = subprocess.Popen(['/bin/sh', '-c', STARTER, 'sh', *files, *command], stdin=subprocess.PIPE, stdout=subprocess.PIPE, preexec_fn=limit)
+    number = int(shell.stdout.readline())
+    shell.stdout.close()
+    shell.wait()
+    return number, shell.stdin
+
+
+def run_measured(command, source_file, out_file, timeout=3600, memory=0, processor=0):
+    """Runs a command with these files as its standard input and output; peak memory is in bytes, its limit in MB. The time limits
+    are seconds by the clock and whole seconds of the processor; a run that is ended by one of them has timed out."""
     def limit():
+        resource.setrlimit(resource.RLIMIT_CORE, (0, 0))
         if memory:
             resource.setrlimit(resource.RLIMIT_AS, (memory << 20, memory << 20))
+        if processor:
+            resource.setrlimit(resource.RLIMIT_CPU, (processor, processor + 1))
 
     late = threading.Event()
-    with open(source_file, 'rb') as source, open(out_file, 'wb') as out, tempfile.TemporaryFile() as errors:
+    with tempfile.NamedTemporaryFile() as errors:
+        child, line = waiting_child(command, [source_file, out_file, errors.name], limit)
+        timer = threading.Timer(timeout, lambda: (late.set(), os.kill(child, signal.SIGKILL)))
         start = time.perf_counter()
-        child = subprocess.Popen(command, stdin=source, stdout=out, stderr=errors, preexec_fn=limit)
-        timer = threading.Timer(timeout, lambda: (late.set(), os.kill(child.pid, signal.SIGKILL)))
         timer.start()
-        _, status, usage = os.wait4(child.pid, 0)
+        line.write(b'go\n')
+        line.close()
+        _, status, usage = os.wait4(child, 0)
         wall = time.perf_counter() - start
         timer.cancel()
-        child.returncode = os.waitstatus_to_exitcode(status)
-        errors.seek(0)
         error = errors.read(200).decode('utf-8', 'replace').split('\n')[0]
-    return Measured(wall, usage.ru_utime, usage.ru_stime, usage.ru_maxrss * 1024, child.returncode, late.is_set(), error)
+    ended = os.waitstatus_to_exitcode(status)
+    timed_out = late.is_set() or ended == -signal.SIGXCPU
+    return Measured(wall, usage.ru_utime, usage.ru_stime, usage.ru_maxrss * 1024, ended, timed_out, error)
 
 
 # Many random cases
