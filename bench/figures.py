@@ -263,10 +263,10 @@ def circumstances(options, peers):
 
 
 def command_of(words):
-    """The command as the page tells it: of paths their last names, and without the note."""
+    """The command as the page tells it: of paths their last names, and without what is kept and where."""
     told, rest = ['bench/figures.py'], iter(words)
     for word in rest:
-        if word == '--note':
+        if word in ('--note', '--folder', '--save'):
             next(rest)
         else:
             told.append(os.path.basename(word) if os.sep in word else word)
