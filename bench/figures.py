@@ -243,6 +243,13 @@ def processor_name():
         return platform.machine()
 
 
+def commit_of_crates():
+    """The last commit that changed the crates, with a word where they were changed since."""
+    commit = output_of(['git', '-C', running.TOP, 'log', '-1', '--format=%h', '--', 'crates'])
+    changed = output_of(['git', '-C', running.TOP, 'status', '--porcelain', '--', 'crates'])
+    return commit + (' and changed since' if changed else '') if commit else 'unknown'
+
+
 def package_version(name):
     return output_of(['dpkg-query', '-W', '-f=${Version}', name]) or 'not a package'
 
@@ -255,7 +262,7 @@ def circumstances(options, peers):
         versions['python3-networkx'] = output_of([sys.executable, '-W', 'ignore', '-c', 'import networkx; print(networkx.__version__)'])
         versions['Python'] = platform.python_version()
     return {'date': datetime.datetime.now(datetime.timezone.utc).strftime('%Y-%m-%d %H:%M UTC'), 'peers': list(peers), 'flags': ' '.join(COMPILING),
-            'commit': output_of(['git', '-C', HERE, 'describe', '--always', '--dirty', '--exclude', '*']), 'machine': f'{processor_name()}, {os.cpu_count()} processors, {memory:.0f} GiB',
+            'commit': commit_of_crates(), 'machine': f'{processor_name()}, {os.cpu_count()} processors, {memory:.0f} GiB',
             'system': f'{platform.system()} {platform.release()}', 'load': f'{os.getloadavg()[0]:.1f}', 'versions': versions,
             'program': output_of([options.program, '--version']), 'compiler': output_of(['g++', '--version']).split('\n')[0],
             'command': options.command, 'repetitions': options.repetitions, 'long': options.long, 'limit': options.limit,

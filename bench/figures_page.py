@@ -1,5 +1,7 @@
 """Writes what bench/figures.py measured: FIGURES.md with its tables, and plots beside it. It is imported by that script."""
+import math
 import os
+import re
 
 import solve
 
@@ -109,6 +111,14 @@ def factor(number):
     return f'{number:.2f}' if number < 0.1 else f'{number:.1f}' if number < 100 else f'{number:,.0f}'
 
 
+def steepest_step(records):
+    """(greatest exponent from one size of a family to the next, whether a run that the limit ended makes it); (0, False) of short runs."""
+    tried = [record for record in records if record['outcome'] in ('done', 'late')]
+    steps = [(math.log(after['cpu'] / before['cpu']) / math.log(after['m'] / before['m']), after['outcome'] == 'late')
+             for before, after in zip(tried, tried[1:]) if after['cpu'] >= SHORT and before['m'] < after['m']]
+    return max(steps, default=(0, False))
+
+
 def own_lines(records):
     """Where the program itself is late or steep, in words."""
     own = [record for record in records if record['contender'] == 'program']
@@ -117,13 +127,13 @@ def own_lines(records):
         if record['outcome'] != 'done':
             words = {'late': 'ended by the limit', 'left out': 'not tried'}.get(record['outcome'], 'failed')
             missing.setdefault(record['family'], []).append(f'{record["m"]:,} edges ({words})')
-    slopes = [(solve.exponent(points_of(own, family, 'program')), family) for family in dict.fromkeys(record['family'] for record in own)]
-    steep = [f'{family} {slope:.2f}' for slope, family in slopes if slope is not None and slope > STEEP]
+    steep = [f'{family} {slope:.1f}{" or more" if late else ""}' for family in dict.fromkeys(record['family'] for record in own)
+             for slope, late in [steepest_step([record for record in own if record['family'] == family])] if slope > STEEP]
     lines = []
     if missing:
         lines += ['**mincut has no answer** within the limit for ' + '; '.join(f'{family} of {", ".join(which)}' for family, which in missing.items()) + '.', '']
     if steep:
-        lines += [f'**mincut grows steeply**, by an exponent above {STEEP} in the number of edges, on {", ".join(steep)}.', '']
+        lines += [f'**mincut grows steeply**, from one size to the next by an exponent above {STEEP} in the number of edges, on {", ".join(steep)}.', '']
     return lines
 
 
@@ -174,6 +184,13 @@ def comparison_lines(records, titles):
     return lines + slower_lines(records, titles)
 
 
+def kind_lines(records):
+    """What the kinds are whose names do not say it."""
+    kinds = dict.fromkeys(record['family'] for record in records if record['family'] in solve.FAMILIES)
+    said = {kind: solve.FAMILIES[kind][0].__doc__ for kind in kinds}
+    return [f'- `{kind}`: {" ".join(text.split())}' for kind, text in said.items() if text]
+
+
 def about_lines(about, records):
     versions = ', '.join(f'{name} {version}' for name, version in about['versions'].items())
     starts = [record['cpu'] - record['search'] for record in records if record['contender'] == 'networkx' and record['outcome'] == 'done']
@@ -184,7 +201,7 @@ def about_lines(about, records):
             f'- **When and where**: {about["date"]}, {about["minutes"]:.0f} minutes; {about["machine"]}; {about["system"]}.',
             f'- **The machine was shared**: the load was {about["load"]} at the start and {about["load_after"]} at the end, with other work. So compare processor time. '
             'Time by the clock has waiting in it, and processor time too is longer than on an idle machine, since others fill the caches and the memory bus.',
-            f'- **mincut**: `{about["program"]}` of commit {about["commit"]}, with {workers}.' + (f' {about["note"]}' if about.get('note') else ''),
+            f'- **mincut**: `{about["program"]}` with the crates of commit {about["commit"]} and {workers}.' + (f' {about["note"]}' if about.get('note') else ''),
             f'- **Peers**: {versions or "none"}. Those in C++ are small programs of `bench/peers`, built by {about["compiler"]} with `{about["flags"]}`.',
             f'- **Command**: `{about["command"]}`.',
             f'- **What is timed**: one process from its start to its end, which reads a METIS file on standard input and prints the answer; user and system time of '
@@ -199,7 +216,8 @@ def about_lines(about, records):
             '- **Memory**: the most that was resident; 1 MB is 10^6 bytes.',
             f'- **Short runs**: less than {SHORT} s is mostly the start of a program{start_of_python}. Short runs stand in '
             'the tables, and are not compared.', '',
-            'The kinds are those of `bench/solve.py`; a graph of a kind has about 100, 1,000 and so on edges.', '']
+            'The kinds are those of `bench/solve.py`. The graphs of a kind have about as many edges as the command says, or 100, 1,000, 10,000, 100,000 and 1,000,000. '
+            'Weights are 1 where nothing else is said.', '', *kind_lines(records), '']
 
 
 # Plots
@@ -217,6 +235,14 @@ def pyplot():
     return plots
 
 
+def shorten(file):
+    """Writes the numbers of a plot with two digits behind the point."""
+    with open(file) as source:
+        text = source.read()
+    with open(file, 'w') as out:
+        out.write(re.sub(r'(\d\.\d\d)\d+', r'\1', text))
+
+
 def plot_families(plots, records, lines_of, titles, unit, file):
     """A small plot for each family, edges to seconds or bytes, both by logarithms; `lines_of` gives (name, points) of a family."""
     families = [family for family in dict.fromkeys(record['family'] for record in records)]
@@ -231,8 +257,9 @@ def plot_families(plots, records, lines_of, titles, unit, file):
         place.set_title(family, fontsize=8)
         place.minorticks_off()
         place.grid(True, linewidth=0.3, color='#d5d9dd')
-    for place in places.flat[len(families):]:
-        place.set_visible(False)
+    for k, place in enumerate(places.flat):
+        place.set_visible(k < len(families))
+        place.tick_params(labelbottom=k + columns >= len(families))
     figure.supxlabel('edges', fontsize=8)
     figure.supylabel(unit, fontsize=8)
     order = [name for name in COLOURS if name in shown]
@@ -242,6 +269,7 @@ def plot_families(plots, records, lines_of, titles, unit, file):
     figure.tight_layout(rect=(0, 0, 1, 1 - head / (2.1 * rows + 0.5)))
     figure.savefig(file, metadata={'Date': None})
     plots.close(figure)
+    shorten(file)
 
 
 def write_plots(records, titles, folder):
