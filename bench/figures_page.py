@@ -6,6 +6,7 @@ import re
 import solve
 
 STEEP = 1.5          # exponents of growth that are said in words
+BUSY = 2             # a load that this script alone does not make
 SHORT = 0.02         # seconds; shorter runs are mostly the start of a program, and are not compared
 MUCH = 30e6          # bytes; less is mostly that of the start of a program
 COLOURS = {'program': '#c8553d', 'lemon-ni': '#2f6f9f', 'lemon-ho': '#5b8c5a', 'boost': '#8a6bb1', 'igraph': '#b98b2d', 'networkx': '#7a7f85',
@@ -195,12 +196,13 @@ def about_lines(about, records):
     versions = ', '.join(f'{name} {version}' for name, version in about['versions'].items())
     starts = [record['cpu'] - record['search'] for record in records if record['contender'] == 'networkx' and record['outcome'] == 'done']
     start_of_python = f', and of a run of networkx {min(starts):.1f} s are the start of Python' if starts else ''
+    beside = ', so other work ran beside' if max(float(about['load']), float(about['load_after'])) >= BUSY else ''
     workers = f'{about["workers"]} workers' if about['workers'] else 'its own number of workers, 4'
     return ['# Figures', '', 'mincut beside the libraries that a Debian machine can install, on graphs of known kinds: processor time, time by the clock, memory, '
             'and growth. `bench/figures.py` wrote this page and its plots in one run.', '',
             f'- **When and where**: {about["date"]}, {about["minutes"]:.0f} minutes; {about["machine"]}; {about["system"]}.',
-            f'- **The machine was shared**: the load was {about["load"]} at the start and {about["load_after"]} at the end, with other work. So compare processor time. '
-            'Time by the clock has waiting in it, and processor time too is longer than on an idle machine, since others fill the caches and the memory bus.',
+            f'- **The load** was {about["load"]} at the start and {about["load_after"]} at the end{beside}. Compare processor time: '
+            'time by the clock has waiting in it where others run too, and processor time is longer than on an idle machine, since they fill the caches and the memory bus.',
             f'- **mincut**: `{about["program"]}` with the crates of commit {about["commit"]} and {workers}.' + (f' {about["note"]}' if about.get('note') else ''),
             f'- **Peers**: {versions or "none"}. Those in C++ are small programs of `bench/peers`, built by {about["compiler"]} with `{about["flags"]}`.',
             f'- **Command**: `{about["command"]}`.',
