@@ -180,7 +180,8 @@ def ends_lines(records, titles):
 
 def comparison_lines(records, titles):
     """Where the program is slower and where it is faster than its peers."""
-    lines = [f'Graphs that both answered, where the run of mincut or the search of the peer took {SHORT} s or more, or one of the two {MUCH / 1e6:.0f} MB:', '',
+    lines = [f'Graphs that both answered, where the run of mincut or the search of the peer took {SHORT} s or more, or one of the two {MUCH / 1e6:.0f} MB. '
+             'The last three columns say how many times as much the peer took as mincut; below 1 the peer took less:', '',
              *balance_table(records, titles)]
     return lines + slower_lines(records, titles)
 
