@@ -8,6 +8,7 @@ use Rattle.cut_definitions.specs.Graph.{Graph, IsGraph}
 use Rattle.region_flow.specs.Inflow.{IsStopReached}
 use Rattle.region_flow.specs.Regions.{RegionState, IsRegionFlow, IsOpenAt}
 use Rattle.cactus_solver.specs.declared.splitter.Splitter.{Splitter}
+use Rattle.cactus_solver.specs.declared.surplus.Surplus.{Surplus}
 use Rattle.cactus_solver.specs.declared.sweep.Sweep.{Sweep}
 use Rattle.cactus_solver.specs.Covered.{IsRefined}
 use Rattle.cactus_solver.specs.Flat.{TreeLinks}
@@ -57,6 +58,27 @@ flowed g s f t h opened flow same less = record {
   numbered = subst (λ (l : List ℕ). AreNumbered g.vertices l s.fresh) (sym same) h.numbered;
   fed = fed_by_flow g s.flow f t h.fed opened same less;
   covered = subst (λ (l : List ℕ). IsCovered g l s.fronts) (sym same) h.covered;
+  ready = h.ready;
+  room = record {
+    vertices = h.room.vertices;
+    numbers = h.room.numbers;
+    entered = h.room.entered;
+    regions = h.room.regions;
+    nodes = h.room.nodes;
+    later = h.room.later;
+    next = h.room.next;
+  };
+}
+
+-- nothing that holds between two steps is said of the surplus
+pub another_surplus : (g : Graph) (s : Sweep) (surplus : Surplus) → IsUnderWay g s → IsUnderWay g (record s { surplus = surplus })
+another_surplus g s surplus h = record {
+  flow = h.flow;
+  sweeping = h.sweeping;
+  first = h.first;
+  numbered = h.numbered;
+  fed = h.fed;
+  covered = h.covered;
   ready = h.ready;
   room = record {
     vertices = h.room.vertices;

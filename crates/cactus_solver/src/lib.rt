@@ -34,6 +34,7 @@ mod side_listing;
 mod solver;
 mod split;
 mod splitter;
+mod surplus;
 mod sweep;
 pub mod tree;
 mod way;

@@ -18,6 +18,7 @@ use crate::homes::Homes;
 use crate::parts::Parts;
 use crate::regroup::regroup;
 use crate::splitter::Splitter;
+use crate::surplus::Surplus;
 use crate::tree::FlatTree;
 use crate::weights::weigh_parts;
 use cut_definitions::NoMemory;
@@ -45,6 +46,7 @@ pub struct Sweep {
 
     // no region had this label yet, nor a greater one
     fresh: u32,
+    surplus: Surplus,
 }
 
 /// Puts the open ends of the rows of all vertices that are listed.
@@ -99,6 +101,7 @@ impl Sweep {
             later,
             next,
             fresh: 2,
+            surplus: Surplus::new(),
         })
     }
 
@@ -122,6 +125,23 @@ impl Sweep {
         }
         self.splitter
             .split(graph, &self.flow, &mut self.fronts, t, &mut self.parts)
+    }
+
+    /// Feeds a vertex more than the value, where no set around it in its region weighs the value.
+    ///
+    /// When it enters it hands that on to the vertices beside it. Without it, each of them might have to be fed anew from far
+    /// away, or be shown by searches that meet far away to have no such set around it.
+    fn feed_more(&mut self, graph: &Graph, t: u32, value: u64)
+        requires under_way { IsUnderWay graph.now self.old }
+        requires open { IsOpenAt graph.now self.old.flow.labels t }
+        ensures under_way { IsUnderWay graph.now self.new }
+        ensures labels { self.new.flow.labels ≡ self.old.flow.labels }
+    {
+        if value < self.flow.feed(t) {
+            return;
+        }
+        let outcome = self.flow.flow(graph, t, self.surplus.above(value));
+        self.surplus = self.surplus.after(outcome);
     }
 
     /// Lets a vertex enter around which no set in its region weighs the value.
@@ -189,6 +209,7 @@ impl Sweep {
         if self.find_parts(graph, t, value)? {
             return self.split_region(graph, t, value);
         }
+        self.feed_more(graph, t, value);
         self.enter_alone(graph, t)
     }
 

@@ -1,6 +1,7 @@
 -- The region was split, or the vertex entered alone.
-use Rattle.std.proofs.Common.{ℕ, List, get_or, ◌∙◌, ap}
+use Rattle.std.proofs.Common.{ℕ, List, get_or, ◌+◌, sym, ◌∙◌, ap, subst}
 use Rattle.std.proofs.lemmas.Result.{on_ok_weaker}
+use Rattle.region_flow.specs.Inflow.{IsStopReached}
 use Rattle.cactus_solver.proofs.Leaving.{Stays, entering_stays}
 use Rattle.cactus_solver.proofs.sweep.Sweep.step.Goals as goal
 
@@ -11,4 +12,9 @@ returns-then-branch-clause-stay c =
 pub returns-clause-stay : goal.returns-clause-stay
 returns-clause-stay c =
     let same = c.enter_alone.ensures.labels in
-    on_ok_weaker c.enter_alone.result (λ u. λ v e. entering_stays c.find_parts.new.self.flow.labels c.enter_alone.new.self.flow.labels c.args.t same v (ap (λ (l : List ℕ). get_or l v 0) c.find_parts.ensures.labels ∙ e)) c.enter_alone.ensures.under_way
+    let before = c.feed_more.ensures.labels ∙ c.find_parts.ensures.labels in
+    on_ok_weaker c.enter_alone.result (λ u. λ v e. entering_stays c.feed_more.new.self.flow.labels c.enter_alone.new.self.flow.labels c.args.t same v (ap (λ (l : List ℕ). get_or l v 0) before ∙ e)) c.enter_alone.ensures.under_way
+
+pub enter_alone-requires-clause-heavy : goal.enter_alone-requires-clause-heavy
+enter_alone-requires-clause-heavy c =
+    (c.args.value, c.requires.least, subst (λ l. IsStopReached c.args.graph.now l c.args.t (c.args.value + 1)) (sym c.feed_more.ensures.labels) (c.in_ok-find_parts.ensures.none c.if-branch.false))
