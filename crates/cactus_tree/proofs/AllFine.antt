@@ -1,7 +1,7 @@
 -- Whether a tree is normal, node by node.
 use Rattle.std.proofs.Common.{◌≡◌, ℕ, suc, ◌+◌, inl, inr, Bool, true, false, ◌&&◌, ◌==◌, ◌∷◌, List, [], ◌++◌, Some, length, map, take, get_or, ap, ◌∙◌, sym, refl}
-use Rattle.std.specs.Prelude.{nat_le, slice_get}
-use Rattle.std.specs.List.{list_all, flat_map}
+use Rattle.std.specs.Prelude.{nat_le, slice_get, cond}
+use Rattle.std.specs.List.{filter, list_all, flat_map}
 use Rattle.std.proofs.lemmas.List.Folds.{list_all_more, list_all_at}
 use Rattle.std.proofs.lemmas.Option.{get_or_from_slice_get, slice_get_within}
 use Rattle.std.specs.declared.boxed.Box.{Box}
@@ -16,6 +16,8 @@ use Rattle.cactus_tree.specs.declared.tree.Children.{Children}
 use Rattle.cactus_tree.specs.declared.tree.Block.TheVariants.{Bridge, Cycle, outs-Bridge, outs-Cycle}
 use Rattle.cactus_tree.proofs.Entries.{nodes_bridge, nodes_cycle}
 use Rattle.cactus_tree.proofs.Shapes.{bridge_shape, cycle_shape, cycle_fine, node_fine, child_parts}
+use Rattle.cactus_tree.specs.Numbers.{is_inner}
+use Rattle.cactus_tree.proofs.Tallies.{no_blocks}
 use Rattle.cactus_tree.proofs.Views.{view}
 
 -- all below a node is as it must be
@@ -86,11 +88,19 @@ blocks_fine (b ∷ bs) =
 fine_step : (x : Node) → is_fine x ≡ (list_all is_placed (blocks x) && all_fine (flat_map nodes_of (blocks x)))
 fine_step x = node_fine x ∙ blocks_fine (blocks x)
 
+-- nodes with no block below them need not be looked at
+inner_fine : (xs : List Node) → all_fine (filter is_inner xs) ≡ all_fine xs
+inner_fine [] = refl
+inner_fine (x ∷ xs) = first (inner_fine xs) (is_inner x) refl where
+  first : all_fine (filter is_inner xs) ≡ all_fine xs → (t : Bool) → is_inner x ≡ t → all_fine (cond t (x ∷ filter is_inner xs) (filter is_inner xs)) ≡ (is_fine x && all_fine xs)
+  first rest true h = ap (λ k. is_fine x && k) rest
+  first rest false h = rest ∙ sym (ap (λ k. k && all_fine xs) (fine_step x ∙ ap (λ bs. list_all is_placed bs && all_fine (flat_map nodes_of bs)) (no_blocks x h)))
+
 -- a node whose blocks are as they must be gives way to those below it
-pub taken_fine : (left before after : List Node) (x : Node) → before ≡ left ++ x ∷ [] → after ≡ left ++ flat_map nodes_of (blocks x) → list_all is_placed (blocks x) ≡ true → all_fine before ≡ all_fine after
+pub taken_fine : (left before after : List Node) (x : Node) → before ≡ left ++ x ∷ [] → after ≡ left ++ filter is_inner (flat_map nodes_of (blocks x)) → list_all is_placed (blocks x) ≡ true → all_fine before ≡ all_fine after
 taken_fine left before after x b a h =
     ap all_fine b ∙ all_append is_fine left (x ∷ []) ∙ ap (λ k. all_fine left && k) (and_true (is_fine x) ∙ fine_step x ∙ ap (λ k. k && all_fine (flat_map nodes_of (blocks x))) h)
-    ∙ sym (ap all_fine a ∙ all_append is_fine left (flat_map nodes_of (blocks x)))
+    ∙ sym (ap all_fine a ∙ all_append is_fine left (filter is_inner (flat_map nodes_of (blocks x))) ∙ ap (λ k. all_fine left && k) (inner_fine (flat_map nodes_of (blocks x))))
 
 -- and one whose blocks are not shows that all is not
 pub not_fine : (left before : List Node) (x : Node) → before ≡ left ++ x ∷ [] → list_all is_placed (blocks x) ≡ false → all_fine before ≡ false

@@ -1,12 +1,13 @@
 -- The equations of the number of the cuts of a tree.
 use Rattle.std.proofs.Common.{◌≡◌, Bool, true, false, ◌&&◌, ◌==◌, Some, take, inl, inr, ℕ, zero, suc, ◌+◌, ◌-◌, ◌*◌, ◌<◌, ◌≤◌, List, [], ◌∷◌, ◌++◌, length, map, ap, ◌∙◌, sym, refl, arith, append-nil}
-use Rattle.std.specs.Prelude.{slice_get, if◌then◌else◌}
-use Rattle.std.specs.List.{flat_map, list_all}
-use Rattle.std.proofs.lemmas.Bool.{and_parts, eqb-true, false≢true}
+use Rattle.std.specs.Prelude.{slice_get, if◌then◌else◌, nat_lt, cond}
+use Rattle.std.specs.List.{filter, flat_map, list_all}
+use Rattle.std.proofs.lemmas.Bool.{and_parts, eqb-true, ltb-false, false≢true}
 use Rattle.std.specs.Borrow.{Bor}
 use Rattle.std.proofs.lemmas.Option.{get_or_from_slice_get, slice_get_within}
 use Rattle.std.proofs.lemmas.List.{length-map, length-append, map-append, append_assoc, take_more}
 use Rattle.std.proofs.lemmas.List.Concat.{flat_map-append}
+use Rattle.std.proofs.lemmas.List.Elements.{filter-append}
 use Rattle.std.specs.declared.boxed.Box.{Box}
 use Rattle.std.specs.declared.alloc.Global.{Global}
 use Rattle.cactus_tree.specs.Trees.{vertices, blocks, nodes_in}
@@ -20,7 +21,7 @@ use Rattle.cactus_tree.specs.declared.tree.Block.TheFolds.{fold_out-Node, fold_o
 use Rattle.cactus_tree.specs.Entered.{entered, entered_block}
 use Rattle.cactus_tree.proofs.Orders.{entered_out, entered_bridge, entered_cycle}
 use Rattle.cactus_tree.proofs.Entries.{nodes_bridge, nodes_cycle}
-use Rattle.cactus_tree.specs.Numbers.{Tally, number, tally, total, triangle, between, seen, all_own, all_under, own_of, number_of, tally_block_step, tally_blocks_step, tally_children_step, tally_node_step}
+use Rattle.cactus_tree.specs.Numbers.{Tally, number, tally, total, triangle, between, seen, is_inner, all_own, all_under, own_of, number_of, tally_block_step, tally_blocks_step, tally_children_step, tally_node_step}
 use Rattle.cactus_tree.specs.Trims.{is_spare}
 use Rattle.cactus_tree.specs.Normal.{BlockShape, block_shape}
 use Rattle.cactus_tree.proofs.Shapes.{bridge_shape, cycle_shape}
@@ -138,16 +139,20 @@ between_no vs bs h =
 pub seen_push : (stack : List (Bor Node)) (x : Bor Node) → seen (stack ++ x ∷ []) ≡ seen stack ++ x.now ∷ []
 seen_push stack x = map-append (λ (y : Bor Node). y.now) stack (x ∷ [])
 
-pub seen_node : (stack new : List (Bor Node)) (start xs : List Node) (i : ℕ) (x : Bor Node) → new ≡ stack ++ x ∷ [] → slice_get xs i ≡ Some x.now → seen stack ≡ start ++ take i xs → seen new ≡ start ++ take (i + 1) xs
-seen_node stack new start xs i x e a h =
-    let more = take_more xs i x.now (slice_get_within xs i x.now a) ∙ ap (λ y. take i xs ++ y ∷ []) (get_or_from_slice_get xs i x.now x.now a) in
-    ap seen e ∙ seen_push stack x ∙ ap (λ l. l ++ x.now ∷ []) h ∙ append_assoc start (take i xs) (x.now ∷ []) ∙ ap (λ l. start ++ l) (sym more)
+-- one more node of a list, and one more block, of those that have a block below them
+pub inner_node : (before after start xs : List Node) (i : ℕ) (x : Node) → after ≡ before ++ filter is_inner (x ∷ []) → slice_get xs i ≡ Some x → before ≡ start ++ filter is_inner (take i xs) → after ≡ start ++ filter is_inner (take (i + 1) xs)
+inner_node before after start xs i x e a h =
+    let more : take (i + 1) xs ≡ take i xs ++ x ∷ [] = take_more xs i x (slice_get_within xs i x a) ∙ ap (λ y. take i xs ++ y ∷ []) (get_or_from_slice_get xs i x x a) in
+    e ∙ ap (λ l. l ++ filter is_inner (x ∷ [])) h ∙ append_assoc start (filter is_inner (take i xs)) (filter is_inner (x ∷ []))
+    ∙ ap (λ l. start ++ l) (sym (ap (filter is_inner) more ∙ filter-append is_inner (take i xs) (x ∷ [])))
 
-pub seen_block : (before after start : List Node) (bs : List Block) (i : ℕ) (b : Block) → after ≡ before ++ nodes_of b → slice_get bs i ≡ Some b → before ≡ start ++ flat_map nodes_of (take i bs) → after ≡ start ++ flat_map nodes_of (take (i + 1) bs)
-seen_block before after start bs i b e a h =
+pub inner_block : (before after start : List Node) (bs : List Block) (i : ℕ) (b : Block) → after ≡ before ++ filter is_inner (nodes_of b) → slice_get bs i ≡ Some b → before ≡ start ++ filter is_inner (flat_map nodes_of (take i bs)) → after ≡ start ++ filter is_inner (flat_map nodes_of (take (i + 1) bs))
+inner_block before after start bs i b e a h =
     let more : take (i + 1) bs ≡ take i bs ++ b ∷ [] = take_more bs i b (slice_get_within bs i b a) ∙ ap (λ y. take i bs ++ y ∷ []) (get_or_from_slice_get bs i b b a) in
-    e ∙ ap (λ l. l ++ nodes_of b) h ∙ append_assoc start (flat_map nodes_of (take i bs)) (nodes_of b)
-    ∙ ap (λ l. start ++ l) (sym (ap (flat_map nodes_of) more ∙ flat_map-append nodes_of (take i bs) (b ∷ []) ∙ ap (λ l. flat_map nodes_of (take i bs) ++ l) (append-nil (nodes_of b))))
+    let both : flat_map nodes_of (take (i + 1) bs) ≡ flat_map nodes_of (take i bs) ++ nodes_of b =
+    ap (flat_map nodes_of) more ∙ flat_map-append nodes_of (take i bs) (b ∷ []) ∙ ap (λ l. flat_map nodes_of (take i bs) ++ l) (append-nil (nodes_of b)) in
+    e ∙ ap (λ l. l ++ filter is_inner (nodes_of b)) h ∙ append_assoc start (filter is_inner (flat_map nodes_of (take i bs))) (filter is_inner (nodes_of b))
+    ∙ ap (λ l. start ++ l) (sym (ap (filter is_inner) both ∙ filter-append is_inner (flat_map nodes_of (take i bs)) (nodes_of b)))
 
 -- ---- a node is taken off the stack, and the nodes below it are put there
 less_one : (a : ℕ) (t : Bool) → a ≤ (a - (if t then 1 else 0)) + 1
@@ -162,10 +167,30 @@ own_small x =
 pub number_step : (x : Node) → number x ≡ own_of (vertices x) (map tally (blocks x)) + all_numbers (flat_map nodes_of (blocks x))
 number_step x = number_out x ∙ ap (λ k. own_of (vertices x) (map tally (blocks x)) + k) (all_under_is (blocks x))
 
-pub numbers_step : (left before after : List Node) (x : Node) → before ≡ left ++ x ∷ [] → after ≡ left ++ flat_map nodes_of (blocks x) → all_numbers before ≡ own_of (vertices x) (map tally (blocks x)) + all_numbers after
+-- a node with no block below it has no cut
+pub no_blocks : (x : Node) → is_inner x ≡ false → blocks x ≡ []
+no_blocks x = none (blocks x) where
+  none : (bs : List Block) → nat_lt 0 (length bs) ≡ false → bs ≡ []
+  none [] h = refl
+  none (b ∷ bs) h = absurd (omega (arith, ltb-false 0 (length (b ∷ bs)) h))
+
+leaf_number : (x : Node) → is_inner x ≡ false → number x ≡ 0
+leaf_number x h = number_step x ∙ ap (λ bs. own_of (vertices x) (map tally bs) + all_numbers (flat_map nodes_of bs)) (no_blocks x h) ∙ none (between (vertices x) []) where
+  none : (t : Bool) → (0 - (if t then 1 else 0)) + 0 ≡ 0
+  none true = refl
+  none false = refl
+
+inner_numbers : (xs : List Node) → all_numbers (filter is_inner xs) ≡ all_numbers xs
+inner_numbers [] = refl
+inner_numbers (x ∷ xs) = first (inner_numbers xs) (is_inner x) refl where
+  first : all_numbers (filter is_inner xs) ≡ all_numbers xs → (t : Bool) → is_inner x ≡ t → all_numbers (cond t (x ∷ filter is_inner xs) (filter is_inner xs)) ≡ number x + all_numbers xs
+  first rest true h = ap (λ k. number x + k) rest
+  first rest false h = omega (arith, rest, leaf_number x h)
+
+pub numbers_step : (left before after : List Node) (x : Node) → before ≡ left ++ x ∷ [] → after ≡ left ++ filter is_inner (flat_map nodes_of (blocks x)) → all_numbers before ≡ own_of (vertices x) (map tally (blocks x)) + all_numbers after
 numbers_step left before after x b a =
     let one : all_numbers (x ∷ []) ≡ number x + 0 = refl in
-    omega (arith, ap all_numbers b, ap all_numbers a, numbers_append left (x ∷ []), numbers_append left (flat_map nodes_of (blocks x)), number_step x, one)
+    omega (arith, ap all_numbers b, ap all_numbers a, numbers_append left (x ∷ []), numbers_append left (filter is_inner (flat_map nodes_of (blocks x))), inner_numbers (flat_map nodes_of (blocks x)), number_step x, one)
 
 -- what comes of one element is no longer than what comes of all
 pub one_of_all : {X Y : Type 0} (f : X → List Y) (xs : List X) (i : ℕ) (x : X) → slice_get xs i ≡ Some x → length (f x) ≤ length (flat_map f xs)
@@ -195,6 +220,18 @@ fewer_seen left before after x b a =
     let one : nodes_to_come (x ∷ []) ≡ length (entered x) = ap length (append-nil (entered x)) in
     let size : length (entered x) ≡ length (flat_map entered_block (blocks x)) + 1 = omega (arith, ap length (entered_out x)) in
     omega (arith, ap nodes_to_come b, ap nodes_to_come a, come_append left (x ∷ []), come_append left (flat_map nodes_of (blocks x)), come_blocks (blocks x), one, size)
+
+inner_come : (xs : List Node) → nodes_to_come (filter is_inner xs) ≤ nodes_to_come xs
+inner_come [] = omega arith
+inner_come (x ∷ xs) = first (inner_come xs) (is_inner x) where
+  first : nodes_to_come (filter is_inner xs) ≤ nodes_to_come xs → (t : Bool) → nodes_to_come (cond t (x ∷ filter is_inner xs) (filter is_inner xs)) ≤ nodes_to_come (x ∷ xs)
+  first rest true = omega (arith, rest, come_append (x ∷ []) (filter is_inner xs), come_append (x ∷ []) xs)
+  first rest false = omega (arith, rest, come_append (x ∷ []) xs)
+
+pub fewer_inner : (left before after : List Node) (x : Node) → before ≡ left ++ x ∷ [] → after ≡ left ++ filter is_inner (flat_map nodes_of (blocks x)) → nodes_to_come after < nodes_to_come before
+fewer_inner left before after x b a =
+    let below = flat_map nodes_of (blocks x) in
+    omega (arith, fewer_seen left before (left ++ below) x b refl, ap nodes_to_come a, come_append left (filter is_inner below), come_append left below, inner_come below)
 
 pub top_own : (left before : List Node) (x : Node) → before ≡ left ++ x ∷ [] → (all_own (map tally (blocks x)) ≤ all_numbers before + 1) × (own_of (vertices x) (map tally (blocks x)) ≤ all_numbers before)
 top_own left before x b =

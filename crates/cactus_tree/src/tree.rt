@@ -165,6 +165,17 @@ impl Children {
         Ok(())
     }
 
+    /// Appends the nodes of another list, in order. Where memory is wanting the list stays as it was, and the others are
+    /// dropped.
+    pub fn append(&mut self, more: Children) -> Result<(), AllocError>
+        ensures ok { OnOk result (nodes_in self.new ≡ nodes_in self.old ++ nodes_in more) }
+        ensures err { OnErr result (nodes_in self.new ≡ nodes_in self.old) }
+    {
+        let Children { mut items } = more;
+        self.items.append(&mut items)?;
+        Ok(())
+    }
+
     /// Takes the last node out; none exactly where the list is empty.
     pub fn pop(&mut self) -> Option<Node>
         ensures items { nodes_in self.old ≡ nodes_in self.new ++ option_to_list result }

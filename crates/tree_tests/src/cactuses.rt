@@ -171,19 +171,22 @@ fn the_vertices_of_a_tree_are_renamed(rt: HostRuntime) -> Result<(), Fail> {
     Ok(())
 }
 
-// Whether a ring of two nodes comes apart into one with 3 and one with 4.
+// Whether the only node of a list has this vertex alone.
+fn has_one(list: &Children, v: u32) -> bool {
+    list.len() == 1 && list.at(0).vertices.as_slice() == [v].as_slice()
+}
+
+// Whether a ring of two nodes comes apart into one with 3 and one with 4, and is put together again in the other order.
 fn comes_apart(ring: Children) -> Result<bool, NoMemory> {
     let mut ring = ring;
     if ring.len() != 2 {
         return Ok(false);
     }
-    let rest = ring.split_off(1)?;
-    Ok(
-        ring.len() == 1
-            && ring.at(0).vertices.as_slice() == [3].as_slice()
-            && rest.len() == 1
-            && rest.at(0).vertices.as_slice() == [4].as_slice(),
-    )
+    let mut rest = ring.split_off(1)?;
+    let apart = has_one(&ring, 3) && has_one(&rest, 4);
+    rest.append(ring)?;
+    let last = rest.split_off(rest.len().min(1))?;
+    Ok(apart && has_one(&rest, 4) && has_one(&last, 3))
 }
 
 // Whether a bridge is the last block, and the only one before it a ring that comes apart.

@@ -1,7 +1,7 @@
 //! The number of the different sides of a normal cactus.
 
-ghost use Rattle.std.specs.Prelude.{◌≡◌, ◌≤◌, ◌<◌, ◌+◌, ◌++◌, ◌-◌, ◌*◌, ◌^◌, ◌&&◌, ◌==◌, true, length, map, OnOk, IfOk};
-ghost use Rattle.std.specs.List.{flat_map};
+ghost use Rattle.std.specs.Prelude.{◌≡◌, ◌≤◌, ◌<◌, ◌+◌, ◌++◌, ◌∷◌, [], ◌-◌, ◌*◌, ◌^◌, ◌&&◌, ◌==◌, true, length, map, OnOk, IfOk};
+ghost use Rattle.std.specs.List.{filter, flat_map};
 ghost use Rattle.cactus_tree.specs.Entries.{nodes_of};
 ghost use Rattle.cactus_tree.specs.Normal.{is_normal};
 ghost use Rattle.cactus_tree.specs.Trees.{blocks, blocks_in, nodes_in, vertices};
@@ -9,7 +9,7 @@ ghost use Rattle.cactus_tree.specs.Rooted.{sides_of};
 ghost use Rattle.cactus_tree.specs.Different.{HasDifferent};
 ghost use Rattle.cactus_tree.specs.Formula.{census};
 ghost use Rattle.cactus_tree.specs.Widths.{widths};
-ghost use Rattle.cactus_tree.specs.Numbers.{number, total, tally, between, all_own, all_under, own_of, seen};
+ghost use Rattle.cactus_tree.specs.Numbers.{number, total, tally, between, all_own, all_under, own_of, seen, is_inner};
 
 use super::normal::is_cycle;
 use super::trim::is_spare;
@@ -62,23 +62,33 @@ fn own_cuts(node: &Node) -> u64
     }
 }
 
-/// Puts the nodes of a cycle on the stack.
-fn stack_nodes<'a>(stack: &mut Vec<&'a Node>, nodes: &'a Children) -> Result<(), AllocError>
-    ensures { OnOk result (seen stack.new.items ≡ seen stack.old.items ++ nodes_in nodes.now) }
+/// Puts a node on the stack where it has a block below it.
+fn stack_node<'a>(stack: &mut Vec<&'a Node>, node: &'a Node) -> Result<(), AllocError>
+    ensures { OnOk result (seen stack.new.items ≡ seen stack.old.items ++ filter is_inner (node.now ∷ [])) }
 {
-    'each_node: for i in 0..nodes.len() {
-        stack.push(nodes.at(i))?;
+    if node.blocks.len() > 0 {
+        stack.push(node)?;
     }
     Ok(())
 }
 
-/// Puts the nodes of a block on the stack.
+/// Puts the nodes of a cycle that have a block below them on the stack.
+fn stack_nodes<'a>(stack: &mut Vec<&'a Node>, nodes: &'a Children) -> Result<(), AllocError>
+    ensures { OnOk result (seen stack.new.items ≡ seen stack.old.items ++ filter is_inner (nodes_in nodes.now)) }
+{
+    'each_node: for i in 0..nodes.len() {
+        stack_node(stack, nodes.at(i))?;
+    }
+    Ok(())
+}
+
+/// Puts the nodes of a block that have a block below them on the stack.
 fn stack_block<'a>(stack: &mut Vec<&'a Node>, block: &'a Block) -> Result<(), AllocError>
-    ensures { OnOk result (seen stack.new.items ≡ seen stack.old.items ++ nodes_of block.now) }
+    ensures { OnOk result (seen stack.new.items ≡ seen stack.old.items ++ filter is_inner (nodes_of block.now)) }
 {
     match block {
         Block::Bridge(node) => {
-            stack.push(node)?;
+            stack_node(stack, node)?;
             Ok(())
         }
         Block::Cycle(nodes) => {
@@ -88,9 +98,9 @@ fn stack_block<'a>(stack: &mut Vec<&'a Node>, block: &'a Block) -> Result<(), Al
     }
 }
 
-/// Puts the nodes of some blocks on the stack.
+/// Puts the nodes of some blocks on the stack, but for those with no block below them, so that a long cycle takes no memory.
 pub fn stack_blocks<'a>(stack: &mut Vec<&'a Node>, blocks: &'a Blocks) -> Result<(), AllocError>
-    ensures { OnOk result (seen stack.new.items ≡ seen stack.old.items ++ flat_map nodes_of (blocks_in blocks.now)) }
+    ensures { OnOk result (seen stack.new.items ≡ seen stack.old.items ++ filter is_inner (flat_map nodes_of (blocks_in blocks.now))) }
 {
     'each_block: for i in 0..blocks.len() {
         stack_block(stack, blocks.at(i))?;

@@ -1,7 +1,7 @@
 use Rattle.std.proofs.Common.{◌∙◌, ◌++◌, ◌∷◌, [], ap, sym}
 use Rattle.cactus_tree.proofs.Orders.{popped_is}
 use Rattle.cactus_tree.specs.Numbers.{seen}
-use Rattle.cactus_tree.proofs.Tallies.{seen_push, fewer_seen}
+use Rattle.cactus_tree.proofs.Tallies.{seen_push, fewer_inner}
 use Rattle.cactus_tree.proofs.AllFine.{all_fine, begun_fine, taken_fine, not_fine}
 use Rattle.cactus_tree.proofs.tree.normal.is_normal_below.Goals as goal
 
@@ -9,7 +9,7 @@ pub walk-smaller : goal.walk-smaller
 walk-smaller c =
     let left = c.pop.new.self.items in
     let top = ap seen (popped_is c.walk.stack.items left c.pop.result c.in-Some.node c.pop.ensures.items c.in-Some.is) ∙ seen_push left c.in-Some.node in
-    fewer_seen (seen left) (seen c.walk.stack.items) _ c.in-Some.node.now top c.in_ok-stack_blocks.ensures
+    fewer_inner (seen left) (seen c.walk.stack.items) _ c.in-Some.node.now top c.in_ok-stack_blocks.ensures
 
 pub walk-init : goal.walk-init
 walk-init c = ap (λ l. all_fine (seen l)) (c.in_ok-push.ensures.items ∙ ap (λ l. l ++ c.args.root ∷ []) c.new-stack.ensures.items) ∙ begun_fine c.args.root.now

@@ -1,7 +1,7 @@
 use Rattle.std.proofs.Common.{◌∙◌, ap, arith}
 use Rattle.cactus_tree.proofs.Orders.{popped_is}
 use Rattle.cactus_tree.specs.Numbers.{seen}
-use Rattle.cactus_tree.proofs.Tallies.{seen_push, fewer_seen, numbers_step, top_own}
+use Rattle.cactus_tree.proofs.Tallies.{seen_push, fewer_inner, numbers_step, top_own}
 use Rattle.cactus_tree.proofs.tree.number.count_cuts.Goals as goal
 
 pub own_cuts-count-requires : goal.own_cuts-count-requires
@@ -20,7 +20,7 @@ pub walk-smaller : goal.walk-smaller
 walk-smaller c =
     let left = c.pop.new.self.items in
     let top = ap seen (popped_is c.walk.stack.items left c.pop.result c.in-Some.node c.pop.ensures.items c.in-Some.is) ∙ seen_push left c.in-Some.node in
-    fewer_seen (seen left) (seen c.walk.stack.items) _ c.in-Some.node.now top c.in_ok-stack_blocks.ensures
+    fewer_inner (seen left) (seen c.walk.stack.items) _ c.in-Some.node.now top c.in_ok-stack_blocks.ensures
 
 pub walk-preserved : goal.walk-preserved
 walk-preserved c =
