@@ -36,3 +36,4 @@ pub mod Split
 pub mod Between
 pub mod Finished
 pub mod Settling
+pub mod Surplus

@@ -1,6 +1,7 @@
 //! How much more than the value a vertex is fed before it enters alone.
 
-ghost use Rattle.std.specs.Prelude.{◌≤◌};
+ghost use Rattle.std.specs.Prelude.{◌≡◌, ◌≤◌, ◌+◌, ◌*◌, ◌-◌, ◌^◌, min};
+ghost use Rattle.cactus_solver.specs.Surplus.{HasNext};
 
 use max_flow::Outcome;
 
@@ -19,7 +20,11 @@ pub struct Surplus {
 
 impl Surplus {
     /// The surplus of the first vertex.
-    pub fn new() -> Surplus {
+    pub fn new() -> Surplus
+        ensures amount { result.amount ≡ 1 }
+        ensures got { result.got ≡ 0 }
+        ensures wanted { result.wanted ≡ 1 }
+    {
         Surplus {
             amount: 1,
             got: 0,
@@ -29,13 +34,16 @@ impl Surplus {
 
     /// What the next vertex is to be fed, for a value.
     pub fn above(self, value: u64) -> u64
-        ensures { value ≤ result }
+        ensures more { value ≤ result }
+        ensures sum { result ≡ min (value + self.amount) (2 ^ 64 - 1) }
     {
         value.saturating_add(self.amount)
     }
 
     /// The surplus of the next vertex, after a flow that was to bring it to one.
-    pub fn after(self, outcome: Outcome) -> Surplus {
+    pub fn after(self, outcome: Outcome) -> Surplus
+        ensures { HasNext self outcome result }
+    {
         match outcome {
             Outcome::Best(_) => self.least_again(),
             Outcome::AtLeast if self.got.saturating_add(1) >= self.wanted => self.doubled(),
@@ -46,7 +54,11 @@ impl Surplus {
         }
     }
 
-    fn doubled(self) -> Surplus {
+    fn doubled(self) -> Surplus
+        ensures amount { result.amount ≡ min (self.amount * 2) (2 ^ 64 - 1) }
+        ensures got { result.got ≡ 0 }
+        ensures wanted { result.wanted ≡ self.wanted }
+    {
         Surplus {
             amount: self.amount.saturating_mul(2),
             got: 0,
@@ -54,7 +66,11 @@ impl Surplus {
         }
     }
 
-    fn least_again(self) -> Surplus {
+    fn least_again(self) -> Surplus
+        ensures amount { result.amount ≡ 1 }
+        ensures got { result.got ≡ 0 }
+        ensures wanted { result.wanted ≡ min (self.wanted * 2) (2 ^ 32 - 1) }
+    {
         Surplus {
             amount: 1,
             got: 0,
