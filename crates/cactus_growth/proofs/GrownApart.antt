@@ -1,8 +1,8 @@
 -- Two vertices below different blocks of a node, or in the node: both are merged up into it.
-use Rattle.std.proofs.Common.{◌≡◌, ℕ, zero, suc, ◌+◌, ◌<◌, ◌≤◌, ◌↔◌, inl, inr, Bool, true, false, cond, ◌||◌, List, [], ◌∷◌, ◌++◌, map, Option, Some, None, take, drop, refl, ap, ◌∙◌, sym, subst, arith}
+use Rattle.std.proofs.Common.{◌≡◌, ℕ, zero, suc, inl, inr, true, ◌||◌, List, [], ◌∷◌, map, Some, refl, ap, ◌∙◌, sym, subst, arith}
 use Rattle.std.specs.Prelude.{slice_get, ◌≢◌}
 use Rattle.std.specs.List.{Contains, flat_map}
-use Rattle.std.proofs.lemmas.Bool.{cases_Bool, false≢true, false_from_ne_true, true≢false}
+use Rattle.std.proofs.lemmas.Bool.{cases_Bool, false≢true}
 use Rattle.std.proofs.lemmas.List.Elements.{Contains-append_cases}
 use Rattle.cut_definitions.specs.Weight.{VertexSet}
 use Rattle.cut_definitions.specs.Cuts.{has}
@@ -15,7 +15,7 @@ use Rattle.cactus_tree.specs.declared.tree.Node.{Node}
 use Rattle.cactus_tree.specs.declared.tree.Block.{Block}
 use Rattle.cactus_tree.proofs.Orders.{entered_out}
 use Rattle.cactus_growth.specs.Growth.{times, AreOnce, IsGrown, IsPulled}
-use Rattle.cactus_growth.specs.Ways.{HasChild, IsWay, LeadsTo}
+use Rattle.cactus_growth.specs.Ways.{HasChild, LeadsTo}
 use Rattle.cactus_growth.specs.declared.ways.Step.{Step}
 use Rattle.cactus_growth.proofs.Counts.{count_both, count_some}
 use Rattle.cactus_growth.proofs.Opened.{blocks_listed, own_lacks, walk_part}

@@ -6,10 +6,11 @@ pub mod Counts
 pub mod Hung
 pub mod Within
 pub mod Sorted
-pub mod Turned
+pub mod Around
 pub mod Without
 pub mod Pulled
 pub mod Opened
+pub mod Places
 pub mod Toward
 pub mod Runs
 pub mod WaysDown

@@ -1,6 +1,6 @@
 -- A node taken apart into what stays of it and the closed walk through a node right below it.
 use Rattle.std.proofs.Common.{◌≡◌, ℕ, ◌≤◌, ◌⊎◌, ◌↔◌, inl, inr, Bool, true, false, cond, ◌||◌, List, [], ◌∷◌, ◌++◌, map, refl, ap, ◌∙◌, sym, subst, arith}
-use Rattle.std.specs.List.{All, Contains, flat_map}
+use Rattle.std.specs.List.{Contains, flat_map}
 use Rattle.std.proofs.lemmas.Bool.{false≢true, false_from_ne_true}
 use Rattle.std.proofs.lemmas.List.{map-append}
 use Rattle.std.proofs.lemmas.List.Concat.{flat_map-append}
@@ -15,7 +15,7 @@ use Rattle.cactus_tree.specs.Trees.{vertices, blocks, nodes_in}
 use Rattle.cactus_tree.specs.Widths.{widths, block_widths}
 use Rattle.cactus_tree.specs.declared.tree.Node.{Node}
 use Rattle.cactus_tree.specs.declared.tree.Block.{Block}
-use Rattle.cactus_tree.specs.declared.tree.Block.TheVariants.{Bridge, Cycle}
+use Rattle.cactus_tree.specs.declared.tree.Block.TheVariants.{Bridge}
 use Rattle.cactus_tree.proofs.Built.{ring_widths}
 use Rattle.cactus_tree.proofs.Entries.{nodes_bridge, nodes_cycle}
 use Rattle.cactus_tree.proofs.Layouts.{laid_out}

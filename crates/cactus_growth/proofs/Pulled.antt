@@ -1,12 +1,11 @@
 -- Blocks that are hung one after another, and nodes that become one.
-use Rattle.std.proofs.Common.{◌≡◌, ℕ, ◌+◌, ◌<◌, ◌≤◌, inl, inr, Bool, true, false, cond, ◌||◌, List, [], ◌∷◌, ◌++◌, Option, Some, None, length, map, refl, ap, ◌∙◌, sym, subst, arith, append-nil}
+use Rattle.std.proofs.Common.{◌≡◌, ℕ, ◌+◌, ◌<◌, ◌≤◌, inl, inr, Bool, true, false, cond, ◌||◌, List, [], ◌∷◌, ◌++◌, Option, Some, length, map, refl, ap, ◌∙◌, sym, subst, arith}
 use Rattle.std.specs.Prelude.{option_to_list}
 use Rattle.std.specs.List.{Contains, flat_map}
 use Rattle.std.proofs.lemmas.Bool.{cases_Bool}
 use Rattle.std.proofs.lemmas.List.{append_assoc}
 use Rattle.std.proofs.lemmas.List.Elements.{All-nil, All-append, All-cons, All-head, All-tail, Contains-append_left, Contains-append_right, Contains-append_cases}
 use Rattle.cut_definitions.specs.Cuts.{has, IsAscendingWithin}
-use Rattle.cut_definitions.proofs.Lists.{Contains-nil}
 use Rattle.cactus_tree.specs.Sides.{Part, part, block_part, all_of, belows, all_cuts, with_below}
 use Rattle.cactus_tree.specs.Entered.{entered, entered_block}
 use Rattle.cactus_tree.specs.Trees.{vertices, blocks}
@@ -22,9 +21,6 @@ use Rattle.cactus_growth.proofs.Counts.{count_both, All_left, All_right}
 
 pub popped : {X : Type 0} (cur new : List X) (r : Option X) (x : X) → cur ≡ new ++ option_to_list r → r ≡ Some x → cur ≡ new ++ x ∷ []
 popped cur new r x p q = p ∙ ap (λ o. new ++ option_to_list o) q
-
-pub popped_none : {X : Type 0} (cur new : List X) (r : Option X) → cur ≡ new ++ option_to_list r → r ≡ None → cur ≡ new
-popped_none cur new r p q = p ∙ ap (λ o. new ++ option_to_list o) q ∙ append-nil new
 
 pub none_left : {X : Type 0} (xs : List X) → (0 < length xs → ⊥) → xs ≡ []
 none_left [] h = refl
@@ -51,16 +47,6 @@ pub rest_lists : (x y : Node) (more : List (List ℕ)) → entered x ≡ entered
 rest_lists x y more e =
     let h : vertices x ∷ flat_map entered_block (blocks x) ≡ vertices y ∷ (flat_map entered_block (blocks y) ++ more) = sym (entered_out x) ∙ e ∙ ap (λ l. l ++ more) (entered_out y) in
     (let q : flat_map entered_block (blocks x) ≡ flat_map entered_block (blocks y) ++ more = cc in q)
-
-pub hung_nothing : (x : Node) → AreHung x [] x
-hung_nothing x = record {
-  below = λ v. or_none ((part x).below v);
-  cuts = λ s. (λ c. inl c, λ c. elim c [ inl a ↦ a | inr a ↦ absurd (Contains-nil s a) ]);
-  counts = λ v. omega arith;
-  ascending = λ n a b. a;
-  wide = λ a b. a;
-  own = refl;
-}
 
 pub hung_step : (node y x : Node) (b : Block) (done : List Block) → part x ≡ with_below (part y) (block_part b) → entered x ≡ entered y ++ entered_block b → widths x ≡ widths y ++ block_widths b →
     vertices x ≡ vertices y → AreHung node done y → AreHung node (b ∷ done) x
@@ -104,9 +90,6 @@ four_or true b c d = refl
 four_or false true true d = refl
 four_or false true false d = refl
 four_or false false c d = refl
-
-same_list : (xs ys : List ℕ) → xs ≡ ys → AreWide xs → AreWide ys
-same_list xs ys e h = subst AreWide e h
 
 joined_map : {X : Type 0} (f : X → List ℕ) (xs : List X) → joined (map f xs) ≡ flat_map f xs
 joined_map f [] = refl

@@ -1,5 +1,5 @@
 -- A list in ascending order, each of its numbers once.
-use Rattle.std.proofs.Common.{◌≡◌, ℕ, ◌≤◌, ◌||◌, inl, inr, List, [], ◌∷◌, ◌++◌, IsPermutation, eqb, ◌∙◌, sym, subst}
+use Rattle.std.proofs.Common.{◌≡◌, ℕ, ◌≤◌, List, [], ◌∷◌, IsPermutation, eqb, sym, subst}
 use Rattle.std.specs.List.{Contains}
 use Rattle.cactus_growth.specs.Growth.{AreWithin}
 use Rattle.std.specs.List.Sorted.{IsStrictlyIncreasing, IsSorted}
@@ -11,12 +11,9 @@ use Rattle.std.proofs.lemmas.List.Sorted.{Contains-permutation, IsPermutation-sy
 use Rattle.std.proofs.lemmas.Map.Keys.{IsStrictlyIncreasing-dedup}
 use Rattle.std.proofs.lemmas.List.Elements.{All-weaker, All-contains, All-contains_itself}
 use Rattle.std.specs.List.{dedup}
-use Rattle.std.proofs.lemmas.Bool.{or_cases}
-use Rattle.std.proofs.Common.{arith, ◌+◌}
 use Rattle.cut_definitions.specs.Cuts.{has, IsAscendingWithin}
-use Rattle.cut_definitions.proofs.Lists.{Contains-cons_cases, Contains-here}
-use Rattle.cactus_tree.proofs.Groups.{same_members, contains_has, has_contains, ascending_from}
-use Rattle.cactus_tree.proofs.Segments.{has_append_at}
+use Rattle.cut_definitions.proofs.Lists.{Contains-here}
+use Rattle.cactus_tree.proofs.Groups.{same_members, ascending_from}
 
 rising_is : (n : ℕ) (xs : List ℕ) → IsStrictlyIncreasing xs → ((v : ℕ) → Contains xs v → (1 ≤ v) × (v ≤ n)) → IsAscendingWithin 1 n xs
 rising_is n [] up h = tt

@@ -1,7 +1,7 @@
 -- The nodes above a node are merged into one, step by step, until the node itself is.
-use Rattle.std.proofs.Common.{◌≡◌, ℕ, ◌+◌, ◌≤◌, ◌↔◌, ◌⊎◌, inl, inr, Bool, true, false, cond, ◌||◌, List, [], ◌∷◌, ◌++◌, map, refl, ap, ◌∙◌, sym, subst, arith}
-use Rattle.std.specs.List.{All, Contains, flat_map}
-use Rattle.std.proofs.lemmas.Bool.{or_left, or_right, or_cases, false_from_ne_true}
+use Rattle.std.proofs.Common.{◌≡◌, ℕ, ◌+◌, ◌≤◌, ◌⊎◌, inl, inr, Bool, true, false, cond, ◌||◌, List, [], ◌∷◌, ◌++◌, map, refl, ap, ◌∙◌, sym, subst, arith}
+use Rattle.std.specs.List.{Contains, flat_map}
+use Rattle.std.proofs.lemmas.Bool.{or_left, or_right, false_from_ne_true}
 use Rattle.std.proofs.lemmas.List.{map-append}
 use Rattle.std.proofs.lemmas.List.Elements.{All-nil, All-append, All-cons, Contains-append_left, Contains-append_right, Contains-append_cases}
 use Rattle.cut_definitions.specs.Weight.{VertexSet}
@@ -18,7 +18,6 @@ use Rattle.cactus_growth.proofs.Counts.{count_both, count_some, All_left, All_ri
 use Rattle.cactus_growth.proofs.CycleKept.{node_lacks}
 use Rattle.cactus_growth.proofs.Opened.{mid_flat, below_both, below_listed, node_listed, own_lacks, bare_cuts, bare_wide}
 use Rattle.cactus_growth.proofs.Pulled.{rest_lists, times_more, widths_flat, below_at, cuts_of}
-use Rattle.cactus_growth.proofs.Within.{of_lists}
 use Rattle.cactus_growth.proofs.Without.{cycle_lacks, cycle_without, cycle_before, cycle_behind, cycle_child}
 
 -- the nodes below a node and a closed walk that was hung below it ascend

@@ -16,8 +16,7 @@ use Rattle.cactus_tree.proofs.Parts.{bridge_part, cycle_part}
 use Rattle.cactus_tree.proofs.Orders.{entered_bridge, entered_cycle}
 use Rattle.cactus_tree.proofs.Segments.{IsSegment, IsLaidOut, AreLaidOut, none, more, cycle_laid, bridge_laid, has_append_at}
 use Rattle.cactus_tree.proofs.Layouts.{laid_out}
-use Rattle.cactus_tree.proofs.Sets.{IsIn, Apart}
-use Rattle.cactus_tree.proofs.Clean.{IsClean, clean_apart}
+use Rattle.cactus_tree.proofs.Sets.{IsIn}
 use Rattle.cactus_tree.proofs.Views.{view}
 
 abbrev pub Lists : Type 0
@@ -81,7 +80,3 @@ blocks_within (b ∷ bs) s c = elim (Contains-append_cases (block_part b).cuts (
   | inl h ↦ λ v e. of_left (entered_block b) (flat_map entered_block bs) v (block_within b s h v e)
   | inr h ↦ λ v e. of_right (entered_block b) (flat_map entered_block bs) v (blocks_within bs s h v e)
 ]
-
--- sets within two parts of a clean list are apart
-pub apart_in : (n : ℕ) (ls ms : Lists) (s t : VertexSet) → IsClean n (ls ++ ms) → IsIn s (of_lists ls) → IsIn t (of_lists ms) → Apart s t
-apart_in n ls ms s t c a b v h k = clean_apart n ls ms c v (a v h) (b v k)

@@ -1,5 +1,5 @@
 -- Trees in which nodes became one: what stays of their vertices and their cuts.
-use Rattle.std.specs.Prelude.{ℕ, ◌≡◌, ◌+◌, ◌≤◌, ◌⊎◌, ◌↔◌, ◌||◌, true, false, List, [], ◌∷◌, ◌++◌, length, map}
+use Rattle.std.specs.Prelude.{ℕ, ◌≡◌, ◌+◌, ◌≤◌, ◌⊎◌, ◌↔◌, ◌||◌, true, false, List, ◌∷◌, ◌++◌, length, map}
 use Rattle.std.specs.List.{All, Contains, filter, flat_map}
 use Rattle.cut_definitions.specs.Weight.{VertexSet}
 use Rattle.cut_definitions.specs.Cuts.{has, IsAscendingWithin}

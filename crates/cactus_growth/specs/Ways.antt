@@ -1,9 +1,10 @@
 -- Ways down a tree, step by step.
-use Rattle.std.specs.Prelude.{ℕ, ◌≡◌, Bool, ◌==◌, ◌&&◌, true, ⊤, ◌≤◌, List, [], ◌∷◌, ◌++◌, length, map, take, slice_get, Some}
-use Rattle.std.specs.List.{All}
+use Rattle.std.specs.Prelude.{ℕ, ◌≡◌, Bool, ◌==◌, ◌&&◌, true, List, [], ◌∷◌, ◌++◌, map, false, slice_get, Some}
+use Rattle.std.specs.List.{All, filter}
 use Rattle.cut_definitions.specs.Cuts.{has}
 use Rattle.cactus_tree.specs.Entries.{nodes_of}
 use Rattle.cactus_tree.specs.Trees.{vertices, blocks}
+use Rattle.cactus_tree.specs.Numbers.{is_inner}
 use Rattle.cactus_tree.specs.declared.tree.Node.{Node}
 use Rattle.cactus_tree.specs.declared.tree.Block.{Block}
 use Rattle.cactus_growth.specs.declared.ways.Step.{Step}
@@ -27,7 +28,11 @@ IsWay x (s ∷ ss) y = (z : Node) × HasChild x s z × IsWay z ss y
 abbrev pub LeadsTo : ℕ → Node → List Step → Type 0
 LeadsTo v x way = (y : Node) × IsWay x way y × (has (vertices y) v ≡ true)
 
--- a node that is still to be looked at is right below a node to which so many steps lead
+-- a step leads from a node to one right below it that has a vertex
+abbrev pub IsStepTo : ℕ → Node → Step → Type 0
+IsStepTo v x s = (y : Node) × HasChild x s y × (has (vertices y) v ≡ true)
+
+-- a node below which is still to be looked at is right below a node to which so many steps lead
 pub record IsBelow (x : Node) (depth : ℕ) (w : Visit) : Type 0 where
   pub deep : w.depth ≡ depth
   pub child : HasChild x w.step w.node.now
@@ -41,3 +46,8 @@ pub record AreAdded (x : Node) (depth : ℕ) (xs : List Node) (old new : List Vi
   pub whole : new ≡ old ++ added
   pub below : All (IsBelow x depth) added
   pub nodes : visited added ≡ xs
+
+-- nodes right below a node were looked at: none has the vertex, and those with a block below them were put on a stack
+pub record AreVisited (v : ℕ) (x : Node) (depth : ℕ) (xs : List Node) (old new : List Visit) : Type 0 where
+  pub lacking : All (λ (y : Node). has (vertices y) v ≡ false) xs
+  pub added : AreAdded x depth (filter is_inner xs) old new

@@ -56,7 +56,7 @@ fn close(alloc: Global, opened: Opened, child: Node) -> Result<Node, NoMemory>
     ensures { IfOk result (λ x. IsArcHung opened.top (nodes_in opened.before ++ child ∷ nodes_in opened.after) x) }
 {
     let Opened { top, before, after } = opened;
-    let nodes = put_between(alloc, before, child, after)?;
+    let nodes = put_between(before, child, after)?;
     let node = hang_arc(alloc, top, nodes)?;
     Ok(node)
 }

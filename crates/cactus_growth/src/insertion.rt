@@ -1,8 +1,9 @@
 //! The edge list after an insertion.
 
-ghost use Rattle.std.specs.Prelude.{IsTrue, ◌↔◌, not, length, ◌≡◌, ◌≢◌, ◌≤◌, ◌+◌, ◌^◌, if◌then◌else◌, ◌++◌, IfOk, OnOk};
-ghost use Rattle.std.specs.List.{filter, sum_by};
-ghost use Rattle.cut_definitions.specs.Graph.{IsEdgeList};
+ghost use Rattle.std.specs.Prelude.{IsTrue, ◌↔◌, not, length, ◌≡◌, ◌≢◌, ◌≤◌, ◌+◌, ◌^◌, if◌then◌else◌, true, false, IfOk};
+ghost use Rattle.std.specs.List.{AllPairs, filter, sum_by};
+ghost use Rattle.std.specs.List.Sorted.{IsPartitionPoint};
+ghost use Rattle.cut_definitions.specs.Graph.{IsBefore, IsEdgeList};
 ghost use Rattle.cactus_growth.specs.Insertion.{comes_before, edge_between, enlarged, inserted, same_ends, weight_there};
 
 use cut_definitions::{Edge, EdgeList, NoMemory};
@@ -41,28 +42,22 @@ fn weight_between(edges: &[Edge], ends: &Edge) -> u64
     weight
 }
 
-/// Appends the edges of a list that come before an edge.
-fn push_before(out: &mut Vec<Edge>, edges: &[Edge], ends: &Edge) -> Result<(), NoMemory>
-    ensures { OnOk result (out.new.items ≡ out.old.items ++ filter (λ d. comes_before d ends.now) edges.now) }
+/// The number of the edges of an ascending list that come before an edge: they are its first ones.
+fn place_before(edges: &[Edge], ends: &Edge) -> usize
+    requires { AllPairs IsBefore edges.now }
+    ensures within { result ≤ length edges.now }
+    ensures parted { IsPartitionPoint (λ d. comes_before d ends.now ≡ true) (λ d. comes_before d ends.now ≡ false) edges.now result }
 {
-    'edges: for edge in edges {
-        if comes_before(edge, ends) {
-            out.push(*edge)?;
-        }
-    }
-    Ok(())
+    edges.partition_point(|edge| comes_before(edge, ends))
 }
 
-/// Appends the edges of a list that come behind an edge.
-fn push_behind(out: &mut Vec<Edge>, edges: &[Edge], ends: &Edge) -> Result<(), NoMemory>
-    ensures { OnOk result (out.new.items ≡ out.old.items ++ filter (λ d. comes_before ends.now d) edges.now) }
+/// The place in an ascending list from which on its edges come behind an edge.
+fn place_behind(edges: &[Edge], ends: &Edge) -> usize
+    requires { AllPairs IsBefore edges.now }
+    ensures within { result ≤ length edges.now }
+    ensures parted { IsPartitionPoint (λ d. comes_before ends.now d ≡ false) (λ d. comes_before ends.now d ≡ true) edges.now result }
 {
-    'edges: for edge in edges {
-        if comes_before(ends, edge) {
-            out.push(*edge)?;
-        }
-    }
-    Ok(())
+    edges.partition_point(|edge| !comes_before(ends, edge))
 }
 
 /// The edge between two vertices, the lesser first.
@@ -76,21 +71,26 @@ fn edge_between(u: u32, v: u32, w: u64) -> Edge
     }
 }
 
-/// The list with an edge put in its place, where its weight is added to that of the edge with its ends.
+/// The ascending list with an edge put in its place, where its weight is added to that of the edge with its ends.
+///
+/// The place is found by halving; the edges before it and behind it are copied whole.
 fn inserted(alloc: Global, edges: &[Edge], added: &Edge) -> Result<Vec<Edge>, NoMemory>
+    requires ascending { AllPairs IsBefore edges.now }
     requires total { sum_by (λ d. d.w) edges.now ≤ 2 ^ 61 }
     requires room { added.now.w + weight_there added.now edges.now ≤ 2 ^ 61 }
     ensures { IfOk result (λ l. l.items ≡ inserted added.now edges.now) }
 {
-    let weight = added.w + weight_between(edges, added);
-    let mut list = Vec::new(alloc);
-    push_before(&mut list, edges, added)?;
+    let first = place_before(edges, added);
+    let end = place_behind(edges, added);
+    let weight = added.w + weight_between(&edges[first..end], added);
+    let mut list = Vec::with_capacity(alloc, edges.len() + 1)?;
+    list.extend_from_slice(&edges[..first])?;
     list.push(Edge {
         u: added.u,
         v: added.v,
         w: weight,
     })?;
-    push_behind(&mut list, edges, added)?;
+    list.extend_from_slice(&edges[end..])?;
     Ok(list)
 }
 

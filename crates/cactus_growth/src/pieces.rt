@@ -1,6 +1,6 @@
 //! Pieces of trees: nodes with more blocks, lists of nodes taken apart and put together.
 
-ghost use Rattle.std.specs.Prelude.{ℕ, ◌≡◌, ◌≤◌, ◌<◌, ◌++◌, ◌∷◌, [], reverse, length, map, take, drop, slice_get, IfOk, OnOk};
+ghost use Rattle.std.specs.Prelude.{ℕ, ◌≡◌, ◌≤◌, ◌<◌, ◌++◌, ◌∷◌, [], length, map, take, drop, slice_get, IfOk, OnOk};
 ghost use Rattle.std.specs.List.{All, flat_map};
 ghost use Rattle.cut_definitions.specs.Cuts.{has, IsAscendingWithin};
 ghost use Rattle.cactus_tree.specs.declared.tree.Node.{Node};
@@ -147,32 +147,12 @@ pub fn nodes_of_block(alloc: Global, block: Block) -> Result<Children, NoMemory>
     }
 }
 
-/// The nodes in the other order.
-fn turned(alloc: Global, nodes: Children) -> Result<Children, NoMemory>
-    ensures { IfOk result (λ c. nodes_in c ≡ reverse (nodes_in nodes)) }
-{
-    let mut nodes = nodes;
-    let mut out = Children::with_capacity(alloc, nodes.len())?;
-    'nodes: while let Some(node) = nodes.pop() {
-        out.push(node)?;
-    }
-    Ok(out)
-}
-
 /// The nodes of two lists with a node between them.
-pub fn put_between(
-    alloc: Global,
-    before: Children,
-    child: Node,
-    after: Children,
-) -> Result<Children, NoMemory>
+pub fn put_between(before: Children, child: Node, after: Children) -> Result<Children, NoMemory>
     ensures { IfOk result (λ c. nodes_in c ≡ nodes_in before ++ child ∷ nodes_in after) }
 {
     let mut nodes = before;
     nodes.push(child)?;
-    let mut rest = turned(alloc, after)?;
-    'rest: while let Some(node) = rest.pop() {
-        nodes.push(node)?;
-    }
+    nodes.append(after)?;
     Ok(nodes)
 }

@@ -1,6 +1,6 @@
 //! The way from a node down to the node below it that has a vertex, found by a loop over the tree.
 
-ghost use Rattle.std.specs.Prelude.{ℕ, ◌≡◌, ◌≢◌, ◌≤◌, ◌<◌, ◌==◌, ◌&&◌, take, length, map, slice_get, true, OnOk, IfOk};
+ghost use Rattle.std.specs.Prelude.{ℕ, ◌≡◌, ◌≢◌, ◌≤◌, ◌<◌, ◌==◌, ◌&&◌, take, length, map, slice_get, true, [], ◌∷◌, IfOk, IfSome, IfNone};
 ghost use Rattle.std.specs.List.{flat_map};
 ghost use Rattle.cut_definitions.specs.Cuts.{has};
 ghost use Rattle.cactus_tree.specs.declared.tree.Node.{Node};
@@ -8,7 +8,7 @@ ghost use Rattle.cactus_tree.specs.declared.tree.Block.{Block};
 ghost use Rattle.cactus_tree.specs.Entries.{nodes_of};
 ghost use Rattle.cactus_tree.specs.Sides.{below};
 ghost use Rattle.cactus_tree.specs.Trees.{blocks, nodes_in};
-ghost use Rattle.cactus_growth.specs.Ways.{AreAdded, LeadsTo, same_step};
+ghost use Rattle.cactus_growth.specs.Ways.{AreVisited, HasChild, IsStepTo, LeadsTo, same_step};
 
 use cactus_tree::{Block, Children, Node, VertexList};
 use cut_definitions::NoMemory;
@@ -23,7 +23,7 @@ pub struct Step {
     pub child: usize,
 }
 
-/// A node that is still to be looked at.
+/// A node below which is still to be looked at.
 #[derive(Drop)]
 pub struct Visit<'a> {
     pub node: &'a Node,
@@ -44,67 +44,99 @@ fn has_vertex(list: &VertexList, v: u32) -> bool
     found
 }
 
-/// Puts the nodes of a cycle on the stack.
+/// Looks at a node: gives the step to it where it has a vertex. Where it has not, and a block is below it, it is put on
+/// the stack.
+fn visit_node<'a>(
+    stack: &mut Vec<Visit<'a>>,
+    node: &'a Node,
+    depth: usize,
+    step: Step,
+    v: u32,
+) -> Result<Option<Step>, NoMemory>
+    ensures found { IfOk result (λ f. IfSome f (λ s. (x : Node) → HasChild x step node.now → IsStepTo v x s)) }
+    ensures none { IfOk result (λ f. IfNone f ((x : Node) → HasChild x step node.now → AreVisited v x depth (node.now ∷ []) stack.old.items stack.new.items)) }
+{
+    if has_vertex(&node.vertices, v) {
+        return Ok(Some(step));
+    }
+    if node.blocks.len() > 0 {
+        stack.push(Visit { node, depth, step })?;
+    }
+    Ok(None)
+}
+
+/// Looks at the nodes of a cycle: gives the step to one that has a vertex. Where none has, those with a block below
+/// them are put on the stack.
 fn visit_nodes<'a>(
     stack: &mut Vec<Visit<'a>>,
     nodes: &'a Children,
     block: usize,
     depth: usize,
-) -> Result<(), NoMemory>
-    ensures { OnOk result ((x : Node) (b : Block) → slice_get (blocks x) block ≡ Some b → nodes_of b ≡ nodes_in nodes.now → AreAdded x depth (nodes_in nodes.now) stack.old.items stack.new.items) }
+    v: u32,
+) -> Result<Option<Step>, NoMemory>
+    ensures found { IfOk result (λ f. IfSome f (λ s. (x : Node) (b : Block) → slice_get (blocks x) block ≡ Some b → nodes_of b ≡ nodes_in nodes.now → IsStepTo v x s)) }
+    ensures none { IfOk result (λ f. IfNone f ((x : Node) (b : Block) → slice_get (blocks x) block ≡ Some b → nodes_of b ≡ nodes_in nodes.now → AreVisited v x depth (nodes_in nodes.now) stack.old.items stack.new.items)) }
 {
     'each_node: for child in 0..nodes.len() {
-        stack.push(Visit {
-            node: nodes.at(child),
-            depth,
-            step: Step { block, child },
-        })?;
+        let step = Step { block, child };
+        if let Some(found) = visit_node(stack, nodes.at(child), depth, step, v)? {
+            return Ok(Some(found));
+        }
     }
-    Ok(())
+    Ok(None)
 }
 
-/// Puts the nodes of a block on the stack.
+/// Looks at the nodes of a block, as `visit_nodes` does.
 fn visit_block<'a>(
     stack: &mut Vec<Visit<'a>>,
     block: &'a Block,
     place: usize,
     depth: usize,
-) -> Result<(), NoMemory>
-    ensures { OnOk result ((x : Node) → slice_get (blocks x) place ≡ Some block.now → AreAdded x depth (nodes_of block.now) stack.old.items stack.new.items) }
+    v: u32,
+) -> Result<Option<Step>, NoMemory>
+    ensures found { IfOk result (λ f. IfSome f (λ s. (x : Node) → slice_get (blocks x) place ≡ Some block.now → IsStepTo v x s)) }
+    ensures none { IfOk result (λ f. IfNone f ((x : Node) → slice_get (blocks x) place ≡ Some block.now → AreVisited v x depth (nodes_of block.now) stack.old.items stack.new.items)) }
 {
     match block {
         Block::Bridge(node) => {
-            stack.push(Visit {
-                node,
-                depth,
-                step: Step {
-                    block: place,
-                    child: 0,
-                },
-            })?;
-            Ok(())
+            let step = Step {
+                block: place,
+                child: 0,
+            };
+            let found = visit_node(stack, node, depth, step, v)?;
+            Ok(found)
         }
         Block::Cycle(nodes) => {
-            visit_nodes(stack, nodes, place, depth)?;
-            Ok(())
+            let found = visit_nodes(stack, nodes, place, depth, v)?;
+            Ok(found)
         }
     }
 }
 
-/// Puts the nodes right below a node on the stack, where so many steps lead to that node.
-fn visit_below<'a>(stack: &mut Vec<Visit<'a>>, node: &'a Node, depth: usize) -> Result<(), NoMemory>
-    ensures { OnOk result (AreAdded node.now depth (flat_map nodes_of (blocks node.now)) stack.old.items stack.new.items) }
+/// Looks at the nodes right below a node, to which so many steps lead: gives the step to one that has a vertex. Where
+/// none has, those with a block below them are put on the stack.
+fn visit_below<'a>(
+    stack: &mut Vec<Visit<'a>>,
+    node: &'a Node,
+    depth: usize,
+    v: u32,
+) -> Result<Option<Step>, NoMemory>
+    ensures found { IfOk result (λ f. IfSome f (λ s. IsStepTo v node.now s)) }
+    ensures none { IfOk result (λ f. IfNone f (AreVisited v node.now depth (flat_map nodes_of (blocks node.now)) stack.old.items stack.new.items)) }
 {
     'each_block: for place in 0..node.blocks.len() {
-        visit_block(stack, node.blocks.at(place), place, depth)?;
+        if let Some(found) = visit_block(stack, node.blocks.at(place), place, depth, v)? {
+            return Ok(Some(found));
+        }
     }
-    Ok(())
+    Ok(None)
 }
 
 /// The steps from a node to the node that has a vertex, which is the node itself or below it.
 ///
-/// One step for each node and vertex until it is found, in a loop with a stack. It takes memory in proportion to the
-/// nodes, and is refused only where that is wanting.
+/// One step for each node and vertex until it is found, in a loop with a stack. A node is looked at before it would be
+/// put there, and one with no block below it never is. So it takes memory in proportion to the steps and to the nodes
+/// with a block below them that were looked at, and is refused only where that is wanting.
 pub fn way_to(alloc: Global, root: &Node, v: u32) -> Result<Vec<Step>, NoMemory>
     requires { below root.now v ≡ true }
     ensures { IfOk result (λ way. LeadsTo v root.now way.items) }
@@ -114,14 +146,17 @@ pub fn way_to(alloc: Global, root: &Node, v: u32) -> Result<Vec<Step>, NoMemory>
         return Ok(way);
     }
     let mut stack = Vec::new(alloc);
-    visit_below(&mut stack, root, 0)?;
+    if let Some(step) = visit_below(&mut stack, root, 0, v)? {
+        way.push(step)?;
+        return Ok(way);
+    }
     'search: while let Some(visit) = stack.pop() {
         way.truncate(visit.depth);
         way.push(visit.step)?;
-        if has_vertex(&visit.node.vertices, v) {
+        if let Some(step) = visit_below(&mut stack, visit.node, way.len(), v)? {
+            way.push(step)?;
             return Ok(way);
         }
-        visit_below(&mut stack, visit.node, way.len())?;
     }
     unreachable!()
 }

@@ -1,4 +1,4 @@
-use Rattle.std.proofs.Common.{◌≡◌, ℕ, take, drop, ◌∙◌, ap, sym, subst}
+use Rattle.std.proofs.Common.{◌≡◌, take, drop, ◌∙◌, ap, sym, subst}
 use Rattle.std.specs.Prelude.{slice_get}
 use Rattle.cactus_growth.specs.Ways.{IsWay}
 use Rattle.cactus_growth.proofs.Stepped.{leads_split, leads_rest, leads_slice, leads_inside, rest_slice, slice_drop}

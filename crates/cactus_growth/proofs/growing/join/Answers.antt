@@ -1,4 +1,4 @@
-use Rattle.std.proofs.Common.{◌≡◌, ◌≤◌, ◌<◌, ◌∙◌, true, false, ap, sym, subst, arith}
+use Rattle.std.proofs.Common.{◌∙◌, sym, subst}
 use Rattle.cactus_growth.specs.Ways.{LeadsTo}
 use Rattle.cactus_growth.proofs.GrownApart.{grown_apart}
 use Rattle.cactus_growth.proofs.GrownUp.{grown_turned}

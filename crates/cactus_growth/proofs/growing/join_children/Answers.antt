@@ -1,5 +1,4 @@
-use Rattle.std.proofs.Common.{refl, ◌∷◌, ◌++◌}
-use Rattle.cactus_tree.specs.Entered.{entered}
+use Rattle.std.proofs.Common.{refl}
 use Rattle.cactus_tree.specs.Trees.{nodes_in}
 use Rattle.cactus_growth.specs.declared.ways.Step.{Step}
 use Rattle.cactus_growth.proofs.GrownJoin.{absorbed, grown_join}

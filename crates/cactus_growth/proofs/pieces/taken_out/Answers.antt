@@ -1,7 +1,7 @@
 use Rattle.std.proofs.Common.{sym, ◌∙◌}
 use Rattle.cactus_tree.specs.Trees.{nodes_in}
 use Rattle.cactus_growth.proofs.Pulled.{popped}
-use Rattle.cactus_growth.proofs.Turned.{front_is, parts_are}
+use Rattle.cactus_growth.proofs.Around.{front_is, parts_are}
 use Rattle.cactus_growth.proofs.pieces.taken_out.Goals as goal
 
 pub returns-clause-parts : goal.returns-clause-parts

@@ -2,11 +2,11 @@ use Rattle.std.proofs.Common.{◌≡◌, length, take}
 use Rattle.std.specs.List.{flat_map}
 use Rattle.cactus_tree.specs.Entries.{nodes_of}
 use Rattle.cactus_tree.specs.Trees.{blocks}
-use Rattle.cactus_growth.specs.Ways.{AreAdded}
+use Rattle.cactus_growth.specs.Ways.{AreVisited}
 use Rattle.cactus_growth.proofs.ways.visit_below.Given as goal
 
 abbrev pub invariant-each_block : goal.invariant-each_block
 invariant-each_block l = record {
   end : l.place-end ≡ length (blocks l.node);
-  stacked : AreAdded l.node l.depth (flat_map nodes_of (take l.place (blocks l.node))) l.initial.stack.items l.stack.items;
+  stacked : AreVisited l.v l.node l.depth (flat_map nodes_of (take l.place (blocks l.node))) l.initial.stack.items l.stack.items;
 }

@@ -4,11 +4,11 @@ use Rattle.cactus_tree.specs.Entries.{nodes_of}
 use Rattle.cactus_tree.specs.Trees.{blocks, nodes_in}
 use Rattle.cactus_tree.specs.declared.tree.Node.{Node}
 use Rattle.cactus_tree.specs.declared.tree.Block.{Block}
-use Rattle.cactus_growth.specs.Ways.{AreAdded}
+use Rattle.cactus_growth.specs.Ways.{AreVisited}
 use Rattle.cactus_growth.proofs.ways.visit_nodes.Given as goal
 
 abbrev pub invariant-each_node : goal.invariant-each_node
 invariant-each_node l = record {
   end : l.child-end ≡ length (nodes_in l.nodes);
-  stacked : (x : Node) (b : Block) → slice_get (blocks x) l.block ≡ Some b → nodes_of b ≡ nodes_in l.nodes → AreAdded x l.depth (take l.child (nodes_in l.nodes)) l.initial.stack.items l.stack.items;
+  stacked : (x : Node) (b : Block) → slice_get (blocks x) l.block ≡ Some b → nodes_of b ≡ nodes_in l.nodes → AreVisited l.v x l.depth (take l.child (nodes_in l.nodes)) l.initial.stack.items l.stack.items;
 }
