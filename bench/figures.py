@@ -2,7 +2,7 @@
 """Measures the program beside LEMON, Boost, igraph and networkx, and writes tables and plots into docs/FIGURES.md.
 
     apt-get install g++ pkg-config liblemon-dev libboost-graph-dev libigraph-dev python3-networkx python3-matplotlib    # once
-    /usr/bin/python3 bench/figures.py [--program PATH] [--families ring,grid,..] [--sizes 100,1000,..,1000000]
+    python3 bench/figures.py [--program PATH] [--families ring,grid,..] [--sizes 100,1000,..,1000000]
                      [--files GRAPH ..] [--jobs value,count,cactus] [--peers lemon-ni,..] [--repetitions 3] [--long 1]
                      [--limit 10] [--memory MB] [--workers N] [--checked 100000] [--note TEXT] [--folder docs] [--save FILE.json]
     bench/figures.py --load FILE.json        # only writes the page again
