@@ -25,7 +25,8 @@ TWO_CYCLES = '6 8 1\n2 2 4 1 6 1\n1 2 3 2\n2 2 4 1 6 1\n1 1 3 1 5 2\n4 2 6 2\n1 
 
 CASES = [(['value'], TRIANGLE), (['cuts'], TRIANGLE), (['cactus'], TRIANGLE), (['cuts'], TWO_CYCLES), (['cactus'], TWO_CYCLES),
          (['count'], TWO_CYCLES), (['part', '2', '5'], TWO_CYCLES), (['balanced'], TWO_CYCLES),
-         (['cuts', '--least', '2'], MASSES), (['trial', '1000'], '')]
+         (['cuts', '--least', '2'], MASSES), (['augment'], TWO_CYCLES),
+         (['grow', '1', '3', '1', '2', '5', '2'], TWO_CYCLES), (['trial', '1000'], '')]
 
 SHIM = r'''
 #define _GNU_SOURCE
