@@ -1,14 +1,16 @@
 -- Two ends that move along the borders of a block weigh all ranges of the block that can be best.
-use Rattle.std.proofs.Common.{◌≡◌, ◌≢◌, ℕ, zero, suc, ◌+◌, ◌-◌, ◌≤◌, ◌<◌, min, max, ◌⊎◌, inl, inr, List, [], ◌∷◌, ◌++◌, length, take, drop, ap, ◌∙◌, sym, refl, subst, arith, append_assoc}
+use Rattle.std.proofs.Common.{◌≡◌, ◌≢◌, ℕ, zero, suc, ◌+◌, ◌-◌, ◌≤◌, ◌<◌, min, max, inl, inr, List, [], ◌∷◌, ◌++◌, length, take, drop, ap, ◌∙◌, sym, refl, subst, arith, append_assoc}
 use Rattle.std.specs.List.{All, Contains}
 use Rattle.std.proofs.lemmas.List.{append-nil}
 use Rattle.std.proofs.lemmas.List.Elements.{All-nil, All-cons, All-append, All-weaker, All-contains, Contains-append_left, Contains-append_right}
+use Rattle.std.proofs.lemmas.Bool.{cases_lt}
 use Rattle.cut_definitions.proofs.Lists.{Contains-here, Contains-there}
 use Rattle.cactus_tree.specs.Borders.{ranges_to, ranges_between, border_at}
 use Rattle.cactus_tree.specs.CutRanges.{Range}
 use Rattle.cactus_tree.specs.Walking.{AreBorders, AreChained}
 use Rattle.cactus_tree.specs.declared.walk.borders.Border.{Border}
 use Rattle.cactus_tree.proofs.Stepping.{end_there, place_within}
+use Rattle.cactus_tree.proofs.Chains.{next_at, no_less}
 use Rattle.balanced_cut.specs.Ends.{IsBestBefore, IsLesserPart, IsRangeOf, IsScale, NoneGreater, mass_to, range_balance, range_between}
 use Rattle.balanced_cut.specs.declared.scale.Scale.{Scale}
 
@@ -18,31 +20,6 @@ pub border_there : (bs : List Border) (i : ℕ) → 0 < (border_at bs i).followi
 border_there [] i h = absurd (omega (arith, h))
 border_there (b ∷ bs) zero h = omega arith
 border_there (b ∷ bs) (suc i) h = omega (arith, border_there bs i h)
-
--- the next border of the same block
-next_at : (bs : List Border) (i j : ℕ) → AreChained bs → j ≡ i + 1 → 0 < (border_at bs i).following → ((border_at bs i).place ≤ (border_at bs j).place) × ((border_at bs i).following ≡ (border_at bs j).following + 1)
-next_at [] i j h e some = absurd (omega (arith, some))
-next_at (b ∷ bs) i zero h e some = absurd (omega (arith, e))
-next_at (b ∷ bs) zero (suc j) h e some =
-    let z : 0 ≡ j = omega (arith, e) in
-    subst (λ k. (b.place ≤ (border_at bs k).place) × (b.following ≡ (border_at bs k).following + 1)) z (h.0 some)
-next_at (b ∷ bs) (suc i) (suc j) h e some = next_at bs i j h.1 (omega (arith, e)) some
-
--- the border so many behind one of the same block
-later : (k : ℕ) (bs : List Border) (i j : ℕ) → AreChained bs → j ≡ i + k → k ≤ (border_at bs i).following → ((border_at bs i).place ≤ (border_at bs j).place) × ((border_at bs i).following ≡ (border_at bs j).following + k)
-later zero bs i j h e few =
-    let same : i ≡ j = omega (arith, e) in
-    subst (λ m. ((border_at bs i).place ≤ (border_at bs m).place) × ((border_at bs i).following ≡ (border_at bs m).following + 0)) same (omega arith, omega arith)
-later (suc k) bs i j h e few =
-    let first = next_at bs i (i + 1) h refl (omega (arith, few)) in
-    let rest = later k bs (i + 1) j h (omega (arith, e)) (omega (arith, few, first.1)) in
-    (omega (arith, first.0, rest.0), omega (arith, first.1, rest.1))
-
--- the places of two borders of a block
-pub no_less : (bs : List Border) (i a b : ℕ) → AreChained bs → i ≤ a → a ≤ b → b ≤ i + (border_at bs i).following → (border_at bs a).place ≤ (border_at bs b).place
-no_less bs i a b h ia ab few =
-    let first = later (a - i) bs i a h (omega (arith, ia)) (omega (arith, ia, ab, few)) in
-    (later (b - a) bs a b h (omega (arith, ab)) (omega (arith, first.1, ia, ab, few))).0
 
 -- a border behind another of its block is there
 pub behind_there : (n : ℕ) (bs : List Border) (i e : ℕ) → AreBorders n bs → i < e → e ≤ i + (border_at bs i).following → e < length bs
@@ -128,13 +105,9 @@ pub record IsBetter (s : Scale) (best contender result : Range) : Type 0 where
   pub put : range_balance s best < range_balance s contender → result ≡ contender
   pub kept : range_balance s contender ≤ range_balance s best → result ≡ best
 
--- one number is less than another or not
-lt_or : (a b : ℕ) → (a < b) ⊎ (b ≤ a)
-lt_or a b = grind arith
-
 -- the better of two is no worse than either
 better_than : (s : Scale) (best contender result : Range) → IsBetter s best contender result → (range_balance s best ≤ range_balance s result) × (range_balance s contender ≤ range_balance s result)
-better_than s best contender result h = elim (lt_or (range_balance s best) (range_balance s contender)) [
+better_than s best contender result h = elim (cases_lt (range_balance s best) (range_balance s contender)) [
   | inl less ↦ subst (λ r. (range_balance s best ≤ range_balance s r) × (range_balance s contender ≤ range_balance s r)) (sym (h.put less)) (le_of less, le_same (range_balance s contender))
   | inr more ↦ subst (λ r. (range_balance s best ≤ range_balance s r) × (range_balance s contender ≤ range_balance s r)) (sym (h.kept more)) (le_same (range_balance s best), more)
 ]
@@ -147,7 +120,7 @@ better_than s best contender result h = elim (lt_or (range_balance s best) (rang
 
 -- the better of two is one of them
 better_one : (P : Range → Type 0) (s : Scale) (best contender result : Range) → IsBetter s best contender result → P best → P contender → P result
-better_one P s best contender result h b c = elim (lt_or (range_balance s best) (range_balance s contender)) [
+better_one P s best contender result h b c = elim (cases_lt (range_balance s best) (range_balance s contender)) [
   | inl less ↦ subst P (sym (h.put less)) c
   | inr more ↦ subst P (sym (h.kept more)) b
 ]
@@ -176,7 +149,7 @@ at_most : (n : ℕ) (s : Scale) (bs : List Border) (start end shorter high : ℕ
     (e : ℕ) → start < e → e ≤ start + (border_at bs start).following → range_balance s (range_between bs start e) ≤ high
 at_most n s bs start end shorter high are h c se within lesser first is a b e le few =
     let from = mass_to s (border_at bs start).place in
-    elim (lt_or e end) [
+    elim (cases_lt e end) [
       | inl before ↦
           let last : shorter ≡ end - 1 = omega (arith, is, le, before) in
           let short = short_one s.total from (mass_to s (border_at bs e).place) (mass_to s (border_at bs (end - 1)).place)
@@ -185,7 +158,7 @@ at_most n s bs start end shorter high are h c se within lesser first is a b e le
           (mass_within n s bs start (end - 1) are h (omega (arith, le, before)) (omega (arith, within))) (lesser (omega (arith, le, before))) in
           let low : range_balance s (range_between bs start (end - 1)) ≤ high = subst (λ k. range_balance s (range_between bs start k) ≤ high) last b in
           le_trans short low
-      | inr behind ↦ elim (lt_or (mass_to s (border_at bs end).place - from) (s.total - (mass_to s (border_at bs end).place - from))) [
+      | inr behind ↦ elim (cases_lt (mass_to s (border_at bs end).place - from) (s.total - (mass_to s (border_at bs end).place - from))) [
         | inl less ↦
             let whole : end ≡ e = omega (arith, first less, behind, few) in
             subst (λ k. range_balance s (range_between bs start k) ≤ high) whole a
@@ -242,7 +215,7 @@ none_past (x ∷ xs) (suc k) h = none_past xs k (omega (arith, h))
 
 -- where there is a range, a border that others follow is found
 pub first_there : (bs : List Border) (first : ℕ) → ranges_between bs ≢ [] → ranges_between (drop first bs) ≡ ranges_between (drop 0 bs) → first < length bs
-first_there bs first some same = elim (lt_or first (length bs)) [
+first_there bs first some same = elim (cases_lt first (length bs)) [
   | inl there ↦ there
   | inr past ↦ absurd (some (sym same ∙ ap ranges_between (none_past bs first past)))
 ]

@@ -2,8 +2,9 @@
 use Rattle.std.proofs.Common.{◌≡◌, ◌≢◌, ℕ, ◌≤◌, List, [], ◌∷◌, ◌++◌, length, map, refl, sym, ap, subst, ◌∙◌, append_assoc, arith}
 use Rattle.std.specs.List.{All, range_with_len, filter}
 use Rattle.std.proofs.lemmas.List.{length-map}
-use Rattle.std.proofs.lemmas.List.Elements.{All-nil, All-cons, All-head, All-tail}
+use Rattle.std.proofs.lemmas.List.Elements.{All-head}
 use Rattle.cut_definitions.specs.Weight.{VertexSet, either}
+use Rattle.cut_definitions.proofs.ListLaws.{All-front}
 use Rattle.cactus_tree.specs.Sides.{Part, part, block_part, below, cuts, intervals, all_cuts, belows, from_here}
 use Rattle.cactus_tree.specs.Trees.{blocks, nodes_in}
 use Rattle.cactus_tree.specs.Widths.{widths, block_widths, joined}
@@ -54,10 +55,6 @@ some_of_block b wide =
     subst (λ z. (block_part z).cuts ≢ []) (roll-out-Block b)
     (block_case (out-Block b) (subst (λ z. AreWide (block_widths z)) (sym (roll-out-Block b)) wide))
 
-all_left : {X : Type 0} (P : X → Type 0) (xs ys : List X) → All P (xs ++ ys) → All P xs
-all_left P [] ys h = All-nil P
-all_left P (x ∷ xs) ys h = All-cons P x xs (All-head P x (xs ++ ys) h) (all_left P xs ys (All-tail P x (xs ++ ys) h))
-
 none_left : {X : Type 0} (xs ys : List X) → xs ++ ys ≡ [] → xs ≡ []
 none_left [] ys e = refl
 none_left (x ∷ xs) ys e = absurd (begins x (xs ++ ys) (x ∷ (xs ++ ys)) refl e)
@@ -69,7 +66,7 @@ none_mapped f (x ∷ xs) e = absurd (begins (f x) (map f xs) (f x ∷ map f xs) 
 some_of_first : (bs : List Block) → bs ≢ [] → AreWide (joined (map block_widths bs)) → all_cuts (map block_part bs) ≢ []
 some_of_first [] some wide = absurd (some refl)
 some_of_first (b ∷ bs) some wide = λ none.
-    some_of_block b (all_left (λ k. 2 ≤ k) (block_widths b) (joined (map block_widths bs)) wide)
+    some_of_block b (All-front (λ k. 2 ≤ k) (block_widths b) (joined (map block_widths bs)) wide)
     (none_left (block_part b).cuts (all_cuts (map block_part bs)) none)
 
 pub some_side : (c : Rooted) → IsCactus c.vertices c.root → blocks c.root ≢ [] → sides_of c ≢ []

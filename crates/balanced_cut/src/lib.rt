@@ -14,9 +14,7 @@ mod scale;
 mod side_balance;
 mod weighed;
 
+pub use cut_definitions::NoMemory;
 pub use scale::Scale;
 pub use side_balance::balance_of;
 pub use weighed::best;
-
-/// Memory was wanting.
-pub type NoMemory = std::alloc::AllocError;

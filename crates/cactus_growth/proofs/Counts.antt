@@ -1,26 +1,15 @@
 -- In how many lists a vertex is, and facts of each element of two lists together.
-use Rattle.std.proofs.Common.{◌≡◌, ℕ, ◌+◌, ◌≤◌, inl, inr, Bool, true, false, cond, List, [], ◌∷◌, ◌++◌, length, ap, ◌∙◌, sym, arith, length-append}
-use Rattle.std.specs.List.{All, filter, concat}
+use Rattle.std.proofs.Common.{◌≡◌, ℕ, ◌+◌, ◌≤◌, inl, inr, true, cond, List, [], ◌∷◌, ◌++◌, length, ap, ◌∙◌, sym, arith, length-append}
+use Rattle.std.specs.List.{filter, concat}
 use Rattle.std.proofs.lemmas.Bool.{or_cases, or_left, or_right, cases_Bool, false≢true}
-use Rattle.std.proofs.lemmas.List.Elements.{All-nil, All-cons, All-head, All-tail, filter-append}
+use Rattle.std.proofs.lemmas.List.Elements.{filter-append}
 use Rattle.cut_definitions.specs.Cuts.{has}
+use Rattle.cut_definitions.proofs.ListLaws.{longer}
 use Rattle.cactus_tree.proofs.Segments.{has_append_at}
 use Rattle.cactus_growth.specs.Growth.{times}
 
-pub All_left : {X : Type 0} (P : X → Type 0) (xs ys : List X) → All P (xs ++ ys) → All P xs
-All_left P [] ys a = All-nil P
-All_left P (x ∷ xs) ys a = All-cons P x xs (All-head P x (xs ++ ys) a) (All_left P xs ys (All-tail P x (xs ++ ys) a))
-
-pub All_right : {X : Type 0} (P : X → Type 0) (xs ys : List X) → All P (xs ++ ys) → All P ys
-All_right P [] ys a = a
-All_right P (x ∷ xs) ys a = All_right P xs ys (All-tail P x (xs ++ ys) a)
-
 pub count_both : (v : ℕ) (ls ms : List (List ℕ)) → times v (ls ++ ms) ≡ times v ls + times v ms
 count_both v ls ms = ap length (filter-append (λ l. has l v) ls ms) ∙ length-append (filter (λ l. has l v) ls) (filter (λ l. has l v) ms)
-
-longer : (b : Bool) (l : List ℕ) (ls : List (List ℕ)) → length ls ≤ length (cond b (l ∷ ls) ls)
-longer true l ls = omega arith
-longer false l ls = omega arith
 
 pub count_some : (v : ℕ) (ls : List (List ℕ)) → has (concat ls) v ≡ true → 1 ≤ times v ls
 count_some v [] h = absurd (false≢true h)

@@ -1,14 +1,16 @@
 -- No side of a normal cactus is empty.
 use Rattle.std.proofs.Common.{◌≡◌, ℕ, ◌<◌, ◌≤◌, inl, inr, true, List, [], ◌∷◌, length, map, refl, ap, ◌∙◌, sym, subst, arith}
-use Rattle.std.specs.List.{All, AllByRecursion, Contains, filter, range_with_len, concat}
+use Rattle.std.specs.List.{AllByRecursion, Contains, filter, range_with_len, concat}
 use Rattle.std.specs.declared.boxed.Box.{Box}
 use Rattle.std.specs.declared.alloc.Global.{Global}
 use Rattle.std.proofs.lemmas.Bool.{or_left, or_right, false≢true}
-use Rattle.std.proofs.lemmas.List.Elements.{All-contains, All-weaker, All-contains_itself, Contains-append_cases}
+use Rattle.std.proofs.lemmas.List.Elements.{All-contains, Contains-append_cases}
 use Rattle.cut_definitions.specs.Weight.{VertexSet}
 use Rattle.cut_definitions.specs.Cuts.{has}
 use Rattle.cut_definitions.proofs.Bridge.{has_within}
 use Rattle.cut_definitions.proofs.Lists.{Contains-cons_cases, Contains-from_map, Contains-nil}
+use Rattle.cut_definitions.proofs.ListLaws.{All-from_each}
+use Rattle.cut_definitions.proofs.Ascending.{has_contains}
 use Rattle.cactus_tree.specs.Different.{HasNoEmptySide}
 use Rattle.cactus_tree.specs.Entered.{entered}
 use Rattle.cactus_tree.specs.Normal.{is_normal}
@@ -22,14 +24,14 @@ use Rattle.cactus_tree.specs.declared.tree.Children.{Children}
 use Rattle.cactus_tree.specs.declared.tree.Block.TheVariants.{Bridge, Cycle}
 use Rattle.cactus_tree.proofs.Cycles.{cycle_cuts, cycle_cases, here_above}
 use Rattle.cactus_tree.proofs.Fits.{IsFit, IsFitBlock, AreFitBlocks, AreFitNodes, IsPlaced, blocks_head, blocks_tail, nodes_head, nodes_placed, nodes_tail, node_blocks, bridge_child, cycle_children, root_fit}
-use Rattle.cactus_tree.proofs.Groups.{has_contains}
 use Rattle.cactus_tree.proofs.Layouts.{laid_out}
 use Rattle.cactus_tree.proofs.Once.{all_vertices_within}
 use Rattle.cactus_tree.proofs.Parts.{bridge_part, cycle_part}
 use Rattle.cactus_tree.proofs.Sets.{HasOne}
 use Rattle.cactus_tree.proofs.Views.{block_induction, each}
+use Rattle.cactus_tree.proofs.Trims.{cuts_out}
 use Rattle.cactus_growth.proofs.CycleKept.{node_inside}
-use Rattle.cactus_growth.proofs.Pulled.{below_at, cuts_of}
+use Rattle.cactus_growth.proofs.WaysDown.{below_at}
 
 -- it has a vertex, and so has each of its cuts
 abbrev pub IsFilled : VertexSet → List VertexSet → Type 0
@@ -66,7 +68,7 @@ module _ (n : ℕ) where
           ]
           | inr c ↦ later_one x (blocks_one (blocks x) h fit (omega (arith, ap length c.1)))
         ],
-        λ s c. blocks_cuts (blocks x) h fit s (subst (λ l. Contains l s) (cuts_of x) c),
+        λ s c. blocks_cuts (blocks x) h fit s (subst (λ l. Contains l s) (cuts_out x) c),
       )
 
   bridge_case : (child : Box Node Global) → NodeFilled child.value → BlockFilled (Bridge child)
@@ -101,17 +103,14 @@ module _ (n : ℕ) where
 
   pub cuts_filled : (root : Node) → IsCactus n root → is_normal root ≡ true → (s : VertexSet) → Contains (part root).cuts s → HasOne s
   cuts_filled root h normal s c =
-      blocks_cuts (blocks root) (each BlockFilled block_filled (blocks root)) (node_blocks n root (root_fit n root h normal)) s (subst (λ l. Contains l s) (cuts_of root) c)
+      blocks_cuts (blocks root) (each BlockFilled block_filled (blocks root)) (node_blocks n root (root_fit n root h normal)) s (subst (λ l. Contains l s) (cuts_out root) c)
 
 some_member : (l : List ℕ) (v : ℕ) → has l v ≡ true → 0 < length l
 some_member [] v h = absurd (false≢true h)
 some_member (x ∷ l) v h = omega arith
 
-pub all_of_each : {X : Type 0} (P : X → Type 0) (l : List X) → ((x : X) → Contains l x → P x) → All P l
-all_of_each P l f = All-weaker (Contains l) P f l (All-contains_itself l)
-
 pub no_empty_side : (c : Rooted) → IsCactus c.vertices c.root → is_normal c.root ≡ true → HasNoEmptySide c
-no_empty_side c h normal = all_of_each (λ side. 0 < length side) (sides_of c) (λ side m.
+no_empty_side c h normal = All-from_each (λ side. 0 < length side) (sides_of c) (λ side m.
     let listing : VertexSet → List ℕ = λ s. filter s (range_with_len 1 c.vertices) in
     let r = Contains-from_map listing (cuts c.root) side m in
     let w = cuts_filled c.vertices c.root h normal r.0 r.1 in
@@ -121,7 +120,7 @@ no_empty_side c h normal = all_of_each (λ side. 0 < length side) (sides_of c) (
 
 -- nor one of a cactus whose sides are some of its
 pub fewer_sides : (c d : Rooted) → ((side : List ℕ) → Contains (sides_of c) side → Contains (sides_of d) side) → HasNoEmptySide d → HasNoEmptySide c
-fewer_sides c d f h = all_of_each (λ side. 0 < length side) (sides_of c) (λ side m. All-contains (λ s. 0 < length s) (sides_of d) side h (f side m))
+fewer_sides c d f h = All-from_each (λ side. 0 < length side) (sides_of c) (λ side m. All-contains (λ s. 0 < length s) (sides_of d) side h (f side m))
 
 -- a cactus with a side has a block
 pub some_block : (c : Rooted) (side : List ℕ) → Contains (sides_of c) side → 1 ≤ length (blocks c.root)
@@ -129,5 +128,5 @@ some_block c side m = go (blocks c.root) refl
   where
     go : (bs : List Block) → blocks c.root ≡ bs → 1 ≤ length (blocks c.root)
     go [] e = let r = Contains-from_map (λ s. filter s (range_with_len 1 c.vertices)) (cuts c.root) side m in
-        absurd (Contains-nil r.0 (subst (λ l. Contains l r.0) (cuts_of c.root ∙ ap (λ bs. all_cuts (map block_part bs)) e) r.1))
+        absurd (Contains-nil r.0 (subst (λ l. Contains l r.0) (cuts_out c.root ∙ ap (λ bs. all_cuts (map block_part bs)) e) r.1))
     go (b ∷ bs) e = omega (arith, ap length e)

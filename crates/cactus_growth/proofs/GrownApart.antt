@@ -14,14 +14,16 @@ use Rattle.cactus_tree.specs.Trees.{vertices, blocks}
 use Rattle.cactus_tree.specs.declared.tree.Node.{Node}
 use Rattle.cactus_tree.specs.declared.tree.Block.{Block}
 use Rattle.cactus_tree.proofs.Orders.{entered_out}
+use Rattle.cactus_tree.proofs.Trims.{cuts_out}
+use Rattle.cactus_tree.proofs.BlockLaws.{block_laid}
 use Rattle.cactus_growth.specs.Growth.{times, AreOnce, IsGrown, IsPulled}
 use Rattle.cactus_growth.specs.Ways.{HasChild, LeadsTo}
 use Rattle.cactus_growth.specs.declared.ways.Step.{Step}
 use Rattle.cactus_growth.proofs.Counts.{count_both, count_some}
 use Rattle.cactus_growth.proofs.Opened.{blocks_listed, own_lacks, walk_part}
-use Rattle.cactus_growth.proofs.Pulled.{times_more, below_at, cuts_of}
-use Rattle.cactus_growth.proofs.Within.{block_laid, block_within, of_lists}
-use Rattle.cactus_growth.proofs.WaysDown.{way_inside, one_of_all}
+use Rattle.cactus_growth.proofs.Pulled.{times_more}
+use Rattle.cactus_growth.proofs.Within.{block_within, of_lists}
+use Rattle.cactus_growth.proofs.WaysDown.{way_inside, one_of_all, below_at}
 
 -- ---- which block has a vertex below it
 block_listed : (b : Block) (v : ℕ) → (block_part b).below v ≡ of_lists (entered_block b) v
@@ -81,7 +83,7 @@ module _ (u v : ℕ) (node : Node) (once : AreOnce (entered node)) where
   none_has_both (a ∷ aa) [] lu lv apart s c e f =
       false≢true (sym (own_lacks node v (ap (λ x. has (vertices x) v) lv.1 ∙ lv.2) (once v) s c) ∙ f)
   none_has_both (a ∷ aa) (b ∷ bb) lu lv apart s c e f =
-      let at = cut_block (blocks node) s (subst (λ l. Contains l s) (cuts_of node) c) in
+      let at = cut_block (blocks node) s (subst (λ l. Contains l s) (cuts_out node) c) in
       let first = lu.1 in
       let second = lv.1 in
       let in_first = step_block node first.0 a first.1 u (way_inside first.0 aa lu.0 u first.2 (own_below lu.0 u lu.2)) in

@@ -6,6 +6,8 @@ use Rattle.std.proofs.lemmas.List.Concat.{flat_map-append}
 use Rattle.std.proofs.lemmas.List.Elements.{All-append, All-cons, All-head, All-tail, Contains-append_left, Contains-append_right, Contains-append_cases}
 use Rattle.cut_definitions.specs.Weight.{VertexSet, either}
 use Rattle.cut_definitions.specs.Cuts.{has, IsAscendingWithin}
+use Rattle.cut_definitions.proofs.ListLaws.{All-front, All-back}
+use Rattle.cut_definitions.proofs.Bools.{no_left, no_right}
 use Rattle.cactus_tree.specs.Sides.{Part, part, block_part, all_of, belows, all_cuts}
 use Rattle.cactus_tree.specs.Entered.{entered, entered_block}
 use Rattle.cactus_tree.specs.Trees.{vertices, blocks}
@@ -13,13 +15,16 @@ use Rattle.cactus_tree.specs.Widths.{widths, block_widths}
 use Rattle.cactus_tree.specs.declared.tree.Node.{Node}
 use Rattle.cactus_tree.proofs.Cycles.{cycle_cuts}
 use Rattle.cactus_tree.proofs.Orders.{entered_out}
+use Rattle.cactus_tree.proofs.BlockLaws.{widths_flat}
+use Rattle.cactus_tree.proofs.Trims.{cuts_out}
 use Rattle.cactus_growth.specs.Growth.{times, AreOnce, AreAscending, AscendBelow, AreWide, IsArcHung, IsTakenIn, IsSorted, IsOpened, IsGrown, IsPulled}
-use Rattle.cactus_growth.proofs.Counts.{count_both, All_left, All_right}
+use Rattle.cactus_growth.proofs.Counts.{count_both}
 use Rattle.cactus_growth.proofs.CycleKept.{IsJoint, cycle_kept}
 use Rattle.cactus_growth.proofs.GrownUp.{walk_once, top_lacks}
 use Rattle.cactus_growth.proofs.Opened.{mid_flat, below_both, other_nodes}
-use Rattle.cactus_growth.proofs.Pulled.{times_more, widths_flat, below_at, cuts_of, ascending_within}
-use Rattle.cactus_growth.proofs.Runs.{along, along_is, no_left, no_right}
+use Rattle.cactus_growth.proofs.Pulled.{times_more, ascending_within}
+use Rattle.cactus_growth.proofs.Runs.{along, along_is}
+use Rattle.cactus_growth.proofs.WaysDown.{below_at}
 
 -- two nodes became one, with the vertices and the blocks of both
 pub record IsAbsorbed (node other x : Node) : Type 0 where
@@ -37,7 +42,7 @@ ascend_below n x a =
 
 pub absorbed : (node other t x : Node) → IsTakenIn node other t → IsSorted t x → IsAbsorbed node other x
 absorbed node other t x i k =
-    let cuts_are : (part x).cuts ≡ (part t).cuts = cuts_of x ∙ ap (λ bs. all_cuts (map block_part bs)) k.blocks_are ∙ sym (cuts_of t) in
+    let cuts_are : (part x).cuts ≡ (part t).cuts = cuts_out x ∙ ap (λ bs. all_cuts (map block_part bs)) k.blocks_are ∙ sym (cuts_out t) in
     let lists_are : flat_map entered_block (blocks x) ≡ flat_map entered_block (blocks t) = ap (flat_map entered_block) k.blocks_are in
     record {
       below = λ w. below_at x w ∙ ap (λ bs. has (vertices x) w || all_of (belows (map block_part bs)) w) k.blocks_are ∙ ap (λ b. b || all_of (belows (map block_part (blocks t))) w) (k.own w)
@@ -210,27 +215,27 @@ module _ (u v : ℕ) (old top far x : Node) (front xs ms ys : List Node) (near n
         let P = IsAscendingWithin 1 n in
         let was = o.ascending n a in
         let d0 : AreAscending n (flat_map entered xs ++ (entered near ++ (flat_map entered ms ++ (entered far ++ flat_map entered ys)))) = subst (AreAscending n) old_lists was.1 in
-        let d1 = All_right P (flat_map entered xs) (entered near ++ (flat_map entered ms ++ (entered far ++ flat_map entered ys))) d0 in
-        let d2 = All_right P (entered near) (flat_map entered ms ++ (entered far ++ flat_map entered ys)) d1 in
-        let d3 = All_right P (flat_map entered ms) (entered far ++ flat_map entered ys) d2 in
+        let d1 = All-back P (flat_map entered xs) (entered near ++ (flat_map entered ms ++ (entered far ++ flat_map entered ys))) d0 in
+        let d2 = All-back P (entered near) (flat_map entered ms ++ (entered far ++ flat_map entered ys)) d1 in
+        let d3 = All-back P (flat_map entered ms) (entered far ++ flat_map entered ys) d2 in
         let mid : AreAscending n (entered j) = subst (AreAscending n) (sym arc.entered_is) (All-append P (entered j0) (flat_map entered ms)
-        (ab.ascending n (pn.ascending n (All_left P (entered near) (flat_map entered ms ++ (entered far ++ flat_map entered ys)) d1)) (pf.ascending n (All_left P (entered far) (flat_map entered ys) d3)))
-        (All_left P (flat_map entered ms) (entered far ++ flat_map entered ys) d2)) in
+        (ab.ascending n (pn.ascending n (All-front P (entered near) (flat_map entered ms ++ (entered far ++ flat_map entered ys)) d1)) (pf.ascending n (All-front P (entered far) (flat_map entered ys) d3)))
+        (All-front P (flat_map entered ms) (entered far ++ flat_map entered ys) d2)) in
         subst (AreAscending n) (sym k.entered_is) (All-append P (entered top) (flat_map entered new) was.0
         (subst (AreAscending n) (sym (mid_flat entered xs ys new j refl))
-        (All-append P (flat_map entered xs) (entered j ++ flat_map entered ys) (All_left P (flat_map entered xs) (entered near ++ (flat_map entered ms ++ (entered far ++ flat_map entered ys))) d0)
-        (All-append P (entered j) (flat_map entered ys) mid (All_right P (entered far) (flat_map entered ys) d3)))));
+        (All-append P (flat_map entered xs) (entered j ++ flat_map entered ys) (All-front P (flat_map entered xs) (entered near ++ (flat_map entered ms ++ (entered far ++ flat_map entered ys))) d0)
+        (All-append P (entered j) (flat_map entered ys) mid (All-back P (entered far) (flat_map entered ys) d3)))));
     wide = λ a.
         let P : ℕ → Type 0 = λ z. 2 ≤ z in
         let was = o.wide a in
         let d0 : AreWide (flat_map widths xs ++ (widths near ++ (flat_map widths ms ++ (widths far ++ flat_map widths ys)))) = subst AreWide old_widths was.1 in
-        let d1 = All_right P (flat_map widths xs) (widths near ++ (flat_map widths ms ++ (widths far ++ flat_map widths ys))) d0 in
-        let d2 = All_right P (widths near) (flat_map widths ms ++ (widths far ++ flat_map widths ys)) d1 in
-        let d3 = All_right P (flat_map widths ms) (widths far ++ flat_map widths ys) d2 in
-        let mid : AreWide (widths j) = arc.wide (ab.wide (pn.wide (All_left P (widths near) (flat_map widths ms ++ (widths far ++ flat_map widths ys)) d1)) (pf.wide (All_left P (widths far) (flat_map widths ys) d3)))
-        (All_left P (flat_map widths ms) (widths far ++ flat_map widths ys) d2) in
+        let d1 = All-back P (flat_map widths xs) (widths near ++ (flat_map widths ms ++ (widths far ++ flat_map widths ys))) d0 in
+        let d2 = All-back P (widths near) (flat_map widths ms ++ (widths far ++ flat_map widths ys)) d1 in
+        let d3 = All-back P (flat_map widths ms) (widths far ++ flat_map widths ys) d2 in
+        let mid : AreWide (widths j) = arc.wide (ab.wide (pn.wide (All-front P (widths near) (flat_map widths ms ++ (widths far ++ flat_map widths ys)) d1)) (pf.wide (All-front P (widths far) (flat_map widths ys) d3)))
+        (All-front P (flat_map widths ms) (widths far ++ flat_map widths ys) d2) in
         k.wide was.0 (subst AreWide (sym (mid_flat widths xs ys new j refl))
-        (All-append P (flat_map widths xs) (widths j ++ flat_map widths ys) (All_left P (flat_map widths xs) (widths near ++ (flat_map widths ms ++ (widths far ++ flat_map widths ys))) d0)
-        (All-append P (widths j) (flat_map widths ys) mid (All_right P (widths far) (flat_map widths ys) d3))));
+        (All-append P (flat_map widths xs) (widths j ++ flat_map widths ys) (All-front P (flat_map widths xs) (widths near ++ (flat_map widths ms ++ (widths far ++ flat_map widths ys))) d0)
+        (All-append P (widths j) (flat_map widths ys) mid (All-back P (widths far) (flat_map widths ys) d3))));
     own = λ w h. ap (λ l. has l w) k.own ∙ ap (λ l. has l w) (sym o.own) ∙ h;
   }

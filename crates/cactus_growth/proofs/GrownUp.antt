@@ -6,13 +6,14 @@ use Rattle.std.proofs.lemmas.List.{map-append}
 use Rattle.std.proofs.lemmas.List.Elements.{All-append, All-cons, Contains-append_left, Contains-append_right, Contains-append_cases}
 use Rattle.cut_definitions.specs.Weight.{VertexSet}
 use Rattle.cut_definitions.specs.Cuts.{has, IsAscendingWithin}
+use Rattle.cut_definitions.proofs.ListLaws.{All-front, All-back}
 use Rattle.cactus_tree.specs.Sides.{Part, part, all_of, belows}
 use Rattle.cactus_tree.specs.Entered.{entered}
 use Rattle.cactus_tree.specs.Widths.{widths}
 use Rattle.cactus_tree.specs.declared.tree.Node.{Node}
 use Rattle.cactus_tree.proofs.Cycles.{cycle_cuts}
 use Rattle.cactus_growth.specs.Growth.{times, AreOnce, AreAscending, AreWide, IsArcHung, IsOpened, IsGrown}
-use Rattle.cactus_growth.proofs.Counts.{count_both, count_some, All_left, All_right}
+use Rattle.cactus_growth.proofs.Counts.{count_both, count_some}
 use Rattle.cactus_growth.proofs.CycleKept.{IsEven, cycle_even, cycle_replaced, lacking_even, node_lacks}
 use Rattle.cactus_growth.proofs.Opened.{mid_flat, below_both, below_listed, node_listed, other_nodes}
 
@@ -124,19 +125,19 @@ module _ (u v : ℕ) (old top child y x : Node) (before after : List Node) (o : 
         let P = IsAscendingWithin 1 n in
         let was = o.ascending n a in
         let pieces : AreAscending n (flat_map entered before ++ (entered child ++ flat_map entered after)) = subst (AreAscending n) (mid_flat entered before after walk child refl) was.1 in
-        let behind = All_right P (flat_map entered before) (entered child ++ flat_map entered after) pieces in
+        let behind = All-back P (flat_map entered before) (entered child ++ flat_map entered after) pieces in
         subst (AreAscending n) (sym k.entered_is) (All-append P (entered top) (flat_map entered next) was.0
         (subst (AreAscending n) (sym (mid_flat entered before after next y refl))
-        (All-append P (flat_map entered before) (entered y ++ flat_map entered after) (All_left P (flat_map entered before) (entered child ++ flat_map entered after) pieces)
-        (All-append P (entered y) (flat_map entered after) (g.ascending n (All_left P (entered child) (flat_map entered after) behind)) (All_right P (entered child) (flat_map entered after) behind)))));
+        (All-append P (flat_map entered before) (entered y ++ flat_map entered after) (All-front P (flat_map entered before) (entered child ++ flat_map entered after) pieces)
+        (All-append P (entered y) (flat_map entered after) (g.ascending n (All-front P (entered child) (flat_map entered after) behind)) (All-back P (entered child) (flat_map entered after) behind)))));
     wide = λ a.
         let P : ℕ → Type 0 = λ z. 2 ≤ z in
         let was = o.wide a in
         let pieces : AreWide (flat_map widths before ++ (widths child ++ flat_map widths after)) = subst AreWide (mid_flat widths before after walk child refl) was.1 in
-        let behind = All_right P (flat_map widths before) (widths child ++ flat_map widths after) pieces in
+        let behind = All-back P (flat_map widths before) (widths child ++ flat_map widths after) pieces in
         k.wide was.0 (subst AreWide (sym (mid_flat widths before after next y refl))
-        (All-append P (flat_map widths before) (widths y ++ flat_map widths after) (All_left P (flat_map widths before) (widths child ++ flat_map widths after) pieces)
-        (All-append P (widths y) (flat_map widths after) (g.wide (All_left P (widths child) (flat_map widths after) behind)) (All_right P (widths child) (flat_map widths after) behind))));
+        (All-append P (flat_map widths before) (widths y ++ flat_map widths after) (All-front P (flat_map widths before) (widths child ++ flat_map widths after) pieces)
+        (All-append P (widths y) (flat_map widths after) (g.wide (All-front P (widths child) (flat_map widths after) behind)) (All-back P (widths child) (flat_map widths after) behind))));
     own = λ w h. ap (λ l. has l w) k.own ∙ ap (λ l. has l w) (sym o.own) ∙ h;
   }
 

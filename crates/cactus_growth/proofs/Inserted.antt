@@ -1,8 +1,8 @@
 -- What an insertion adds to the weight of each set, and the laws of an insertion.
-use Rattle.std.proofs.Common.{◌≡◌, ℕ, ◌+◌, ◌<◌, ◌≤◌, ◌⊎◌, inl, inr, ⊎_elim, Bool, true, false, ◌&&◌, ◌||◌, List, [], ◌∷◌, eqb, ltb, refl, sym, ◌∙◌, ap, arith}
+use Rattle.std.proofs.Common.{◌≡◌, ℕ, ◌+◌, ◌<◌, ◌≤◌, ◌⊎◌, inl, inr, ⊎_elim, Bool, true, false, ◌&&◌, ◌||◌, List, [], ◌∷◌, eqb, ltb, sym, ◌∙◌, ap, arith}
 use Rattle.std.specs.Prelude.{if◌then◌else◌}
 use Rattle.std.specs.List.{filter, sum_by}
-use Rattle.std.proofs.lemmas.Bool.{cases_Bool, cases_order, eqb-true, false≢true}
+use Rattle.std.proofs.lemmas.Bool.{cases_Bool, cases_order, eqb-true, and_parts}
 use Rattle.std.proofs.lemmas.Bool.Decides.{nat_tests}
 use Rattle.std.proofs.lemmas.List.Sums.{sum_by-cons, sum_by-append}
 use Rattle.cut_definitions.specs.declared.edge_list.Edge.{Edge}
@@ -10,15 +10,14 @@ use Rattle.cut_definitions.specs.Graph.{Graph}
 use Rattle.cut_definitions.specs.Weight.{VertexSet, parts}
 use Rattle.cut_definitions.specs.Cuts.{has, value}
 use Rattle.cut_definitions.proofs.WeightLaws.{cut_of, cut_term}
+use Rattle.cut_definitions.proofs.Bools.{counted_out}
+use Rattle.cut_definitions.proofs.Contracted.{cut_of-zero}
 use Rattle.cactus_growth.specs.Insertion.{comes_before, same_ends, weight_there, inserted, enlarged}
 use Rattle.cactus_growth.specs.Laws.{LawOfWeights, LawOfKeptCuts, LawOfRise, LawOfConnection}
 use Rattle.cactus_growth.proofs.Heavier.{WeighsMore, value_stays, cuts_stay, value_rises}
 
 cut_plus : (a b : Bool) (v w : ℕ) → cut_of a b (v + w) ≡ cut_of a b v + cut_of a b w
 cut_plus a b v w = grind arith
-
-cut_zero : (a b : Bool) → cut_of a b 0 ≡ 0
-cut_zero a b = grind arith
 
 -- a sum over a filter, one element at a time
 pub sum_filter : {X : Type 0} (f : X → ℕ) (p : X → Bool) (x : X) (xs : List X) → sum_by f (filter p (x ∷ xs)) ≡ (if p x then f x else 0) + sum_by f (filter p xs)
@@ -46,20 +45,15 @@ kinds a b c d =
     (λ (e : c < a). inr (inr (grind (arith, nat_tests), grind (arith, nat_tests), grind (arith, nat_tests)))))
     (cases_order a c)
 
-pub both_parts : (a b : Bool) → (a && b) ≡ true → (a ≡ true) × (b ≡ true)
-both_parts true true h = (refl, refl)
-both_parts true false h = (refl, h)
-both_parts false b h = absurd (false≢true h)
-
 -- what one edge adds to the weight of a set is the sum of what it adds in the three places
 one_edge : (s : VertexSet) (d e : Edge) →
     ((if comes_before d e then cut_term s d else 0) + cut_of (s e.u) (s e.v) (if same_ends d e then d.w else 0)) + (if comes_before e d then cut_term s d else 0) ≡ cut_term s d
 one_edge s d e =
-    let zero = cut_zero (s e.u) (s e.v) in
+    let zero = cut_of-zero (s e.u) (s e.v) in
     elim (kinds d.u d.v e.u e.v) [
       | inl k ↦ rw (k.0, k.1, k.2) (omega (arith, zero))
       | inr (inl k) ↦
-          (let q = both_parts (eqb d.u e.u) (eqb d.v e.v) k.1 in
+          (let q = and_parts (eqb d.u e.u) (eqb d.v e.v) k.1 in
           let same : cut_of (s e.u) (s e.v) d.w ≡ cut_term s d = ap (λ x. cut_of (s x) (s e.v) d.w) (sym (eqb-true d.u e.u q.0)) ∙ ap (λ x. cut_of (s d.u) (s x) d.w) (sym (eqb-true d.v e.v q.1)) in
           rw (k.0, k.1, k.2) (omega (arith, same)))
       | inr (inr k) ↦ rw (k.0, k.1, k.2) (omega (arith, zero))
@@ -68,7 +62,7 @@ one_edge s d e =
 three_places : (s : VertexSet) (e : Edge) (edges : List Edge) →
     (sum_by (cut_term s) (filter (λ d. comes_before d e) edges) + cut_of (s e.u) (s e.v) (weight_there e edges)) + sum_by (cut_term s) (filter (λ d. comes_before e d) edges)
     ≡ sum_by (cut_term s) edges
-three_places s e [] = let zero = cut_zero (s e.u) (s e.v) in omega (arith, zero)
+three_places s e [] = let zero = cut_of-zero (s e.u) (s e.v) in omega (arith, zero)
 three_places s e (d ∷ ds) =
     let here : weight_there e (d ∷ ds) ≡ (if same_ends d e then d.w else 0) + weight_there e ds = sum_by-cons (λ (c : Edge). if same_ends c e then c.w else 0) d ds in
     omega (
@@ -106,21 +100,18 @@ weighs g e side = weights g e (has side)
 parted_none : (b : Bool) (w : ℕ) → 1 ≤ w → (if b then w else 0) ≡ 0 → b ≡ false
 parted_none b w h e = grind arith
 
-none_parted : (b : Bool) (w : ℕ) → b ≡ false → (if b then w else 0) ≡ 0
-none_parted b w e = grind arith
-
 parted_some : (b : Bool) (w : ℕ) → 1 ≤ w → b ≡ true → 1 ≤ (if b then w else 0)
 parted_some b w h e = grind arith
 
 pub kept_cuts : LawOfKeptCuts
 kept_cuts g e one some =
     let edges = inserted e g.edges in
-    let same : value (enlarged g e) ≡ value g = value_stays g edges (more_of e) (weighs g e) some.0 some.1 (none_parted (parts (has some.0) e.u e.v) e.w some.2) in (
+    let same : value (enlarged g e) ≡ value g = value_stays g edges (more_of e) (weighs g e) some.0 some.1 (counted_out (parts (has some.0) e.u e.v) e.w some.2) in (
       same,
       (λ side.
           let both = cuts_stay g edges (more_of e) (weighs g e) same side in (
             (λ c. let r = both.0 c in (r.0, parted_none (parts (has side) e.u e.v) e.w one r.1)),
-            (λ c. both.1 (c.0, none_parted (parts (has side) e.u e.v) e.w c.1)),
+            (λ c. both.1 (c.0, counted_out (parts (has side) e.u e.v) e.w c.1)),
           )),
     )
 

@@ -2,12 +2,14 @@
 use Rattle.std.proofs.Common.{◌≡◌, ℕ, ◌≤◌, ◌↔◌, inl, inr, Bool, true, false, List, [], ◌∷◌, length, map, refl, ap, ◌∙◌, sym, subst, arith}
 use Rattle.std.specs.Prelude.{not, if◌then◌else◌}
 use Rattle.std.specs.List.{Contains, filter, range_with_len, flat_map}
-use Rattle.std.proofs.lemmas.Bool.{false≢true}
 use Rattle.std.proofs.lemmas.List.Elements.{All-head, Contains-append_left}
 use Rattle.cut_definitions.specs.Weight.{VertexSet, parts}
 use Rattle.cut_definitions.specs.Cuts.{has}
 use Rattle.cut_definitions.proofs.Bridge.{has_within}
 use Rattle.cut_definitions.proofs.Lists.{Contains-here, Contains-map, Contains-from_map, Contains-nil}
+use Rattle.cut_definitions.proofs.Bools.{parts_from_same, same_from_parts}
+use Rattle.cut_definitions.proofs.Ascending.{contains_has, has_contains}
+use Rattle.cut_definitions.proofs.ListLaws.{All-front}
 use Rattle.cactus_tree.specs.Sides.{Part, part, block_part, all_cuts, all_of, belows, cuts}
 use Rattle.cactus_tree.specs.Entered.{entered}
 use Rattle.cactus_tree.specs.Different.{HasNoEmptySide, HaveSameSides}
@@ -20,15 +22,15 @@ use Rattle.cactus_tree.specs.declared.tree.Block.{Block}
 use Rattle.cactus_tree.proofs.Built.{ring_widths}
 use Rattle.cactus_tree.proofs.Clean.{root_clean}
 use Rattle.cactus_tree.proofs.Cycles.{cycle_cuts, cycle_whole}
-use Rattle.cactus_tree.proofs.Groups.{contains_has, has_contains}
 use Rattle.cactus_tree.proofs.Layouts.{laid_out}
 use Rattle.cactus_tree.proofs.Parts.{bridge_part, cycle_part}
 use Rattle.cactus_tree.proofs.Views.{view}
+use Rattle.cactus_tree.proofs.Trims.{cuts_out}
+use Rattle.cactus_tree.proofs.BlockLaws.{widths_flat}
 use Rattle.cactus_growth.specs.After.{IsKept, PartsEachSide}
 use Rattle.cactus_growth.specs.Growth.{AreOnce, AreWide, IsGrown}
-use Rattle.cactus_growth.proofs.Counts.{count_some, count_has, All_left}
+use Rattle.cactus_growth.proofs.Counts.{count_some, count_has}
 use Rattle.cactus_growth.proofs.Filled.{fewer_sides, no_empty_side, some_block}
-use Rattle.cactus_growth.proofs.Pulled.{cuts_of, widths_flat}
 
 -- ---- a cactus has each vertex once
 pub cactus_once : (n : ℕ) (root : Node) → IsCactus n root → AreOnce (entered root)
@@ -51,15 +53,6 @@ grown_cactus n u v root x h g = record {
 }
 
 -- ---- sides
-same_parts : (a b : Bool) → a ≡ b → (if a then not b else b) ≡ false
-same_parts true b e = ap not (sym e)
-same_parts false b e = sym e
-
-parts_same : (a b : Bool) → (if a then not b else b) ≡ false → a ≡ b
-parts_same true true h = refl
-parts_same true false h = absurd (false≢true (sym h))
-parts_same false b h = sym h
-
 other_parts : (a b : Bool) → (a ≡ b → ⊥) → (if a then not b else b) ≡ true
 other_parts true true h = absurd (h refl)
 other_parts true false h = refl
@@ -96,7 +89,7 @@ module _ (u v : ℕ) (old : Rooted) (u_low : 1 ≤ u) (u_high : u ≤ old.vertic
   all_part x g none side c =
       let r = Contains-from_map listing (cuts old.root) side c in
       let s = r.0 in
-      let gone : s u ≡ s v → ⊥ = λ e. Contains-nil s (subst (λ l. Contains l s) (cuts_of x ∙ ap (λ bs. all_cuts (map block_part bs)) none) ((g.cuts s).1 (r.1, e))) in
+      let gone : s u ≡ s v → ⊥ = λ e. Contains-nil s (subst (λ l. Contains l s) (cuts_out x ∙ ap (λ bs. all_cuts (map block_part bs)) none) ((g.cuts s).1 (r.1, e))) in
       ap (λ l. parts (has l) u v) (sym r.2) ∙ parts_is s ∙ other_parts (s u) (s v) gone
 
   kept_side : (x : Node) → IsGrown u v old.root x → (side : List ℕ) →
@@ -106,11 +99,11 @@ module _ (u v : ℕ) (old : Rooted) (u_low : 1 ≤ u) (u_high : u ≤ old.vertic
         let r = Contains-from_map listing (cuts x) side c in
         let q = (g.cuts r.0).0 r.1 in (
           subst (λ l. Contains (map listing (cuts old.root)) l) r.2 (Contains-map listing (cuts old.root) r.0 q.0),
-          ap (λ l. parts (has l) u v) (sym r.2) ∙ parts_is r.0 ∙ same_parts (r.0 u) (r.0 v) q.1,
+          ap (λ l. parts (has l) u v) (sym r.2) ∙ parts_is r.0 ∙ parts_from_same (r.0 u) (r.0 v) q.1,
         )),
     (λ m.
         let r = Contains-from_map listing (cuts old.root) side m.0 in
-        let same : r.0 u ≡ r.0 v = parts_same (r.0 u) (r.0 v) (sym (parts_is r.0) ∙ ap (λ l. parts (has l) u v) r.2 ∙ m.1) in
+        let same : r.0 u ≡ r.0 v = same_from_parts (r.0 u) (r.0 v) (sym (parts_is r.0) ∙ ap (λ l. parts (has l) u v) r.2 ∙ m.1) in
         subst (λ l. Contains (map listing (cuts x)) l) r.2 (Contains-map listing (cuts x) r.0 ((g.cuts r.0).1 (r.1, same)))),
   )
 
@@ -131,8 +124,8 @@ module _ (u v : ℕ) (old : Rooted) (u_low : 1 ≤ u) (u_high : u ≤ old.vertic
   some_cut : (x : Node) (bs : List Block) → blocks x ≡ bs → 1 ≤ length bs → AreWide (widths x) → (s : VertexSet) × Contains (cuts x) s
   some_cut x [] e one w = absurd (omega (arith, one))
   some_cut x (b ∷ bs) e one w =
-      let r = block_cut b (All_left (λ k. 2 ≤ k) (block_widths b) (flat_map block_widths bs) (subst AreWide (widths_flat x ∙ ap (flat_map block_widths) e) w)) in
-      (r.0, subst (λ l. Contains l r.0) (sym (cuts_of x ∙ ap (λ cs. all_cuts (map block_part cs)) e)) (Contains-append_left (block_part b).cuts (all_cuts (map block_part bs)) r.0 r.1))
+      let r = block_cut b (All-front (λ k. 2 ≤ k) (block_widths b) (flat_map block_widths bs) (subst AreWide (widths_flat x ∙ ap (flat_map block_widths) e) w)) in
+      (r.0, subst (λ l. Contains l r.0) (sym (cuts_out x ∙ ap (λ cs. all_cuts (map block_part cs)) e)) (Contains-append_left (block_part b).cuts (all_cuts (map block_part bs)) r.0 r.1))
 
   -- the sides of what is left, and of a cactus with the same sides
   pub kept_sides : (x : Node) → IsGrown u v old.root x → (side : List ℕ) →

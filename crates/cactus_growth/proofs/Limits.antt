@@ -1,36 +1,24 @@
 -- The list after an insertion is an edge list where its weights and its edges are within the limits.
-use Rattle.std.proofs.Common.{◌≡◌, ℕ, ◌+◌, ◌<◌, ◌≤◌, ◌^◌, ◌↔◌, inl, inr, ⊎_elim, Bool, true, false, ◌&&◌, List, [], ◌∷◌, ◌++◌, length, ltb, eqb, ◌∙◌, arith, length-append, suc}
+use Rattle.std.proofs.Common.{◌≡◌, ℕ, ◌+◌, ◌<◌, ◌≤◌, ◌^◌, ◌↔◌, inl, inr, ⊎_elim, Bool, true, false, ◌&&◌, List, [], ◌∷◌, length, ltb, eqb, arith, length-append}
 use Rattle.std.specs.Prelude.{if◌then◌else◌, ◌≢◌, not}
 use Rattle.std.specs.List.{All, AllPairs, filter, sum_by}
-use Rattle.std.proofs.lemmas.Bool.{or_cases, cases_Bool, ltb-true, eqb-true}
-use Rattle.std.proofs.lemmas.List.Elements.{All-append, All-cons, All-head, All-tail, All-filter}
+use Rattle.std.proofs.lemmas.Bool.{or_cases, cases_Bool, ltb-true, eqb-true, and_parts}
+use Rattle.std.proofs.lemmas.List.Elements.{All-append, All-cons, All-filter}
 use Rattle.std.proofs.lemmas.List.Kept.{AllPairs-cons, AllPairs-filter}
 use Rattle.std.proofs.lemmas.List.Sums.{sum_by-cons, sum_by-append}
 use Rattle.cut_definitions.specs.declared.edge_list.Edge.{Edge}
 use Rattle.cut_definitions.specs.Graph.{Graph, IsBefore, IsEdgeWithin, IsEdgeList}
 use Rattle.cut_definitions.proofs.Lists.{Contains-from_filter}
+use Rattle.cut_definitions.proofs.ListLaws.{AllPairs-append, All-from_each}
+use Rattle.cut_definitions.proofs.Ascending.{IsBefore-trans}
 use Rattle.cactus_growth.specs.Insertion.{comes_before, same_ends, weight_there, edge_between, inserted, enlarged}
-use Rattle.cactus_growth.proofs.Filled.{all_of_each}
-use Rattle.cactus_growth.proofs.Inserted.{sum_filter, kinds, both_parts}
-
-AllPairs-append : {X : Type 0} (R : X → X → Type 0) (xs ys : List X) → AllPairs R xs → AllPairs R ys → All (λ x. All (R x) ys) xs → AllPairs R (xs ++ ys)
-AllPairs-append R [] ys hx hy far = hy
-AllPairs-append R (x ∷ xs) ys hx hy far =
-    AllPairs-cons R x (xs ++ ys)
-    (All-append (R x) xs ys (λ k d l. hx 0 (suc k) d (omega arith) (omega arith)) (All-head (λ z. All (R z) ys) x xs far))
-    (AllPairs-append R xs ys (λ i j d l u. hx (suc i) (suc j) d (omega arith) (omega arith)) hy (All-tail (λ z. All (R z) ys) x xs far))
+use Rattle.cactus_growth.proofs.Inserted.{sum_filter, kinds}
 
 before_is : (d e : Edge) → comes_before d e ≡ true → IsBefore d e
 before_is d e h = elim (or_cases (ltb d.u e.u) (eqb d.u e.u && ltb d.v e.v) h) [
   | inl k ↦ inl (ltb-true d.u e.u k)
-  | inr k ↦ (let r = both_parts (eqb d.u e.u) (ltb d.v e.v) k in inr (eqb-true d.u e.u r.0, ltb-true d.v e.v r.1))
+  | inr k ↦ (let r = and_parts (eqb d.u e.u) (ltb d.v e.v) k in inr (eqb-true d.u e.u r.0, ltb-true d.v e.v r.1))
 ]
-
-before_both : (c d e : Edge) → IsBefore c d → IsBefore d e → IsBefore c e
-before_both c d e (inl a) (inl b) = inl (omega (arith, a, b))
-before_both c d e (inl a) (inr b) = inl (omega (arith, a, b.0))
-before_both c d e (inr a) (inl b) = inl (omega (arith, a.0, b))
-before_both c d e (inr a) (inr b) = inr (a.0 ∙ b.0, omega (arith, a.1, b.1))
 
 module _ (e : Edge) (edges : List Edge) where
   front : List Edge
@@ -44,20 +32,20 @@ module _ (e : Edge) (edges : List Edge) where
 
   each_front : All (λ d. IsBefore d mid) front
   unfolding front mid
-  each_front = all_of_each (λ d. IsBefore d mid) front (λ d c. before_is d e (Contains-from_filter (λ d. comes_before d e) edges d c).1)
+  each_front = All-from_each (λ d. IsBefore d mid) front (λ d c. before_is d e (Contains-from_filter (λ d. comes_before d e) edges d c).1)
 
   each_behind : All (IsBefore mid) behind
   unfolding behind mid
-  each_behind = all_of_each (IsBefore mid) behind (λ d c. before_is e d (Contains-from_filter (λ d. comes_before e d) edges d c).1)
+  each_behind = All-from_each (IsBefore mid) behind (λ d c. before_is e d (Contains-from_filter (λ d. comes_before e d) edges d c).1)
 
   pub still_ascending : AllPairs IsBefore edges → AllPairs IsBefore (inserted e edges)
   unfolding front behind mid
   still_ascending h =
       AllPairs-append IsBefore front (mid ∷ behind) (AllPairs-filter IsBefore (λ d. comes_before d e) edges h)
       (AllPairs-cons IsBefore mid behind each_behind (AllPairs-filter IsBefore (λ d. comes_before e d) edges h))
-      (all_of_each (λ d. All (IsBefore d) (mid ∷ behind)) front (λ d c.
+      (All-from_each (λ d. All (IsBefore d) (mid ∷ behind)) front (λ d c.
       let first = before_is d e (Contains-from_filter (λ d. comes_before d e) edges d c).1 in
-      All-cons (IsBefore d) mid behind first (all_of_each (IsBefore d) behind (λ b k. before_both d mid b first (before_is e b (Contains-from_filter (λ d. comes_before e d) edges b k).1)))))
+      All-cons (IsBefore d) mid behind first (All-from_each (IsBefore d) behind (λ b k. IsBefore-trans d mid b first (before_is e b (Contains-from_filter (λ d. comes_before e d) edges b k).1)))))
 
   pub still_within : (n : ℕ) → IsEdgeWithin n e → All (IsEdgeWithin n) edges → All (IsEdgeWithin n) (inserted e edges)
   unfolding front behind mid

@@ -8,6 +8,8 @@ use Rattle.std.proofs.lemmas.List.Elements.{All-nil, All-append, All-cons, All-h
 use Rattle.cut_definitions.specs.Weight.{VertexSet}
 use Rattle.cut_definitions.specs.Cuts.{has, IsAscendingWithin}
 use Rattle.cut_definitions.proofs.Lists.{Contains-nil}
+use Rattle.cut_definitions.proofs.Bools.{or_assoc, no_left, no_right}
+use Rattle.cut_definitions.proofs.ListLaws.{All-front, All-back}
 use Rattle.cactus_tree.specs.Sides.{Part, part, block_part, all_of, belows, all_cuts, cycle_of}
 use Rattle.cactus_tree.specs.Entered.{entered, entered_block}
 use Rattle.cactus_tree.specs.Entries.{nodes_of}
@@ -19,25 +21,23 @@ use Rattle.cactus_tree.specs.declared.tree.Block.TheVariants.{Bridge}
 use Rattle.cactus_tree.proofs.Built.{ring_widths}
 use Rattle.cactus_tree.proofs.Entries.{nodes_bridge, nodes_cycle}
 use Rattle.cactus_tree.proofs.Layouts.{laid_out}
-use Rattle.cactus_tree.proofs.Orders.{entered_out, entered_cycle}
+use Rattle.cactus_tree.proofs.Orders.{entered_out, entered_cycle, in_order_map}
 use Rattle.cactus_tree.proofs.Parts.{all_cuts_append, cycle_part}
 use Rattle.cactus_tree.proofs.Segments.{cycle_laid}
 use Rattle.cactus_tree.proofs.Views.{view}
 use Rattle.cactus_tree.proofs.Widths.{widths_bridge}
+use Rattle.cactus_tree.proofs.BlockLaws.{widths_flat, nodes_laid, block_laid}
+use Rattle.cactus_tree.proofs.Trims.{cuts_out}
 use Rattle.cactus_growth.specs.Growth.{times, AreOnce, AreAscending, AreWide, AreHung, IsOpened}
-use Rattle.cactus_growth.proofs.Counts.{count_both, count_some, All_left, All_right}
+use Rattle.cactus_growth.proofs.Counts.{count_both, count_some}
 use Rattle.cactus_growth.proofs.Hung.{one_part, one_entered}
-use Rattle.cactus_growth.proofs.Pulled.{times_more, widths_flat, below_at, cuts_of}
-use Rattle.cactus_growth.proofs.Within.{block_laid, block_within, nodes_laid, of_lists, of_append, in_order_map}
-use Rattle.cactus_growth.proofs.Runs.{no_left, no_right}
+use Rattle.cactus_growth.proofs.Pulled.{times_more}
+use Rattle.cactus_growth.proofs.Within.{block_within, of_lists, of_append}
+use Rattle.cactus_growth.proofs.WaysDown.{below_at}
 
 -- ---- lists with one element among others
 pub mid_flat : {X Y : Type 0} (f : X → List Y) (xs ys all : List X) (x : X) → all ≡ xs ++ x ∷ ys → flat_map f all ≡ flat_map f xs ++ (f x ++ flat_map f ys)
 mid_flat f xs ys all x e = ap (flat_map f) e ∙ flat_map-append f xs (x ∷ ys)
-
-or_assoc : (p q r : Bool) → (p || (q || r)) ≡ ((p || q) || r)
-or_assoc true q r = refl
-or_assoc false q r = refl
 
 pub below_both : (xs ys : List Node) (u : ℕ) → all_of (belows (map part (xs ++ ys))) u ≡ (all_of (belows (map part xs)) u || all_of (belows (map part ys)) u)
 below_both [] ys u = refl
@@ -90,7 +90,7 @@ own_lacks x v inside once s c =
       ap {B = ℕ} (λ b. cond b 1 0) inside,
       count_some v (flat_map entered_block (blocks x)) (sym (blocks_listed (blocks x) v) ∙ z),
     )) in
-    blocks_lack (blocks x) v none s (subst (λ l. Contains l s) (cuts_of x) c)
+    blocks_lack (blocks x) v none s (subst (λ l. Contains l s) (cuts_out x) c)
 
 -- ---- a block as the closed walk through its nodes
 pub walk_part : (b : Block) → block_part b ≡ cycle_of (map part (nodes_of b))
@@ -125,7 +125,7 @@ among node xs b ys e s =
     let left = all_cuts (map block_part xs) in
     let mid = (block_part b).cuts in
     let right = all_cuts (map block_part ys) in
-    let is : (part node).cuts ≡ left ++ (mid ++ right) = cuts_of node ∙ ap (λ bs. all_cuts (map block_part bs)) e ∙ cuts_around xs b ys in (
+    let is : (part node).cuts ≡ left ++ (mid ++ right) = cuts_out node ∙ ap (λ bs. all_cuts (map block_part bs)) e ∙ cuts_around xs b ys in (
       (λ c. elim (Contains-append_cases left (mid ++ right) s (subst (λ l. Contains l s) is c)) [ inl k ↦ inl k | inr k ↦ inr (Contains-append_cases mid right s k) ]),
       (λ m. subst (λ l. Contains l s) (sym is) (elim m [
         | inl k ↦ Contains-append_left left (mid ++ right) s k
@@ -152,7 +152,7 @@ bare_below node bare w e f =
     or_false false = refl
 
 pub bare_cuts : (bare : Node) → blocks bare ≡ [] → (s : VertexSet) → Contains (part bare).cuts s → ⊥
-bare_cuts bare f s c = Contains-nil s (subst (λ l. Contains l s) (cuts_of bare ∙ ap (λ bs. all_cuts (map block_part bs)) f) c)
+bare_cuts bare f s c = Contains-nil s (subst (λ l. Contains l s) (cuts_out bare ∙ ap (λ bs. all_cuts (map block_part bs)) f) c)
 
 pub bare_wide : (bare : Node) → blocks bare ≡ [] → AreWide (widths bare)
 bare_wide bare f = subst AreWide (sym (widths_flat bare ∙ ap (flat_map block_widths) f)) (All-nil (λ k. 2 ≤ k))
@@ -223,19 +223,19 @@ module _ (old bare mid top : Node) (xs ys : List Block) (b : Block) (before afte
         let all : AreAscending n (vertices old ∷ flat_map entered_block (blocks old)) = subst (AreAscending n) (entered_out old) a in
         let pieces : AreAscending n (flat_map entered_block xs ++ (entered_block b ++ flat_map entered_block ys)) =
         subst (AreAscending n) (mid_flat entered_block xs ys (blocks old) b is) (All-tail P (vertices old) (flat_map entered_block (blocks old)) all) in
-        let behind = All_right P (flat_map entered_block xs) (entered_block b ++ flat_map entered_block ys) pieces in
+        let behind = All-back P (flat_map entered_block xs) (entered_block b ++ flat_map entered_block ys) pieces in
         let alone : AreAscending n (flat_map entered_block (blocks bare)) = subst (λ bs. AreAscending n (flat_map entered_block bs)) (sym none) (All-nil P) in (
           subst (AreAscending n) (sym (entered_out top))
               (All-cons P (vertices top) (flat_map entered_block (blocks top)) (subst P (sym (rest.own ∙ first.own ∙ same)) (All-head P (vertices old) (flat_map entered_block (blocks old)) all))
-              (rest.ascending n (first.ascending n alone (All_left P (flat_map entered_block xs) (entered_block b ++ flat_map entered_block ys) pieces)) (All_right P (entered_block b) (flat_map entered_block ys) behind))),
-          subst (AreAscending n) lists_are (All_left P (entered_block b) (flat_map entered_block ys) behind),
+              (rest.ascending n (first.ascending n alone (All-front P (flat_map entered_block xs) (entered_block b ++ flat_map entered_block ys) pieces)) (All-back P (entered_block b) (flat_map entered_block ys) behind))),
+          subst (AreAscending n) lists_are (All-front P (entered_block b) (flat_map entered_block ys) behind),
         );
     wide = λ a.
         let P : ℕ → Type 0 = λ z. 2 ≤ z in
         let pieces : AreWide (flat_map block_widths xs ++ (block_widths b ++ flat_map block_widths ys)) = subst AreWide (widths_flat old ∙ mid_flat block_widths xs ys (blocks old) b is) a in
-        let behind = All_right P (flat_map block_widths xs) (block_widths b ++ flat_map block_widths ys) pieces in (
-          rest.wide (first.wide (bare_wide bare none) (All_left P (flat_map block_widths xs) (block_widths b ++ flat_map block_widths ys) pieces)) (All_right P (block_widths b) (flat_map block_widths ys) behind),
-          subst (λ l. AreWide (flat_map widths l)) nodes (walk_wide b (All_left P (block_widths b) (flat_map block_widths ys) behind)),
+        let behind = All-back P (flat_map block_widths xs) (block_widths b ++ flat_map block_widths ys) pieces in (
+          rest.wide (first.wide (bare_wide bare none) (All-front P (flat_map block_widths xs) (block_widths b ++ flat_map block_widths ys) pieces)) (All-back P (block_widths b) (flat_map block_widths ys) behind),
+          subst (λ l. AreWide (flat_map widths l)) nodes (walk_wide b (All-front P (block_widths b) (flat_map block_widths ys) behind)),
         );
     own = sym (rest.own ∙ first.own ∙ same);
   }

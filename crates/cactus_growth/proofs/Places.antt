@@ -3,7 +3,7 @@ use Rattle.std.proofs.Common.{◌≡◌, ℕ, zero, suc, ◌+◌, ◌-◌, ◌<�
 use Rattle.std.specs.Prelude.{not, if◌then◌else◌}
 use Rattle.std.specs.List.{All, AllPairs, AllWithin, filter, slice_range, sum_by}
 use Rattle.std.specs.List.Sorted.{IsPartitionedBy, IsPartitionPoint}
-use Rattle.std.proofs.lemmas.Bool.{cases_Bool, cases_order, cond-true, cond-false, false≢true}
+use Rattle.std.proofs.lemmas.Bool.{cases_Bool, cases_order, cond-true, cond-false, false≢true, not-true, not-false, not_from_false}
 use Rattle.std.proofs.lemmas.Bool.Decides.{nat_tests}
 use Rattle.std.proofs.lemmas.List.{append_assoc, length-drop, take-append-drop, take_all}
 use Rattle.std.proofs.lemmas.List.Elements.{All-from_all_within, All-head, All-tail, All-weaker, filter_passes}
@@ -77,18 +77,6 @@ before_parted e xs h i j d l m k =
       | inr (inr q) ↦ absurd (omega (arith, l, q))
     ]
 
-not_true : (a : Bool) → not a ≡ true → a ≡ false
-not_true true h = absurd (false≢true h)
-not_true false h = refl
-
-not_false : (a : Bool) → not a ≡ false → a ≡ true
-not_false true h = refl
-not_false false h = absurd (false≢true (sym h))
-
-true_not : (a : Bool) → a ≡ false → not a ≡ true
-true_not true h = absurd (false≢true (sym h))
-true_not false h = refl
-
 none_behind : (a b e : Edge) → IsBefore a b → comes_before e b ≡ false → comes_before e a ≡ false
 none_behind a b e h k = elim (cases_Bool (comes_before e a)) [
   | inl t ↦ absurd (false≢true (sym k ∙ behind_behind a b e h t))
@@ -99,13 +87,13 @@ pub behind_parted : (e : Edge) (xs : List Edge) → AllPairs IsBefore xs → IsP
 behind_parted e xs h i j d l m k =
     elim (cases_order i j) [
       | inl q ↦ subst (λ n. not (comes_before e (get_or xs n d)) ≡ true) (sym q) k
-      | inr (inl q) ↦ true_not (comes_before e (get_or xs i d)) (none_behind (get_or xs i d) (get_or xs j d) e (h i j d q m) (not_true (comes_before e (get_or xs j d)) k))
+      | inr (inl q) ↦ not_from_false (comes_before e (get_or xs i d)) (none_behind (get_or xs i d) (get_or xs j d) e (h i j d q m) (not-true (comes_before e (get_or xs j d)) k))
       | inr (inr q) ↦ absurd (omega (arith, l, q))
     ]
 
 -- a search that asks for the opposite
 pub turned_point : {X : Type 0} (p : X → Bool) (xs : List X) (i : ℕ) → IsPartitionPoint (λ y. not (p y) ≡ true) (λ y. not (p y) ≡ false) xs i → IsPartitionPoint (λ y. p y ≡ false) (λ y. p y ≡ true) xs i
-turned_point p xs i h = (λ k d l m. not_true (p (get_or xs k d)) (h.0 k d l m), λ k d l m. not_false (p (get_or xs k d)) (h.1 k d l m))
+turned_point p xs i h = (λ k d l m. not-true (p (get_or xs k d)) (h.0 k d l m), λ k d l m. not-false (p (get_or xs k d)) (h.1 k d l m))
 
 -- ---- the edges before the place, there and behind it
 module _ (e : Edge) (xs : List Edge) (first end : ℕ) (front : first ≤ length xs) (back : end ≤ length xs)

@@ -1,26 +1,24 @@
 -- Blocks that are hung one after another, and nodes that become one.
-use Rattle.std.proofs.Common.{◌≡◌, ℕ, ◌+◌, ◌<◌, ◌≤◌, inl, inr, Bool, true, false, cond, ◌||◌, List, [], ◌∷◌, ◌++◌, Option, Some, length, map, refl, ap, ◌∙◌, sym, subst, arith}
-use Rattle.std.specs.Prelude.{option_to_list}
+use Rattle.std.proofs.Common.{◌≡◌, ℕ, ◌+◌, ◌<◌, ◌≤◌, inl, inr, Bool, true, false, cond, ◌||◌, List, [], ◌∷◌, ◌++◌, length, map, refl, ap, ◌∙◌, sym, subst, arith}
 use Rattle.std.specs.List.{Contains, flat_map}
 use Rattle.std.proofs.lemmas.Bool.{cases_Bool}
 use Rattle.std.proofs.lemmas.List.{append_assoc}
 use Rattle.std.proofs.lemmas.List.Elements.{All-nil, All-append, All-cons, All-head, All-tail, Contains-append_left, Contains-append_right, Contains-append_cases}
 use Rattle.cut_definitions.specs.Cuts.{has, IsAscendingWithin}
+use Rattle.cut_definitions.proofs.ListLaws.{All-front, All-back}
 use Rattle.cactus_tree.specs.Sides.{Part, part, block_part, all_of, belows, all_cuts, with_below}
 use Rattle.cactus_tree.specs.Entered.{entered, entered_block}
 use Rattle.cactus_tree.specs.Trees.{vertices, blocks}
-use Rattle.cactus_tree.specs.Widths.{widths, block_widths, joined}
-use Rattle.cactus_tree.proofs.Widths.{widths_out}
+use Rattle.cactus_tree.specs.Widths.{widths, block_widths}
 use Rattle.cactus_tree.specs.declared.tree.Node.{Node}
 use Rattle.cactus_tree.specs.declared.tree.Block.{Block}
-use Rattle.cactus_tree.proofs.Parts.{part_out}
 use Rattle.cactus_tree.proofs.Orders.{entered_out}
 use Rattle.cactus_tree.proofs.Segments.{has_append_at}
+use Rattle.cactus_tree.proofs.BlockLaws.{widths_flat}
+use Rattle.cactus_tree.proofs.Trims.{cuts_out}
 use Rattle.cactus_growth.specs.Growth.{times, AreAscending, AreWithin, AreWide, AreHung, IsTakenIn}
-use Rattle.cactus_growth.proofs.Counts.{count_both, All_left, All_right}
-
-pub popped : {X : Type 0} (cur new : List X) (r : Option X) (x : X) → cur ≡ new ++ option_to_list r → r ≡ Some x → cur ≡ new ++ x ∷ []
-popped cur new r x p q = p ∙ ap (λ o. new ++ option_to_list o) q
+use Rattle.cactus_growth.proofs.Counts.{count_both}
+use Rattle.cactus_growth.proofs.WaysDown.{below_at}
 
 pub none_left : {X : Type 0} (xs : List X) → (0 < length xs → ⊥) → xs ≡ []
 none_left [] h = refl
@@ -36,10 +34,6 @@ turn_or false true true = refl
 turn_or false true false = refl
 turn_or false false true = refl
 turn_or false false false = refl
-
-pub or_none : (a : Bool) → a ≡ (a || false)
-or_none true = refl
-or_none false = refl
 
 -- ---- hung
 -- the lists of the nodes below a node that has more of them
@@ -70,9 +64,9 @@ hung_step node y x b done p e w o h =
       counts = λ v. let split : times v (entered x) ≡ times v (entered y) + times v (entered_block b) = ap (times v) e ∙ count_both v (entered y) (entered_block b) in
           omega (arith, split, h.counts v, count_both v (entered_block b) (flat_map entered_block done));
       ascending = λ n a d. subst (AreAscending n) (sym (rest_lists x y (entered_block b) e))
-          (All-append (IsAscendingWithin 1 n) (flat_map entered_block (blocks y)) (entered_block b) (h.ascending n a (All_right (IsAscendingWithin 1 n) (entered_block b) (flat_map entered_block done) d)) (All_left (IsAscendingWithin 1 n) (entered_block b) (flat_map entered_block done) d));
+          (All-append (IsAscendingWithin 1 n) (flat_map entered_block (blocks y)) (entered_block b) (h.ascending n a (All-back (IsAscendingWithin 1 n) (entered_block b) (flat_map entered_block done) d)) (All-front (IsAscendingWithin 1 n) (entered_block b) (flat_map entered_block done) d));
       wide = λ a d. subst AreWide (sym w)
-          (All-append (λ k. 2 ≤ k) (widths y) (block_widths b) (h.wide a (All_right (λ k. 2 ≤ k) (block_widths b) (flat_map block_widths done) d)) (All_left (λ k. 2 ≤ k) (block_widths b) (flat_map block_widths done) d));
+          (All-append (λ k. 2 ≤ k) (widths y) (block_widths b) (h.wide a (All-back (λ k. 2 ≤ k) (block_widths b) (flat_map block_widths done) d)) (All-front (λ k. 2 ≤ k) (block_widths b) (flat_map block_widths done) d));
       own = o ∙ h.own;
     }
 
@@ -91,19 +85,6 @@ four_or false true true d = refl
 four_or false true false d = refl
 four_or false false c d = refl
 
-joined_map : {X : Type 0} (f : X → List ℕ) (xs : List X) → joined (map f xs) ≡ flat_map f xs
-joined_map f [] = refl
-joined_map f (x ∷ xs) = ap (λ l. f x ++ l) (joined_map f xs)
-
-pub widths_flat : (x : Node) → widths x ≡ flat_map block_widths (blocks x)
-widths_flat x = widths_out x ∙ joined_map block_widths (blocks x)
-
-pub below_at : (x : Node) (v : ℕ) → (part x).below v ≡ (has (vertices x) v || all_of (belows (map block_part (blocks x))) v)
-below_at x v = ap (λ (p : Part). p.below v) (part_out x)
-
-pub cuts_of : (x : Node) → (part x).cuts ≡ all_cuts (map block_part (blocks x))
-cuts_of x = ap (λ (p : Part). p.cuts) (part_out x)
-
 pub ascending_within : (low n : ℕ) (l : List ℕ) → ((v : ℕ) → low ≤ v → 1 ≤ v) → IsAscendingWithin low n l → AreWithin n l
 ascending_within low n [] f a = All-nil (λ v. (1 ≤ v) × (v ≤ n))
 ascending_within low n (x ∷ xs) f a = All-cons (λ v. (1 ≤ v) × (v ≤ n)) x xs (f x a.0, a.1) (ascending_within (x + 1) n xs (λ v h. omega (arith, f x a.0, h)) a.2)
@@ -111,7 +92,7 @@ ascending_within low n (x ∷ xs) f a = All-cons (λ v. (1 ≤ v) × (v ≤ n)) 
 pub taken_in : (node other mid x : Node) → blocks mid ≡ blocks node → vertices mid ≡ vertices node ++ vertices other → AreHung mid (blocks other) x → IsTakenIn node other x
 taken_in node other mid x e f h =
     let members : (v : ℕ) → has (vertices mid) v ≡ (has (vertices node) v || has (vertices other) v) = λ v. ap (λ l. has l v) f ∙ has_append_at (vertices node) (vertices other) v in
-    let mid_cuts : (part mid).cuts ≡ (part node).cuts = cuts_of mid ∙ ap (λ bs. all_cuts (map block_part bs)) e ∙ sym (cuts_of node) in
+    let mid_cuts : (part mid).cuts ≡ (part node).cuts = cuts_out mid ∙ ap (λ bs. all_cuts (map block_part bs)) e ∙ sym (cuts_out node) in
     let mid_entered : entered mid ≡ vertices mid ∷ flat_map entered_block (blocks node) = entered_out mid ∙ ap (λ bs. vertices mid ∷ flat_map entered_block bs) e in
     let mid_widths : widths mid ≡ widths node = widths_flat mid ∙ ap (flat_map block_widths) e ∙ sym (widths_flat node) in
     record {
@@ -122,8 +103,8 @@ taken_in node other mid x e f h =
           ∙ ap (λ k. k || (has (vertices other) v || all_of (belows (map block_part (blocks other))) v)) (sym (below_at node v))
           ∙ ap (λ k. (part node).below v || k) (sym (below_at other v));
       cuts = λ s. (
-        (λ c. elim ((h.cuts s).0 c) [ inl a ↦ inl (subst (λ l. Contains l s) mid_cuts a) | inr a ↦ inr (subst (λ l. Contains l s) (sym (cuts_of other)) a) ]),
-        (λ c. elim c [ inl a ↦ (h.cuts s).1 (inl (subst (λ l. Contains l s) (sym mid_cuts) a)) | inr a ↦ (h.cuts s).1 (inr (subst (λ l. Contains l s) (cuts_of other) a)) ]),
+        (λ c. elim ((h.cuts s).0 c) [ inl a ↦ inl (subst (λ l. Contains l s) mid_cuts a) | inr a ↦ inr (subst (λ l. Contains l s) (sym (cuts_out other)) a) ]),
+        (λ c. elim c [ inl a ↦ (h.cuts s).1 (inl (subst (λ l. Contains l s) (sym mid_cuts) a)) | inr a ↦ (h.cuts s).1 (inr (subst (λ l. Contains l s) (cuts_out other) a)) ]),
       );
       counts = λ v. omega (
         arith,

@@ -1,23 +1,13 @@
 -- Runs of sets in which some that follow one another become one.
-use Rattle.std.proofs.Common.{◌≡◌, ℕ, inl, inr, Bool, true, false, ◌||◌, List, [], ◌∷◌, ◌++◌, refl, sym, ◌∙◌, ap, subst}
+use Rattle.std.proofs.Common.{◌≡◌, ℕ, inl, inr, true, false, List, [], ◌∷◌, ◌++◌, sym, ◌∙◌, ap, subst}
 use Rattle.std.specs.List.{Contains}
-use Rattle.std.proofs.lemmas.Bool.{false≢true}
+use Rattle.std.proofs.lemmas.Bool.{false≢true, or_from}
 use Rattle.cut_definitions.specs.Weight.{VertexSet, either}
 use Rattle.cut_definitions.proofs.Lists.{Contains-there, Contains-cons_cases}
+use Rattle.cut_definitions.proofs.Bools.{no_left, no_right}
 use Rattle.cactus_tree.specs.Sides.{all_of, from_here}
 use Rattle.cactus_tree.proofs.Parts.{either_assoc, either_nothing}
 use Rattle.cactus_tree.proofs.Cycles.{here_first}
-
-pub no_left : (a b : Bool) → (a || b) ≡ false → a ≡ false
-no_left true b h = absurd (false≢true (sym h))
-no_left false b h = refl
-
-pub no_right : (a b : Bool) → (a || b) ≡ false → b ≡ false
-no_right true b h = absurd (false≢true (sym h))
-no_right false b h = h
-
-pub neither : (a b : Bool) → a ≡ false → b ≡ false → (a || b) ≡ false
-neither a b e f = ap (λ k. k || b) e ∙ f
 
 -- the union of a set and those that follow it
 abbrev pub along : VertexSet → List VertexSet → VertexSet
@@ -48,7 +38,7 @@ reached t [] f qs v out none s inside c = elim (Contains-cons_cases t (from_here
 ]
 reached t (m ∷ ms) f qs v out none s inside c = elim (Contains-cons_cases t (from_here (either t m) (ms ++ f ∷ qs)) s c) [
   | inl e ↦ absurd (false≢true (sym out ∙ ap (λ (x : VertexSet). x v) e ∙ inside))
-  | inr k ↦ reached (either t m) ms f qs v (neither (t v) (m v) out (no_left (m v) (all_of ms v) none)) (no_right (m v) (all_of ms v) none) s inside k
+  | inr k ↦ reached (either t m) ms f qs v (or_from (t v) (m v) out (no_left (m v) (all_of ms v) none)) (no_right (m v) (all_of ms v) none) s inside k
 ]
 
 module _ (n : VertexSet) (ms : List VertexSet) (f : VertexSet) (qs : List VertexSet) (j : VertexSet) (is : j ≡ either (along n ms) f) where
@@ -67,9 +57,9 @@ module _ (n : VertexSet) (ms : List VertexSet) (f : VertexSet) (qs : List Vertex
   pub joined : (v : ℕ) → n v ≡ false → all_of ms v ≡ false → (t : VertexSet) (ps : List VertexSet) → t v ≡ false → all_of ps v ≡ false → (s : VertexSet) → s v ≡ true →
       Contains (from_here t (ps ++ n ∷ (ms ++ f ∷ qs))) s → Contains (from_here t (ps ++ j ∷ qs)) s
   joined v a b t [] out none s inside c =
-      Contains-there t (from_here (either t j) qs) s (subst (λ z. Contains (from_here z qs) s) (sym (whole t n ms f j is)) (reached t (n ∷ ms) f qs v out (neither (n v) (all_of ms v) a b) s inside c))
+      Contains-there t (from_here (either t j) qs) s (subst (λ z. Contains (from_here z qs) s) (sym (whole t n ms f j is)) (reached t (n ∷ ms) f qs v out (or_from (n v) (all_of ms v) a b) s inside c))
   joined v a b t (p ∷ ps) out none s inside c = elim (Contains-cons_cases t (from_here (either t p) (ps ++ n ∷ (ms ++ f ∷ qs))) s c) [
     | inl e ↦ absurd (false≢true (sym out ∙ ap (λ (x : VertexSet). x v) e ∙ inside))
     | inr k ↦ Contains-there t (from_here (either t p) (ps ++ j ∷ qs)) s
-        (joined v a b (either t p) ps (neither (t v) (p v) out (no_left (p v) (all_of ps v) none)) (no_right (p v) (all_of ps v) none) s inside k)
+        (joined v a b (either t p) ps (or_from (t v) (p v) out (no_left (p v) (all_of ps v) none)) (no_right (p v) (all_of ps v) none) s inside k)
   ]

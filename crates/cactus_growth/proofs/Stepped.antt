@@ -1,7 +1,7 @@
 -- One step further on a way.
 use Rattle.std.proofs.Common.{◌≡◌, ℕ, zero, suc, ◌+◌, ◌-◌, ◌<◌, ◌≤◌, true, ◌||◌, List, [], ◌∷◌, ◌++◌, Some, length, map, take, drop, get_or, ap, ◌∙◌, sym, subst, arith}
 use Rattle.std.specs.Prelude.{slice_get}
-use Rattle.std.proofs.lemmas.List.{drop_more, drop_all, take_all, take-append-drop, length-drop, length-take}
+use Rattle.std.proofs.lemmas.List.{drop_more, drop_all, take-append-drop, length-take, take_rest}
 use Rattle.std.proofs.lemmas.Option.{get_or_from_slice_get, slice_get_within}
 use Rattle.cut_definitions.specs.Cuts.{has}
 use Rattle.cactus_tree.specs.Entered.{entered}
@@ -17,8 +17,7 @@ use Rattle.cactus_growth.specs.Growth.{AreOnce, IsArcHung, IsGrown, IsOpened}
 use Rattle.cactus_growth.specs.Levels.{AreAbove}
 use Rattle.cactus_growth.specs.Ways.{HasChild, IsWay, LeadsTo}
 use Rattle.cactus_growth.proofs.GrownUp.{grown_up, opened_inside}
-use Rattle.cactus_growth.proofs.Pulled.{below_at}
-use Rattle.cactus_growth.proofs.WaysDown.{same_child, same_end, way_parts, way_inside}
+use Rattle.cactus_growth.proofs.WaysDown.{same_child, same_end, way_parts, way_inside, below_at}
 
 pub stepped : (x z : Node) (way : List Step) (i : ℕ) (d : Step) → i < length way → IsWay x (drop i way) z → (y : Node) × HasChild x (get_or way i d) y × IsWay y (drop (i + 1) way) z
 stepped x z way i d lt h = subst (λ l. IsWay x l z) (drop_more way i d lt) h
@@ -69,9 +68,6 @@ pub level_down : (root node child : Node) (left all : List Opened) (l : Opened) 
 level_down root node child left all l e a o once = subst (λ ls. AreAbove root ls child) (sym (ap top_first e ∙ top_push left l)) (node, o, once, a)
 
 -- ---- slices to the end of a list
-pub rest_slice : {X : Type 0} (xs : List X) (k : ℕ) → take (length xs - k) (drop k xs) ≡ drop k xs
-rest_slice xs k = take_all (length xs - k) (drop k xs) (omega (arith, length-drop k xs))
-
 pub slice_drop : {X : Type 0} (xs : List X) (k : ℕ) (x : X) → slice_get (drop k xs) 0 ≡ Some x → slice_get xs k ≡ Some x
 slice_drop [] zero x e = e
 slice_drop [] (suc k) x e = cc
@@ -87,7 +83,7 @@ slice_take xs k i x e = ap (λ l. slice_get l i) (sym (take-append-drop k xs)) �
     go (z ∷ zs) (suc j) f = go zs j f
 
 pub leads_slice : (v : ℕ) (x : Node) (items now : List Step) (k : ℕ) → now ≡ items → LeadsTo v x (drop k items) → LeadsTo v x (take (length now - k) (drop k now))
-leads_slice v x items now k e h = subst (λ l. LeadsTo v x l) (sym (rest_slice now k ∙ ap (drop k) e)) h
+leads_slice v x items now k e h = subst (λ l. LeadsTo v x l) (sym (take_rest now k ∙ ap (drop k) e)) h
 
 -- ---- the first steps of two ways into one block
 module _ (node : Node) (u v : ℕ) (us vs : List Step) (d : Step) (lu : LeadsTo u node us) (lv : LeadsTo v node vs)

@@ -6,6 +6,7 @@ use Rattle.std.proofs.lemmas.List.{map-append}
 use Rattle.std.proofs.lemmas.List.Elements.{All-nil, All-append, All-cons, Contains-append_left, Contains-append_right, Contains-append_cases}
 use Rattle.cut_definitions.specs.Weight.{VertexSet}
 use Rattle.cut_definitions.specs.Cuts.{has, IsAscendingWithin}
+use Rattle.cut_definitions.proofs.ListLaws.{All-front, All-back}
 use Rattle.cactus_tree.specs.Sides.{Part, part, block_part, all_of, belows, all_cuts}
 use Rattle.cactus_tree.specs.Entered.{entered, entered_block}
 use Rattle.cactus_tree.specs.Trees.{vertices, blocks}
@@ -13,12 +14,15 @@ use Rattle.cactus_tree.specs.Widths.{widths, block_widths}
 use Rattle.cactus_tree.specs.declared.tree.Node.{Node}
 use Rattle.cactus_tree.proofs.Cycles.{cycle_cuts, cycle_rest}
 use Rattle.cactus_tree.proofs.Orders.{entered_out}
+use Rattle.cactus_tree.proofs.BlockLaws.{widths_flat}
+use Rattle.cactus_tree.proofs.Trims.{cuts_out}
 use Rattle.cactus_growth.specs.Growth.{times, AreOnce, AreAscending, AreWithin, AreWide, AscendBelow, IsArcHung, IsTakenIn, IsSorted, IsOpened, IsToward, IsPulled}
-use Rattle.cactus_growth.proofs.Counts.{count_both, count_some, All_left, All_right}
+use Rattle.cactus_growth.proofs.Counts.{count_both, count_some}
 use Rattle.cactus_growth.proofs.CycleKept.{node_lacks}
 use Rattle.cactus_growth.proofs.Opened.{mid_flat, below_both, below_listed, node_listed, own_lacks, bare_cuts, bare_wide}
-use Rattle.cactus_growth.proofs.Pulled.{rest_lists, times_more, widths_flat, below_at, cuts_of}
+use Rattle.cactus_growth.proofs.Pulled.{rest_lists, times_more}
 use Rattle.cactus_growth.proofs.Without.{cycle_lacks, cycle_without, cycle_before, cycle_behind, cycle_child}
+use Rattle.cactus_growth.proofs.WaysDown.{below_at}
 
 -- the nodes below a node and a closed walk that was hung below it ascend
 pub arc_below : (n : ℕ) (node x : Node) (xs : List Node) → IsArcHung node xs x → AscendBelow n node → AreAscending n (flat_map entered xs) → AscendBelow n x
@@ -188,18 +192,18 @@ module _ (v : ℕ) (old top rest own t1 t2 t3 child : Node) (before after : List
         let was = h.ascending n a in
         let now = o.ascending n was.1 in
         let pieces : AreAscending n (flat_map entered before ++ (entered child ++ flat_map entered after)) = subst (AreAscending n) lists now.1 in
-        let behind = All_right P (flat_map entered before) (entered child ++ flat_map entered after) pieces in (
-          arc_below n t2 t3 after g (arc_below n t1 t2 before f (i.ascending n was.0 now.0) (All_left P (flat_map entered before) (entered child ++ flat_map entered after) pieces)) (All_right P (entered child) (flat_map entered after) behind),
-          All_left P (entered child) (flat_map entered after) behind,
+        let behind = All-back P (flat_map entered before) (entered child ++ flat_map entered after) pieces in (
+          arc_below n t2 t3 after g (arc_below n t1 t2 before f (i.ascending n was.0 now.0) (All-front P (flat_map entered before) (entered child ++ flat_map entered after) pieces)) (All-back P (entered child) (flat_map entered after) behind),
+          All-front P (entered child) (flat_map entered after) behind,
         );
     wide = λ a.
         let P : ℕ → Type 0 = λ z. 2 ≤ z in
         let was = h.wide a in
         let now = o.wide was.1 in
         let pieces : AreWide (flat_map widths before ++ (widths child ++ flat_map widths after)) = subst AreWide numbers now.1 in
-        let behind = All_right P (flat_map widths before) (widths child ++ flat_map widths after) pieces in (
-          g.wide (f.wide (i.wide was.0 now.0) (All_left P (flat_map widths before) (widths child ++ flat_map widths after) pieces)) (All_right P (widths child) (flat_map widths after) behind),
-          All_left P (widths child) (flat_map widths after) behind,
+        let behind = All-back P (flat_map widths before) (widths child ++ flat_map widths after) pieces in (
+          g.wide (f.wide (i.wide was.0 now.0) (All-front P (flat_map widths before) (widths child ++ flat_map widths after) pieces)) (All-back P (widths child) (flat_map widths after) behind),
+          All-front P (widths child) (flat_map widths after) behind,
         );
     own = λ w k. or_left (has (vertices t3) w) (has (vertices child) w) (own_is w ∙ ap (λ l. has (vertices top) w || has l w) (sym o.own) ∙ h.own w k);
   }
@@ -210,7 +214,7 @@ module _ (v : ℕ) (old top rest t x : Node) (h : IsToward v old top rest) (insi
   rest_lacks = own_lacks rest v inside (omega (arith, once v, h.counts v))
 
   cuts_are : (part x).cuts ≡ (part t).cuts
-  cuts_are = cuts_of x ∙ ap (λ bs. all_cuts (map block_part bs)) k.blocks_are ∙ sym (cuts_of t)
+  cuts_are = cuts_out x ∙ ap (λ bs. all_cuts (map block_part bs)) k.blocks_are ∙ sym (cuts_out t)
 
   lists_are : flat_map entered_block (blocks x) ≡ flat_map entered_block (blocks t)
   lists_are = ap (flat_map entered_block) k.blocks_are

@@ -1,13 +1,14 @@
 -- A walk over a tree with a stack of nodes, each with the way to it; and steps that two ways share.
-use Rattle.std.proofs.Common.{◌≡◌, ◌≢◌, ℕ, ◌+◌, ◌<◌, ◌≤◌, Bool, true, false, ◌||◌, ◌&&◌, ◌==◌, List, [], ◌∷◌, ◌++◌, Some, length, map, take, get_or, refl, ap, ◌∙◌, sym, subst, inl, inr, arith}
+use Rattle.std.proofs.Common.{◌≡◌, ◌≢◌, ℕ, ◌+◌, ◌<◌, ◌≤◌, Bool, true, false, ◌||◌, ◌==◌, List, [], ◌∷◌, ◌++◌, Some, length, map, take, get_or, refl, ap, ◌∙◌, sym, subst, inl, inr, arith}
 use Rattle.std.specs.Prelude.{⊤, slice_get, min, Option, None, IfSome, IfNone}
 use Rattle.std.specs.List.{All, filter, flat_map}
-use Rattle.std.proofs.lemmas.Bool.{false≢true, and_parts, cases_Bool, cond-true, cond-false, eqb-true, eq-eqb}
+use Rattle.std.proofs.lemmas.Bool.{false≢true, and_parts, cases_Bool, cond-true, cond-false, eqb-true, eq-eqb, and_from}
 use Rattle.std.proofs.lemmas.List.{append-nil, append_assoc, map-append, length-append, length-take-le, take-take, take-append-le, take_all, take_more_same}
 use Rattle.std.proofs.lemmas.Option.{get_or_from_slice_get, slice_get_within}
 use Rattle.std.proofs.lemmas.List.Concat.{flat_map-append}
 use Rattle.std.proofs.lemmas.List.Elements.{All-nil, All-cons, All-head, All-tail, All-append, All-filter, All-weaker, filter-append}
 use Rattle.cut_definitions.specs.Cuts.{has}
+use Rattle.cut_definitions.proofs.ListLaws.{taken, All-front, All-back}
 use Rattle.cactus_tree.specs.Sides.{part, block_part, all_of, belows}
 use Rattle.cactus_tree.specs.Trees.{vertices, blocks}
 use Rattle.cactus_tree.specs.Entries.{nodes_of}
@@ -18,9 +19,8 @@ use Rattle.cactus_growth.specs.Ways.{HasChild, IsStepTo, IsWay, LeadsTo, IsBelow
 use Rattle.cactus_tree.specs.Numbers.{is_inner}
 use Rattle.cactus_growth.specs.declared.ways.Step.{Step}
 use Rattle.cactus_growth.specs.declared.ways.Visit.{Visit}
-use Rattle.cactus_growth.proofs.Below.{taken_one}
-use Rattle.cactus_growth.proofs.Counts.{All_left, All_right}
 use Rattle.cactus_growth.proofs.WaysDown.{way_end, block_below, below_at}
+use Rattle.cactus_growth.proofs.Opened.{below_both}
 
 -- ---- nodes that are put on a stack
 added_both : (x : Node) (depth : ℕ) (xs ys : List Node) (old mid new : List Visit) → AreAdded x depth xs old mid → AreAdded x depth ys mid new → AreAdded x depth (xs ++ ys) old new
@@ -90,14 +90,14 @@ none_then (Some x) h f = tt
 pub visited_node : (v : ℕ) (x y : Node) (depth : ℕ) (xs : List Node) (i : ℕ) (old cur new : List Visit) → AreVisited v x depth (take i xs) old cur → slice_get xs i ≡ Some y → AreVisited v x depth (y ∷ []) cur new →
     AreVisited v x depth (take (i + 1) xs) old new
 visited_node v x y depth xs i old cur new h a k =
-    subst (λ (l : List Node). AreVisited v x depth l old new) (sym (taken_one xs i y a)) (visited_both v x depth (take i xs) (y ∷ []) old cur new h k)
+    subst (λ (l : List Node). AreVisited v x depth l old new) (sym (taken xs i y a)) (visited_both v x depth (take i xs) (y ∷ []) old cur new h k)
 
 -- one more block
 pub visited_block : (v : ℕ) (x : Node) (b : Block) (depth i : ℕ) (old cur new : List Visit) → slice_get (blocks x) i ≡ Some b → AreVisited v x depth (flat_map nodes_of (take i (blocks x))) old cur → AreVisited v x depth (nodes_of b) cur new →
     AreVisited v x depth (flat_map nodes_of (take (i + 1) (blocks x))) old new
 visited_block v x b depth i old cur new a h k =
     let more : flat_map nodes_of (take (i + 1) (blocks x)) ≡ flat_map nodes_of (take i (blocks x)) ++ nodes_of b =
-    ap (flat_map nodes_of) (taken_one (blocks x) i b a) ∙ flat_map-append nodes_of (take i (blocks x)) (b ∷ []) ∙ ap (λ l. flat_map nodes_of (take i (blocks x)) ++ l) (append-nil (nodes_of b)) in
+    ap (flat_map nodes_of) (taken (blocks x) i b a) ∙ flat_map-append nodes_of (take i (blocks x)) (b ∷ []) ∙ ap (λ l. flat_map nodes_of (take i (blocks x)) ++ l) (append-nil (nodes_of b)) in
     subst (λ (l : List Node). AreVisited v x depth l old new) (sym more) (visited_both v x depth (flat_map nodes_of (take i (blocks x))) (nodes_of b) old cur new h k)
 
 -- ---- what the nodes on the stack have below them
@@ -105,16 +105,12 @@ or_assoc : (a b c : Bool) → ((a || b) || c) ≡ (a || (b || c))
 or_assoc true b c = refl
 or_assoc false b c = refl
 
-below_append : (xs ys : List Node) (v : ℕ) → all_of (belows (map part (xs ++ ys))) v ≡ (all_of (belows (map part xs)) v || all_of (belows (map part ys)) v)
-below_append [] ys v = refl
-below_append (x ∷ xs) ys v = ap (λ k. (part x).below v || k) (below_append xs ys v) ∙ sym (or_assoc ((part x).below v) (all_of (belows (map part xs)) v) (all_of (belows (map part ys)) v))
-
 blocks_below : (bs : List Block) (v : ℕ) → all_of (belows (map block_part bs)) v ≡ all_of (belows (map part (flat_map nodes_of bs))) v
 blocks_below [] v = refl
 blocks_below (b ∷ bs) v =
     ap (λ k. k || all_of (belows (map block_part bs)) v) (block_below b v)
     ∙ ap (λ k. all_of (belows (map part (nodes_of b))) v || k) (blocks_below bs v)
-    ∙ sym (below_append (nodes_of b) (flat_map nodes_of bs) v)
+    ∙ sym (below_both (nodes_of b) (flat_map nodes_of bs) v)
 
 -- a vertex that a node does not have itself is below the nodes right below it
 lower_below : (x : Node) (v : ℕ) → has (vertices x) v ≡ false → all_of (belows (map part (flat_map nodes_of (blocks x)))) v ≡ (part x).below v
@@ -148,8 +144,8 @@ still_below : (left before after : List Node) (x : Node) (v : ℕ) → before �
 still_below left before after x v b a lower h k =
     let seen = λ (xs : List Node). all_of (belows (map part xs)) v in
     let xs = flat_map nodes_of (blocks x) in
-    ap seen a ∙ below_append left (filter is_inner xs) v ∙ ap (λ t. seen left || t) (inner_below xs v lower ∙ lower_below x v h)
-    ∙ sym (or_last (seen left) ((part x).below v)) ∙ sym (below_append left (x ∷ []) v) ∙ sym (ap seen b) ∙ k
+    ap seen a ∙ below_both left (filter is_inner xs) v ∙ ap (λ t. seen left || t) (inner_below xs v lower ∙ lower_below x v h)
+    ∙ sym (or_last (seen left) ((part x).below v)) ∙ sym (below_both left (x ∷ []) v) ∙ sym (ap seen b) ∙ k
 
 -- ---- the ways to the nodes on the stack, along the way to the node that was looked at last
 pub record IsReached (root : Node) (way : List Step) (w : Visit) : Type 0 where
@@ -169,7 +165,7 @@ rising_pop [] w h = (All-nil (IsNoDeeper w.depth), tt)
 rising_pop (x ∷ xs) w h =
     let P = λ (z : Visit). x.depth ≤ z.depth in
     let r = rising_pop xs w h.1 in
-    (All-cons (IsNoDeeper w.depth) x xs (All-head P w [] (All_right P xs (w ∷ []) h.0)) r.0, (All_left P xs (w ∷ []) h.0, r.1))
+    (All-cons (IsNoDeeper w.depth) x xs (All-head P w [] (All-back P xs (w ∷ []) h.0)) r.0, (All-front P xs (w ∷ []) h.0, r.1))
 
 level : (d : ℕ) (ys : List Visit) → All (λ (z : Visit). z.depth ≡ d) ys → IsRising ys
 level d [] h = tt
@@ -231,7 +227,7 @@ search_starts root v old new o a n k =
 
 -- the node on the top of the stack, and the way to it
 top_reached : (root : Node) (v : ℕ) (way : List Step) (left before : List Visit) (w : Visit) → IsSearched root v way before → before ≡ left ++ w ∷ [] → IsReached root way w
-top_reached root v way left before w h b = All-head (IsReached root way) w [] (All_right (IsReached root way) left (w ∷ []) (subst (All (IsReached root way)) b h.reached))
+top_reached root v way left before w h b = All-head (IsReached root way) w [] (All-back (IsReached root way) left (w ∷ []) (subst (All (IsReached root way)) b h.reached))
 
 top_way : (root : Node) (v : ℕ) (way cut next : List Step) (left before : List Visit) (w : Visit) → IsSearched root v way before → before ≡ left ++ w ∷ [] → cut ≡ take w.depth way → next ≡ cut ++ w.step ∷ [] → IsWay root next w.node.now
 top_way root v way cut next left before w h b c e = subst (λ (l : List Step). IsWay root l w.node.now) (sym (e ∙ ap (λ l. l ++ w.step ∷ []) c)) (top_reached root v way left before w h b).reached
@@ -266,16 +262,16 @@ search_goes_on root v way cut next left before after w d h b c e l k =
     let nodes = nodes_before left before w b in
     let more : visited after ≡ visited left ++ filter is_inner xs = added_is y d left after (filter is_inner xs) a in
     let lacked : All (Lacks v) (visited left ++ y ∷ []) = subst (All (Lacks v)) nodes h.lacking in
-    let lacks : Lacks v y = All-head (Lacks v) y [] (All_right (Lacks v) (visited left) (y ∷ []) lacked) in
+    let lacks : Lacks v y = All-head (Lacks v) y [] (All-back (Lacks v) (visited left) (y ∷ []) lacked) in
     record {
       reached = subst (All (IsReached root next)) (sym a.whole)
           (All-append (IsReached root next) left a.added
-          (both left (All_left (IsReached root way) left (w ∷ []) old) popped.0 (λ z r k. reached_again root way next w.depth w.step z is top.deep r k))
+          (both left (All-front (IsReached root way) left (w ∷ []) old) popped.0 (λ z r k. reached_again root way next w.depth w.step z is top.deep r k))
           (All-weaker B (IsReached root next) (λ z k. reached_below root y next z there (subst (λ m. IsBelow y m z) l k)) a.added a.below));
       rising = subst IsRising (sym a.whole) (rising_more d left a.added popped.1
           (All-weaker (IsNoDeeper w.depth) (IsNoDeeper d) (λ z k. omega (arith, k, size, l)) left popped.0)
           (All-weaker B (λ (z : Visit). z.depth ≡ d) (λ z k. k.deep) a.added a.below));
-      lacking = subst (All (Lacks v)) (sym more) (All-append (Lacks v) (visited left) (filter is_inner xs) (All_left (Lacks v) (visited left) (y ∷ []) lacked) (All-filter is_inner (Lacks v) xs k.lacking));
+      lacking = subst (All (Lacks v)) (sym more) (All-append (Lacks v) (visited left) (filter is_inner xs) (All-front (Lacks v) (visited left) (y ∷ []) lacked) (All-filter is_inner (Lacks v) xs k.lacking));
       below = still_below (visited left) (visited before) (visited after) y v nodes more k.lacking lacks h.below;
     } where
       both : {P Q R : Visit → Type 0} (xs : List Visit) → All P xs → All Q xs → ((z : Visit) → P z → Q z → R z) → All R xs
@@ -295,12 +291,9 @@ same_from_test s t h =
     let f : s.child ≡ t.child = eqb-true s.child t.child both.1 in
     λ i. record { block = e i; child = f i }
 
-and_both : (a b : Bool) → a ≡ true → b ≡ true → (a && b) ≡ true
-and_both a b e f = ap (λ k. k && b) e ∙ f
-
 pub apart_from_test : (s t : Step) → same_step s t ≡ false → s ≢ t
 apart_from_test s t h e =
-    false≢true (sym h ∙ and_both (s.block == t.block) (s.child == t.child) (eq-eqb s.block t.block (ap (λ (u : Step). u.block) e)) (eq-eqb s.child t.child (ap (λ (u : Step). u.child) e)))
+    false≢true (sym h ∙ and_from (s.block == t.block) (s.child == t.child) (eq-eqb s.block t.block (ap (λ (u : Step). u.block) e)) (eq-eqb s.child t.child (ap (λ (u : Step). u.child) e)))
 
 pub shared_more : (first second : List Step) (i n : ℕ) (d : Step) (r : Bool) → n ≡ min (length first) (length second) → i < n → take i first ≡ take i second → r ≡ same_step (get_or first i d) (get_or second i d) → r ≡ true →
     take (i + 1) first ≡ take (i + 1) second

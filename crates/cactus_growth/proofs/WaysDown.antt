@@ -1,8 +1,10 @@
 -- Ways down a tree, and what is below their ends.
-use Rattle.std.proofs.Common.{◌≡◌, ℕ, zero, suc, Bool, true, false, ◌||◌, List, [], ◌∷◌, ◌++◌, Some, map, refl, ap, ◌∙◌, sym, subst, inl, inr, arith}
+use Rattle.std.proofs.Common.{◌≡◌, ℕ, zero, suc, true, ◌||◌, List, [], ◌∷◌, ◌++◌, Some, map, refl, ap, ◌∙◌, sym, subst, inl, inr, arith}
 use Rattle.std.specs.Prelude.{slice_get}
 use Rattle.std.proofs.lemmas.Option.{same_Some, slice_get_within}
+use Rattle.std.proofs.lemmas.Bool.{or_left, or_right}
 use Rattle.cut_definitions.specs.Cuts.{has}
+use Rattle.cut_definitions.proofs.Bools.{or_none}
 use Rattle.cactus_tree.specs.Sides.{Part, part, block_part, all_of, belows}
 use Rattle.cactus_tree.specs.Trees.{vertices, blocks}
 use Rattle.cactus_tree.specs.Entries.{nodes_of}
@@ -34,17 +36,6 @@ way_end x [] s y z h k = (z, subst (λ u. HasChild u s z) (sym h) k, refl)
 way_end x (t ∷ ss) s y z h k = (h.0, h.1, way_end h.0 ss s y z h.2 k)
 
 -- ---- what is below a node is below each node above it
-or_left : (a b : Bool) → a ≡ true → (a || b) ≡ true
-or_left a b h = ap (λ k. k || b) h
-
-or_none : (a : Bool) → a ≡ (a || false)
-or_none true = refl
-or_none false = refl
-
-or_right : (a b : Bool) → b ≡ true → (a || b) ≡ true
-or_right true b h = refl
-or_right false b h = h
-
 pub one_of_all : {X : Type 0} (f : X → Part) (xs : List X) (i : ℕ) (x : X) (v : ℕ) → slice_get xs i ≡ Some x → (f x).below v ≡ true → all_of (belows (map f xs)) v ≡ true
 one_of_all f [] i x v a h = absurd (omega (arith, slice_get_within [] i x a))
 one_of_all f (y ∷ ys) zero x v a h = or_left ((f y).below v) (all_of (belows (map f ys)) v) (ap (λ z. (f z).below v) (same_Some y x a) ∙ h)

@@ -6,7 +6,7 @@ use Rattle.cactus_tree.specs.declared.tree.Node.{Node}
 use Rattle.cactus_tree.proofs.Parts.{part_out}
 use Rattle.cactus_merge.specs.Joined.{IsFarEnd}
 use Rattle.cut_definitions.proofs.Lists.{Contains-there}
-use Rattle.cactus_merge.proofs.Members.{head_or_tail}
+use Rattle.cut_definitions.proofs.ListLaws.{head_or_tail}
 
 below_bridge : (p : Part) → IsFarEnd (bridge_of p) p
 below_bridge p = record { below = refl; cuts = λ s h. head_or_tail p.below p.cuts s h; only = λ s h. Contains-there p.below p.cuts s h }

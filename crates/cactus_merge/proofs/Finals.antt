@@ -1,5 +1,5 @@
 -- The joined nodes of the parts of a chain are a cactus, and its sides are those of the chain and of its parts.
-use Rattle.std.proofs.Common.{◌≡◌, ℕ, Bool, false, cond, ◌+◌, ◌-◌, ◌≤◌, ◌<◌, ◌==◌, ◌||◌, zero, suc, List, [], ◌∷◌, ◌++◌, length, map, drop, get_or, refl, sym, ◌∙◌, ap, subst, arith, ⊎_elim, ne_eqb}
+use Rattle.std.proofs.Common.{◌≡◌, ℕ, Bool, false, cond, ◌+◌, ◌-◌, ◌≤◌, ◌<◌, ◌==◌, zero, suc, List, [], ◌∷◌, ◌++◌, length, map, drop, get_or, refl, sym, ◌∙◌, ap, subst, arith, ⊎_elim, ne_eqb}
 use Rattle.std.specs.Prelude.{if◌then◌else◌, not}
 use Rattle.std.specs.List.{All, Contains, concat, filter, flat_map, range_with_len}
 use Rattle.std.proofs.lemmas.Bool.{cases_Bool, cases_eq, eq-eqb}
@@ -9,6 +9,8 @@ use Rattle.cut_definitions.specs.Cuts.{has, IsAscendingWithin}
 use Rattle.cut_definitions.specs.Weight.{VertexSet}
 use Rattle.cut_definitions.specs.Chain.{parts_between}
 use Rattle.cut_definitions.proofs.Lists.{Contains-map, Contains-from_map}
+use Rattle.cut_definitions.proofs.Bools.{no_left, no_right}
+use Rattle.cut_definitions.proofs.ListLaws.{All-back}
 use Rattle.residual_chain.specs.declared.run.Run.{Run}
 use Rattle.residual_chain.specs.Chain.{ChainView, IsChainShape, IsInnerRun}
 use Rattle.residual_chain.specs.Search.{mark_of}
@@ -24,7 +26,6 @@ use Rattle.cactus_merge.specs.Joined.{IsRuns, IsWide, SameSets, joined_cuts, run
 use Rattle.cactus_merge.specs.Assembled.{ArePartsOf, AreNodesOf, IsNodeOf, SameMembers, assembled_sides, chain_sides, run_sides, part_sides, set_list}
 use Rattle.cactus_merge.proofs.Names.{count_of, count_yes, count_no}
 use Rattle.cactus_merge.proofs.Numbered.{AreNumbered, rest_numbered, tails_sides, interval_list}
-use Rattle.cactus_merge.proofs.Wide.{back_all}
 use Rattle.cactus_merge.proofs.Within.{all_lack, none_counted}
 
 -- ---- the runs of a chain
@@ -43,7 +44,7 @@ all_from_some P e [] h = All-nil P
 all_from_some P e ([] ∷ ls) h = All-cons P [] ls e (all_from_some P e ls h)
 all_from_some P e ((x ∷ l) ∷ ls) h =
     let k : All P ((x ∷ l) ∷ filter has_some ls) = subst (All P) (kept_some x l ls) h in
-    All-cons P (x ∷ l) ls (All-head P (x ∷ l) (filter has_some ls) k) (all_from_some P e ls (back_all P ((x ∷ l) ∷ []) (filter has_some ls) k))
+    All-cons P (x ∷ l) ls (All-head P (x ∷ l) (filter has_some ls) k) (all_from_some P e ls (All-back P ((x ∷ l) ∷ []) (filter has_some ls) k))
 
 count_some : (ls : List (List ℕ)) (v : ℕ) → count_of (filter has_some ls) v ≡ count_of ls v
 count_some [] v = refl
@@ -55,7 +56,7 @@ count_some ((x ∷ l) ∷ ls) v = ap (λ ms. count_of ms v) (kept_some x l ls) �
 
 all_held : (P : List ℕ → Type 0) (nodes : List Node) → All (λ x. All P (entered x)) nodes → All P (flat_map held nodes)
 all_held P [] h = All-nil P
-all_held P (x ∷ xs) h = All-append P (held x) (flat_map held xs) (All-filter has_some P (entered x) (All-head (λ y. All P (entered y)) x xs h)) (all_held P xs (back_all (λ y. All P (entered y)) (x ∷ []) xs h))
+all_held P (x ∷ xs) h = All-append P (held x) (flat_map held xs) (All-filter has_some P (entered x) (All-head (λ y. All P (entered y)) x xs h)) (all_held P xs (All-back (λ y. All P (entered y)) (x ∷ []) xs h))
 
 -- ---- each vertex in one node
 count_append : (ls ms : List (List ℕ)) (v : ℕ) → count_of (ls ++ ms) v ≡ count_of ls v + count_of ms v
@@ -95,17 +96,11 @@ count_once m k v (x ∷ xs) h l b = ⊎_elim
     (cases_eq m k)
 
 -- ---- the vertices below a node
-left_no : (a b : Bool) → (a || b) ≡ false → a ≡ false
-left_no a b e = grind arith
-
-right_no : (a b : Bool) → (a || b) ≡ false → b ≡ false
-right_no a b e = grind arith
-
 lack_none : (ls : List (List ℕ)) (v : ℕ) → has (concat ls) v ≡ false → count_of ls v ≡ 0
 lack_none [] v h = refl
 lack_none (l ∷ ls) v h =
     let e = sym (has_append_at l (concat ls) v) ∙ h in
-    count_no l ls v (left_no (has l v) (has (concat ls) v) e) ∙ lack_none ls v (right_no (has l v) (has (concat ls) v) e)
+    count_no l ls v (no_left (has l v) (has (concat ls) v) e) ∙ lack_none ls v (no_right (has l v) (has (concat ls) v) e)
 
 abbrev count_if : Bool → ℕ
 count_if b = if b then 1 else 0
@@ -192,7 +187,7 @@ module _ (c : ChainView) (parts : List PartCactus) (nodes : List Node) (x : Node
   runs_list (r ∷ runs) h =
       map-append (set_list (length c.numbers)) (intervals (belows (run_parts (map part nodes) r))) (run_cuts (map part nodes) runs)
       ∙ ap (λ l. l ++ map (set_list (length c.numbers)) (run_cuts (map part nodes) runs)) (run_list r (All-head (IsInnerRun c.parts) r runs h))
-      ∙ ap (λ l. run_sides c r ++ l) (runs_list runs (back_all (IsInnerRun c.parts) (r ∷ []) runs h))
+      ∙ ap (λ l. run_sides c r ++ l) (runs_list runs (All-back (IsInnerRun c.parts) (r ∷ []) runs h))
 
   cuts_list : (ps : List PartCactus) (xs : List Node) → length ps ≡ length xs → ((i : ℕ) (p : PartCactus) (y : Node) → i < length xs → map (set_list (length c.numbers)) (cuts (get_or xs i y)) ≡ part_sides (length c.numbers) (get_or ps i p)) → map (set_list (length c.numbers)) (all_cuts (map part xs)) ≡ flat_map (part_sides (length c.numbers)) ps
   cuts_list [] [] n h = refl

@@ -7,6 +7,7 @@ use Rattle.std.proofs.Common.{ne_eqb}
 use Rattle.std.proofs.lemmas.Bool.Decides.{nat_tests}
 use Rattle.cut_definitions.specs.Weight.{VertexSet}
 use Rattle.cut_definitions.specs.Cuts.{has}
+use Rattle.cut_definitions.proofs.Bools.{or_none, or_nothing}
 use Rattle.cactus_tree.specs.Sides.{Part, part_by, cuts}
 use Rattle.cactus_tree.specs.Entered.{name_of, renamed}
 use Rattle.cactus_tree.specs.declared.tree.Node.{Node}
@@ -42,10 +43,6 @@ beyond (x ∷ xs) zero d h = absurd (omega (arith, h))
 beyond (x ∷ xs) (suc i) d h = beyond xs i d (omega (arith, h))
 
 -- one element of a range
-or_false : (a : Bool) → a ≡ (a || false)
-or_false true = refl
-or_false false = refl
-
 single_absent : (x : ℕ) (c : ℕ → Bool) (low m : ℕ) → x < low → list_any (λ u. (x == u) && c u) (range_with_len low m) ≡ false
 single_absent x c low zero h = refl
 single_absent x c low (suc m) h =
@@ -64,7 +61,7 @@ single_inside x c low (suc m) l h = ⊎_elim
     (λ e.
     ap (λ (b : Bool). (b && c low) || list_any (λ u. (x == u) && c u) (range_with_len (low + 1) m)) (eq-eqb x low e)
     ∙ ap (λ (b : Bool). c low || b) (single_absent x c (low + 1) m (omega (arith, e)))
-    ∙ sym (or_false (c low)) ∙ ap c (sym e))
+    ∙ sym (or_none (c low)) ∙ ap c (sym e))
     (λ ne.
     ap (λ (b : Bool). (b && c low) || list_any (λ u. (x == u) && c u) (range_with_len (low + 1) m)) (ne_eqb x low ne)
     ∙ single_inside x c (low + 1) m (omega (arith, l, ne)) (omega (arith, h)))
@@ -86,9 +83,6 @@ keeps names = record {
   union = λ s t. λ i v. union_at _ (list_any (λ u. s u && (name_of names u == v)) (range_with_len 0 (length names))) (list_any (λ u. t u && (name_of names u == v)) (range_with_len 0 (length names))) (nat_le (length names) v) (s v) (t v) (any_union s t (λ u. name_of names u == v) (range_with_len 0 (length names))) i;
 }
 
-low_at : (a b c : Bool) → b ≡ false → (a || (b && c)) ≡ a
-low_at a b c h = grind arith
-
 high_at : (a b c d : Bool) → a ≡ false → (c ≡ true → b ≡ true) → c ≡ d → (a || (b && c)) ≡ d
 high_at a b c d h k e = grind arith
 
@@ -97,9 +91,6 @@ from_high n x v h e = grind (arith, nat_tests)
 
 not_low : (n x v : ℕ) → x < n → (nat_le n v && (x == v)) ≡ false
 not_low n x v h = grind (arith, nat_tests)
-
-or_nothing : (a b : Bool) → b ≡ false → (a || b) ≡ a
-or_nothing a b h = grind arith
 
 single_image : (names : List ℕ) (x v : ℕ) → image names (λ w. x == w) v ≡ (name_of names x == v)
 single_image names x v = ⊎_elim

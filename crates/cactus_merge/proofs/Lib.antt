@@ -1,4 +1,3 @@
-pub mod Members
 pub mod FarEnds
 pub mod Intervals
 pub mod Tails

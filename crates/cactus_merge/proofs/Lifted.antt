@@ -3,8 +3,7 @@ use Rattle.std.proofs.Common.{◌≡◌, ℕ, Bool, false, ◌+◌, ◌-◌, ◌
 use Rattle.std.specs.Prelude.{nat_le, not, if◌then◌else◌}
 use Rattle.std.specs.List.{Contains, list_any, range_with_len}
 use Rattle.std.proofs.Common.{ne_eqb}
-use Rattle.std.proofs.lemmas.Bool.{cases_eq, cases_lt}
-use Rattle.cut_definitions.proofs.ChainLaws.{leb_no}
+use Rattle.std.proofs.lemmas.Bool.{cases_eq, cases_lt, and_left, lt-leb}
 use Rattle.cut_definitions.specs.Weight.{VertexSet}
 use Rattle.cut_definitions.specs.Cuts.{has}
 use Rattle.cut_definitions.proofs.Lists.{Contains-here, Contains-there}
@@ -28,15 +27,12 @@ name_at own u l h =
     let e : u ≡ suc (suc (u - 2)) = omega (arith, l) in
     ap (λ (k : ℕ). get_or (0 ∷ 1 ∷ own) k u) e ∙ other_default own (u - 2) u 0 (omega (arith, l, h))
 
-neither_side : (a b : Bool) → a ≡ false → (a && b) ≡ false
-neither_side a b h = grind arith
-
 three_ways : (a b c d e : Bool) → a ≡ false → d ≡ false → (((a && b) || c) || (e && d)) ≡ c
 three_ways a b c d e h k = grind arith
 
 high_none : (m v : ℕ) (b : Bool) → (m ≤ v → b ≡ false) → (nat_le m v && b) ≡ (nat_le m v && false)
 high_none m v b h = ⊎_elim
-    (λ lt. ap (λ (a : Bool). a && b) (leb_no m v lt) ∙ sym (ap (λ (a : Bool). a && false) (leb_no m v lt)))
+    (λ lt. ap (λ (a : Bool). a && b) (lt-leb m v lt) ∙ sym (ap (λ (a : Bool). a && false) (lt-leb m v lt)))
     (λ ge. ap (λ (a : Bool). nat_le m v && a) (h ge))
     (cases_lt v m)
 
@@ -45,7 +41,7 @@ module _ (n : ℕ) (own : List ℕ) (k : ℕ) (root : Node) (is : IsCactus k roo
   one_stands s v u m l h = ⊎_elim
       (λ e.
       let no : s u ≡ false = ap s e ∙ cut_lacks_one k root is (omega (arith, more)) s m in
-      neither_side (s u) _ no ∙ sym (neither_side (s u) (stands_for own u v) no))
+      and_left (s u) _ no ∙ sym (and_left (s u) (stands_for own u v) no))
       (λ ne.
       ap (λ (w : ℕ). s u && (w == v)) (name_at own u (omega (arith, l, ne)) (omega (arith, h, more)))
       ∙ sym (ap (λ (b : Bool). s u && (if b then not (has own v) else get_or own (u - 2) 0 == v)) (ne_eqb u 1 ne)))

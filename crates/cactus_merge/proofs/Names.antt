@@ -6,11 +6,12 @@ use Rattle.std.proofs.lemmas.Bool.{cases_Bool, cases_eq, cases_lt, eq-eqb, lt-lt
 use Rattle.std.proofs.lemmas.List.Elements.{All-head}
 use Rattle.cut_definitions.specs.Cuts.{has, IsAscendingWithin}
 use Rattle.cut_definitions.proofs.Bridge.{has_low}
+use Rattle.cut_definitions.proofs.Bools.{never_both}
+use Rattle.cut_definitions.proofs.ListLaws.{All-back}
 use Rattle.cactus_tree.specs.Entered.{name_of, renamed}
 use Rattle.cactus_merge.specs.Assembled.{names_by, inserted}
 use Rattle.cactus_merge.proofs.Lifted.{name_at}
 use Rattle.cactus_merge.proofs.Within.{Lacks}
-use Rattle.cactus_merge.proofs.Wide.{back_all}
 
 -- ---- ascending lists
 pub ascends_at : (low high : ℕ) (l : List ℕ) (i : ℕ) → IsAscendingWithin low high l → i < length l → (low ≤ get_or l i 0) × (get_or l i 0 ≤ high)
@@ -41,15 +42,12 @@ from_two k (x ∷ l) a h = ⊎_elim
 is_low : (x : ℕ) (b : Bool) → ((x == 1) || b) ≡ true → (x ≡ 1 → ⊥) → b ≡ true
 is_low x b h ne = sym (ap (λ (a : Bool). a || b) (ne_eqb x 1 ne)) ∙ h
 
-not_both : (b : Bool) → b ≡ true → b ≡ false → ⊥
-not_both b h k = grind arith
-
 -- a list that has 1 begins with it
 pub begins_with_one : (k : ℕ) (l : List ℕ) → IsAscendingWithin 1 k l → has l 1 ≡ true → (l ≡ 1 ∷ drop 1 l) × IsAscendingWithin 2 k (drop 1 l)
-begins_with_one k [] a h = absurd (not_both false h refl)
+begins_with_one k [] a h = absurd (never_both false h refl)
 begins_with_one k (x ∷ l) a h = ⊎_elim
     (λ e. (ap (λ (y : ℕ). y ∷ l) e, subst (λ (y : ℕ). IsAscendingWithin (y + 1) k l) e a.2))
-    (λ ne. absurd (not_both (has l 1) (is_low x (has l 1) h ne) (has_low (x + 1) k 1 l a.2 (omega (arith, a.0)))))
+    (λ ne. absurd (never_both (has l 1) (is_low x (has l 1) h ne) (has_low (x + 1) k 1 l a.2 (omega (arith, a.0)))))
     (cases_eq x 1)
 
 pub has_inserted : (x : ℕ) (l : List ℕ) (v : ℕ) → has (inserted x l) v ≡ ((x == v) || has l v)
@@ -76,7 +74,7 @@ inserted_ascends low high x (y ∷ ys) a p q h = ⊎_elim
     first_no b c e = grind arith
 
     differ : y ≡ x → ⊥
-    differ e = not_both (y == x) (eq-eqb y x e) (first_no (y == x) (has ys x) h)
+    differ e = never_both (y == x) (eq-eqb y x e) (first_no (y == x) (has ys x) h)
 
 -- ---- names
 module _ (n : ℕ) (own : List ℕ) (k : ℕ) (asc : IsAscendingWithin 1 n own) (more : k ≡ length own + 1) where
@@ -126,7 +124,7 @@ pub record IsPlace (l : List ℕ) (v : ℕ) : Type 0 where
   pub there : get_or l place 0 ≡ v
 
 pub place_of : (l : List ℕ) (v : ℕ) → has l v ≡ true → IsPlace l v
-place_of [] v h = absurd (not_both false h refl)
+place_of [] v h = absurd (never_both false h refl)
 place_of (x ∷ l) v h = ⊎_elim
     (λ e. record { place = 0; inside = omega arith; there = e })
     (λ ne. (let r = place_of l v (sym (ap (λ (a : Bool). a || has l v) (ne_eqb x v ne)) ∙ h) in record { place = suc r.place; inside = omega (arith, r.inside); there = r.there }))
@@ -158,8 +156,8 @@ count_head l m ls ms v w h e = ⊎_elim
 
 pub count_none : (ls : List (List ℕ)) (v : ℕ) → All (Lacks v) ls → count_of ls v ≡ 0
 count_none [] v h = refl
-count_none (l ∷ ls) v h = count_no l ls v (All-head (Lacks v) l ls h) ∙ count_none ls v (back_all (Lacks v) (l ∷ []) ls h)
+count_none (l ∷ ls) v h = count_no l ls v (All-head (Lacks v) l ls h) ∙ count_none ls v (All-back (Lacks v) (l ∷ []) ls h)
 
 pub count_renamed : (r : List ℕ → List ℕ) (ls : List (List ℕ)) (v w : ℕ) → All (λ l. has (r l) v ≡ has l w) ls → count_of (map r ls) v ≡ count_of ls w
 count_renamed r [] v w h = refl
-count_renamed r (l ∷ ls) v w h = count_head (r l) l (map r ls) ls v w (All-head (λ m. has (r m) v ≡ has m w) l ls h) (count_renamed r ls v w (back_all (λ m. has (r m) v ≡ has m w) (l ∷ []) ls h))
+count_renamed r (l ∷ ls) v w h = count_head (r l) l (map r ls) ls v w (All-head (λ m. has (r m) v ≡ has m w) l ls h) (count_renamed r ls v w (All-back (λ m. has (r m) v ≡ has m w) (l ∷ []) ls h))

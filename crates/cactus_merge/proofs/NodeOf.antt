@@ -5,6 +5,8 @@ use Rattle.std.specs.List.{All, flat_map}
 use Rattle.std.proofs.lemmas.Bool.{cases_Bool}
 use Rattle.std.proofs.lemmas.List.Elements.{All-cons, All-map}
 use Rattle.cut_definitions.specs.Cuts.{has, IsAscendingWithin}
+use Rattle.cut_definitions.proofs.Bools.{never_both}
+use Rattle.cut_definitions.proofs.Ascending.{contains_has, has_contains}
 use Rattle.residual_chain.specs.Chain.{ChainView}
 use Rattle.residual_chain.specs.Search.{mark_of}
 use Rattle.cactus_tree.specs.Entered.{entered, entered_block, name_of, renamed}
@@ -15,7 +17,6 @@ use Rattle.cactus_tree.specs.Trees.{vertices, blocks}
 use Rattle.cactus_tree.specs.declared.tree.Node.{Node}
 use Rattle.cactus_tree.proofs.Orders.{entered_out}
 use Rattle.cactus_tree.proofs.Widths.{widths_out}
-use Rattle.cactus_tree.proofs.Groups.{contains_has, has_contains}
 use Rattle.cactus_merge.specs.declared.part.PartCactus.{PartCactus}
 use Rattle.cactus_merge.specs.Assembled.{IsPartOf, IsNodeOf, names_by}
 use Rattle.cactus_merge.proofs.Images.{image}
@@ -41,9 +42,6 @@ pub record IsTop (c : ChainView) (number : ℕ) (p : PartCactus) (extra top : Li
   pub apart : (v : ℕ) → has extra v ≡ true → has p.own v ≡ false
   pub exact : (v : ℕ) → 1 ≤ v → v ≤ length c.numbers → (mark_of c.numbers v == number) ≡ (has extra v || has p.own v)
   pub first : number ≡ 1 → has top 1 ≡ true
-
-clash : (b : Bool) → b ≡ true → b ≡ false → ⊥
-clash b h k = grind arith
 
 pub renamed_vertices : (p : PartCactus) (y : Node) → IsRenamed p y → vertices y ≡ renamed (names_by p.own) (vertices p.cactus.root)
 renamed_vertices p y r =
@@ -81,7 +79,7 @@ module _ (c : ChainView) (number : ℕ) (p : PartCactus) (y : Node) (part : IsPa
   no_name : (v : ℕ) → has p.own v ≡ false → (u : ℕ) → 2 ≤ u → u ≤ p.cactus.vertices → name_of (names_by p.own) u ≡ v → ⊥
   no_name v lacks_it u l h e =
       let inside : u - 2 < length p.own = omega (arith, part.one_more, l, h) in
-      clash (has p.own v) (has_at p.own (u - 2) v inside (sym (name_at p.own u l (omega (arith, part.one_more, h))) ∙ e)) lacks_it
+      never_both (has p.own v) (has_at p.own (u - 2) v inside (sym (name_at p.own u l (omega (arith, part.one_more, h))) ∙ e)) lacks_it
 
   pub top_lacks : (v : ℕ) → has p.own v ≡ false → Lacks v (top_of p)
   top_lacks v lacks_it = lacks_name (length c.numbers) p.own p.cactus.vertices part.ascending part.one_more (drop 1 (vertices p.cactus.root)) 2 v (omega arith) root_list.1 (no_name v lacks_it)

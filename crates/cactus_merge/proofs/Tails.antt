@@ -8,7 +8,7 @@ use Rattle.cactus_tree.proofs.Parts.{either_assoc, either_nothing, all_of_push, 
 use Rattle.residual_chain.specs.declared.run.Run.{Run}
 use Rattle.cactus_merge.specs.Joined.{tails, run_parts, run_cuts, SameSets, IsFarEnd, bridges}
 use Rattle.cut_definitions.proofs.Lists.{Contains-nil, Contains-here, Contains-there}
-use Rattle.cactus_merge.proofs.Members.{head_or_tail}
+use Rattle.cut_definitions.proofs.ListLaws.{head_or_tail}
 use Rattle.cactus_merge.proofs.Intervals.{tails_with, interval_cases, interval_of_list, interval_to_end, interval_of_end}
 
 -- the cuts of the last parts of a chain and of the runs among them

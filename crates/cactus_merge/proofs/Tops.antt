@@ -3,6 +3,8 @@ use Rattle.std.proofs.Common.{◌≡◌, ℕ, Bool, true, false, ◌-◌, ◌≤
 use Rattle.std.specs.Prelude.{not}
 use Rattle.std.proofs.lemmas.Bool.{cases_eq, eq-eqb}
 use Rattle.cut_definitions.specs.Cuts.{has, IsAscendingWithin}
+use Rattle.cut_definitions.proofs.Bools.{never_both}
+use Rattle.cut_definitions.proofs.Ascending.{has_one}
 use Rattle.residual_chain.specs.Chain.{ChainView, IsChainShape}
 use Rattle.residual_chain.specs.Search.{mark_of}
 use Rattle.cactus_tree.specs.Entered.{name_of, renamed}
@@ -40,12 +42,6 @@ regroup a b = grind arith
 
 only_one : (a : Bool) → (a || false) ≡ true → a ≡ true
 only_one a h = grind arith
-
-clash : (b : Bool) → b ≡ true → b ≡ false → ⊥
-clash b h k = grind arith
-
-single_is : (w v : ℕ) → has (w ∷ []) v ≡ true → w ≡ v
-single_is w v h = ⊎_elim (λ e. e) (λ ne. absurd (clash (w == v) (only_one (w == v) h) (ne_eqb w v ne))) (cases_eq w v)
 
 module _ (c : ChainView) (shape : IsChainShape c) (source : c.s ≡ 1) (p : PartCactus) (y : Node) (r : IsRenamed p y) where
   own_lacks_s : (number : ℕ) → IsPartOf c number p → has p.own c.s ≡ false
@@ -98,7 +94,7 @@ module _ (c : ChainView) (shape : IsChainShape c) (source : c.s ≡ 1) (p : Part
       let top : IsTop c 1 p (1 ∷ []) (vertices y) = record {
         members = λ v. ap (λ l. has l v) list ∙ regroup (1 == v) (has (top_of p) v);
         ascends = subst (IsAscendingWithin 1 (length c.numbers)) (sym list) (omega arith, one, rest);
-        apart = λ v h. ap (has p.own) (sym (single_is 1 v h)) ∙ lacks;
+        apart = λ v h. ap (has p.own) (sym (has_one 1 v h)) ∙ lacks;
         exact = exact_first part;
         first = λ q. ap (λ l. has l 1) list;
       } in
@@ -114,7 +110,7 @@ module _ (c : ChainView) (shape : IsChainShape c) (source : c.s ≡ 1) (p : Part
   top_middle number part low high = record {
     members = λ v. refl;
     ascends = top_ascends c number p y part r 1 (one_named number part);
-    apart = λ v h. absurd (clash false h refl);
+    apart = λ v h. absurd (never_both false h refl);
     exact = exact_middle number part low high;
     first = λ q. absurd (omega (arith, q, low));
   }
@@ -123,7 +119,7 @@ module _ (c : ChainView) (shape : IsChainShape c) (source : c.s ≡ 1) (p : Part
   top_last number part last = record {
     members = λ v. has_inserted c.t (top_of p) v ∙ regroup (c.t == v) (has (top_of p) v);
     ascends = inserted_ascends 1 (length c.numbers) c.t (top_of p) (top_ascends c number p y part r 1 (one_named number part)) shape.numbered.t_from_one shape.numbered.t_to_n (top_lacks c number p y part r c.t (own_lacks_t number part));
-    apart = λ v h. ap (has p.own) (sym (single_is c.t v h)) ∙ own_lacks_t number part;
+    apart = λ v h. ap (has p.own) (sym (has_one c.t v h)) ∙ own_lacks_t number part;
     exact = exact_last number part last;
     first = λ q. absurd (omega (arith, q, last, shape.numbered.two));
   }

@@ -2,8 +2,8 @@
 use Rattle.std.proofs.Common.{◌≡◌, ℕ, ◌≤◌, ◌<◌, List, [], ◌∷◌, ◌++◌, length, map, drop, sym, ◌∙◌, ap, subst, arith}
 use Rattle.std.specs.List.{All}
 use Rattle.std.proofs.lemmas.List.{length-append, length-map, length-drop}
-use Rattle.std.proofs.lemmas.List.Elements.{All-append, All-cons, All-head, All-nil, All-drop, All-take}
-use Rattle.std.proofs.Math.Seq.{take-append_seam, drop-append_seam}
+use Rattle.std.proofs.lemmas.List.Elements.{All-append, All-cons, All-head, All-nil, All-drop}
+use Rattle.cut_definitions.proofs.ListLaws.{All-front, All-back}
 use Rattle.cactus_tree.specs.Trees.{blocks, nodes_in}
 use Rattle.cactus_tree.specs.Widths.{widths, block_widths, joined}
 use Rattle.cactus_tree.specs.declared.tree.Node.{Node}
@@ -16,25 +16,19 @@ use Rattle.cactus_merge.specs.Joined.{IsWide, IsWideBlock}
 abbrev Two : ℕ → Type 0
 Two k = 2 ≤ k
 
-pub front_all : {X : Type 0} (P : X → Type 0) (xs ys : List X) → All P (xs ++ ys) → All P xs
-front_all P xs ys h = subst (All P) (take-append_seam xs ys) (All-take P (length xs) (xs ++ ys) h)
-
-pub back_all : {X : Type 0} (P : X → Type 0) (xs ys : List X) → All P (xs ++ ys) → All P ys
-back_all P xs ys h = subst (All P) (drop-append_seam xs ys) (All-drop P (length xs) (xs ++ ys) h)
-
 pub all_joined : {X : Type 0} (f : X → List ℕ) (xs : List X) → All (λ x. All Two (f x)) xs → All Two (joined (map f xs))
 all_joined f [] h = All-nil Two
-all_joined f (x ∷ xs) h = All-append Two (f x) (joined (map f xs)) (All-head (λ y. All Two (f y)) x xs h) (all_joined f xs (back_all (λ y. All Two (f y)) (x ∷ []) xs h))
+all_joined f (x ∷ xs) h = All-append Two (f x) (joined (map f xs)) (All-head (λ y. All Two (f y)) x xs h) (all_joined f xs (All-back (λ y. All Two (f y)) (x ∷ []) xs h))
 
 -- the last element of a list, and those before it
 pub popped_wide : {X : Type 0} (P : X → Type 0) (cur new : List X) (x : X) → cur ≡ new ++ x ∷ [] → All P cur → All P new × P x
 popped_wide P cur new x e h =
     let a = subst (All P) e h in
-    (front_all P new (x ∷ []) a, All-head P x [] (back_all P new (x ∷ []) a))
+    (All-front P new (x ∷ []) a, All-head P x [] (All-back P new (x ∷ []) a))
 
 joined_push : {X : Type 0} (f : X → List ℕ) (xs : List X) (y : X) → All Two (joined (map f xs)) → All Two (f y) → All Two (joined (map f (xs ++ y ∷ [])))
 joined_push f [] y h k = All-append Two (f y) [] k (All-nil Two)
-joined_push f (x ∷ xs) y h k = All-append Two (f x) (joined (map f (xs ++ y ∷ []))) (front_all Two (f x) (joined (map f xs)) h) (joined_push f xs y (back_all Two (f x) (joined (map f xs)) h) k)
+joined_push f (x ∷ xs) y h k = All-append Two (f x) (joined (map f (xs ++ y ∷ []))) (All-front Two (f x) (joined (map f xs)) h) (joined_push f xs y (All-back Two (f x) (joined (map f xs)) h) k)
 
 pub hung_wide : (x y : Node) (b : Block) → blocks y ≡ blocks x ++ b ∷ [] → IsWide x → IsWideBlock b → IsWide y
 hung_wide x y b f h k =

@@ -1,11 +1,13 @@
 -- What the cuts of a cactus can have.
 use Rattle.std.proofs.Common.{◌≡◌, ℕ, Bool, true, false, cond, ◌+◌, ◌≤◌, ◌<◌, ◌==◌, ◌||◌, List, [], ◌∷◌, ◌++◌, length, map, refl, sym, ◌∙◌, ap, subst, arith, ⊎_elim}
 use Rattle.std.specs.List.{All, Contains, concat, filter, flat_map}
-use Rattle.std.proofs.lemmas.Bool.{cases_Bool}
+use Rattle.std.proofs.lemmas.Bool.{cases_Bool, or_from}
 use Rattle.std.proofs.lemmas.List.Elements.{All-cons, All-nil, All-weaker, All-head}
 use Rattle.cut_definitions.specs.Weight.{VertexSet}
 use Rattle.cut_definitions.specs.Cuts.{has, IsAscendingWithin}
 use Rattle.cut_definitions.proofs.Bridge.{has_low}
+use Rattle.cut_definitions.proofs.Ascending.{has_high, contains_has}
+use Rattle.cut_definitions.proofs.ListLaws.{All-front, All-back}
 use Rattle.cactus_tree.specs.Sides.{Part, cuts, together, block_part}
 use Rattle.cactus_tree.specs.Trees.{vertices, blocks}
 use Rattle.cactus_tree.specs.Entered.{entered, entered_block}
@@ -15,8 +17,6 @@ use Rattle.cactus_tree.proofs.Parts.{part_out}
 use Rattle.cactus_tree.proofs.Orders.{entered_out}
 use Rattle.cactus_tree.proofs.Segments.{IsSegment}
 use Rattle.cactus_tree.proofs.Layouts.{cut_is_segment}
-use Rattle.cactus_tree.proofs.Groups.{contains_has}
-use Rattle.cactus_merge.proofs.Wide.{front_all, back_all}
 
 -- the vertices of the nodes below a node
 abbrev pub under : Node → List (List ℕ)
@@ -25,13 +25,10 @@ under x = flat_map entered_block (blocks x)
 abbrev pub Lacks : ℕ → List ℕ → Type 0
 Lacks v l = has l v ≡ false
 
-neither_of : (a b : Bool) → a ≡ false → b ≡ false → (a || b) ≡ false
-neither_of a b h k = grind arith
-
 pub lacks_append : (v : ℕ) (xs ys : List ℕ) → Lacks v xs → Lacks v ys → Lacks v (xs ++ ys)
 lacks_append v [] ys h k = k
 lacks_append v (x ∷ xs) ys h k =
-    neither_of (x == v) (has (xs ++ ys) v) (left_no (x == v) (has xs v) h) (lacks_append v xs ys (right_no (x == v) (has xs v) h) k)
+    or_from (x == v) (has (xs ++ ys) v) (left_no (x == v) (has xs v) h) (lacks_append v xs ys (right_no (x == v) (has xs v) h) k)
   where
     left_no : (a b : Bool) → (a || b) ≡ false → a ≡ false
     left_no a b e = grind arith
@@ -41,7 +38,7 @@ lacks_append v (x ∷ xs) ys h k =
 
 pub all_lack : (v : ℕ) (ls : List (List ℕ)) → All (Lacks v) ls → Lacks v (concat ls)
 all_lack v [] h = refl
-all_lack v (l ∷ ls) h = lacks_append v l (concat ls) (All-head (Lacks v) l ls h) (all_lack v ls (back_all (Lacks v) (l ∷ []) ls h))
+all_lack v (l ∷ ls) h = lacks_append v l (concat ls) (All-head (Lacks v) l ls h) (all_lack v ls (All-back (Lacks v) (l ∷ []) ls h))
 
 pub same_cuts : (x y : Node) → blocks x ≡ blocks y → cuts x ≡ cuts y
 same_cuts x y e = ap (λ (p : Part). p.cuts) (part_out x) ∙ ap (λ bs. (together (map block_part bs)).cuts) e ∙ ap (λ (p : Part). p.cuts) (sym (part_out y))
@@ -52,15 +49,8 @@ cut_lacks x s v m h =
     let y : Node = roll-Node record { vertices = []; blocks = (out-Node x).blocks } in
     let g : IsSegment (entered y) s = cut_is_segment y s (subst (λ l. Contains l s) (same_cuts x y refl) m) in
     let whole : All (Lacks v) (g.before ++ (g.inside ++ g.behind)) = subst (All (Lacks v)) (sym (entered_out y) ∙ g.whole) (All-cons (Lacks v) [] (under x) refl h) in
-    let inside : All (Lacks v) g.inside = front_all (Lacks v) g.inside g.behind (back_all (Lacks v) g.before (g.inside ++ g.behind) whole) in
+    let inside : All (Lacks v) g.inside = All-front (Lacks v) g.inside g.behind (All-back (Lacks v) g.before (g.inside ++ g.behind) whole) in
     ap (λ (t : VertexSet). t v) g.set ∙ all_lack v g.inside inside
-
-has_high : (low high v : ℕ) (l : List ℕ) → IsAscendingWithin low high l → high < v → has l v ≡ false
-has_high low high v [] a h = refl
-has_high low high v (x ∷ l) a h = neither_of (x == v) (has l v) (differs x v (omega (arith, a.1, h))) (has_high (x + 1) high v l a.2 h)
-  where
-    differs : (y w : ℕ) → y < w → (y == w) ≡ false
-    differs y w p = grind arith
 
 pub none_counted : (v : ℕ) (ls : List (List ℕ)) → length (filter (λ l. has l v) ls) ≡ 0 → All (Lacks v) ls
 none_counted v [] e = All-nil (Lacks v)
@@ -71,7 +61,7 @@ none_counted v (l ∷ ls) e = ⊎_elim
 
 module _ (k : ℕ) (root : Node) (is : IsCactus k root) (some : 1 ≤ k) where
   pub under_ascend : All (IsAscendingWithin 1 k) (under root)
-  under_ascend = back_all (IsAscendingWithin 1 k) (vertices root ∷ []) (under root) (subst (All (IsAscendingWithin 1 k)) (entered_out root) is.ascending)
+  under_ascend = All-back (IsAscendingWithin 1 k) (vertices root ∷ []) (under root) (subst (All (IsAscendingWithin 1 k)) (entered_out root) is.ascending)
 
   -- vertex 1 is in the root alone
   pub under_lack_one : All (Lacks 1) (under root)

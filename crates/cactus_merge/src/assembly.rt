@@ -7,11 +7,12 @@ ghost use Rattle.cactus_merge.specs.Joined.{joined_cuts, SameSets, IsRuns, IsFar
 ghost use Rattle.std.specs.List.{All, flat_map};
 
 use cactus_tree::{Block, Blocks, Children, Node, VertexList};
+use cut_definitions::NoMemory;
 use residual_chain::Run;
-use std::alloc::{AllocError, Global};
+use std::alloc::Global;
 
 /// Hangs one more block below a node.
-fn hang(node: Node, block: Block) -> Result<Node, AllocError>
+fn hang(node: Node, block: Block) -> Result<Node, NoMemory>
     ensures part { IfOk result (λ x. part x ≡ with_below (part node) (block_part block)) }
     ensures held { IfOk result (λ x. held x ≡ held node ++ block_held block) }
     ensures wide { IfOk result (λ x. IsWide node → IsWideBlock block → IsWide x) }
@@ -23,7 +24,7 @@ fn hang(node: Node, block: Block) -> Result<Node, AllocError>
 }
 
 /// A bridge down to a node.
-fn bridge_to(alloc: Global, node: Node) -> Result<Block, AllocError>
+fn bridge_to(alloc: Global, node: Node) -> Result<Block, NoMemory>
     ensures part { IfOk result (λ b. block_part b ≡ bridge_of (part node)) }
     ensures held { IfOk result (λ b. block_held b ≡ held node) }
     ensures wide { IfOk result (λ b. IsWide node → IsWideBlock b) }
@@ -33,7 +34,7 @@ fn bridge_to(alloc: Global, node: Node) -> Result<Block, AllocError>
 }
 
 /// The node at the far end of a run: the one below a bridge, or else an empty one above the cycle of the next run.
-fn far_end(alloc: Global, hanging: Block) -> Result<Node, AllocError>
+fn far_end(alloc: Global, hanging: Block) -> Result<Node, NoMemory>
     ensures part { IfOk result (λ x. IsFarEnd (block_part hanging) (part x)) }
     ensures held { IfOk result (λ x. held x ≡ block_held hanging) }
     ensures wide { IfOk result (λ x. IsWideBlock hanging → IsWide x) }
@@ -51,7 +52,7 @@ fn far_end(alloc: Global, hanging: Block) -> Result<Node, AllocError>
 }
 
 /// The cycle of a run, which takes its nodes from the end of the list.
-fn draw_run(nodes: &mut Children, first: usize, end: Node) -> Result<Block, AllocError>
+fn draw_run(nodes: &mut Children, first: usize, end: Node) -> Result<Block, NoMemory>
     requires { first ≤ length (nodes_in nodes.old) }
     ensures rest { OnOk result (nodes_in nodes.new ≡ take first (nodes_in nodes.old)) }
     ensures cycle { IfOk result (λ b. block_part b ≡ cycle_of (map part (drop first (nodes_in nodes.old) ++ end ∷ []))) }
@@ -69,7 +70,7 @@ fn bridge_down(
     nodes: &mut Children,
     until: usize,
     hanging: Block,
-) -> Result<Block, AllocError>
+) -> Result<Block, NoMemory>
     requires { until ≤ length (nodes_in nodes.old) }
     ensures rest { OnOk result (nodes_in nodes.new ≡ take until (nodes_in nodes.old)) }
     ensures joined { IfOk result (λ b. block_part b ≡ bridges (map part (drop until (nodes_in nodes.old))) (block_part hanging)) }
@@ -91,7 +92,7 @@ fn bridge_down(
 /// tree is built from its far end, with one block that hangs below the nodes that are left; where two runs touch, an
 /// empty node stands between their cycles. It takes memory for each bridge, empty node and cycle, moves the nodes, and
 /// takes one step for each node and run. Where memory is wanting the nodes are dropped.
-pub fn join(alloc: Global, nodes: Children, runs: &[Run]) -> Result<Node, AllocError>
+pub fn join(alloc: Global, nodes: Children, runs: &[Run]) -> Result<Node, NoMemory>
     requires enough { 2 ≤ length (nodes_in nodes) }
     requires runs { IsRuns (length (nodes_in nodes)) runs.now }
     ensures below { IfOk result (λ x. (part x).below ≡ all_of (belows (map part (nodes_in nodes)))) }

@@ -12,11 +12,12 @@ ghost use Rattle.cactus_merge.specs.Assembled.{inserted, names_by, IsPartOf, IsN
 
 use crate::part::PartCactus;
 use cactus_tree::{Node, VertexList, rename_node};
+use cut_definitions::NoMemory;
 use residual_chain::Chain;
-use std::alloc::{AllocError, Global};
+use std::alloc::Global;
 
 /// The names of the vertices of a part's cactus: 1 stays, and j + 1 becomes the j-th vertex of the list.
-fn names_of(alloc: Global, own: &VertexList) -> Result<Vec<u32>, AllocError>
+fn names_of(alloc: Global, own: &VertexList) -> Result<Vec<u32>, NoMemory>
     ensures { IfOk result (λ v. v.items ≡ names_by own.now) }
 {
     let mut names = Vec::new(alloc);
@@ -27,7 +28,7 @@ fn names_of(alloc: Global, own: &VertexList) -> Result<Vec<u32>, AllocError>
 }
 
 /// The same list once more.
-fn copied(alloc: Global, list: &VertexList) -> Result<VertexList, AllocError>
+fn copied(alloc: Global, list: &VertexList) -> Result<VertexList, NoMemory>
     ensures { IfOk result (λ l. l ≡ list.now) }
 {
     let mut out = Vec::new(alloc);
@@ -36,7 +37,7 @@ fn copied(alloc: Global, list: &VertexList) -> Result<VertexList, AllocError>
 }
 
 /// The list without its first vertex.
-fn without_first(alloc: Global, list: &VertexList) -> Result<VertexList, AllocError>
+fn without_first(alloc: Global, list: &VertexList) -> Result<VertexList, NoMemory>
     requires { 0 < length list.now }
     ensures { IfOk result (λ l. l ≡ drop 1 list.now) }
 {
@@ -58,7 +59,7 @@ fn smaller(list: &[u32], vertex: u32) -> usize
 }
 
 /// The ascending list with one vertex more, in its place by size.
-fn with_vertex(alloc: Global, list: &VertexList, vertex: u32) -> Result<VertexList, AllocError>
+fn with_vertex(alloc: Global, list: &VertexList, vertex: u32) -> Result<VertexList, NoMemory>
     ensures { IfOk result (λ l. l ≡ inserted vertex list.now) }
 {
     let place = smaller(list.as_slice(), vertex);
@@ -70,7 +71,7 @@ fn with_vertex(alloc: Global, list: &VertexList, vertex: u32) -> Result<VertexLi
 }
 
 /// The root of the cactus of a part, with the vertices for which its vertices stand; vertex 1 stays.
-fn renamed_root(alloc: Global, part: PartCactus) -> Result<Node, AllocError>
+fn renamed_root(alloc: Global, part: PartCactus) -> Result<Node, NoMemory>
     ensures names { IfOk result (λ x. entered x ≡ map (renamed (names_by part.own)) (entered part.cactus.root)) }
     ensures sides { IfOk result (λ x. (sets : List ℕ → VertexSet) → part_by sets x ≡ part_by (λ l. sets (renamed (names_by part.own) l)) part.cactus.root) }
     ensures cactus { IfOk result (λ x. IsCactus part.cactus.vertices part.cactus.root) }
@@ -89,7 +90,7 @@ fn top_vertices(
     chain: &Chain,
     renamed: &VertexList,
     number: u32,
-) -> Result<VertexList, AllocError>
+) -> Result<VertexList, NoMemory>
     requires some { 0 < length renamed.now }
     requires number { number ≤ chain.now.parts }
     ensures { IfOk result (λ l. l ≡ (if number == 1 then renamed.now else if nat_lt number chain.now.parts then drop 1 renamed.now else inserted chain.now.t (drop 1 renamed.now))) }
@@ -110,7 +111,7 @@ pub fn part_node(
     chain: &Chain,
     part: PartCactus,
     number: u32,
-) -> Result<Node, AllocError>
+) -> Result<Node, NoMemory>
     requires shape { IsChainShape chain.now }
     requires source { chain.now.s ≡ 1 }
     requires from_one { 1 ≤ number }

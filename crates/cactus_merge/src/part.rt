@@ -9,8 +9,9 @@ ghost use Rattle.cactus_tree.specs.Trees.{nodes_in};
 use crate::assembly::join;
 use crate::node::part_node;
 use cactus_tree::{Cactus, Children, VertexList};
+use cut_definitions::NoMemory;
 use residual_chain::Chain;
-use std::alloc::{AllocError, Global};
+use std::alloc::Global;
 
 /// The cactus of a part of a chain, in which vertex 1 stands for all vertices that are not in the list, and vertex j + 1
 /// for the j-th vertex of the list.
@@ -21,7 +22,7 @@ pub struct PartCactus {
 }
 
 /// The nodes of the parts of a chain, in order.
-fn part_nodes(alloc: Global, chain: &Chain, parts: Vec<PartCactus>) -> Result<Children, AllocError>
+fn part_nodes(alloc: Global, chain: &Chain, parts: Vec<PartCactus>) -> Result<Children, NoMemory>
     requires shape { IsChainShape chain.now }
     requires parts { ArePartsOf chain.now parts.items }
     ensures { IfOk result (λ x. AreNodesOf chain.now parts.items (nodes_in x)) }
@@ -46,7 +47,7 @@ fn part_nodes(alloc: Global, chain: &Chain, parts: Vec<PartCactus>) -> Result<Ch
 /// parts, and for each bridge, cycle and empty node that joins them; it is refused only where this is wanting, and the
 /// parts are dropped then. One step for each vertex, node and run, in loops, so that a deep cactus does not run out of
 /// stack.
-pub fn assemble(alloc: Global, chain: &Chain, parts: Vec<PartCactus>) -> Result<Cactus, AllocError>
+pub fn assemble(alloc: Global, chain: &Chain, parts: Vec<PartCactus>) -> Result<Cactus, NoMemory>
     requires { ArePartsOf chain.now parts.items }
     ensures n { IfOk result (λ c. c.vertices ≡ length chain.now.numbers) }
     ensures sides { IfOk result (λ c. SameMembers (sides_of c) (assembled_sides chain.now parts.items)) }

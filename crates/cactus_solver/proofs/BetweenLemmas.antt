@@ -1,8 +1,8 @@
 -- Searches around both lists from a hub, what they show of what is left between, and how much that is.
-use Rattle.std.proofs.Common.{◌≡◌, ℕ, zero, suc, ◌+◌, ◌<◌, ◌≤◌, ◌⊎◌, inl, inr, ⊎_elim, Bool, true, false, not, ◌&&◌, ltb, leb, List, [], length, get_or, refl, sym, ◌∙◌, subst, ap, arith}
+use Rattle.std.proofs.Common.{◌≡◌, ℕ, zero, suc, ◌+◌, ◌<◌, ◌≤◌, ◌⊎◌, inl, inr, ⊎_elim, Bool, true, false, ◌&&◌, ltb, leb, [], length, get_or, refl, sym, ◌∙◌, subst, ap, arith}
 use Rattle.std.specs.Prelude.{◌≢◌, ◌==◌, if◌then◌else◌, Some, Result, Ok, Err, IfOk}
 use Rattle.std.specs.List.{Contains}
-use Rattle.std.proofs.lemmas.Bool.{cases_eq, cases_Bool, eq-eqb, eqb-true}
+use Rattle.std.proofs.lemmas.Bool.{cases_eq, cases_Bool, eq-eqb, eqb-true, not-true, not_from_false}
 use Rattle.std.proofs.lemmas.Bool.Decides.{nat_tests}
 use Rattle.std.proofs.lemmas.List.{get_or_default}
 use Rattle.std.proofs.lemmas.Option.{slice_get-get_or}
@@ -10,6 +10,8 @@ use Rattle.std.proofs.lemmas.List.Elements.{All-contains}
 use Rattle.cut_definitions.specs.Graph.{Graph}
 use Rattle.cut_definitions.specs.Chain.{SameOn}
 use Rattle.cut_definitions.specs.Weight.{VertexSet, complement, minus, HasVertex}
+use Rattle.cut_definitions.proofs.Bools.{in_neither, minus_parts, contrary}
+use Rattle.cut_definitions.proofs.Numbers.{upto_none, none_upto}
 use Rattle.weighted_graph.specs.Searches.{is_seen}
 use Rattle.region_flow.specs.Regions.{RegionState, IsOpenAt}
 use Rattle.cactus_solver.specs.declared.side.Side.{Side}
@@ -21,16 +23,16 @@ use Rattle.cactus_solver.specs.declared.splitter.Splitter.{Splitter}
 use Rattle.cactus_solver.specs.Between.{IsInnerSettled, IsOuterSettled}
 use Rattle.cactus_solver.specs.Growing.{IsMember, IsPartOf, listed_upto}
 use Rattle.cactus_solver.specs.Fronts.{FrontsState, list_at}
-use Rattle.cactus_solver.specs.Hubs.{HaveBegun, HasAll, IsHubSearch, KeepsFrontsFor, hub_vertex}
-use Rattle.cactus_solver.specs.Listing.{ListingState, HasMore, IsKept, IsVertex}
+use Rattle.cactus_solver.specs.Hubs.{HaveBegun, HasAll, IsHubSearch, hub_vertex}
+use Rattle.cactus_solver.specs.Listing.{ListingState, IsKept, IsVertex}
 use Rattle.cactus_solver.specs.Parted.{AreLightParts}
 use Rattle.cactus_solver.specs.Sides.{IsListed}
 use Rattle.cactus_solver.specs.Regional.{IsRest, IsNoneBetween, BringsHub, outer_turn, two_sided}
 use Rattle.cactus_solver.specs.Sided.{AreHalves, IsRegionOf, IsSettled, fed_in, other_side}
 use Rattle.cactus_solver.specs.Split.{half_of, AreAtFront, GoesOnSettling, IsBetween, IsFurther, IsHub, IsHubIn, IsSearching, IsSettledIn, MayTakeHub, StaysListed, inner_set, outer_of, outer_set}
 use Rattle.cactus_solver.proofs.Halves.{outer_inside, outer_lacks_t, outer_one, outer_outside, is_fed}
-use Rattle.cactus_solver.proofs.Listings.{in_upto, minus_parts, upto_range}
-use Rattle.cactus_solver.proofs.Regional.{contrary, not_true, true_not, beside, minimum_of, none_between}
+use Rattle.cactus_solver.proofs.Listings.{in_upto, upto_range}
+use Rattle.cactus_solver.proofs.Regional.{beside, minimum_of, none_between}
 use Rattle.cactus_solver.proofs.Rounds.{round_inner, round_outer}
 use Rattle.cactus_solver.proofs.TwoSides.{two_sides}
 
@@ -40,14 +42,7 @@ first_if b = if b then 0 else 1
 zero_at : (count : ℕ) → count ≡ 0 → first_if (count == 0) ≡ 0
 zero_at count e = ap first_if (eq-eqb count 0 e)
 
-none_upto : (k j : ℕ) → k ≡ 0 → (ltb 0 k && leb k j) ≡ false
-none_upto k j h = grind (arith, nat_tests)
-
--- what two promises of a call show together
-pub if_both : {X E : Type 0} (r : Result X E) (P Q R : X → Type 0) → ((x : X) → P x → Q x → R x) → IfOk r P → IfOk r Q → IfOk r R
-if_both (Ok x) P Q R both p q = both x p q
-if_both (Err e) P Q R both p q = p
-
+-- what several promises of a call show together
 pub if_five : {X E : Type 0} (r : Result X E) (P Q R S T U : X → Type 0) → ((x : X) → P x → Q x → R x → S x → T x → U x) → IfOk r P → IfOk r Q → IfOk r R → IfOk r S → IfOk r T → IfOk r U
 if_five (Ok x) P Q R S T U all p q r s t = all x p q r s t
 if_five (Err e) P Q R S T U all p q r s t = p
@@ -57,10 +52,6 @@ if_five (Err e) P Q R S T U all p q r s t = p
 -- the same with another search of a hub
 abbrev pub restarted : Splitter → HubSearch → Splitter
 restarted s hub = record { near = s.near; hub = hub; inner = s.inner; outer = s.outer; good = s.good; touched = s.touched; memory = s.memory }
-
--- what stands in the fronts stays
-pub front_kept : (g : Graph) (f : RegionState) (t : ℕ) (hub : Hub) (old new : FrontsState) → AreAtFront g f t old → KeepsFrontsFor f.labels hub old new → AreAtFront g f t new
-front_kept g f t hub old new h k = record { vertices = k.vertices ∙ h.vertices; covered = λ v is. k.kept v (h.covered v is); fed = h.fed }
 
 -- a search begins from a hub with nothing known of the vertices
 pub searching : (side : Side) (g : Graph) (f : RegionState) (t : ℕ) (old s : Splitter) (hub : Hub) → IsBetween g f t old → IsHub g f t old hub →
@@ -116,9 +107,6 @@ may_take_inner g f t old s hub h is same inner free seen = record {
 
 -- ---- lists that get more
 
-pub more_more : (a b c : List ℕ) → HasMore a b → HasMore b c → HasMore a c
-more_more a b c h k = record { longer = omega (arith, h.longer, k.longer); same = λ i l. k.same i (omega (arith, l, h.longer)) ∙ h.same i l }
-
 pub stays_same : (s : Splitter) → StaysListed s s
 stays_same s = record { inner = λ v l. l; outer = λ v l. l }
 
@@ -130,17 +118,6 @@ stays_from old s new inner outer h = record {
 
 pub stays_more : (s s' s'' : Splitter) → StaysListed s s' → StaysListed s' s'' → StaysListed s s''
 stays_more s s' s'' h k = record { inner = λ v l. k.inner v (h.inner v l); outer = λ v l. k.outer v (h.outer v l) }
-
-pub settling_more : (side : Side) (s s' s'' : Splitter) → GoesOnSettling side s s' → GoesOnSettling side s' s'' → GoesOnSettling side s s''
-settling_more side s s' s'' h k = record {
-  stays = stays_more s s' s'' h.stays k.stays;
-  border = more_more (half_of side s).border (half_of side s').border (half_of side s'').border h.border k.border;
-  hub = k.hub ∙ h.hub;
-  other = k.other ∙ h.other;
-  good = λ v is. k.good v (h.good v is);
-  seen = λ v is. k.seen v (h.seen v is);
-  unread = λ no. k.unread (λ e. no (sym h.hub ∙ e)) ∙ h.unread no;
-}
 
 -- what is settled stays so
 pub settled_on : (side : Side) (g : Graph) (f : RegionState) (t hub v : ℕ) (s s' : Splitter) → StaysListed s s' → IsSettled side g f t hub s.inner s.outer v → IsSettled side g f t hub s'.inner s'.outer v
@@ -246,9 +223,6 @@ none_beyond g f t s h some all =
     (inr (h.halves.inner_half.listed.sets s.inner.count some (omega arith), round_inner g f t 1 s.inner s.outer h.region h.halves (listed_settled g f t 1 s all)))
     (inl (λ e. absurd (omega (arith, e, h.region.at_border.root, h.region.at_border.in_region))))
 
-both_not : (a b : Bool) → a ≡ false → b ≡ false → (not a && not b) ≡ true
-both_not a b h k = grind arith
-
 -- then each vertex is listed
 pub nothing_left : (g : Graph) (f : RegionState) (t : ℕ) (s : Splitter) → IsBetween g f t s → 1 ≤ s.inner.count → 1 ≤ s.outer.count → IsAllBesideListed f t s →
     (v : ℕ) → 1 ≤ v → v ≤ g.vertices → get_or s.inner.turns v 0 ≡ 0 → 1 ≤ outer_of f t s v
@@ -267,16 +241,16 @@ nothing_left g f t s h some_inner some_outer all v one to_n z =
     (λ (k : e v ≡ false).
     let sub : IsPartOf b (complement e) = λ u l.
     let listed = (upto_range (turn u) s.inner.count l).0 in
-    true_not (e u) (none_upto (out u) s.outer.count (outer_inside f.labels region s.outer.turns s.outer.count u (h.halves.inner_half.inside u listed) ∙ h.halves.apart u listed)) in
+    not_from_false (e u) (upto_none (out u) s.outer.count (outer_inside f.labels region s.outer.turns s.outer.count u (h.halves.inner_half.inside u listed) ∙ h.halves.apart u listed)) in
     let more : HasVertex g.vertices (minus (complement e) b) =
-    record { vertex = v; from_one = one; to_n = to_n; is_in = both_not (e v) (b v) k (none_upto (turn v) s.inner.count z) } in
+    record { vertex = v; from_one = one; to_n = to_n; is_in = in_neither (e v) (b v) k (upto_none (turn v) s.inner.count z) } in
     let holds : ℕ → Type 0 = λ u. ¬ (get_or f.labels u 0 ≡ region) ⊎ ((e u ≡ true) ⊎ BringsHub g f.labels t amount 1 u) in
     let r = beside g f.labels t amount at b (complement e) (minimum_of g f.labels t amount at b mb) (minimum_of g f.labels t amount at (complement e) rest) sub more holds
     (round_inner g f t 1 s.inner s.outer h.region h.halves (listed_settled g f t 1 s all)) in
     absurd (⊎_elim
     (λ ne. ne (rest.around.inside.labelled r.0 r.1))
     (λ p. ⊎_elim
-    (λ (in_e : e r.0 ≡ true). contrary in_e (not_true (e r.0) r.1))
+    (λ (in_e : e r.0 ≡ true). contrary in_e (not-true (e r.0) r.1))
     (λ (brings : BringsHub g f.labels t amount 1 r.0).
     let same = rest.around.inside.labelled 1 (brings (complement e) rest r.1) in absurd (omega (arith, same, at.root, at.in_region)))
     p)
@@ -427,13 +401,10 @@ beyond k j h = grind (arith, nat_tests)
 past : (k j : ℕ) → 1 ≤ k → (ltb 0 k && leb k j) ≡ false → j < k
 past k j one h = grind (arith, nat_tests)
 
-upto_none : (k : ℕ) → (ltb 0 k && leb k 0) ≡ false
-upto_none k = grind (arith, nat_tests)
-
 -- all parts up to one that was listed are those up to one that is listed now, and that is no earlier
 still_listed : (n : ℕ) (kind : VertexSet → Type 0) (old new : ℕ → ℕ) (count last : ℕ) → IsListed n kind old count → IsListed n kind new last → ((v : ℕ) → 1 ≤ old v → 1 ≤ new v) →
     (j : ℕ) → j ≤ count → (k : ℕ) × (j ≤ k) × (k ≤ last) × SameOn n (listed_upto old j) (listed_upto new k)
-still_listed n kind old new count last h k stays zero le = (0, omega arith, omega arith, λ v a b. upto_none (old v) ∙ sym (upto_none (new v)))
+still_listed n kind old new count last h k stays zero le = (0, omega arith, omega arith, λ v a b. none_upto (old v) ∙ sym (none_upto (new v)))
 still_listed n kind old new count last h k stays (suc j) le =
     let before = still_listed n kind old new count last h k stays j (omega (arith, le)) in
     ⊎_elim

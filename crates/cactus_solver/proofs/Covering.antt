@@ -3,11 +3,12 @@ use Rattle.std.proofs.Common.{◌≡◌, ◌≢◌, ℕ, ◌<◌, ◌≤◌, inl
 use Rattle.std.specs.Prelude.{if◌then◌else◌}
 use Rattle.std.specs.List.{Contains}
 use Rattle.std.proofs.lemmas.Bool.{cases_eq, cases_lt, eq-eqb, eqb-true}
-use Rattle.std.proofs.lemmas.List.{get_or-set_same, get_or-set_other, get_or_past, length-set}
+use Rattle.std.proofs.lemmas.List.{get_or_past, length-set}
 use Rattle.std.proofs.lemmas.List.Elements.{All-contains, All-weaker}
 use Rattle.cut_definitions.specs.Graph.{Graph, IsGraph, IsEdgeWithin}
 use Rattle.cut_definitions.specs.Weight.{VertexSet, parts}
 use Rattle.cut_definitions.specs.Chain.{IsJoined}
+use Rattle.cut_definitions.proofs.ListLaws.{entry_kept}
 use Rattle.region_flow.specs.Regions.{IsOpenAt}
 use Rattle.region_flow.specs.Inflow.{IsAround}
 use Rattle.region_flow.proofs.Least.{fed_least}
@@ -107,29 +108,13 @@ kept_label b x y e = rw e refl
 set_at_end : (labels : List ℕ) (t : ℕ) → length labels ≤ t → get_or (set labels t 0) t 0 ≡ 0
 set_at_end labels t past = get_or_past (set labels t 0) t 0 (omega (arith, length-set labels t 0))
 
--- a vertex that is in a region is not the one that enters
-not_entered : (labels : List ℕ) (t v : ℕ) → 1 ≤ get_or (set labels t 0) v 0 → get_or (set labels t 0) v 0 ≡ get_or labels v 0
-not_entered labels t v one =
-    ⊎_elim
-    (λ (e : v ≡ t).
-    ⊎_elim
-    (λ (l : t < length labels).
-    let z : get_or (set labels t 0) v 0 ≡ 0 = rw e (get_or-set_same labels t 0 0 l) in
-    absurd (omega (arith, z, one)))
-    (λ (past : length labels ≤ t).
-    let z : get_or (set labels t 0) v 0 ≡ 0 = rw e (set_at_end labels t past) in
-    absurd (omega (arith, z, one)))
-    (cases_lt t (length labels)))
-    (λ (ne : v ≢ t). get_or-set_other labels t v 0 0 ne)
-    (cases_eq v t)
-
 pub refining_one : LawOfRefiningOne
 refining_one labels t = record {
   shared = λ u v one same.
-      let at_v = not_entered labels t v one in
-      let at_u = not_entered labels t u (omega (arith, same, one)) in
+      let at_v = entry_kept labels t v one in
+      let at_u = entry_kept labels t u (omega (arith, same, one)) in
       sym at_u ∙ same ∙ at_v;
-  outside = λ v one. omega (arith, not_entered labels t v one, one);
+  outside = λ v one. omega (arith, entry_kept labels t v one, one);
 }
 
 pub staying_open : LawOfStayingOpen

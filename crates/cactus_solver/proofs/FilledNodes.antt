@@ -6,6 +6,8 @@ use Rattle.std.proofs.lemmas.List.Elements.{All-cons, All-head, All-nil, All-tai
 use Rattle.std.proofs.lemmas.List.Sorted.{All-permutation, IsPermutation-sym}
 use Rattle.std.specs.declared.boxed.Box.{Box}
 use Rattle.std.specs.declared.alloc.Global.{Global}
+use Rattle.std.proofs.lemmas.Bool.{and_from}
+use Rattle.cut_definitions.proofs.ListLaws.{All-back, All-front}
 use Rattle.cactus_tree.specs.declared.tree.Node.{Node}
 use Rattle.cactus_tree.specs.declared.tree.Block.{Block}
 use Rattle.cactus_tree.specs.declared.tree.Children.{Children}
@@ -18,11 +20,11 @@ use Rattle.cactus_tree.proofs.Induction.{tree_induction}
 use Rattle.cactus_tree.proofs.Orders.{entered_out, entered_bridge, entered_cycle, hung_entered}
 use Rattle.cactus_tree.proofs.Shapes.{bridge_shape, child_parts, root_normal, wide_fine}
 use Rattle.cactus_tree.proofs.Widths.{widths_bridge, widths_cycle}
+use Rattle.cactus_tree.proofs.BlockLaws.{widths_flat}
 use Rattle.cactus_solver.specs.Flat.{NodeArrays}
 use Rattle.cactus_solver.specs.Forest.{AreFrom, IsChangedAt, AddsBlock, IsBlockOf, IsFilled, IsForest, IsPlaced}
-use Rattle.cactus_solver.proofs.ForestChanges.{hung_flat, widths_joined, widths_of}
+use Rattle.cactus_solver.proofs.ForestChanges.{hung_flat, widths_joined}
 use Rattle.cactus_solver.proofs.ForestFilling.{placed_entered}
-use Rattle.cactus_solver.proofs.ForestSteps.{back_all, front_all}
 
 -- each list has a vertex
 abbrev pub AreFilled : List (List ℕ) → Type 0
@@ -39,27 +41,24 @@ NodeIsFine x = AreFilled (entered x) → AreWide (widths x) → (above : Bool) �
 abbrev BlockIsFine : Block → Type 0
 BlockIsFine b = AreFilled (entered_block b) → AreWide (block_widths b) → (block_shape b).fine ≡ true
 
-both : (a b : Bool) → a ≡ true → b ≡ true → (a && b) ≡ true
-both a b p q = grind arith
-
 all_fine : (bs : List Block) → AllByRecursion BlockIsFine bs → AreFilled (flat_map entered_block bs) → AreWide (flat_map block_widths bs) → list_all (λ b. (block_shape b).fine) bs ≡ true
 all_fine [] h filled wide = refl
 all_fine (b ∷ bs) h filled wide =
-    both (block_shape b).fine (list_all (λ b. (block_shape b).fine) bs)
-    (h.0 (front_all (λ l. 1 ≤ length l) (entered_block b) (flat_map entered_block bs) filled) (front_all (λ k. 2 ≤ k) (block_widths b) (flat_map block_widths bs) wide))
-    (all_fine bs h.1 (back_all (λ l. 1 ≤ length l) (entered_block b) (flat_map entered_block bs) filled) (back_all (λ k. 2 ≤ k) (block_widths b) (flat_map block_widths bs) wide))
+    and_from (block_shape b).fine (list_all (λ b. (block_shape b).fine) bs)
+    (h.0 (All-front (λ l. 1 ≤ length l) (entered_block b) (flat_map entered_block bs) filled) (All-front (λ k. 2 ≤ k) (block_widths b) (flat_map block_widths bs) wide))
+    (all_fine bs h.1 (All-back (λ l. 1 ≤ length l) (entered_block b) (flat_map entered_block bs) filled) (All-back (λ k. 2 ≤ k) (block_widths b) (flat_map block_widths bs) wide))
 
 all_children : (xs : List Node) → AllByRecursion NodeIsFine xs → AreFilled (flat_map entered xs) → AreWide (flat_map widths xs) → list_all (λ x. child_fine true (shape x)) xs ≡ true
 all_children [] h filled wide = refl
 all_children (x ∷ xs) h filled wide =
-    both (child_fine true (shape x)) (list_all (λ x. child_fine true (shape x)) xs)
-    (h.0 (front_all (λ l. 1 ≤ length l) (entered x) (flat_map entered xs) filled) (front_all (λ k. 2 ≤ k) (widths x) (flat_map widths xs) wide) true)
-    (all_children xs h.1 (back_all (λ l. 1 ≤ length l) (entered x) (flat_map entered xs) filled) (back_all (λ k. 2 ≤ k) (widths x) (flat_map widths xs) wide))
+    and_from (child_fine true (shape x)) (list_all (λ x. child_fine true (shape x)) xs)
+    (h.0 (All-front (λ l. 1 ≤ length l) (entered x) (flat_map entered xs) filled) (All-front (λ k. 2 ≤ k) (widths x) (flat_map widths xs) wide) true)
+    (all_children xs h.1 (All-back (λ l. 1 ≤ length l) (entered x) (flat_map entered xs) filled) (All-back (λ k. 2 ≤ k) (widths x) (flat_map widths xs) wide))
 
 blocks_fine : (x : Node) → AllByRecursion BlockIsFine (blocks x) → AreFilled (entered x) → AreWide (widths x) → list_all (λ b. (block_shape b).fine) (blocks x) ≡ true
 blocks_fine x h filled wide =
     let lists = subst AreFilled (entered_out x) filled in
-    all_fine (blocks x) h (All-tail (λ l. 1 ≤ length l) (vertices x) (flat_map entered_block (blocks x)) lists) (subst AreWide (widths_of x) wide)
+    all_fine (blocks x) h (All-tail (λ l. 1 ≤ length l) (vertices x) (flat_map entered_block (blocks x)) lists) (subst AreWide (widths_flat x) wide)
 
 node_is_fine : (x : Node) → AllByRecursion BlockIsFine (blocks x) → NodeIsFine x
 node_is_fine x h filled wide above =

@@ -10,6 +10,7 @@ use Rattle.cut_definitions.specs.Graph.{Graph}
 use Rattle.cut_definitions.proofs.Lists.{Contains-nil}
 use Rattle.cut_definitions.specs.Weight.{VertexSet}
 use Rattle.cut_definitions.specs.Cuts.{has}
+use Rattle.cut_definitions.proofs.Bools.{contrary}
 use Rattle.weighted_graph.specs.Searches.{is_seen}
 use Rattle.residual_chain.specs.declared.direction.Direction.TheVariants.{Along, Against}
 use Rattle.region_flow.specs.Regions.{RegionState, IsOpenAt}
@@ -34,7 +35,6 @@ use Rattle.cactus_solver.specs.Sided.{AreHalves, IsRegionOf, fed_in, goes_from, 
 use Rattle.cactus_solver.specs.Split.{AreAtFront, IsBetween}
 use Rattle.cactus_solver.proofs.Halves.{IsFound, begun_inner, begun_outer, first_inner_half, first_outer_half, is_fed}
 use Rattle.cactus_solver.proofs.Reaching.{found}
-use Rattle.cactus_solver.proofs.Regional.{contrary}
 use Rattle.cactus_solver.proofs.Rounds.{good_stop, good_way}
 use Rattle.cactus_solver.proofs.Taking.{brought, no_member}
 

@@ -14,10 +14,11 @@ use Rattle.cactus_tree.specs.declared.tree.Block.TheVariants.{Bridge, Cycle}
 use Rattle.cactus_tree.specs.Trees.{nodes_in}
 use Rattle.cactus_tree.specs.Entered.{entered}
 use Rattle.cactus_tree.specs.Widths.{widths}
-use Rattle.cactus_tree.specs.Sides.{Part, part, bridge_of, cycle_of}
-use Rattle.cactus_tree.proofs.Parts.{bridge_part, cycle_part, either_nothing}
+use Rattle.cactus_tree.specs.Sides.{part, bridge_of, cycle_of}
+use Rattle.cactus_tree.proofs.Parts.{bridge_part, cycle_part}
 use Rattle.cactus_tree.proofs.Orders.{entered_bridge, entered_cycle}
 use Rattle.cactus_tree.proofs.Widths.{widths_bridge, widths_cycle}
+use Rattle.cactus_tree.proofs.BlockLaws.{bridge_cycle}
 use Rattle.cactus_solver.specs.Forest.{IsBlockOf}
 use Rattle.cactus_solver.proofs.ForestChanges.{flat_reverse, widths_joined}
 
@@ -42,9 +43,6 @@ taken all cur new r x f p q =
       behind = ap (drop (length new)) whole ∙ drop-append_seam new (x ∷ rest);
     }
 
-one_cycle : (p : Part) → bridge_of p ≡ cycle_of (p ∷ [])
-one_cycle p = λ i. record { below = sym (either_nothing p.below) i; cuts = p.below ∷ sym (append-nil p.cuts) i }
-
 pub cycle_block : (nodes : List Node) (cycle : Children) → nodes_in cycle ≡ reverse nodes → 2 ≤ length nodes → IsBlockOf nodes (Cycle cycle)
 cycle_block nodes cycle e two = record {
   part = cycle_part cycle ∙ ap (λ xs. cycle_of (map part xs)) e;
@@ -58,7 +56,7 @@ cycle_block nodes cycle e two = record {
 
 pub bridge_block : (nodes : List Node) (child : Box Node Global) (x : Node) → child.value ≡ x → nodes ≡ x ∷ [] → IsBlockOf nodes (Bridge child)
 bridge_block nodes child x e one = record {
-  part = bridge_part child ∙ ap (λ (y : Node). bridge_of (part y)) e ∙ one_cycle (part x) ∙ ap (λ xs. cycle_of (map part (reverse xs))) (sym one);
+  part = bridge_part child ∙ ap (λ (y : Node). bridge_of (part y)) e ∙ bridge_cycle (part x) ∙ ap (λ xs. cycle_of (map part (reverse xs))) (sym one);
   entered = entered_bridge child ∙ ap entered e ∙ sym (append-nil (entered x)) ∙ ap (λ xs. flat_map entered (reverse xs)) (sym one);
   wide = λ h. subst (All (λ k. 2 ≤ k)) (ap (flat_map widths) one ∙ append-nil (widths x) ∙ ap widths (sym e) ∙ sym (widths_bridge child)) h;
 }

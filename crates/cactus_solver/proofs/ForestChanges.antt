@@ -5,10 +5,8 @@ use Rattle.std.proofs.lemmas.List.{append-nil, append_assoc, length-append, reve
 use Rattle.std.proofs.lemmas.List.Concat.{flat_map-append}
 use Rattle.std.proofs.lemmas.List.Sorted.{IsPermutation-refl, IsPermutation-trans, IsPermutation-append_left, IsPermutation-append_right, IsPermutation-append_comm}
 use Rattle.cactus_tree.specs.declared.tree.Node.{Node}
-use Rattle.cactus_tree.specs.declared.tree.Block.{Block}
-use Rattle.cactus_tree.specs.Trees.{blocks}
-use Rattle.cactus_tree.specs.Widths.{widths, block_widths, joined}
-use Rattle.cactus_tree.proofs.Widths.{widths_out}
+use Rattle.cactus_tree.specs.Widths.{widths, joined}
+use Rattle.cactus_tree.proofs.Built.{joined_map}
 use Rattle.cactus_solver.specs.Forest.{AreFrom, IsChangedAt}
 
 -- ---- one node is changed
@@ -100,17 +98,5 @@ hung_flat f place first R extra nodes new c adds =
     IsPermutation-trans _ _ _ (changed_flat f place R (extra ++ flat_map f (reverse (drop first nodes))) (take first nodes) new c adds) (IsPermutation-trans _ _ _ moved turned)
 
 -- ---- the numbers of children
-joined_map : {X : Type 0} (g : X → List ℕ) (xs : List X) → joined (map g xs) ≡ flat_map g xs
-joined_map g [] = refl
-joined_map g (x ∷ xs) = ap (λ l. g x ++ l) (joined_map g xs)
-
-pub widths_of : (x : Node) → widths x ≡ flat_map block_widths (blocks x)
-widths_of x = widths_out x ∙ joined_map block_widths (blocks x)
-
 pub widths_joined : (xs : List Node) → joined (map widths xs) ≡ flat_map widths xs
 widths_joined xs = joined_map widths xs
-
-pub hung_widths : (x y : Node) (b : Block) → blocks y ≡ blocks x ++ b ∷ [] → widths y ≡ widths x ++ block_widths b
-hung_widths x y b e =
-    widths_of y ∙ ap (flat_map block_widths) e ∙ flat_map-append block_widths (blocks x) (b ∷ [])
-    ∙ ap (λ l. flat_map block_widths (blocks x) ++ l) (append-nil (block_widths b)) ∙ ap (λ l. l ++ block_widths b) (sym (widths_of x))

@@ -1,5 +1,5 @@
 -- The nodes with their vertices, before any of them is hung below another.
-use Rattle.std.proofs.Common.{◌≡◌, ℕ, zero, suc, ◌+◌, ◌-◌, ◌<◌, ◌≤◌, ⊎_elim, Bool, true, false, cond, ◌||◌, eqb, List, [], ◌∷◌, ◌++◌, length, map, get_or, refl, sym, ◌∙◌, subst, ap, arith}
+use Rattle.std.proofs.Common.{◌≡◌, ℕ, zero, suc, ◌+◌, ◌-◌, ◌<◌, ◌≤◌, ⊎_elim, Bool, true, false, cond, eqb, List, [], ◌∷◌, ◌++◌, length, map, get_or, refl, sym, ◌∙◌, subst, ap, arith}
 use Rattle.std.specs.List.{All, Contains, filter, flat_map, range_with_len}
 use Rattle.std.proofs.lemmas.Bool.{cases_eq, eq-eqb, ne_eqb}
 use Rattle.std.proofs.lemmas.List.{append-nil}
@@ -8,17 +8,19 @@ use Rattle.cut_definitions.specs.Weight.{VertexSet}
 use Rattle.cut_definitions.specs.Cuts.{has, IsAscendingWithin}
 use Rattle.cut_definitions.proofs.Lists.{Contains-filter, Contains-here, Contains-nil}
 use Rattle.cut_definitions.proofs.Bridge.{has_within, IsAscendingWithin-filter}
+use Rattle.cut_definitions.proofs.Bools.{or_nothing}
+use Rattle.cut_definitions.proofs.Ranges.{range_push}
 use Rattle.cactus_tree.specs.declared.tree.Node.{Node}
 use Rattle.cactus_tree.specs.Trees.{vertices, blocks}
 use Rattle.cactus_tree.specs.Entered.{entered, entered_block}
-use Rattle.cactus_tree.specs.Widths.{widths, block_widths}
+use Rattle.cactus_tree.specs.Widths.{widths}
 use Rattle.cactus_tree.specs.Sides.{Part, block_part, below, cuts, together}
 use Rattle.cactus_tree.proofs.Parts.{part_out}
 use Rattle.cactus_tree.proofs.Orders.{entered_out}
-use Rattle.cactus_tree.proofs.Ranges.{range_push}
+use Rattle.cactus_tree.proofs.Built.{leaf_widths}
 use Rattle.cactus_solver.specs.Flat.{NodeArrays, AreNodes}
 use Rattle.cactus_solver.specs.Forest.{AreFrom, IsChangedAt, AddsVertex, IsPlaced, IsHolding, IsForest}
-use Rattle.cactus_solver.proofs.ForestChanges.{from_changed, from_weaker, widths_of}
+use Rattle.cactus_solver.proofs.ForestChanges.{from_changed, from_weaker}
 use Rattle.cactus_solver.proofs.ForestHolders.{met_at}
 
 -- ---- one more vertex
@@ -40,24 +42,18 @@ placed_more homes v old new c = from_changed (IsPlaced v homes) (IsPlaced (v + 1
     (λ x y p r. (r.0 ∙ ap (λ l. l ++ (v + 1) ∷ []) p.0 ∙ sym (filter_passed (λ u. eqb (homes u) (homes (v + 1))) v (eq-eqb (homes (v + 1)) (homes (v + 1)) refl)), r.1 ∙ p.1))
 
 -- ---- what is read off a node without blocks
-or_false : (a b : Bool) → b ≡ false → (a || b) ≡ a
-or_false a b h = grind arith
-
 placed_below : (n : ℕ) (homes : ℕ → ℕ) (j : ℕ) (x : Node) → IsPlaced n homes j x → (v : ℕ) → 1 ≤ v → v ≤ n → below x v ≡ eqb (homes v) j
 placed_below n homes j x p v l h =
     ap (λ (q : Part). q.below v) (part_out x)
-    ∙ or_false (has (vertices x) v) ((together (map block_part (blocks x))).below v) (ap (λ bs. (together (map block_part bs)).below v) p.1)
+    ∙ or_nothing (has (vertices x) v) ((together (map block_part (blocks x))).below v) (ap (λ bs. (together (map block_part bs)).below v) p.1)
     ∙ ap (λ l. has l v) p.0
     ∙ has_within n 1 v (λ u. eqb (homes u) j) l (omega (arith, h))
 
-placed_cuts : (x : Node) → blocks x ≡ [] → cuts x ≡ []
+pub placed_cuts : (x : Node) → blocks x ≡ [] → cuts x ≡ []
 placed_cuts x e = ap (λ (q : Part). q.cuts) (part_out x) ∙ ap (λ bs. (together (map block_part bs)).cuts) e
 
 pub placed_entered : (x : Node) → blocks x ≡ [] → entered x ≡ vertices x ∷ []
 placed_entered x e = entered_out x ∙ ap (λ bs. vertices x ∷ flat_map entered_block bs) e
-
-placed_widths : (x : Node) → blocks x ≡ [] → widths x ≡ []
-placed_widths x e = widths_of x ∙ ap (flat_map block_widths) e
 
 range_first : (n : ℕ) → 1 ≤ n → 1 ∷ range_with_len 2 (n - 1) ≡ range_with_len 1 n
 range_first zero h = absurd (omega (arith, h))
@@ -112,7 +108,7 @@ pub started : (n : ℕ) (a : NodeArrays) (nodes : List Node) → 1 ≤ n → Are
     length nodes ≡ length a.links.uppers → AreFrom (IsPlaced n a.homes) 0 nodes → IsForest n a nodes
 started n a nodes some fits same one many placed =
     let no_cuts : flat_map cuts nodes ≡ [] = none_read n a.homes cuts placed_cuts 0 nodes placed in
-    let no_widths : flat_map widths nodes ≡ [] = none_read n a.homes widths placed_widths 0 nodes placed in
+    let no_widths : flat_map widths nodes ≡ [] = none_read n a.homes widths leaf_widths 0 nodes placed in
     record {
       holding = from_weaker (IsPlaced n a.homes) (IsHolding n a (length nodes)) 0 nodes (λ j x l m p. λ v b c. placed_below n a.homes j x p v b c
           ∙ ap (λ h. eqb h j) (sym (met_at a.links.uppers (length nodes) (a.homes v) (a.homes v) (omega (arith, fits.homes v, many))))) placed;

@@ -1,29 +1,15 @@
 -- The intervals of sets that are numbered downwards.
-use Rattle.std.proofs.Common.{◌≡◌, ℕ, suc, ◌+◌, ◌-◌, ◌<◌, ◌≤◌, ◌⊎◌, inl, inr, ⊎_elim, Bool, true, false, ◌||◌, List, [], ◌∷◌, ◌++◌, length, refl, sym, ◌∙◌, subst, arith}
+use Rattle.std.proofs.Common.{◌≡◌, ℕ, suc, ◌+◌, ◌-◌, ◌<◌, ◌≤◌, ⊎_elim, true, List, [], ◌∷◌, ◌++◌, length, sym, ◌∙◌, subst, arith}
 use Rattle.std.specs.Prelude.{⊤}
 use Rattle.std.specs.List.{Contains}
-use Rattle.std.proofs.lemmas.Bool.{cases_eq, cases_lt}
+use Rattle.std.proofs.lemmas.Bool.{cases_eq, cases_lt, or_left, or_right, or_cases}
 use Rattle.std.proofs.lemmas.List.Elements.{Contains-append_cases, Contains-append_left, Contains-append_right}
 use Rattle.cut_definitions.specs.Weight.{VertexSet, either}
 use Rattle.cut_definitions.specs.Chain.{SameOn}
 use Rattle.cut_definitions.proofs.Lists.{Contains-here, Contains-there, Contains-cons_cases, Contains-nil}
+use Rattle.cut_definitions.proofs.Bools.{same_tests}
 use Rattle.cactus_tree.specs.Sides.{from_here, intervals}
 use Rattle.cactus_solver.specs.TreeSets.{IsUnder}
-
-same_tests : (a b : Bool) → (a ≡ true → b ≡ true) → (b ≡ true → a ≡ true) → a ≡ b
-same_tests true b h k = sym (h refl)
-same_tests false true h k = k refl
-same_tests false false h k = refl
-
-or_cases : (a b : Bool) → (a || b) ≡ true → (a ≡ true) ⊎ (b ≡ true)
-or_cases true b h = inl refl
-or_cases false b h = inr h
-
-or_first : (a b : Bool) → a ≡ true → (a || b) ≡ true
-or_first a b h = grind arith
-
-or_second : (a b : Bool) → b ≡ true → (a || b) ≡ true
-or_second a b h = grind arith
 
 module _ (n : ℕ) (under : ℕ → VertexSet) where
   pub under_same : (first last : ℕ) (x y : VertexSet) → IsUnder n under first last x → IsUnder n under first last y → SameOn n x y
@@ -50,8 +36,8 @@ module _ (n : ℕ) (under : ℕ → VertexSet) where
         (λ q. (first - 1, omega arith, omega (arith, le), sym (same v a b) ∙ q))
         (or_cases (x v) (y v) t);
     all = λ i v l m a b t. ⊎_elim
-        (λ (lt : i < first). let e : i ≡ first - 1 = omega (arith, l, lt) in or_second (x v) (y v) (same v a b ∙ subst (λ (k : ℕ). under k v ≡ true) e t))
-        (λ (ge : first ≤ i). or_first (x v) (y v) (g.all i v ge m a b t))
+        (λ (lt : i < first). let e : i ≡ first - 1 = omega (arith, l, lt) in or_right (x v) (y v) (same v a b ∙ subst (λ (k : ℕ). under k v ≡ true) e t))
+        (λ (ge : first ≤ i). or_left (x v) (y v) (g.all i v ge m a b t))
         (cases_lt i first);
   }
 

@@ -3,14 +3,14 @@ use Rattle.std.proofs.Common.{◌≡◌, ℕ, zero, suc, ◌+◌, ◌-◌, ◌<�
 use Rattle.std.specs.List.{All, Contains, filter, flat_map}
 use Rattle.std.proofs.lemmas.Bool.{cases_lt, false≢true}
 use Rattle.std.proofs.lemmas.List.{length-append, length-map, length-reverse, map-append, take-append-drop, length-take-le}
-use Rattle.std.proofs.lemmas.List.Elements.{All-append, All-take, All-drop, Contains-append_cases, Contains-append_left, Contains-append_right}
+use Rattle.std.proofs.lemmas.List.Elements.{All-append, Contains-append_cases, Contains-append_left, Contains-append_right}
 use Rattle.std.proofs.lemmas.List.Concat.{flat_map-append}
 use Rattle.std.proofs.lemmas.List.Sums.{length-filter}
-use Rattle.std.proofs.Math.Seq.{take-append_seam, drop-append_seam}
 use Rattle.std.proofs.lemmas.List.Sorted.{All-permutation, Contains-permutation, IsPermutation-sym, sum_by-IsPermutation}
 use Rattle.cut_definitions.specs.Weight.{VertexSet}
 use Rattle.cut_definitions.specs.Cuts.{has, IsAscendingWithin}
 use Rattle.cut_definitions.specs.Chain.{SameOn}
+use Rattle.cut_definitions.proofs.ListLaws.{All-front, All-back}
 use Rattle.cactus_tree.specs.declared.tree.Node.{Node}
 use Rattle.cactus_tree.specs.declared.tree.Block.{Block}
 use Rattle.cactus_tree.specs.Trees.{vertices}
@@ -19,9 +19,10 @@ use Rattle.cactus_tree.specs.Widths.{widths, block_widths}
 use Rattle.cactus_tree.specs.Sides.{Part, part, below, cuts, belows, all_of, all_cuts, intervals, with_below, cycle_of}
 use Rattle.cactus_tree.proofs.Parts.{hung_part, all_of_push}
 use Rattle.cactus_tree.proofs.Orders.{hung_entered}
+use Rattle.cactus_tree.proofs.Built.{hung_widths}
 use Rattle.cactus_solver.specs.Flat.{NodeArrays, AreNodes, is_follower, sets_of}
 use Rattle.cactus_solver.specs.Forest.{AreFrom, IsChangedAt, AddsBlock, IsBlockOf, holder, IsHolding, IsSideFrom, IsForest}
-use Rattle.cactus_solver.proofs.ForestChanges.{from_back, from_front, from_weaker, from_changed, hung_flat, hung_widths, changed_flat, changed_length, reverse_more}
+use Rattle.cactus_solver.proofs.ForestChanges.{from_back, from_front, from_weaker, from_changed, hung_flat, changed_flat, changed_length, reverse_more}
 use Rattle.cactus_solver.proofs.ForestHolders.{met_step, met_below, met_less, held_elsewhere, held_there, none_between, one_more}
 use Rattle.cactus_solver.proofs.ForestSpans.{under_same, AreDown, down_push, spans_forth, spans_back, IsSpan}
 
@@ -35,12 +36,6 @@ head_kept (z ∷ zs) after group x y d e = refl
 
 count_permutation : {X : Type 0} (test : X → Bool) (xs ys : List X) → IsPermutation xs ys → length (filter test ys) ≡ length (filter test xs)
 count_permutation test xs ys h = length-filter test ys ∙ sum_by-IsPermutation (λ x. cond (test x) 1 0) xs ys h ∙ sym (length-filter test xs)
-
-pub front_all : {X : Type 0} (P : X → Type 0) (xs ys : List X) → All P (xs ++ ys) → All P xs
-front_all P xs ys h = subst (All P) (take-append_seam xs ys) (All-take P (length xs) (xs ++ ys) h)
-
-pub back_all : {X : Type 0} (P : X → Type 0) (xs ys : List X) → All P (xs ++ ys) → All P ys
-back_all P xs ys h = subst (All P) (drop-append_seam xs ys) (All-drop P (length xs) (xs ++ ys) h)
 
 pub hung_length : (upper : ℕ) (b : Block) (first : ℕ) (nodes new : List Node) → first < length nodes → IsChangedAt upper (AddsBlock b) (take first nodes) new → length new ≡ first
 hung_length upper b first nodes new within c = changed_length upper (AddsBlock b) (take first nodes) new c ∙ length-take-le first nodes (omega (arith, within))
@@ -215,8 +210,8 @@ module _ (n : ℕ) (a : NodeArrays) (fits : AreNodes a) (nodes : List Node) (few
   wide =
       let all : All (λ k. 2 ≤ k) (flat_map widths (take first nodes) ++ flat_map widths group) = subst (All (λ k. 2 ≤ k)) widths_whole forest.wide in
       All-permutation (λ k. 2 ≤ k) _ _ (IsPermutation-sym _ _ (changed_flat widths upper (AddsBlock b) (block_widths b) (take first nodes) new c widths_adds))
-      (All-append (λ k. 2 ≤ k) (block_widths b) (flat_map widths (take first nodes)) (block.wide (back_all (λ k. 2 ≤ k) (flat_map widths (take first nodes)) (flat_map widths group) all))
-      (front_all (λ k. 2 ≤ k) (flat_map widths (take first nodes)) (flat_map widths group) all))
+      (All-append (λ k. 2 ≤ k) (block_widths b) (flat_map widths (take first nodes)) (block.wide (All-back (λ k. 2 ≤ k) (flat_map widths (take first nodes)) (flat_map widths group) all))
+      (All-front (λ k. 2 ≤ k) (flat_map widths (take first nodes)) (flat_map widths group) all))
 
   root_has_one : (d : Node) → Contains (vertices (get_or new 0 d)) 1
   root_has_one d =

@@ -1,8 +1,8 @@
 -- Members of a region: nested, with an edge from each to the next, and the parts that they list.
-use Rattle.std.proofs.Common.{◌≡◌, ℕ, ◌+◌, ◌≤◌, ◌⊎◌, inl, inr, ⊎_elim, Bool, true, false, not, ◌&&◌, ◌||◌, List, [], ◌∷◌, get_or, refl, sym, ap, arith}
+use Rattle.std.proofs.Common.{◌≡◌, ℕ, ◌+◌, ◌≤◌, inl, inr, ⊎_elim, Bool, true, false, not, ◌&&◌, List, [], ◌∷◌, get_or, refl, ap, arith}
 use Rattle.std.specs.Prelude.{if◌then◌else◌}
 use Rattle.std.specs.List.{Contains, sum_by}
-use Rattle.std.proofs.lemmas.Bool.{cases_Bool, and_parts}
+use Rattle.std.proofs.lemmas.Bool.{cases_Bool, not_from_false, not_from_true}
 use Rattle.cut_definitions.specs.declared.edge_list.Edge.{Edge}
 use Rattle.std.proofs.lemmas.List.Sums.{sum_by-cons}
 use Rattle.cut_definitions.specs.Graph.{Graph, IsGraph}
@@ -13,17 +13,12 @@ use Rattle.cut_definitions.proofs.Bridge.{weight-agree}
 use Rattle.cut_definitions.proofs.ChainLaws.{nesting, IsPair-joined}
 use Rattle.cut_definitions.proofs.ChainLists.{IsMinimumCut-complement}
 use Rattle.cut_definitions.proofs.Lists.{Contains-here, Contains-there}
+use Rattle.cut_definitions.proofs.Bools.{put_back}
 use Rattle.region_flow.specs.Inflow.{IsAround}
 use Rattle.cactus_solver.specs.Growing.{IsMember}
 use Rattle.cactus_solver.specs.Laws.{LawOfNested, LawOfBorder}
 
 -- ---- plain tests
-
-not_true_is : (a : Bool) → a ≡ true → not a ≡ false
-not_true_is a h = grind arith
-
-not_false_is : (a : Bool) → a ≡ false → not a ≡ true
-not_false_is a h = grind arith
 
 contra : (a b : Bool) → (not a ≡ true → not b ≡ true) → b ≡ true → a ≡ true
 contra true b h k = refl
@@ -43,7 +38,7 @@ nested g labels s t ok joined ne x y ax ay hx hy =
     (λ (w : IsWithin g.vertices (complement x) (complement y)). inr (λ v a b h. contra (x v) (y v) (w v a b) h))
     (λ (w : IsWithin g.vertices (complement y) (complement x)). inl (λ v a b h. contra (y v) (x v) (w v a b) h))
     (nesting g s t ok joined (complement x) (complement y) (IsMinimumCut-complement g x hx) (IsMinimumCut-complement g y hy)
-    (not_false_is (x s) (lacks labels s t x ne ax)) (not_false_is (y s) (lacks labels s t y ne ay)) (not_true_is (x t) ax.there) (not_true_is (y t) ay.there))
+    (not_from_false (x s) (lacks labels s t x ne ax)) (not_from_false (y s) (lacks labels s t y ne ay)) (not_from_true (x t) ax.there) (not_from_true (y t) ay.there))
 
 -- ---- the border
 
@@ -64,11 +59,6 @@ some_term p (e ∷ es) h = ⊎_elim
 apart_test : (a b : Bool) → (a && (b && not a)) ≡ false
 apart_test a b = grind arith
 
-union_test : (a b : Bool) → (a ≡ true → b ≡ true) → (a || (b && not a)) ≡ b
-union_test true b h = sym (h refl)
-union_test false true h = refl
-union_test false false h = refl
-
 minus_out : (a b : Bool) → not b ≡ true → not (b && not a) ≡ true
 minus_out a b h = grind arith
 
@@ -76,7 +66,7 @@ pub border : LawOfBorder
 border g ok connected x y hx hy sub some =
     let n = g.vertices in
     let d = minus y x in
-    let same = weight-agree g ok (either x d) y (λ v a b. union_test (x v) (y v) (sub v)) in
+    let same = weight-agree g ok (either x d) y (λ v a b. put_back (x v) (y v) (sub v)) in
     let apart = weight-apart g x d (λ v. apart_test (x v) (y v)) in
     let out = hy.is_cut.some_out in
     let cut : IsCut n d = record {
@@ -96,15 +86,5 @@ member_minimum g labels s t amount ok joined ne some hs weighs x m =
     let pair = IsPair-joined g s t ok joined in
     IsMinimumCut-from_le g some x hs (record {
       some_in = record { vertex = t; from_one = pair.t_from_one; to_n = pair.t_to_n; is_in = m.around.there };
-      some_out = record { vertex = s; from_one = pair.s_from_one; to_n = pair.s_to_n; is_in = not_false_is (x s) (lacks labels s t x ne m.around) };
+      some_out = record { vertex = s; from_one = pair.s_from_one; to_n = pair.s_to_n; is_in = not_from_false (x s) (lacks labels s t x ne m.around) };
     }) (omega (arith, m.weighs, weighs))
-
-join_cases : (a b c d : Bool) → (a && d || c && b) ≡ true → ((a ≡ true) × (d ≡ true)) ⊎ ((c ≡ true) × (b ≡ true))
-join_cases true b c true h = inl (refl, refl)
-join_cases true b c false h = inr (and_parts c b h)
-join_cases false b c d h = inr (and_parts c b h)
-
-pub minus_parts : (a b : Bool) → (a && not b) ≡ true → (a ≡ true) × (b ≡ false)
-minus_parts true false h = (refl, refl)
-minus_parts true true h = cc
-minus_parts false b h = cc

@@ -1,14 +1,13 @@
 -- The lists of both sides of a region, as they are begun and go on.
-use Rattle.std.proofs.Common.{◌≡◌, ℕ, ◌<◌, ◌≤◌, ◌⊎◌, inr, ⊎_elim, Bool, true, false, not, ◌&&◌, eqb, leb, ltb, List, length, get_or, refl, sym, ◌∙◌, subst, ap, arith}
+use Rattle.std.proofs.Common.{◌≡◌, ℕ, ◌<◌, ◌≤◌, ◌⊎◌, inr, ⊎_elim, Bool, true, false, not, ◌&&◌, eqb, leb, ltb, List, get_or, refl, sym, ◌∙◌, subst, ap, arith}
 use Rattle.std.proofs.Math.Path.{fun_ext}
 use Rattle.std.specs.Prelude.{◌≢◌, ◌==◌, if◌then◌else◌}
-use Rattle.std.specs.List.{All, AllPairs}
-use Rattle.std.proofs.lemmas.Bool.{cases_eq, cases_Bool, lt-ltb, eqb-true, eq-eqb, ne_eqb}
+use Rattle.std.proofs.lemmas.Bool.{cases_eq, cases_Bool, lt-ltb, eqb-true, eq-eqb, ne_eqb, not-true, not_from_false}
 use Rattle.std.proofs.lemmas.Bool.Decides.{nat_tests}
-use Rattle.std.proofs.lemmas.List.Elements.{All-nil}
 use Rattle.cut_definitions.specs.Graph.{Graph}
 use Rattle.cut_definitions.specs.Weight.{VertexSet, complement}
-use Rattle.weighted_graph.specs.Searches.{is_seen}
+use Rattle.cut_definitions.proofs.Bools.{in_minus, contrary}
+use Rattle.cut_definitions.proofs.Numbers.{none_upto, not_positive, ltb_one}
 use Rattle.residual_chain.specs.Residuals.{IsClosed}
 use Rattle.residual_chain.specs.declared.direction.Direction.TheVariants.{Along, Against}
 use Rattle.region_flow.specs.Regions.{RegionState}
@@ -17,41 +16,16 @@ use Rattle.cactus_solver.specs.declared.side.Side.TheVariants.{Inner, Outer}
 use Rattle.cactus_solver.specs.Steps.{steps_in}
 use Rattle.cactus_solver.specs.Growing.{listed_upto}
 use Rattle.cactus_solver.specs.Sides.{IsListed}
-use Rattle.cactus_solver.specs.Listing.{ListingState, IsVertex, IsKept, IsNothingListed, IsBordered}
+use Rattle.cactus_solver.specs.Listing.{ListingState, IsKept, IsNothingListed, IsBordered}
 use Rattle.cactus_solver.specs.Regional.{outer_turn}
 use Rattle.cactus_solver.specs.Taking.{IsFedIn, AreFurther, with_outside}
 use Rattle.cactus_solver.specs.Sided.{IsRegionOf, IsHalf, fed_in, stops, turn_of, kind_of, goes_from}
-use Rattle.cactus_solver.proofs.Finding.{none_seen}
 use Rattle.cactus_solver.proofs.Listings.{in_upto, upto_range, not_upto}
-use Rattle.cactus_solver.proofs.Regional.{contrary, not_not, not_true, true_not}
+use Rattle.cactus_solver.proofs.Regional.{not_not}
 use Rattle.cactus_solver.proofs.Taking.{first_inner, first_outer, further_inner, further_outer, closed_out}
+use Rattle.cactus_solver.proofs.SideLists.{kept_nothing, bordered_nothing}
 
 -- ---- nothing is listed
-
-none_upto : (k : ℕ) → (ltb 0 k && leb k 0) ≡ false
-none_upto k = grind (arith, nat_tests)
-
-kept_of_nothing : (n : ℕ) (s : ListingState) → IsNothingListed n s → IsKept n s
-kept_of_nothing n s h = record {
-  turns_length = h.turns_length;
-  nobody = h.turns 0;
-  to_count = λ v. let z = h.turns v in omega (arith, z);
-  has_all = λ v one. let z = h.turns v in absurd (omega (arith, z, one));
-  within = subst (All (λ (v : ℕ). IsVertex n v × (1 ≤ get_or s.turns v 0))) (sym h.list) (All-nil (λ (v : ℕ). IsVertex n v × (1 ≤ get_or s.turns v 0)));
-  apart = subst (AllPairs (λ (u v : ℕ). u ≢ v)) (sym h.list) (λ i j d less l. absurd (omega (arith, l)));
-  border = record {
-    at_border_length = h.at_border_length;
-    has_all = λ v is. absurd (contrary is (h.at_border v));
-    within = subst (All (λ (v : ℕ). IsVertex n v × (is_seen s.at_border v ≡ true))) (sym h.border) (All-nil (λ (v : ℕ). IsVertex n v × (is_seen s.at_border v ≡ true)));
-    rest = let c = none_seen s.at_border h.at_border in let l : length s.border ≡ 0 = ap length h.border in omega (arith, c, l, h.at_border_length);
-  };
-}
-
-bordered_of_nothing : (g : Graph) (labels : List ℕ) (s : ListingState) → IsNothingListed g.vertices s → IsBordered g labels s
-bordered_of_nothing g labels s h v one = let z = h.turns v in absurd (omega (arith, z, one))
-
-and_not : (a b : Bool) → a ≡ true → b ≡ false → (a && not b) ≡ true
-and_not a b h k = grind arith
 
 listed_none : (turn : ℕ → ℕ) (count v : ℕ) → count ≡ 0 → listed_upto turn count v ≡ false
 listed_none turn count v e = subst (λ (k : ℕ). listed_upto turn k v ≡ false) (sym e) (none_upto (turn v))
@@ -61,8 +35,8 @@ pub begun_inner : (g : Graph) (f : RegionState) (t : ℕ) (s : ListingState) →
 begun_inner g f t s r h =
     let turn : ℕ → ℕ = λ v. get_or s.turns v 0 in
     record {
-      kept = kept_of_nothing g.vertices s h;
-      bordered = bordered_of_nothing g f.labels s h;
+      kept = kept_nothing g.vertices s h;
+      bordered = bordered_nothing g f.labels s h;
       inside = λ v one. let z = h.turns v in absurd (omega (arith, z, one));
       bare = λ none. h.border;
       listed = record {
@@ -75,7 +49,7 @@ begun_inner g f t s r h =
             vertex = t;
             from_one = r.at_border.from_one;
             to_n = r.at_border.to_n;
-            is_in = and_not (x t) (listed_upto turn s.count t) mx.around.there (listed_none turn s.count t h.count);
+            is_in = in_minus (x t) (listed_upto turn s.count t) mx.around.there (listed_none turn s.count t h.count);
           },
         );
       };
@@ -117,8 +91,8 @@ begun_outer g f t s r h =
     (cases_eq (get_or f.labels v 0) region) in
     let away : get_or f.labels 1 0 ≢ region = λ e. absurd (omega (arith, e, r.at_border.root, r.at_border.in_region)) in
     record {
-      kept = kept_of_nothing g.vertices s h;
-      bordered = bordered_of_nothing g f.labels s h;
+      kept = kept_nothing g.vertices s h;
+      bordered = bordered_nothing g f.labels s h;
       inside = λ v one. let z = h.turns v in absurd (omega (arith, z, one));
       bare = λ none. h.border;
       listed = record {
@@ -131,8 +105,8 @@ begun_outer g f t s r h =
             vertex = 1;
             from_one = omega arith;
             to_n = omega (arith, r.at_border.from_one, r.at_border.to_n);
-            is_in = and_not (x 1) (listed_upto turn s.count 1)
-                (⊎_elim (λ (e : x 1 ≡ true). e) (λ (e : x 1 ≡ false). absurd (away (rx.around.inside.labelled 1 (true_not (x 1) e)))) (cases_Bool (x 1)))
+            is_in = in_minus (x 1) (listed_upto turn s.count 1)
+                (⊎_elim (λ (e : x 1 ≡ true). e) (λ (e : x 1 ≡ false). absurd (away (rx.around.inside.labelled 1 (not_from_false (x 1) e)))) (cases_Bool (x 1)))
                 (listed_none turn s.count 1 h.count);
           },
         );
@@ -169,9 +143,6 @@ listed_yes k false h one = absurd (omega arith)
 not_fed : (a b : Bool) → (not a && b) ≡ false → a ≡ false → b ≡ false
 not_fed a b h k = grind arith
 
-not_less : (k : ℕ) → ltb 0 k ≡ false → k ≡ 0
-not_less k h = grind (arith, nat_tests)
-
 -- where a search from t ended without a fed vertex, what it found is the first part from t
 pub first_inner_half : (g : Graph) (f : RegionState) (t : ℕ) (old s : ListingState) (found : VertexSet) → IsRegionOf g f t → IsNothingListed g.vertices old →
     IsFound g f Inner (λ v. eqb v t) old.turns found → found t ≡ true → ((v : ℕ) → found v ≡ true → stops Inner f t v ≡ false) →
@@ -188,7 +159,7 @@ first_inner_half g f t old s found r none h has_t quiet turns count kept bordere
             closed = λ u v step k. ⊎_elim (λ l. let z = none.turns v in absurd (omega (arith, z, l))) (λ z. z) (h.stepped u v step k);
             has_t = has_t;
             inside = inside;
-            dry = λ v k ne. not_less (get_or f.feed v 0) (not_fed (eqb v t) (ltb 0 (get_or f.feed v 0)) (quiet v k) (ne_eqb v t ne));
+            dry = λ v k ne. not_positive (get_or f.feed v 0) (not_fed (eqb v t) (ltb 0 (get_or f.feed v 0)) (quiet v k) (ne_eqb v t ne));
             least = λ x closed there v k. h.least x closed (λ u e. subst (λ (w : ℕ). x w ≡ true) (sym (eqb-true u t e)) there) v k;
           }) (λ v. get_or s.turns v 0) turns);
     }
@@ -204,9 +175,6 @@ three_parts true true c h = cc
 three_parts true false true h = (refl, refl, refl)
 three_parts true false false h = cc
 three_parts false b c h = cc
-
-ltb_one : (k : ℕ) → ltb 0 k ≡ true → 1 ≤ k
-ltb_one k h = grind (arith, nat_tests)
 
 pub is_fed : (f : RegionState) (t v : ℕ) → fed_in f t v ≡ true → IsFedIn f.labels f.feed t v
 is_fed f t v h =
@@ -287,7 +255,7 @@ outer_lacks_t g f t s h =
     (λ (z : s.count ≡ 0). let l = h.kept.to_count t in omega (arith, z, l))
     (λ nz.
     let rest = h.listed.sets s.count (omega (arith, nz)) (omega arith) in
-    let y = not_upto (turn t) s.count (h.listed.to_count t) (not_true (listed_upto turn s.count t) rest.around.there) in
+    let y = not_upto (turn t) s.count (h.listed.to_count t) (not-true (listed_upto turn s.count t) rest.around.there) in
     omega (arith, e, y))
     (cases_eq s.count 0)
 
@@ -317,7 +285,7 @@ further_half Inner g f t r old other s found h some may further only kept border
       let same : get_or s.turns v 0 ≡ get_or old.turns t 0 = ap (λ (x : ℕ). get_or s.turns x 0) e ∙ further.kept t one in
       let le = h.kept.to_count t in
       absurd (omega (arith, same, le, l)) in
-      not_less (get_or f.feed v 0) (not_fed (eqb v t) (ltb 0 (get_or f.feed v 0)) (may.halted v (only v l)) (ne_eqb v t ne)));
+      not_positive (get_or f.feed v 0) (not_fed (eqb v t) (ltb 0 (get_or f.feed v 0)) (may.halted v (only v l)) (ne_eqb v t ne)));
 }
 further_half Outer g f t r old other s found h some may further only kept bordered =
     let region = get_or f.labels t 0 in

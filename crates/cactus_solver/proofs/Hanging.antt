@@ -5,6 +5,8 @@ use Rattle.std.proofs.lemmas.Bool.Decides.{nat_tests}
 use Rattle.cut_definitions.specs.Graph.{Graph, IsGraph}
 use Rattle.cut_definitions.specs.Weight.{VertexSet}
 use Rattle.cut_definitions.specs.Chain.{SameOn, IsMinimumInterval, one_part, parts_between}
+use Rattle.cut_definitions.proofs.Bools.{same_tests, second_in}
+use Rattle.cut_definitions.proofs.Numbers.{one_between}
 use Rattle.cactus_solver.specs.Parted.{IsRegionChain, IsLaterParts, IsLightInterval, later_parts}
 use Rattle.cactus_solver.specs.TreeSets.{TreeSets, IsUnder, AreInCycle}
 use Rattle.cactus_solver.specs.Hung.{IsBridged, IsFollowed, IsTouching, AreHung}
@@ -20,19 +22,8 @@ either_cases a false c h k = inr (sym h ∙ k)
 first_in : (a b c : Bool) → a ≡ (b || c) → b ≡ true → a ≡ true
 first_in a b c h k = grind arith
 
-second_in : (a b c : Bool) → a ≡ (b || c) → c ≡ true → a ≡ true
-second_in a b c h k = grind arith
-
-pub same_tests : (a b : Bool) → (a ≡ true → b ≡ true) → (b ≡ true → a ≡ true) → a ≡ b
-same_tests true b h k = sym (h refl)
-same_tests false true h k = k refl
-same_tests false false h k = refl
-
 later_one : (i p : ℕ) → leb i p ≡ (eqb p i || leb (i + 1) p)
 later_one i p = grind (arith, nat_tests)
-
-one_between : (i p : ℕ) → (leb i p && leb p i) ≡ eqb p i
-one_between i p = grind (arith, nat_tests)
 
 between_later : (a m p : ℕ) → a ≤ m → leb a p ≡ ((leb a p && leb p m) || leb (m + 1) p)
 between_later a m p h = grind (arith, nat_tests)

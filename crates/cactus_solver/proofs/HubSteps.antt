@@ -1,7 +1,7 @@
 -- The search of a hub goes on, and what stands in the fronts stays.
-use Rattle.std.proofs.Common.{◌≡◌, ℕ, ◌+◌, ◌<◌, ◌≤◌, ⊎_elim, Bool, true, false, not, ◌&&◌, eqb, ltb, List, take, length, get_or, refl, sym, ◌∙◌, subst, ap, arith}
+use Rattle.std.proofs.Common.{◌≡◌, ℕ, ◌+◌, ◌<◌, ◌≤◌, ⊎_elim, Bool, true, not, ◌&&◌, eqb, ltb, List, take, length, get_or, refl, sym, ◌∙◌, subst, ap, arith}
 use Rattle.std.specs.Prelude.{Some, slice_get}
-use Rattle.std.proofs.lemmas.Bool.{cases_lt, eq-eqb}
+use Rattle.std.proofs.lemmas.Bool.{cases_lt, eq-eqb, and_from}
 use Rattle.std.proofs.lemmas.List.{get_or-take}
 use Rattle.std.proofs.lemmas.Option.{slice_get_within, get_or_from_slice_get, slice_get-get_or}
 use Rattle.cut_definitions.specs.Graph.{Graph}
@@ -58,12 +58,8 @@ begun_more f t list s s' u on e at found h k v l there fed = ⊎_elim
     (cases_lt k s.place)
 
 -- what the search of a hub starts from
-both : (a b : Bool) → a ≡ true → b ≡ true → (a && b) ≡ true
-both true b h k = k
-both false b h k = h
-
 pub fed_here : (f : RegionState) (t v : ℕ) → get_or f.labels v 0 ≡ get_or f.labels t 0 → (not (eqb v t) && ltb 0 (get_or f.feed v 0)) ≡ true → fed_in f t v ≡ true
-fed_here f t v inside fed = both (eqb (get_or f.labels v 0) (get_or f.labels t 0)) (not (eqb v t) && ltb 0 (get_or f.feed v 0)) (eq-eqb (get_or f.labels v 0) (get_or f.labels t 0) inside) fed
+fed_here f t v inside fed = and_from (eqb (get_or f.labels v 0) (get_or f.labels t 0)) (not (eqb v t) && ltb 0 (get_or f.feed v 0)) (eq-eqb (get_or f.labels v 0) (get_or f.labels t 0) inside) fed
 
 -- the arcs of a side are its steps
 steps_same : (g : Graph) (f : RegionState) (g' : Graph) (f' : RegionState) (side : Side) (d : Direction) → g' ≡ g → f' ≡ f → d ≡ direction_of side → steps_in g' f' d ≡ goes_from side g f

@@ -1,13 +1,10 @@
 -- Which neighbouring parts are minimum cuts, by their weights.
-use Rattle.std.proofs.Common.{◌≡◌, ℕ, ◌+◌, ◌&&◌, leb, eqb, arith}
-use Rattle.std.proofs.lemmas.Bool.Decides.{nat_tests}
+use Rattle.std.proofs.Common.{◌+◌, arith}
 use Rattle.cut_definitions.specs.Chain.{one_part, parts_between}
 use Rattle.cut_definitions.proofs.Bridge.{weight-agree}
+use Rattle.cut_definitions.proofs.Numbers.{one_between}
 use Rattle.cactus_solver.specs.Kinds.{LawOfKinds}
 use Rattle.cactus_solver.proofs.Listing.{light_intervals, pairs}
-
-one_between : (i p : ℕ) → (leb i p && leb p i) ≡ eqb p i
-one_between i p = grind (arith, nat_tests)
 
 pub kinds : LawOfKinds
 kinds g region t count amount part ok ch some hs weighs i two lt =

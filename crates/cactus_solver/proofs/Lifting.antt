@@ -12,6 +12,7 @@ use Rattle.cut_definitions.proofs.Bridge.{has_low, IsMinimumCut-from_mincuts, Co
 use Rattle.cut_definitions.proofs.Contracted.{has-lift}
 use Rattle.cut_definitions.proofs.Values.{IsSide-from_mincuts}
 use Rattle.cut_definitions.proofs.Vertices.{IsMinimumCut-agree}
+use Rattle.cut_definitions.proofs.Bools.{same_tests}
 use Rattle.weighted_graph.specs.ContractionLaws.{IsLabelled}
 use Rattle.weighted_graph.proofs.Contraction.{label_to_classes, fold_max-get_or}
 use Rattle.min_value.specs.Kernels.{KeepsAllMinimumCuts, IsKept}
@@ -19,7 +20,7 @@ use Rattle.cactus_solver.specs.declared.homed_tree.HomedTree.{HomedTree}
 use Rattle.cactus_solver.specs.Finished.{IsFinished, IsTreeOfAll, arrays_of}
 use Rattle.cactus_solver.specs.Flat.{NodeArrays, AreNodes, TreeLinks, sets_of, is_below, is_follower}
 use Rattle.cactus_solver.specs.TreeSets.{IsTreeSide, IsUnder}
-use Rattle.cactus_solver.proofs.Hanging.{under_one, under_after, same_tests}
+use Rattle.cactus_solver.proofs.Hanging.{under_one, under_after}
 use Rattle.cactus_solver.proofs.Members.{filtered, side_lacks_one}
 
 -- a set of what is under several nodes

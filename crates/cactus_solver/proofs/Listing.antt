@@ -1,17 +1,15 @@
 -- The parts of a region as they are listed, and their weights.
-use Rattle.std.proofs.Common.{◌≡◌, ℕ, ◌+◌, ◌<◌, ◌≤◌, true, false, not, ◌&&◌, ◌||◌, leb, eqb, sym, subst, arith}
+use Rattle.std.proofs.Common.{◌≡◌, ℕ, ◌+◌, ◌≤◌, true, false, ◌&&◌, ◌||◌, leb, eqb, sym, subst, arith}
 use Rattle.std.proofs.lemmas.Bool.{eqb-true}
 use Rattle.std.proofs.lemmas.Bool.Decides.{nat_tests}
 use Rattle.cut_definitions.specs.Weight.{weight, either, IsCut}
 use Rattle.cut_definitions.specs.Chain.{one_part, parts_between}
 use Rattle.cut_definitions.proofs.WeightLaws.{weight-apart, IsMinimumCut-from_le}
 use Rattle.cut_definitions.proofs.Bridge.{weight-agree}
+use Rattle.cut_definitions.proofs.Numbers.{interval_out}
 use Rattle.cactus_solver.specs.Laws.{LawOfLightIntervals, LawOfPairs}
 
 -- ---- weights of intervals
-
-below_interval : (a b p : ℕ) → p < a → not (leb a p && leb p b) ≡ true
-below_interval a b p h = grind (arith, nat_tests)
 
 at_first : (a b : ℕ) → a ≤ b → (leb a a && leb a b) ≡ true
 at_first a b h = grind (arith, nat_tests)
@@ -25,7 +23,7 @@ light_intervals g region t count amount part ch some hs weighs a b two le lt =
     let is_a : part w.vertex ≡ a = eqb-true (part w.vertex) a w.is_in in
     let cut : IsCut n x = record {
       some_in = record { vertex = w.vertex; from_one = w.from_one; to_n = w.to_n; is_in = subst (λ (k : ℕ). (leb a k && leb k b) ≡ true) (sym is_a) (at_first a b le) };
-      some_out = record { vertex = 1; from_one = num.s_from_one; to_n = num.s_to_n; is_in = below_interval a b (part 1) (omega (arith, num.s_first)) };
+      some_out = record { vertex = 1; from_one = num.s_from_one; to_n = num.s_to_n; is_in = interval_out a b (part 1) (omega (arith, num.s_first)) };
     } in (
       λ h. let p : weight g x ≤ weight g some = h.minimum.least some hs.is_cut in
           let q : weight g some ≤ weight g x = hs.least x cut in

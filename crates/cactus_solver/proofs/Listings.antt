@@ -1,16 +1,15 @@
 -- Nested sets of one kind by their parts, with further parts.
-use Rattle.std.proofs.Common.{◌≡◌, ℕ, zero, suc, ◌+◌, ◌-◌, ◌<◌, ◌≤◌, ◌⊎◌, inl, inr, ⊎_elim, Bool, true, false, not, ◌&&◌, leb, ltb, refl, sym, ◌∙◌, subst, ap, arith}
+use Rattle.std.proofs.Common.{◌≡◌, ℕ, zero, suc, ◌+◌, ◌-◌, ◌<◌, ◌≤◌, ◌⊎◌, inl, inr, ⊎_elim, true, false, ◌&&◌, leb, ltb, sym, ◌∙◌, subst, ap, arith}
 use Rattle.std.proofs.Math.Path.{fun_ext}
-use Rattle.std.proofs.lemmas.Bool.{cases_lt, cases_eq, eqb-true, eq-eqb}
+use Rattle.std.proofs.lemmas.Bool.{cases_eq, eqb-true, eq-eqb}
 use Rattle.std.proofs.lemmas.Bool.Decides.{nat_tests}
 use Rattle.cut_definitions.specs.Weight.{VertexSet, minus, HasVertex}
 use Rattle.cut_definitions.specs.Chain.{IsWithin, SameOn}
 use Rattle.cut_definitions.proofs.Vertices.{within_or_minus}
+use Rattle.cut_definitions.proofs.Bools.{minus_parts, same_tests}
+use Rattle.cut_definitions.proofs.Numbers.{cases_le}
 use Rattle.cactus_solver.specs.Growing.{IsPartOf, listed_upto}
 use Rattle.cactus_solver.specs.Sides.{IsNested, IsListed, IsListedAfter}
-
-cases_le : (k c : ℕ) → (k ≤ c) ⊎ (c < k)
-cases_le k c = ⊎_elim (λ (l : c < k). inr l) (λ (l : k ≤ c). inl l) (cases_lt c k)
 
 upto_zero : (k o j : ℕ) → k ≡ 0 → o ≡ 0 → (ltb 0 k && leb k j) ≡ (ltb 0 o && leb o j)
 upto_zero k o j h e = ap (λ (i : ℕ). ltb 0 i && leb i j) (h ∙ sym e)
@@ -39,16 +38,6 @@ upto_range k j h = grind (arith, nat_tests)
 pub not_upto : (k j : ℕ) → k ≤ j → (ltb 0 k && leb k j) ≡ false → k ≡ 0
 not_upto k j h l = grind (arith, nat_tests)
 
-pub minus_parts : (a b : Bool) → (a && not b) ≡ true → (a ≡ true) × (b ≡ false)
-minus_parts true false h = (refl, refl)
-minus_parts true true h = cc
-minus_parts false b h = cc
-
-pub both_ways : (a b : Bool) → (a ≡ true → b ≡ true) → (b ≡ true → a ≡ true) → a ≡ b
-both_ways true b h k = sym (h refl)
-both_ways false true h k = k refl
-both_ways false false h k = refl
-
 abbrev pub IsOneOf : (n : ℕ) (turn : ℕ → ℕ) (last : ℕ) (x : VertexSet) → Type 0
 IsOneOf n turn last x = ((j : ℕ) × (1 ≤ j) × (j ≤ last) × SameOn n x (listed_upto turn j)) ⊎ (IsPartOf (listed_upto turn last) x × HasVertex n (minus x (listed_upto turn last)))
 
@@ -67,7 +56,7 @@ among n kind old new count last nested h x kx (suc m) i e low all more =
     (λ (l : new v ≤ i). all v (in_upto (new v) i r.0 l))
     (λ (l : i < new v). let b = h.within v (omega (arith, l, low)) in w v b.0 b.1 k)
     (cases_le (new v) i) in
-    let here : IsWithin n x s → IsWithin n s x → IsOneOf n new last x = λ w z. inl (i + 1, omega arith, omega arith, λ v a b. both_ways (x v) (s v) (w v a b) (z v a b)) in
+    let here : IsWithin n x s → IsWithin n s x → IsOneOf n new last x = λ w z. inl (i + 1, omega arith, omega arith, λ v a b. same_tests (x v) (s v) (w v a b) (z v a b)) in
     ⊎_elim
     (λ (w : IsWithin n x s).
     let p = minus_parts (x more.vertex) (listed_upto new i more.vertex) more.is_in in

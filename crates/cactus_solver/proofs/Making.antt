@@ -1,11 +1,11 @@
 -- What is under the nodes that were made for the parts of a region.
 use Rattle.std.proofs.Common.{◌≡◌, ℕ, suc, zero, ◌+◌, ◌-◌, ◌<◌, ◌≤◌, ◌⊎◌, inl, inr, ⊎_elim, Bool, true, false, ◌&&◌, ◌||◌, eqb, ltb, List, length, get_or, refl, sym, ◌∙◌, subst, ap, arith}
 use Rattle.std.specs.Prelude.{◌≢◌}
-use Rattle.std.proofs.lemmas.Bool.{cases_lt, cases_eq, eq-eqb, ne_eqb, false≢true}
+use Rattle.std.proofs.lemmas.Bool.{cases_lt, cases_eq, eq-eqb, ne_eqb, le-leb, lt-leb}
 use Rattle.std.proofs.lemmas.Bool.Decides.{nat_tests}
 use Rattle.cut_definitions.specs.Graph.{Graph}
 use Rattle.cut_definitions.specs.Chain.{SameOn, one_part}
-use Rattle.cut_definitions.proofs.ChainLaws.{leb_yes, leb_no}
+use Rattle.cut_definitions.proofs.Bools.{contrary, kept_or}
 use Rattle.cactus_solver.specs.Parted.{later_parts}
 use Rattle.cactus_solver.specs.Flat.{NodeArrays, is_above, is_below, is_follower, sets_of, IsMadeBelow, IsMadeAfter, IsMadeBeyond, AreMade, IsSteadyAt}
 use Rattle.cactus_solver.specs.Laws.{LawOfMaking}
@@ -15,15 +15,12 @@ use Rattle.cactus_solver.specs.Laws.{LawOfMaking}
 abbrev Descend : List ℕ → ℕ → Type 0
 Descend u size = (i : ℕ) → 1 ≤ i → i < size → get_or u i 0 < i
 
-zero_above : (e l r : Bool) → l ≡ false → (e || (l && r)) ≡ e
-zero_above e l r h = grind arith
-
 not_below_zero : (k : ℕ) → ltb k 0 ≡ false
 not_below_zero k = grind (arith, nat_tests)
 
 at_root : (u : List ℕ) (f k : ℕ) → is_above u f k 0 ≡ eqb 0 k
 at_root u zero k = refl
-at_root u (suc f) k = zero_above (eqb 0 k) (ltb k 0) (is_above u f k (get_or u 0 0)) (not_below_zero k)
+at_root u (suc f) k = kept_or (eqb 0 k) (ltb k 0) (is_above u f k (get_or u 0 0)) (not_below_zero k)
 
 up_once : (u : List ℕ) (f x k : ℕ) → 1 ≤ f → is_above u f k x ≡ (eqb x k || (ltb k x && is_above u (f - 1) k (get_or u x 0)))
 up_once u zero x k h = absurd (omega arith)
@@ -178,9 +175,6 @@ far g count part at node a a' made (suc m) i e two =
           (cases_eq x (at i));
     }
 
-contrary : {b : Bool} → b ≡ true → b ≡ false → ⊥
-contrary is_true is_false = false≢true (sym is_false ∙ is_true)
-
 -- each node that was made hangs from one with a lesser number
 descends : (g : Graph) (count : ℕ) (part : ℕ → ℕ) (at : ℕ → ℕ) (node : ℕ) (a a' : NodeArrays) → AreMade g count part at node a a' →
     (m i : ℕ) → i + m ≡ count → 2 ≤ i → get_or a'.links.uppers (at i) 0 < at i → (x : ℕ) → at i ≤ x → x < length a'.links.uppers → get_or a'.links.uppers x 0 < x
@@ -277,13 +271,13 @@ making g region t count part at node a a' ch nodes made homes =
     (λ (l : part v < 2).
     let e = made.homes_first v v1 vn l in
     let h = nodes.homes v in
-    ap (λ (y : ℕ). is_below u k y) e ∙ not_below u size down (a.homes v) k (omega (arith, h, made.linked.more)) (omega (arith, h, ge)) ∙ sym (leb_no i (part v) (omega arith)))
+    ap (λ (y : ℕ). is_below u k y) e ∙ not_below u size down (a.homes v) k (omega (arith, h, made.linked.more)) (omega (arith, h, ge)) ∙ sym (lt-leb i (part v) (omega arith)))
     (λ (l : 2 ≤ part v).
     let e = made.homes_later v v1 vn l in
     let placed = (far_at (part v) l (to_count v v1 vn)).before in
     ap (λ (y : ℕ). is_below u k y) e ∙ ⊎_elim
-    (λ (q : part v < i). not_below u size down (at (part v)) k placed (under (part v) l q (to_count v v1 vn)) ∙ sym (leb_no i (part v) q))
-    (λ (q : i ≤ part v). all_below u size down k high (at (part v)) (at (part v)) (omega arith) (above (part v) q (to_count v v1 vn)) placed ∙ sym (leb_yes i (part v) q))
+    (λ (q : part v < i). not_below u size down (at (part v)) k placed (under (part v) l q (to_count v v1 vn)) ∙ sym (lt-leb i (part v) q))
+    (λ (q : i ≤ part v). all_below u size down k high (at (part v)) (at (part v)) (omega arith) (above (part v) q (to_count v v1 vn)) placed ∙ sym (le-leb i (part v) q))
     (cases_lt (part v) i))
     (cases_lt (part v) 2) in
     let one_at : (i : ℕ) → 2 ≤ i → i ≤ count → ((x : ℕ) → at i < x → x < size → get_or u x 0 ≢ at i) → SameOn n ((sets_of a').under (at i)) (one_part part i) =

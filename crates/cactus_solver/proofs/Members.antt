@@ -1,6 +1,6 @@
 -- The sides of a finished tree, as lists, are the minimum cuts; and so where vertices are put in place of classes.
-use Rattle.std.proofs.Common.{◌≡◌, ℕ, zero, suc, ◌-◌, ◌<◌, ◌≤◌, ⊎_elim, Bool, true, false, not, List, [], ◌∷◌, length, map, get_or, refl, sym, ◌∙◌, ap, subst, arith}
-use Rattle.std.specs.Prelude.{◌↔◌, if◌then◌else◌, Result, Ok, Err, IfOk}
+use Rattle.std.proofs.Common.{◌≡◌, ℕ, zero, suc, ◌-◌, ◌<◌, ◌≤◌, ⊎_elim, Bool, true, false, not, List, [], ◌∷◌, length, map, get_or, sym, ◌∙◌, ap, subst, arith}
+use Rattle.std.specs.Prelude.{◌↔◌, if◌then◌else◌}
 use Rattle.std.specs.List.{All, Contains, filter, range_with_len}
 use Rattle.std.proofs.Math.Path.{fun_ext}
 use Rattle.std.proofs.lemmas.Bool.{cases_Bool, cases_lt, eqb-true}
@@ -9,12 +9,12 @@ use Rattle.cut_definitions.specs.Graph.{Graph, IsGraph}
 use Rattle.cut_definitions.specs.Weight.{VertexSet, parts, weight}
 use Rattle.cut_definitions.specs.Cuts.{has, IsAscendingWithin, sides, least, value, mincuts, side_of}
 use Rattle.cut_definitions.specs.Components.{IsConnected}
-use Rattle.cut_definitions.proofs.Bridge.{has_low, has_within, has-side_of, IsAscendingWithin-filter, same_ascending, side_of-has, IsCut-has, IsMinimumCut-from_weight, IsMinimumCut-from_mincuts, Contains-mincuts_side_of, two_vertices, value-le_cut}
+use Rattle.cut_definitions.proofs.Bridge.{has_low, has_within, has-side_of, IsAscendingWithin-filter, same_ascending, side_of-has, IsCut-has, IsMinimumCut-from_weight, IsMinimumCut-from_mincuts, Contains-mincuts_side_of, value-le_cut}
 use Rattle.cut_definitions.proofs.Values.{value_is_weight, Contains-mincuts, IsSide-from_mincuts}
 use Rattle.cut_definitions.proofs.Lists.{Contains-from_map}
+use Rattle.cut_definitions.proofs.ListLaws.{some_long}
 use Rattle.cactus_tree.specs.Rooted.{Rooted, sides_of}
 use Rattle.cactus_tree.specs.Sides.{cuts}
-use Rattle.min_value.specs.Kernels.{KeepsAllMinimumCuts}
 use Rattle.cactus_solver.specs.Finished.{IsTreeOfAll}
 use Rattle.cactus_solver.specs.Flat.{NodeArrays, AreNodes, sets_of, is_above}
 use Rattle.cactus_solver.specs.Homes.{HomesState, home_of}
@@ -23,13 +23,6 @@ use Rattle.cactus_solver.specs.TreeSets.{IsTreeSide, IsTreeOfCuts}
 use Rattle.cactus_solver.specs.UnderWay.{IsLeastWeight}
 use Rattle.cactus_solver.proofs.Regrouping.{home_entered}
 use Rattle.cactus_solver.proofs.Splitting.{end}
-
--- ---- results
-
--- what follows of a value from two facts
-pub if_ok_both : {X E : Type 0} (r : Result X E) (P Q R : X → Type 0) → ((x : X) → P x → Q x → R x) → IfOk r P → IfOk r Q → IfOk r R
-if_ok_both (Ok x) P Q R f p q = f x p q
-if_ok_both (Err e) P Q R f p q = p
 
 -- ---- the value
 
@@ -103,12 +96,6 @@ settled h labels all_zero = fun_ext (λ v. home_entered h labels v (all_zero v))
 some_cut : (g : Graph) → 2 ≤ g.vertices → (s : List ℕ) × Contains (mincuts g) s
 some_cut g two = let v = value_is_weight g two in (v.0, Contains-mincuts g v.0 v.1 v.2)
 
-pub still_two : (g small : Graph) (labels : List ℕ) → 2 ≤ g.vertices → KeepsAllMinimumCuts g small labels → 2 ≤ small.vertices
-still_two g small labels two keeps =
-    let s = some_cut g two in
-    let p = keeps.each_is_lifted s.0 s.1 in
-    two_vertices small.vertices (has p.0) (IsCut-has small.vertices p.0 (IsSide-from_mincuts small p.0 p.1).0)
-
 -- a value of 1 or more is that of a graph with vertices
 some_of_value : (g : Graph) → 1 ≤ value g → 1 ≤ g.vertices
 unfolding value sides
@@ -125,10 +112,6 @@ still_connected g small ok small_ok two connected same =
     record { some_vertex = some_of_value small (omega arith); each_cut = λ s cut. omega (arith, far, same, value-le_cut small small_ok s cut) }
 
 -- ---- the normal form
-
-some_long : (side : List ℕ) → (side ≡ [] → ⊥) → 0 < length side
-some_long [] some = absurd (some refl)
-some_long (v ∷ vs) some = omega arith
 
 -- no minimum cut is empty
 pub no_empty_side : (g : Graph) (sides : List (List ℕ)) → SameMembers sides (mincuts g) → All (λ side. 0 < length side) sides

@@ -2,7 +2,7 @@
 use Rattle.std.proofs.Common.{◌≡◌, ℕ, ◌<◌, ◌≤◌, ◌⊎◌, inl, inr, ⊎_elim, Bool, true, false, not, List, get_or, eqb, refl, sym, ◌∙◌, subst, ap, arith}
 use Rattle.std.specs.Prelude.{if◌then◌else◌}
 use Rattle.std.specs.List.{Contains}
-use Rattle.std.proofs.lemmas.Bool.{cases_lt, eq-eqb, eqb-true, ne_eqb, false≢true}
+use Rattle.std.proofs.lemmas.Bool.{cases_lt, eq-eqb, eqb-true, ne_eqb, false≢true, not-true, not_from_false}
 use Rattle.std.proofs.lemmas.List.{get_or_default}
 use Rattle.std.proofs.lemmas.List.Elements.{All-contains}
 use Rattle.cut_definitions.specs.declared.edge_list.Edge.{Edge}
@@ -20,15 +20,9 @@ use Rattle.cactus_solver.proofs.Growing.{some_term}
 pub stands : (g : Graph) → IsGraph g → (e : Edge) → (c : Contains g.edges e) → StandsInRows g c.0 e
 stands g ok e c = subst (λ (d : Edge). StandsInRows g c.0 d) (get_or_default g.edges c.0 no_edge e c.1 ∙ c.2) (law_of_edges_in_rows g ok c.0 c.1)
 
-not_true_gives : (b : Bool) → not b ≡ true → b ≡ false
-not_true_gives b h = grind arith
-
 parted : (a b : Bool) → (if a then not b else b) ≡ true → ((a ≡ true) × (b ≡ false)) ⊎ ((b ≡ true) × (a ≡ false))
-parted true b h = inl (refl, not_true_gives b h)
+parted true b h = inl (refl, not-true b h)
 parted false b h = inr (h, refl)
-
-not_false_is : (a : Bool) → a ≡ false → not a ≡ true
-not_false_is a h = grind arith
 
 -- an edge that leaves a region has an open end
 leaves : (g : Graph) (labels : List ℕ) (r u v : ℕ) (a : Arc) → IsShutAt g labels u → 1 ≤ r → a.to ≡ v → Contains (row_of g u) a →
@@ -47,7 +41,7 @@ open_vertices g labels ok connected root shut v v1 vn = ⊎_elim
     let s : VertexSet = λ x. eqb (get_or labels x 0) r in
     let cut : IsCut g.vertices s = record {
       some_in = record { vertex = v; from_one = v1; to_n = vn; is_in = eq-eqb r r refl };
-      some_out = record { vertex = 1; from_one = omega arith; to_n = omega (arith, v1, vn); is_in = not_false_is (s 1) (ne_eqb (get_or labels 1 0) r (λ e. absurd (omega (arith, e, root, l)))) };
+      some_out = record { vertex = 1; from_one = omega arith; to_n = omega (arith, v1, vn); is_in = not_from_false (s 1) (ne_eqb (get_or labels 1 0) r (λ e. absurd (omega (arith, e, root, l)))) };
     } in
     let found = some_term (λ e. parts s e.u e.v) g.edges (connected.each_cut s cut) in
     let e = found.0 in

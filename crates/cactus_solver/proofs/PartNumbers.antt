@@ -7,7 +7,9 @@ use Rattle.std.proofs.lemmas.List.{get_or-take, get_or-set_same, get_or-set_othe
 use Rattle.std.proofs.lemmas.List.Elements.{All-contains, All-get_or}
 use Rattle.cut_definitions.specs.Graph.{Graph}
 use Rattle.cut_definitions.specs.Cuts.{has}
-use Rattle.cactus_tree.proofs.Groups.{contains_has, has_contains}
+use Rattle.cut_definitions.proofs.Numbers.{cases_zero}
+use Rattle.cut_definitions.proofs.Ascending.{contains_has, has_contains}
+use Rattle.cut_definitions.proofs.Bools.{same_tests, contrary}
 use Rattle.region_flow.specs.Regions.{RegionState, IsRegionFlow}
 use Rattle.cactus_solver.specs.declared.between.Between.{Between}
 use Rattle.cactus_solver.specs.declared.between.Between.TheVariants.{Nothing, One}
@@ -18,8 +20,6 @@ use Rattle.cactus_solver.specs.Listing.{ListingState, IsVertex, IsKept}
 use Rattle.cactus_solver.specs.Regional.{two_sided}
 use Rattle.cactus_solver.specs.Split.{IsBetween, outer_of}
 use Rattle.cactus_solver.proofs.Halves.{outer_inside, outer_outside}
-use Rattle.cactus_solver.proofs.Listings.{both_ways}
-use Rattle.cactus_solver.proofs.Regional.{contrary}
 
 -- ---- one list
 
@@ -52,7 +52,7 @@ in_take : (xs : List ℕ) (k i v : ℕ) → i < k → k ≤ length xs → get_or
 in_take xs k i v l fits e = contains_has (take k xs) v (i, omega (arith, l, length-take-le k xs fits), get_or-take k xs i v l ∙ e)
 
 same_before : (xs : List ℕ) (k v : ℕ) → k < length xs → v ≢ get_or xs k 0 → has (take (k + 1) xs) v ≡ has (take k xs) v
-same_before xs k v l ne = both_ways (has (take (k + 1) xs) v) (has (take k xs) v)
+same_before xs k v l ne = same_tests (has (take (k + 1) xs) v) (has (take k xs) v)
     (λ is.
     let c = has_contains (take (k + 1) xs) v is in
     let below : c.0 < k + 1 = omega (arith, c.1, length-take-le (k + 1) xs (omega (arith, l))) in
@@ -114,9 +114,6 @@ if_some k a b h = ap (λ (c : Bool). if c then a else b) (lt-ltb 0 k (omega (ari
 if_none : (k a b : ℕ) → k ≡ 0 → (if ltb 0 k then a else b) ≡ b
 if_none k a b h = ap (λ (x : ℕ). if ltb 0 x then a else b) h
 
-none_or_some : (k : ℕ) → (k ≡ 0) ⊎ (1 ≤ k)
-none_or_some k = ⊎_elim (λ (l : k < 1). inl (omega arith)) (λ (l : 1 ≤ k). inr l) (cases_lt k 1)
-
 number_of : (count i o z one two : ℕ) → z ≡ 0 → one ≡ (if ltb 0 o then o else z) → two ≡ (if ltb 0 i then count - i + 1 else one) → IsNumberOf count i o two
 number_of count i o z one two h k l = ⊎_elim
     (λ (no_i : i ≡ 0).
@@ -124,9 +121,9 @@ number_of count i o z one two h k l = ⊎_elim
     ⊎_elim
     (λ (no_o : o ≡ 0). inr (inr (no_i, no_o, second ∙ (k ∙ (if_none o o z no_o ∙ h)))))
     (λ (some : 1 ≤ o). inr (inl (no_i, some, second ∙ (k ∙ if_some o o z some))))
-    (none_or_some o))
+    (cases_zero o))
     (λ (some : 1 ≤ i). inl (some, l ∙ if_some i (count - i + 1) one some))
-    (none_or_some i)
+    (cases_zero i)
 
 -- each vertex has its number, where those from the outside were put first
 pub both_put : (count : ℕ) (inner outer zeros one two : List ℕ) → ((v : ℕ) → get_or zeros v 0 ≡ 0) →
@@ -178,7 +175,7 @@ of_region g f t s flow h v is =
       ⊎_elim
           (λ (z : v ≡ 0). let e = ap (λ (k : ℕ). get_or f.labels k 0) z in absurd (omega (arith, e, flow.nobody, is, some)))
           (λ (l : 1 ≤ v). l)
-          (none_or_some v),
+          (cases_zero v),
       ⊎_elim
           (λ (l : v < length f.labels). omega (arith, l, flow.labels_length))
           (λ (l : length f.labels ≤ v). let e = get_or_past f.labels v 0 l in absurd (omega (arith, e, is, some)))

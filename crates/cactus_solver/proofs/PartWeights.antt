@@ -1,5 +1,5 @@
 -- The weights of inner parts, by what lies between them.
-use Rattle.std.proofs.Common.{◌≡◌, ℕ, ◌+◌, ◌-◌, ◌*◌, ◌^◌, ◌<◌, ◌≤◌, Bool, true, false, not, ◌&&◌, ◌||◌, eqb, leb, List, get_or, refl, sym, ◌∙◌, subst, arith}
+use Rattle.std.proofs.Common.{◌≡◌, ℕ, ◌+◌, ◌-◌, ◌*◌, ◌^◌, ◌<◌, ◌≤◌, Bool, true, not, ◌||◌, eqb, leb, List, get_or, refl, sym, ◌∙◌, subst, arith}
 use Rattle.std.proofs.lemmas.Bool.Decides.{nat_tests}
 use Rattle.cut_definitions.specs.declared.edge_list.Edge.{Edge}
 use Rattle.cut_definitions.specs.Graph.{Graph, IsGraph}
@@ -9,14 +9,12 @@ use Rattle.cut_definitions.proofs.WeightLaws.{cut_term, weight-apart, weight-com
 use Rattle.cut_definitions.proofs.Sums.{sum_by-le_each}
 use Rattle.cut_definitions.proofs.Running.{cut_of-le, join_of-le}
 use Rattle.cut_definitions.proofs.Bridge.{weight-agree}
+use Rattle.cut_definitions.proofs.Numbers.{apart_later}
 use Rattle.cactus_solver.specs.declared.tree.Hanging.{Hanging}
 use Rattle.cactus_solver.specs.declared.tree.Hanging.TheVariants.{Bridged, Followed, Touching}
 use Rattle.cactus_solver.specs.Parted.{later_parts, IsRegionChain}
 use Rattle.cactus_solver.specs.Linked.{IsWeighedChain, AreSmall, MayHang}
 use Rattle.cactus_solver.proofs.KindLaws.{kinds}
-
-apart_later : (n i : ℕ) → (eqb n i && leb (i + 1) n) ≡ false
-apart_later n i = grind (arith, nat_tests)
 
 whole_later : (n i : ℕ) → (eqb n i || leb (i + 1) n) ≡ leb i n
 whole_later n i = grind (arith, nat_tests)

@@ -1,6 +1,6 @@
 -- What searches show of closed sets.
-use Rattle.std.proofs.Common.{◌≡◌, ℕ, zero, suc, ◌-◌, ◌<◌, ◌≤◌, ◌⊎◌, inl, inr, ⊎_elim, Bool, true, false, ◌||◌, eqb, List, get_or, refl, sym, ◌∙◌, subst, ap, arith}
-use Rattle.std.proofs.lemmas.Bool.{lt-ltb, eqb-true}
+use Rattle.std.proofs.Common.{◌≡◌, ℕ, zero, suc, ◌-◌, ◌<◌, ◌≤◌, ⊎_elim, Bool, true, eqb, List, get_or, sym, ◌∙◌, subst, ap, arith}
+use Rattle.std.proofs.lemmas.Bool.{lt-ltb, eqb-true, or_left, or_right, or_cases}
 use Rattle.cut_definitions.specs.Weight.{VertexSet}
 use Rattle.weighted_graph.specs.Searches.{is_seen}
 use Rattle.residual_chain.specs.Residuals.{IsClosed}
@@ -33,24 +33,14 @@ found n goes halts turns starts s h x closed begins v is =
 
 -- ---- the end
 
-or_cases : (a b : Bool) → (a || b) ≡ true → (a ≡ true) ⊎ (b ≡ true)
-or_cases true b h = inl refl
-or_cases false b h = inr h
-
-or_first : (a b : Bool) → a ≡ true → (a || b) ≡ true
-or_first a b h = grind arith
-
-or_second : (a b : Bool) → b ≡ true → (a || b) ≡ true
-or_second a b h = grind arith
-
 pub ended : LawOfEnded
 ended n goes halts turns starts s h all closed u v step k = ⊎_elim
-    (λ (q : is_listed turns u ≡ true). or_first (is_listed turns v) (is_seen s.seen v) (closed u v step q))
+    (λ (q : is_listed turns u ≡ true). or_left (is_listed turns v) (is_seen s.seen v) (closed u v step q))
     (λ (q : is_seen s.seen u ≡ true).
     let p = h.stands u q in
     ⊎_elim
-    (λ (l : 1 ≤ get_or turns v 0). or_first (is_listed turns v) (is_seen s.seen v) (lt-ltb 0 (get_or turns v 0) (omega (arith, l))))
-    (λ (is : is_seen s.seen v ≡ true). or_second (is_listed turns v) (is_seen s.seen v) is)
+    (λ (l : 1 ≤ get_or turns v 0). or_left (is_listed turns v) (is_seen s.seen v) (lt-ltb 0 (get_or turns v 0) (omega (arith, l))))
+    (λ (is : is_seen s.seen v ≡ true). or_right (is_listed turns v) (is_seen s.seen v) is)
     (h.followed p.place (omega (arith, p.below, all)) v (subst (λ (x : ℕ). goes x v ≡ true) (sym p.there) step)))
     (or_cases (is_listed turns u) (is_seen s.seen u) k)
 

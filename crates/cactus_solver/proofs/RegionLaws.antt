@@ -1,57 +1,23 @@
 -- The minimum cuts inside a region, by the parts of its chain.
 use Rattle.std.proofs.Common.{◌≡◌, ℕ, ◌+◌, ◌-◌, ◌<◌, ◌≤◌, ◌⊎◌, inl, inr, ⊎_elim, Bool, true, false, not, ◌&&◌, ◌||◌, leb, eqb, refl, sym, ◌∙◌, subst, arith}
-use Rattle.std.proofs.lemmas.Bool.{cases_lt, cases_order, cases_Bool, leb-true, eqb-true, eq-eqb, and_parts, false≢true}
+use Rattle.std.proofs.lemmas.Bool.{cases_lt, cases_order, cases_Bool, leb-true, eqb-true, eq-eqb, and_parts, false≢true, not_from_false, or_from, and_from, or_right, not_from_true, le-leb, lt-leb}
 use Rattle.std.proofs.lemmas.Bool.Decides.{nat_tests}
 use Rattle.cut_definitions.specs.Graph.{Graph, IsGraph}
 use Rattle.cut_definitions.specs.Weight.{VertexSet, complement, both, either, minus, HasVertex, IsMinimumCut}
 use Rattle.cut_definitions.specs.Chain.{SameOn, IsWithin, IsInnerInterval, IsInOnePart, IsMinimumInterval, first_parts, parts_between}
 use Rattle.cut_definitions.proofs.WeightLaws.{crossing}
 use Rattle.cut_definitions.proofs.Vertices.{all_or_one, IsMinimumCut-agree}
-use Rattle.cut_definitions.proofs.ChainLaws.{leb_yes, leb_no}
 use Rattle.cut_definitions.proofs.ChainLists.{IsMinimumCut-complement}
+use Rattle.cut_definitions.proofs.Bools.{not_then_never, in_neither, not_in_minus, in_minus, passes, fails, peel}
+use Rattle.cut_definitions.proofs.Numbers.{in_interval, above_interval, below_interval, cut_right, cut_left, join_tests, after}
 use Rattle.cactus_solver.specs.Parted.{IsRegionChain, IsLaterParts, IsLightInterval}
 use Rattle.cactus_solver.specs.Laws.{IsStepSide, LawOfRegionCover}
-
--- ---- plain tests
-
-in_both : (a b : Bool) → a ≡ true → b ≡ true → (a && b) ≡ true
-in_both a b h k = grind arith
-
-in_minus : (a b : Bool) → a ≡ true → b ≡ false → (a && not b) ≡ true
-in_minus a b h k = grind arith
-
-in_neither : (a b : Bool) → a ≡ false → b ≡ false → (not a && not b) ≡ true
-in_neither a b h k = grind arith
-
-in_either : (a b : Bool) → b ≡ true → (a || b) ≡ true
-in_either a b h = grind arith
-
-not_in_minus : (a b : Bool) → a ≡ false → (a && not b) ≡ false
-not_in_minus a b h = grind arith
-
-not_in_either : (a b : Bool) → a ≡ false → b ≡ false → (a || b) ≡ false
-not_in_either a b h k = grind arith
-
-in_interval : (a b p : ℕ) → a ≤ p → p ≤ b → (leb a p && leb p b) ≡ true
-in_interval a b p h k = grind (arith, nat_tests)
-
-below_interval : (a b p : ℕ) → p < a → (leb a p && leb p b) ≡ false
-below_interval a b p h = grind (arith, nat_tests)
-
-above_interval : (a b p : ℕ) → b < p → (leb a p && leb p b) ≡ false
-above_interval a b p h = grind (arith, nat_tests)
-
-peel : (x c p q r : Bool) → (c && not x) ≡ p → (x || c) ≡ q → r ≡ not p → x ≡ (r && q)
-peel x c p q r h k m = grind arith
-
-after : (a p : ℕ) → leb (a + 1) p ≡ not (leb p a)
-after a p = grind (arith, nat_tests)
 
 -- ---- inside the region
 
 -- a vertex outside a part from 2 on ..
 outside_first : (p i : ℕ) → p ≡ 1 → 1 ≤ i → leb p i ≡ true
-outside_first p i e l = leb_yes p i (omega arith)
+outside_first p i e l = le-leb p i (omega arith)
 
 in_region_after : (c x : Bool) (r : Bool) → not (c && not x) ≡ true → (c ≡ false → r ≡ true) → (x ≡ true → r ≡ true) → r ≡ true
 in_region_after false x r h k m = k refl
@@ -83,18 +49,18 @@ intervals g region t count part ch x hx within xs xt u v u1 un v1 vn xu xv lt =
     let c = first_parts part i in
     let high : part v ≤ count = num.to_count v v1 vn in
     let low : 1 ≤ i = num.from_one u u1 un in
-    let s_in : c 1 ≡ true = leb_yes (part 1) i (omega (arith, num.s_first)) in
-    let t_out : c t ≡ false = leb_no (part t) i (omega (arith, num.t_last)) in
+    let s_in : c 1 ≡ true = le-leb (part 1) i (omega (arith, num.s_first)) in
+    let t_out : c t ≡ false = lt-leb (part t) i (omega (arith, num.t_last)) in
     let corners = crossing g x c hx (ch.minimum i low (omega arith)) (record {
-      inside = record { vertex = u; from_one = u1; to_n = un; is_in = in_both (x u) (c u) xu (leb_yes i i (omega arith)) };
-      first = record { vertex = v; from_one = v1; to_n = vn; is_in = in_minus (x v) (c v) xv (leb_no (part v) i lt) };
+      inside = record { vertex = u; from_one = u1; to_n = un; is_in = and_from (x u) (c u) xu (le-leb i i (omega arith)) };
+      first = record { vertex = v; from_one = v1; to_n = vn; is_in = in_minus (x v) (c v) xv (lt-leb (part v) i lt) };
       second = record { vertex = 1; from_one = num.s_from_one; to_n = num.s_to_n; is_in = in_minus (c 1) (x 1) s_in xs };
       outside = record { vertex = t; from_one = num.t_from_one; to_n = num.t_to_n; is_in = in_neither (x t) (c t) xt t_out };
     }) in
     let later = later_inside g region t count part ch i low in
     let before = ch.no_other (minus c x) corners.second (in_minus (c 1) (x 1) s_in xs) (not_in_minus (c t) (x t) t_out)
     (λ y l h out. in_region_after (c y) (x y) (region y) out (later y l h) (within y l h)) in
-    let upto = ch.no_other (either x c) corners.union (in_either (x 1) (c 1) s_in) (not_in_either (x t) (c t) xt t_out)
+    let upto = ch.no_other (either x c) corners.union (or_right (x 1) (c 1) s_in) (or_from (x t) (c t) xt t_out)
     (λ y l h out. in_region_before (c y) (x y) (region y) out (later y l h)) in
     let a = before.last in
     let b = upto.last in
@@ -113,15 +79,6 @@ intervals g region t count part ch x hx within xs xt u v u1 un v1 vn xu xv lt =
       same = same;
     }
 
-passes : (x q : Bool) → (not x || q) ≡ true → x ≡ true → q ≡ true
-passes x q h k = grind arith
-
-fails : (x q : Bool) → not (not x || q) ≡ true → (x && not q) ≡ true
-fails x q h = grind arith
-
-not_true : (q : Bool) → not q ≡ true → q ≡ true → ⊥
-not_true q h k = grind arith
-
 cover : (g : Graph) (region : VertexSet) (t count : ℕ) (part : ℕ → ℕ) → IsRegionChain g region t count part → (x : VertexSet) →
     IsMinimumCut g x → IsWithin g.vertices x region → x 1 ≡ false → x t ≡ false → IsInOnePart g.vertices part x ⊎ IsInnerInterval g.vertices count part x
 cover g region t count part ch x hx within xs xt =
@@ -136,7 +93,7 @@ cover g region t count part ch x hx within xs xt =
     let v = h.vertex in
     let split = and_parts (x v) (not (eqb (part v) i)) (fails (x v) (eqb (part v) i) h.is_in) in
     inr (⊎_elim
-    (λ (e : part v ≡ i). absurd (not_true (eqb (part v) i) split.1 (eq-eqb (part v) i e)))
+    (λ (e : part v ≡ i). absurd (not_then_never (eqb (part v) i) split.1 (eq-eqb (part v) i e)))
     (⊎_elim
     (λ (l : part v < i). intervals g region t count part ch x hx within xs xt v w h.from_one h.to_n some.from_one some.to_n split.0 some.is_in l)
     (λ (l : i < part v). intervals g region t count part ch x hx within xs xt w v some.from_one some.to_n h.from_one h.to_n some.is_in split.0 l))
@@ -144,12 +101,6 @@ cover g region t count part ch x hx within xs xt =
     (all_or_one n (λ v. not (x v) || eqb (part v) i))
 
 -- ---- where a set inside the region lies
-
-not_true_is : (a : Bool) → a ≡ true → not a ≡ false
-not_true_is a h = grind arith
-
-not_false_is : (a : Bool) → a ≡ false → not a ≡ true
-not_false_is a h = grind arith
 
 not_twice : (a : Bool) → not (not a) ≡ true → a ≡ true
 not_twice a h = grind arith
@@ -168,7 +119,7 @@ region_cover g region t count part ok out ch x hx within =
     (cases_Bool (x 1)) in
     ⊎_elim
     (λ (e : x t ≡ true).
-    let first = ch.no_other (complement x) (IsMinimumCut-complement g x hx) (not_false_is (x 1) x_one) (not_true_is (x t) e)
+    let first = ch.no_other (complement x) (IsMinimumCut-complement g x hx) (not_from_false (x 1) x_one) (not_from_true (x t) e)
     (λ v l h k. within v l h (not_twice (x v) k)) in
     inl (inl (record {
       first = first.last + 1;
@@ -194,12 +145,6 @@ region_cover g region t count part ok out ch x hx within =
 
 -- ---- intervals that are minimum cuts
 
-cut_left : (a b j p : ℕ) → j < b → ((leb a p && leb p b) && leb p j) ≡ (leb a p && leb p j)
-cut_left a b j p h = grind (arith, nat_tests)
-
-cut_right : (a b j p : ℕ) → a ≤ j → ((leb a p && leb p b) && not (leb p j)) ≡ (leb (j + 1) p && leb p b)
-cut_right a b j p h = grind (arith, nat_tests)
-
 -- an interval that is cut after one of its parts leaves two that are minimum cuts
 cut_after : (g : Graph) (region : VertexSet) (t count : ℕ) (part : ℕ → ℕ) → IsGraph g → IsRegionChain g region t count part → (a b j : ℕ) →
     IsMinimumInterval g count part a b → a ≤ j → j < b → IsMinimumInterval g count part a j × IsMinimumInterval g count part (j + 1) b
@@ -214,10 +159,10 @@ cut_after g region t count part ok ch a b j h aj jb =
     let part_a : part at_a.vertex ≡ a = eqb-true _ _ at_a.is_in in
     let part_b : part at_b.vertex ≡ b = eqb-true _ _ at_b.is_in in
     let corners = crossing g x c h.minimum (ch.minimum j (omega arith) (omega arith)) (record {
-      inside = record { vertex = at_a.vertex; from_one = at_a.from_one; to_n = at_a.to_n; is_in = in_both (x at_a.vertex) (c at_a.vertex) (in_interval a b (part at_a.vertex) (omega arith) (omega arith)) (leb_yes (part at_a.vertex) j (omega arith)) };
-      first = record { vertex = at_b.vertex; from_one = at_b.from_one; to_n = at_b.to_n; is_in = in_minus (x at_b.vertex) (c at_b.vertex) (in_interval a b (part at_b.vertex) (omega arith) (omega arith)) (leb_no (part at_b.vertex) j (omega arith)) };
-      second = record { vertex = 1; from_one = num.s_from_one; to_n = num.s_to_n; is_in = in_minus (c 1) (x 1) (leb_yes (part 1) j (omega (arith, num.s_first))) (below_interval a b (part 1) (omega (arith, num.s_first))) };
-      outside = record { vertex = t; from_one = num.t_from_one; to_n = num.t_to_n; is_in = in_neither (x t) (c t) (above_interval a b (part t) (omega (arith, num.t_last))) (leb_no (part t) j (omega (arith, num.t_last))) };
+      inside = record { vertex = at_a.vertex; from_one = at_a.from_one; to_n = at_a.to_n; is_in = and_from (x at_a.vertex) (c at_a.vertex) (in_interval a b (part at_a.vertex) (omega arith) (omega arith)) (le-leb (part at_a.vertex) j (omega arith)) };
+      first = record { vertex = at_b.vertex; from_one = at_b.from_one; to_n = at_b.to_n; is_in = in_minus (x at_b.vertex) (c at_b.vertex) (in_interval a b (part at_b.vertex) (omega arith) (omega arith)) (lt-leb (part at_b.vertex) j (omega arith)) };
+      second = record { vertex = 1; from_one = num.s_from_one; to_n = num.s_to_n; is_in = in_minus (c 1) (x 1) (le-leb (part 1) j (omega (arith, num.s_first))) (below_interval a b (part 1) (omega (arith, num.s_first))) };
+      outside = record { vertex = t; from_one = num.t_from_one; to_n = num.t_to_n; is_in = in_neither (x t) (c t) (above_interval a b (part t) (omega (arith, num.t_last))) (lt-leb (part t) j (omega (arith, num.t_last))) };
     }) in (
       record {
         from_two = from_two;
@@ -249,9 +194,6 @@ subintervals g region t count part ok ch a b i j h ai ij jb =
     (λ (l : i ≤ a). let e : a ≡ i = omega arith in subst (λ (k : ℕ). IsMinimumInterval g count part k j) e upto)
     (cases_lt a i)
 
-join_tests : (a b c d p : ℕ) → a ≤ c → c ≤ b → b ≤ d → ((leb a p && leb p b) || (leb c p && leb p d)) ≡ (leb a p && leb p d)
-join_tests a b c d p h k m = grind (arith, nat_tests)
-
 pub joined_intervals : (g : Graph) (region : VertexSet) (t count : ℕ) (part : ℕ → ℕ) → IsGraph g → IsRegionChain g region t count part →
     (a b c d : ℕ) → IsMinimumInterval g count part a b → IsMinimumInterval g count part c d → a ≤ c → c ≤ b → b ≤ d → IsMinimumInterval g count part a d
 joined_intervals g region t count part ok ch a b c d h k ac cb bd =
@@ -270,7 +212,7 @@ joined_intervals g region t count part ok ch a b c d h k ac cb bd =
     let part_c : part at_c.vertex ≡ c = eqb-true _ _ at_c.is_in in
     let part_d : part at_d.vertex ≡ d = eqb-true _ _ at_d.is_in in
     let corners = crossing g x y h.minimum k.minimum (record {
-      inside = record { vertex = at_c.vertex; from_one = at_c.from_one; to_n = at_c.to_n; is_in = in_both (x at_c.vertex) (y at_c.vertex) (in_interval a b (part at_c.vertex) (omega arith) (omega arith)) (in_interval c d (part at_c.vertex) (omega arith) (omega arith)) };
+      inside = record { vertex = at_c.vertex; from_one = at_c.from_one; to_n = at_c.to_n; is_in = and_from (x at_c.vertex) (y at_c.vertex) (in_interval a b (part at_c.vertex) (omega arith) (omega arith)) (in_interval c d (part at_c.vertex) (omega arith) (omega arith)) };
       first = record { vertex = at_a.vertex; from_one = at_a.from_one; to_n = at_a.to_n; is_in = in_minus (x at_a.vertex) (y at_a.vertex) (in_interval a b (part at_a.vertex) (omega arith) (omega arith)) (below_interval c d (part at_a.vertex) (omega arith)) };
       second = record { vertex = at_d.vertex; from_one = at_d.from_one; to_n = at_d.to_n; is_in = in_minus (y at_d.vertex) (x at_d.vertex) (in_interval c d (part at_d.vertex) (omega arith) (omega arith)) (above_interval a b (part at_d.vertex) (omega arith)) };
       outside = record { vertex = 1; from_one = num.s_from_one; to_n = num.s_to_n; is_in = in_neither (x 1) (y 1) (below_interval a b (part 1) (omega (arith, num.s_first))) (below_interval c d (part 1) (omega (arith, num.s_first))) };

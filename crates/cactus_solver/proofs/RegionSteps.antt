@@ -1,14 +1,12 @@
 -- The steps inside regions both ways, and the sets that they do not leave.
-use Rattle.std.proofs.Common.{◌≡◌, ℕ, ◌^◌, ◌<◌, ◌≤◌, ⊎_elim, true, List, length, get_or, refl, sym, ◌∙◌, subst, ap, arith}
+use Rattle.std.proofs.Common.{◌≡◌, ℕ, ◌<◌, ⊎_elim, true, List, length, get_or, refl, sym, ◌∙◌, subst, ap}
 use Rattle.std.specs.List.{Contains}
 use Rattle.std.proofs.lemmas.List.{get_or_default}
 use Rattle.std.proofs.lemmas.List.Elements.{All-contains}
-use Rattle.std.proofs.lemmas.List.Sums.{get_or-le-sum_by}
-use Rattle.cut_definitions.specs.declared.edge_list.Edge.{Edge}
 use Rattle.cut_definitions.specs.Graph.{Graph, IsGraph}
 use Rattle.weighted_graph.specs.declared.graph.Arc.{Arc}
 use Rattle.weighted_graph.specs.Rows.{row_of}
-use Rattle.weighted_graph.specs.RowLaws.{IsArcAt, edge_at, no_edge}
+use Rattle.weighted_graph.specs.RowLaws.{IsArcAt, edge_at}
 use Rattle.weighted_graph.proofs.RowLaws.{law_of_edges_in_rows}
 use Rattle.max_flow.specs.Flow.{arc_at}
 use Rattle.max_flow.proofs.Preflows.{row_arc}
@@ -74,12 +72,6 @@ closed_steps g f t s ok around = (
 )
 
 -- ---- arcs
-
--- no arc weighs more than all edges
-pub arc_light : (g : Graph) → IsGraph g → (v : ℕ) (a : Arc) → IsArcAt g v a → a.weight ≤ 2 ^ 61
-arc_light g ok v a at =
-    let part = get_or-le-sum_by (λ (e : Edge). e.w) g.edges a.edge no_edge at.within in
-    omega (arith, part, ok.total, at.same_weight)
 
 -- an arc that stands at a place of a row
 pub arc_of_row : (g : Graph) (v place : ℕ) (a : Arc) → place < length (row_of g v) → a ≡ arc_at (row_of g v) place → IsArcAt g v a

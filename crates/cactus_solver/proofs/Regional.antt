@@ -1,17 +1,15 @@
 -- Members of a region between what is listed from both sides.
-use Rattle.std.proofs.Common.{◌≡◌, ℕ, ◌⊎◌, inl, inr, ⊎_elim, Bool, true, false, not, ◌&&◌, ◌||◌, List, get_or, refl, sym, ◌∙◌, subst, ap, arith}
+use Rattle.std.proofs.Common.{◌≡◌, ℕ, ◌⊎◌, inl, inr, ⊎_elim, Bool, true, false, not, ◌&&◌, List, get_or, refl, sym, ◌∙◌, subst, ap}
 use Rattle.std.proofs.Math.Path.{fun_ext}
-use Rattle.std.proofs.lemmas.Bool.{cases_Bool, false≢true}
+use Rattle.std.proofs.lemmas.Bool.{cases_Bool, not-true}
 use Rattle.cut_definitions.specs.Graph.{Graph}
 use Rattle.cut_definitions.specs.Weight.{VertexSet, complement, minus, HasVertex, IsMinimumCut}
 use Rattle.cut_definitions.specs.Chain.{IsWithin}
 use Rattle.cut_definitions.proofs.ChainLists.{IsMinimumCut-complement}
+use Rattle.cut_definitions.proofs.Bools.{contrary, join_cases, minus_parts}
 use Rattle.cactus_solver.specs.Growing.{IsMember, IsPartOf}
 use Rattle.cactus_solver.specs.Regional.{IsAtBorder, IsRest, HoldsAround, BringsHub, ComesWithHub, LawOfNestedSides, LawOfNoneBetween}
-use Rattle.cactus_solver.proofs.Growing.{nested, border, member_minimum, minus_parts}
-
-pub contrary : {b : Bool} → b ≡ true → b ≡ false → ⊥
-contrary is_true is_false = false≢true (sym is_false ∙ is_true)
+use Rattle.cactus_solver.proofs.Growing.{nested, border, member_minimum}
 
 twice : (b : Bool) → not (not b) ≡ b
 twice true = refl
@@ -19,13 +17,6 @@ twice false = refl
 
 pub not_not : (x : VertexSet) → complement (complement x) ≡ x
 not_not x = fun_ext (λ v. twice (x v))
-
-pub not_true : (b : Bool) → not b ≡ true → b ≡ false
-not_true false h = refl
-not_true true h = cc
-
-pub true_not : (b : Bool) → b ≡ false → not b ≡ true
-true_not b h = grind arith
 
 turned : (a b : Bool) → (not b ≡ true → not a ≡ true) → a ≡ true → b ≡ true
 turned a true h k = refl
@@ -45,16 +36,6 @@ nested_sides g labels t amount at =
           (λ (w : IsWithin g.vertices (complement y) (complement x)). inl (λ v a b h. turned (x v) (y v) (w v a b) h))
           (within (complement x) (complement y) rx ry),
     )
-
-and_true : (a b : Bool) → (a && b) ≡ true → (a ≡ true) × (b ≡ true)
-and_true true true h = (refl, refl)
-and_true true false h = cc
-and_true false b h = cc
-
-join_cases : (a b c d : Bool) → (a && d || c && b) ≡ true → ((a ≡ true) × (d ≡ true)) ⊎ ((c ≡ true) × (b ≡ true))
-join_cases true b c true h = inl (refl, refl)
-join_cases true b c false h = inr (and_true c b h)
-join_cases false b c d h = inr (and_true c b h)
 
 -- beside a minimum cut, a greater one has a vertex of which something holds that holds around the lesser
 pub beside : (g : Graph) (labels : List ℕ) (t amount : ℕ) → IsAtBorder g labels t amount → (q x : VertexSet) → IsMinimumCut g q → IsMinimumCut g x → IsPartOf q x →
@@ -82,7 +63,7 @@ none_between g labels t amount hub b f at inner outer x mx sub more rest_sub res
     (λ (h : IsRest g labels t amount f × HoldsAround g f (λ v. (b v ≡ true) ⊎ ComesWithHub g labels t amount hub v)).
     let r = beside g labels t amount at f (complement x) (rest_minimum g labels t amount at f h.0) (IsMinimumCut-complement g x mine) rest_sub rest_more
     (λ v. (b v ≡ true) ⊎ ComesWithHub g labels t amount hub v) h.1 in
-    let out = not_true (x r.0) r.1 in
+    let out = not-true (x r.0) r.1 in
     ⊎_elim
     (λ (in_b : b r.0 ≡ true). contrary (sub r.0 in_b) out)
     (λ (comes : ComesWithHub g labels t amount hub r.0). contrary (comes x mx there) out)
@@ -96,12 +77,9 @@ none_between g labels t amount hub b f at inner outer x mx sub more rest_sub res
     ⊎_elim
     (λ ne. ne (mx.around.inside.labelled r.0 r.1))
     (λ k. ⊎_elim
-    (λ (in_f : f r.0 ≡ true). contrary r.1 (not_true (x r.0) (rest_sub r.0 in_f)))
+    (λ (in_f : f r.0 ≡ true). contrary r.1 (not-true (x r.0) (rest_sub r.0 in_f)))
     (λ (brings : BringsHub g labels t amount hub r.0). contrary (brings x mx r.1) away)
     k)
     r.2)
     inner)
     (cases_Bool (x hub))
-
-both_not : (a b : Bool) → a ≡ false → b ≡ false → (not a && not b) ≡ true
-both_not a b h k = grind arith

@@ -1,12 +1,12 @@
 -- The parts of a region get labels and homes of their own, one after another.
 use Rattle.std.proofs.Common.{◌≡◌, ℕ, ◌+◌, ◌<◌, ◌≤◌, ◌⊎◌, inl, inr, ⊎_elim, Bool, true, false, eqb, List, [], ◌∷◌, length, set, get_or, refl, sym, ◌∙◌, ap, subst, arith}
 use Rattle.std.specs.Prelude.{if◌then◌else◌, ◌≢◌}
-use Rattle.std.proofs.lemmas.Bool.{cases_eq, cases_lt, eq-eqb, ne_eqb, eqb-true, false≢true}
-use Rattle.std.proofs.lemmas.List.{get_or-set_same, get_or-set_other, length-set, get_or_past}
+use Rattle.std.proofs.lemmas.Bool.{cases_eq, cases_lt, eq-eqb, ne_eqb, eqb-true, false≢true, or_cases}
+use Rattle.std.proofs.lemmas.List.{get_or-set_same, get_or-set_other, length-set}
 use Rattle.std.proofs.lemmas.List.Folds.{list_any_at}
 use Rattle.cut_definitions.specs.Cuts.{has}
+use Rattle.cut_definitions.proofs.ListLaws.{labelled_to_n}
 use Rattle.region_flow.specs.CutOff.{MayBeCutOff, relabelled}
-use Rattle.region_flow.proofs.Least.{or_cases}
 use Rattle.cactus_solver.specs.Homes.{HomesState, home_of}
 use Rattle.cactus_solver.specs.Listed.{IsPartList}
 use Rattle.cactus_solver.specs.Regrouping.{AreNumberedAround, IsLarge, IsPlaced, IsAmong, ArePlaced}
@@ -50,13 +50,6 @@ may_be_cut_off numbers labels list i region fresh part outside below inside new 
   apart = part.apart;
   unused = inr (λ v e. absurd (omega (arith, e, new v)));
 }
-
--- what is listed is a vertex
-pub listed_to_n : (numbers : List ℕ) (n v : ℕ) → length numbers ≡ n + 1 → 1 ≤ get_or numbers v 0 → v ≤ n
-listed_to_n numbers n v long one = ⊎_elim
-    (λ (l : v < n + 1). omega (arith, l))
-    (λ (l : n + 1 ≤ v). let z = get_or_past numbers v 0 (omega (arith, l, long)) in absurd (omega (arith, z, one)))
-    (cases_lt v (n + 1))
 
 -- a list of one has only its first
 only_one : (list : List ℕ) (v : ℕ) → length list ≡ 1 → has list v ≡ true → v ≡ get_or list 0 0
@@ -265,5 +258,5 @@ one_numbered n numbers labels labels' h h' i node region t fresh next around s l
     (λ ne. inl (s.kept v ne))
     (cases_eq (get_or numbers v 0) i) in
     subst (λ (f : ℕ). AreNumberedAround n labels' region t f) (sym k.1)
-    (around_fresh n labels labels' region t fresh w.0 around outside below change (listed_to_n numbers n w.0 long (omega (arith, w.1, one))) w.2 (inside w.0 w.1) (s.given w.0 w.1 ∙ k.0)))
+    (around_fresh n labels labels' region t fresh w.0 around outside below change (labelled_to_n numbers n w.0 long (omega (arith, w.1, one))) w.2 (inside w.0 w.1) (s.given w.0 w.1 ∙ k.0)))
     s.which

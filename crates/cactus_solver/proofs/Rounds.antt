@@ -1,13 +1,14 @@
 -- What searches show of the vertices beside a list, and what may be taken into it.
-use Rattle.std.proofs.Common.{◌≡◌, ℕ, ◌≤◌, ◌⊎◌, inl, inr, ⊎_elim, Bool, true, false, not, ◌&&◌, eqb, leb, ltb, List, get_or, refl, sym, ◌∙◌, subst, ap, arith}
+use Rattle.std.proofs.Common.{◌≡◌, ℕ, ◌≤◌, ◌⊎◌, inl, inr, ⊎_elim, Bool, true, false, not, ◌&&◌, eqb, ltb, List, get_or, refl, sym, ◌∙◌, subst, ap, arith}
 use Rattle.std.specs.Prelude.{◌≢◌}
 use Rattle.std.specs.List.{Contains}
-use Rattle.std.proofs.lemmas.Bool.{cases_eq, cases_Bool, eqb-true, eq-eqb, ne_eqb}
-use Rattle.std.proofs.lemmas.Bool.Decides.{nat_tests}
+use Rattle.std.proofs.lemmas.Bool.{cases_eq, cases_Bool, eqb-true, eq-eqb, ne_eqb, not-true, not_from_false}
 use Rattle.std.proofs.lemmas.List.Elements.{All-contains}
 use Rattle.cut_definitions.specs.Graph.{Graph, IsEdgeWithin}
 use Rattle.cut_definitions.specs.Chain.{IsJoined}
 use Rattle.cut_definitions.specs.Weight.{VertexSet, complement}
+use Rattle.cut_definitions.proofs.Numbers.{upto_none, ltb_one}
+use Rattle.cut_definitions.proofs.Bools.{contrary}
 use Rattle.weighted_graph.specs.declared.graph.Arc.{Arc}
 use Rattle.weighted_graph.specs.Rows.{row_of}
 use Rattle.weighted_graph.specs.Searches.{is_seen}
@@ -24,14 +25,10 @@ use Rattle.cactus_solver.specs.Taking.{IsFedIn}
 use Rattle.cactus_solver.specs.Sided.{IsRegionOf, IsHalf, AreHalves, IsGood, IsRoundDone, IsSettled, fed_in, stops, goes_from}
 use Rattle.cactus_solver.proofs.Opening.{stands}
 use Rattle.cactus_solver.proofs.Listings.{in_upto, upto_range, not_upto}
-use Rattle.cactus_solver.proofs.Regional.{contrary, not_true, true_not}
 use Rattle.cactus_solver.proofs.Taking.{closed_out, bringing, brought, coming}
 use Rattle.cactus_solver.proofs.Halves.{IsFound, MayBeTaken, found_inside, is_fed, outer_inside, outer_one, inner_has_t}
 
 -- ---- what a search does not enter
-
-no_upto : (k j : ℕ) → k ≡ 0 → (ltb 0 k && leb k j) ≡ false
-no_upto k j h = grind (arith, nat_tests)
 
 -- what is found from outside the inner list is outside it
 pub off_inner : (g : Graph) (f : RegionState) (t : ℕ) → IsRegionOf g f t → (inner : ListingState) → IsHalf Inner g f t inner → (starts : VertexSet) (turns : List ℕ) (found : VertexSet) →
@@ -43,8 +40,8 @@ off_inner g f t r inner h starts turns found is begins v k = ⊎_elim
     let b = listed_upto turn inner.count in
     let m = h.listed.sets inner.count (omega (arith, nz)) (omega arith) in
     let away = is.least (complement b) (closed_out g f.labels f.feed t (get_or f.feed t 0) (steps_in g f Against) (steps_in g f Along) r b m)
-    (λ u s. true_not (b u) (no_upto (turn u) inner.count (begins u s))) v k in
-    not_upto (turn v) inner.count (h.kept.to_count v) (not_true (b v) away))
+    (λ u s. not_from_false (b u) (upto_none (turn u) inner.count (begins u s))) v k in
+    not_upto (turn v) inner.count (h.kept.to_count v) (not-true (b v) away))
     (cases_eq inner.count 0)
 
 -- what leads to a vertex outside the outer list is outside it
@@ -58,9 +55,9 @@ off_outer g f t r outer h starts turns found is region begins v k = ⊎_elim
     let e = listed_upto turn outer.count in
     let rest = h.listed.sets outer.count (omega (arith, nz)) (omega arith) in
     let away = is.least (complement e) (r.closed_sets.closed (complement e) rest)
-    (λ u s. true_not (e u) (no_upto (turn u) outer.count (outer_inside f.labels (get_or f.labels t 0) outer.turns outer.count u (region u s) ∙ begins u s))) v k in
+    (λ u s. not_from_false (e u) (upto_none (turn u) outer.count (outer_inside f.labels (get_or f.labels t 0) outer.turns outer.count u (region u s) ∙ begins u s))) v k in
     let inside = found_inside g f t r Inner starts turns found is region v k in
-    sym (outer_inside f.labels (get_or f.labels t 0) outer.turns outer.count v inside) ∙ not_upto (turn v) outer.count (h.listed.to_count v) (not_true (e v) away))
+    sym (outer_inside f.labels (get_or f.labels t 0) outer.turns outer.count v inside) ∙ not_upto (turn v) outer.count (h.listed.to_count v) (not-true (e v) away))
     (cases_eq outer.count 0)
 
 -- a fed vertex of the region is listed from the outside, where anything is
@@ -71,7 +68,7 @@ fed_listed g f t r outer h some v fed =
     let rest = h.listed.sets outer.count some (omega arith) in
     ⊎_elim
     (λ (k : e v ≡ true). let q = upto_range (turn v) outer.count k in let a = outer_inside f.labels (get_or f.labels t 0) outer.turns outer.count v fed.inside in omega (arith, q.0, a))
-    (λ (k : e v ≡ false). let d = r.closed_sets.dry (complement e) rest v (true_not (e v) k) fed.other in absurd (omega (arith, d, fed.fed)))
+    (λ (k : e v ≡ false). let d = r.closed_sets.dry (complement e) rest v (not_from_false (e v) k) fed.other in absurd (omega (arith, d, fed.fed)))
     (cases_Bool (e v))
 
 -- ---- what may be taken
@@ -80,9 +77,6 @@ fed_parts : (a b : Bool) → (not a && b) ≡ true → (a ≡ false) × (b ≡ t
 fed_parts true b h = cc
 fed_parts false true h = (refl, refl)
 fed_parts false false h = cc
-
-ltb_one : (k : ℕ) → ltb 0 k ≡ true → 1 ≤ k
-ltb_one k h = grind (arith, nat_tests)
 
 pub may_inner : (g : Graph) (f : RegionState) (t : ℕ) → IsRegionOf g f t → (inner outer : ListingState) → AreHalves g f t inner outer → (starts : VertexSet) (found : VertexSet) → IsFound g f Inner starts inner.turns found →
     ((v : ℕ) → starts v ≡ true → get_or f.labels v 0 ≡ get_or f.labels t 0) → ((v : ℕ) → starts v ≡ true → get_or outer.turns v 0 ≡ 0) →

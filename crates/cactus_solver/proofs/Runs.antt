@@ -1,5 +1,5 @@
 -- Where each number stands among vertices that are sorted by number.
-use Rattle.std.proofs.Common.{◌≡◌, ℕ, ◌+◌, ◌-◌, ◌<◌, ◌≤◌, ⊎_elim, Bool, true, false, eqb, List, [], ◌∷◌, ◌++◌, length, map, get_or, refl, sym, ◌∙◌, ap, subst, arith}
+use Rattle.std.proofs.Common.{◌≡◌, ℕ, ◌+◌, ◌-◌, ◌<◌, ◌≤◌, ⊎_elim, eqb, List, [], ◌∷◌, ◌++◌, length, map, get_or, sym, ◌∙◌, ap, subst, arith}
 use Rattle.std.specs.Prelude.{◌≢◌}
 use Rattle.std.specs.List.{slice_range}
 use Rattle.std.specs.List.Sorted.{IsNonDecreasingBy}
@@ -8,6 +8,7 @@ use Rattle.std.proofs.lemmas.List.{get_or-map, get_or_push, get_or_append_left, 
 use Rattle.std.proofs.lemmas.List.Edits.{length-between, get_or-between}
 use Rattle.std.proofs.lemmas.List.Folds.{Any-from_list_any, list_any_at}
 use Rattle.cut_definitions.specs.Cuts.{has}
+use Rattle.cut_definitions.proofs.Bools.{same_tests}
 use Rattle.cactus_solver.specs.declared.parts.Placed.{Placed}
 use Rattle.cactus_solver.specs.Listed.{AreAllPlaced, IsPartList, IsRun, AreRuns, IsZeroEmpty, AreLaidOut}
 
@@ -107,11 +108,6 @@ run_length : (placed : List Placed) (start end : ℕ) → end ≤ length placed 
 run_length placed start end within =
     let long = length-map placed (λ (q : Placed). q.vertex) in
     length-between (map (λ (q : Placed). q.vertex) placed) start end (omega (arith, long, within))
-
-same_tests : (a b : Bool) → (a ≡ true → b ≡ true) → (b ≡ true → a ≡ true) → a ≡ b
-same_tests true b to back = sym (to refl)
-same_tests false true to back = back refl
-same_tests false false to back = refl
 
 pub run_is_part : (numbers : List ℕ) (placed : List Placed) (i start end : ℕ) → AreAllPlaced numbers placed → IsRun placed i start end → 1 ≤ i → IsPartList numbers i (slice_range (map (λ (q : Placed). q.vertex) placed) start end)
 run_is_part numbers placed i start end h run one =

@@ -7,12 +7,14 @@ use Rattle.std.proofs.lemmas.List.{get_or-append_right, get_or_append_left, leng
 use Rattle.std.proofs.lemmas.List.Elements.{All-nil, All-weaker, All-append, All-contains, All-contains_itself, All-get_or, Contains-append_left, Contains-append_right}
 use Rattle.cut_definitions.specs.Graph.{Graph, IsGraph}
 use Rattle.cut_definitions.specs.Cuts.{has}
+use Rattle.cut_definitions.proofs.Bools.{at_most_one, one_seen}
+use Rattle.cut_definitions.proofs.Numbers.{cases_zero}
+use Rattle.cut_definitions.proofs.Ascending.{contains_has, has_contains}
 use Rattle.weighted_graph.specs.declared.graph.Arc.{Arc}
 use Rattle.weighted_graph.specs.Rows.{row_of}
 use Rattle.weighted_graph.specs.Searches.{is_seen}
 use Rattle.weighted_graph.proofs.Searched.{arc_within}
 use Rattle.max_flow.proofs.Preflows.{no_arc, row_arc}
-use Rattle.cactus_tree.proofs.Groups.{contains_has, has_contains}
 use Rattle.cactus_solver.proofs.Finding.{none_seen}
 use Rattle.cactus_solver.specs.Listing.{ListingState, IsVertex, IsBorder, IsKept, IsNothingListed, IsMet, IsRowMet, IsBordered, StaysAtBorder, HasMore, AreTaken}
 
@@ -71,9 +73,6 @@ pub record IsGrownBy (n : ℕ) (found old new : List ℕ) (last : ℕ) : Type 0 
   pub from : (v : ℕ) → 1 ≤ get_or new v 0 → (1 ≤ get_or old v 0) ⊎ (has found v ≡ true)
   pub each : (v : ℕ) → has found v ≡ true → 1 ≤ get_or new v 0
 
-zero_or_some : (k : ℕ) → (k ≡ 0) ⊎ (1 ≤ k)
-zero_or_some k = ⊎_elim (λ (l : k < 1). inl (omega arith)) (λ (l : 1 ≤ k). inr l) (cases_lt k 1)
-
 pub grown_taken : (n : ℕ) (goes : ℕ → ℕ → Bool) (found old new : List ℕ) (count last : ℕ) → get_or old 0 0 ≡ 0 → length new ≡ n + 1 →
     AreTaken n goes found (λ v. get_or old v 0) (λ v. get_or new v 0) count last → IsGrownBy n found old new last
 grown_taken n goes found old new count last nobody long t = record {
@@ -81,24 +80,18 @@ grown_taken n goes found old new count last nobody long t = record {
   nobody = ⊎_elim
       (λ (e : get_or new 0 0 ≡ 0). e)
       (λ (some : 1 ≤ get_or new 0 0). absurd (omega (arith, (t.further.within 0 (t.further.after 0 nobody some)).0)))
-      (zero_or_some (get_or new 0 0));
+      (cases_zero (get_or new 0 0));
   to_last = t.further.to_last;
   still = λ v some. omega (arith, some, t.further.kept v some);
   from = λ v some. ⊎_elim
       (λ (e : get_or old v 0 ≡ 0). inr (t.only v (t.further.after v e some)))
       (λ (l : 1 ≤ get_or old v 0). inl l)
-      (zero_or_some (get_or old v 0));
+      (cases_zero (get_or old v 0));
   each = t.each;
 }
 
 one_if : (b : Bool) (k : ℕ) → k ≡ (if b then 1 else 0) → b ≡ true → 1 ≤ k
 one_if b k e is = grind arith
-
-if_one : (b : Bool) (k : ℕ) → k ≡ (if b then 1 else 0) → 1 ≤ k → b ≡ true
-if_one b k e some = grind arith
-
-at_most_one : (b : Bool) (k : ℕ) → k ≡ (if b then 1 else 0) → k ≤ 1
-at_most_one b k e = grind arith
 
 no_one : (b : Bool) (k : ℕ) → k ≡ (if b then 1 else 0) → (b ≡ true → ⊥) → k ≡ 0
 no_one b k e none = grind arith
@@ -115,7 +108,7 @@ grown_first n found old new within none long turns = record {
   nobody = no_one (has found 0) (get_or new 0 0) (turns 0) (λ is. omega (arith, (All-contains (IsVertex n) found 0 within (has_contains found 0 is)).0));
   to_last = λ v. at_most_one (has found v) (get_or new v 0) (turns v);
   still = λ v some. absurd (omega (arith, some, none v));
-  from = λ v some. inr (if_one (has found v) (get_or new v 0) (turns v) some);
+  from = λ v some. inr (one_seen (has found v) (get_or new v 0) (turns v) some);
   each = λ v is. one_if (has found v) (get_or new v 0) (turns v) is;
 }
 

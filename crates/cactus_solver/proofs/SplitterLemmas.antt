@@ -9,11 +9,12 @@ use Rattle.cut_definitions.proofs.Lists.{Contains-nil}
 use Rattle.cut_definitions.specs.Graph.{Graph}
 use Rattle.cut_definitions.specs.Cuts.{has}
 use Rattle.cut_definitions.specs.Weight.{VertexSet}
+use Rattle.cut_definitions.proofs.Bools.{one_seen, same_tests}
+use Rattle.cut_definitions.proofs.Ascending.{contains_has, has_contains}
 use Rattle.weighted_graph.specs.Searches.{is_seen}
 use Rattle.residual_chain.specs.Residuals.{IsClosed}
 use Rattle.residual_chain.specs.declared.direction.Direction.{Direction}
 use Rattle.region_flow.specs.Regions.{RegionState}
-use Rattle.cactus_tree.proofs.Groups.{contains_has, has_contains}
 use Rattle.cactus_solver.specs.declared.side.Side.{Side}
 use Rattle.cactus_solver.specs.declared.side.Side.TheVariants.{Inner, Outer}
 use Rattle.cactus_solver.specs.Steps.{steps_in}
@@ -22,7 +23,7 @@ use Rattle.cactus_solver.specs.Found.{SearchState, IsSearch}
 use Rattle.cactus_solver.specs.Listing.{ListingState, IsVertex, IsKept, IsNothingListed, IsBordered, AreTaken}
 use Rattle.cactus_solver.specs.Sided.{IsRegionOf, IsHalf, AreHalves, direction_of, fed_in, goes_from, stops}
 use Rattle.cactus_solver.proofs.FewParts.{few_hit}
-use Rattle.cactus_solver.proofs.Listings.{in_upto, both_ways}
+use Rattle.cactus_solver.proofs.Listings.{in_upto}
 use Rattle.cactus_solver.proofs.Reaching.{found as law_of_found}
 use Rattle.cactus_solver.proofs.Halves.{IsFound, is_fed, half_closed, first_inner_half, first_outer_half, further_half, apart_after}
 use Rattle.cactus_solver.proofs.Rounds.{off_inner, may_inner, may_outer, fed_lacks_t}
@@ -71,7 +72,7 @@ seen_has s h v is =
 
 pub has_is : {n : ℕ} {goes : ℕ → ℕ → Bool} {halts : ℕ → Bool} {turns : List ℕ} {starts : VertexSet} (s : SearchState) → IsSearch n goes halts turns starts s →
     (v : ℕ) → has (take s.count s.order) v ≡ is_seen s.seen v
-has_is s h v = both_ways (has (take s.count s.order) v) (is_seen s.seen v) (has_seen s h v) (seen_has s h v)
+has_is s h v = same_tests (has (take s.count s.order) v) (is_seen s.seen v) (has_seen s h v) (seen_has s h v)
 
 -- a search that ended, as a set
 found_as : (g : Graph) (f : RegionState) (side : Side) (halts : ℕ → Bool) (turns : List ℕ) (starts : VertexSet) (s : SearchState) →
@@ -216,10 +217,6 @@ first_all s h new turns v is = let e : get_or new v 0 ≡ 1 = turns v ∙ ap (λ
 first_only : {n : ℕ} {goes : ℕ → ℕ → Bool} {halts : ℕ → Bool} {turns : List ℕ} {starts : VertexSet} (s : SearchState) → IsSearch n goes halts turns starts s →
     (new : List ℕ) → ((v : ℕ) → get_or new v 0 ≡ (if has (take s.count s.order) v then 1 else 0)) → (v : ℕ) → get_or new v 0 ≡ (if is_seen s.seen v then 1 else 0)
 first_only s h new turns v = turns v ∙ ap (λ (b : Bool). if b then 1 else 0) (has_is s h v)
-
-one_seen : (b : Bool) (k : ℕ) → k ≡ (if b then 1 else 0) → 1 ≤ k → b ≡ true
-one_seen true k e one = refl
-one_seen false k e one = absurd (omega (arith, e, one))
 
 pub inner_first : (g : Graph) (f : RegionState) (t : ℕ) (inner outer new : ListingState) (halts : ℕ → Bool) (s : SearchState) → IsRegionOf g f t → AreHalves g f t inner outer → inner.count ≡ 0 →
     IsFrom Inner g f t inner outer halts s t → ((v : ℕ) → get_or new.turns v 0 ≡ (if has (take s.count s.order) v then 1 else 0)) → new.count ≡ 1 →

@@ -24,6 +24,7 @@ use Rattle.cactus_solver.specs.Listing.{ListingState, IsKept, IsBordered, IsVert
 use Rattle.cactus_solver.specs.Sided.{AreHalves, IsHalf, direction_of, fed_in, goes_from, other_side, stops}
 use Rattle.cactus_solver.specs.Split.{half_of, IsBetween, IsEnded, IsSameButHalf, MayTakeHub, StaysListed}
 use Rattle.cactus_solver.proofs.SplitterLemmas.{IsFit, IsFrom, found_within, found_apart, seen_has, fit_arcs, taken_arcs, inner_after, outer_after, nothing_of, first_all, inner_first, outer_first}
+use Rattle.cactus_solver.proofs.RacesAround.{outer_not_inner}
 
 -- ---- what holds where a call succeeds
 
@@ -65,9 +66,6 @@ is_outer Outer = true
 
 no_outer : Inner ≡ Outer → ⊥
 no_outer e = let k : false ≡ true = ap is_outer e in cc
-
-no_inner : Outer ≡ Inner → ⊥
-no_inner e = let k : true ≡ false = ap is_outer e in cc
 
 hub_from : (side : Side) (g : Graph) (f : RegionState) (t : ℕ) (s : Splitter) (h : ℕ) → IsHubSearch side g f t (half_of side s).turns s.hub → s.hub.search.place ≡ s.hub.search.count →
     MayTakeHub side g f t s → s.hub.hub ≡ At h → IsFrom side g f t (half_of side s) (half_of (other_side side) s) (λ v. false) s.hub.search h
@@ -127,7 +125,7 @@ inner_hub_first g f t s search all may none =
 outer_outside : (g : Graph) (f : RegionState) (t : ℕ) (s : Splitter) → MayTakeHub Outer g f t s → s.outer.count ≡ 0 → s.hub.hub ≡ Outside
 outer_outside g f t s may none = ⊎_elim
     (λ (out : s.hub.hub ≡ Outside). out)
-    (λ at. absurd (no_inner (may.first at.0 at.1 none).0))
+    (λ at. absurd (outer_not_inner (may.first at.0 at.1 none).0))
     (hub_cases s.hub.hub)
 
 pub outer_hub_first : (g : Graph) (f : RegionState) (t : ℕ) (s : Splitter) → IsHubSearch Outer g f t s.outer.turns s.hub → MayTakeHub Outer g f t s → s.outer.count ≡ 0 →

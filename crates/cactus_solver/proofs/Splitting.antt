@@ -1,7 +1,7 @@
 -- What a split of a region, and a vertex that enters, do to a tree of minimum cuts.
 use Rattle.std.proofs.Common.{◌≡◌, ℕ, ◌+◌, ◌-◌, ◌<◌, ◌≤◌, ◌⊎◌, inl, inr, ⊎_elim, Bool, true, false, not, ◌&&◌, ◌||◌, leb, eqb, ltb, List, get_or, refl, sym, ◌∙◌, subst, ap, arith}
 use Rattle.std.specs.Prelude.{◌≢◌}
-use Rattle.std.proofs.lemmas.Bool.{cases_lt, cases_eq, cases_Bool, ltb-true, eqb-true, eq-eqb, ne_eqb, and_parts, false≢true}
+use Rattle.std.proofs.lemmas.Bool.{cases_lt, cases_eq, cases_Bool, ltb-true, eqb-true, eq-eqb, ne_eqb, and_parts, false≢true, and_from, le-leb}
 use Rattle.std.proofs.lemmas.Bool.Decides.{nat_tests}
 use Rattle.std.proofs.lemmas.List.{get_or-set_other}
 use Rattle.cut_definitions.specs.Graph.{Graph, IsGraph}
@@ -10,8 +10,9 @@ use Rattle.cut_definitions.specs.Chain.{SameOn, IsInOnePart, first_parts, parts_
 use Rattle.cut_definitions.proofs.WeightLaws.{IsMinimumCut-from_le, weight-complement}
 use Rattle.cut_definitions.proofs.Bridge.{weight-agree}
 use Rattle.cut_definitions.proofs.Vertices.{all_or_one, IsMinimumCut-agree}
-use Rattle.cut_definitions.proofs.ChainLaws.{leb_yes}
 use Rattle.cut_definitions.proofs.ChainLists.{IsMinimumCut-complement}
+use Rattle.cut_definitions.proofs.Bools.{turned, and_second, same_tests, passes, fails}
+use Rattle.cut_definitions.proofs.Numbers.{one_between}
 use Rattle.region_flow.specs.Inflow.{IsAround}
 use Rattle.cactus_solver.specs.Parted.{IsLaterParts, IsLightInterval, later_parts}
 use Rattle.cactus_solver.specs.TreeSets.{TreeSets, IsTreeSide, IsInRegion}
@@ -52,22 +53,8 @@ side_of_old n tree tree' grown x s below = record {
 
 -- ---- a set inside one part
 
-all_or_not : (x p : Bool) → (not x || p) ≡ true → x ≡ true → p ≡ true
-all_or_not x p h k = grind arith
-
-one_fails : (x p : Bool) → not (not x || p) ≡ true → (x && not p) ≡ true
-one_fails x p h = grind arith
-
 not_above : (k : ℕ) → not (ltb 0 k) ≡ true → k ≡ 0
 not_above k h = grind (arith, nat_tests)
-
-same_tests : (a b : Bool) → (a ≡ true → b ≡ true) → (b ≡ true → a ≡ true) → a ≡ b
-same_tests true b h k = sym (h refl)
-same_tests false true h k = k refl
-same_tests false false h k = refl
-
-between_is : (i p : ℕ) → (leb i p && leb p i) ≡ eqb p i
-between_is i p = grind (arith, nat_tests)
 
 -- the only vertex of an inner part, as a set that is a minimum cut
 alone_side : (g : Graph) → IsGraph g → (count : ℕ) (part : ℕ → ℕ) (v : ℕ) → 1 ≤ v → v ≤ g.vertices → IsPartAlone g.vertices count part v →
@@ -76,8 +63,8 @@ alone_side g ok count part v v1 vn alone x hx xv one =
     let n = g.vertices in
     let i = part v in
     let same : SameOn n x (parts_between part i i) = λ u a b. same_tests (x u) (leb i (part u) && leb (part u) i)
-    (λ h. between_is i (part u) ∙ eq-eqb (part u) i (one.inside u a b h ∙ sym (one.inside v v1 vn xv)))
-    (λ h. let e : u ≡ v = alone.alone u a b (eqb-true (part u) i (sym (between_is i (part u)) ∙ h)) in subst (λ (k : ℕ). x k ≡ true) (sym e) xv) in
+    (λ h. one_between i (part u) ∙ eq-eqb (part u) i (one.inside u a b h ∙ sym (one.inside v v1 vn xv)))
+    (λ h. let e : u ≡ v = alone.alone u a b (eqb-true (part u) i (sym (one_between i (part u)) ∙ h)) in subst (λ (k : ℕ). x k ≡ true) (sym e) xv) in
     record {
       first = i;
       last = i;
@@ -99,7 +86,7 @@ one_part_left g ok labels labels' region t count part re x hx inside one out =
     (λ (every : (v : ℕ) → 1 ≤ v → v ≤ n → (not (x v) || ltb 0 (get_or labels' v 0)) ≡ true).
     let w = hx.is_cut.some_in in
     let above : (v : ℕ) → 1 ≤ v → v ≤ n → x v ≡ true → 1 ≤ get_or labels' v 0 = λ v a b h.
-    let l = ltb-true 0 (get_or labels' v 0) (all_or_not (x v) (ltb 0 (get_or labels' v 0)) (every v a b) h) in omega arith in
+    let l = ltb-true 0 (get_or labels' v 0) (passes (x v) (ltb 0 (get_or labels' v 0)) (every v a b) h) in omega arith in
     inr (record {
       region = get_or labels' w.vertex 0;
       outside = above w.vertex w.from_one w.to_n w.is_in;
@@ -108,7 +95,7 @@ one_part_left g ok labels labels' region t count part re x hx inside one out =
     }))
     (λ (h : HasVertex n (λ v. not (not (x v) || ltb 0 (get_or labels' v 0)))).
     let v = h.vertex in
-    let split = and_parts (x v) (not (ltb 0 (get_or labels' v 0))) (one_fails (x v) (ltb 0 (get_or labels' v 0)) h.is_in) in
+    let split = and_parts (x v) (not (ltb 0 (get_or labels' v 0))) (fails (x v) (ltb 0 (get_or labels' v 0)) h.is_in) in
     ⊎_elim
     (λ (e : v ≡ t). absurd (false≢true (sym out ∙ subst (λ (k : ℕ). x k ≡ true) e split.0)))
     (λ (alone : IsPartAlone n count part v). inl (alone_side g ok count part v h.from_one h.to_n alone x hx split.0 one))
@@ -154,12 +141,6 @@ splitting g labels labels' tree tree' region t count part at ok cuts one root ch
 
 -- ---- a vertex enters
 
-and_both : (a b : Bool) → a ≡ true → b ≡ true → (a && b) ≡ true
-and_both a b h k = grind arith
-
-and_second : (a b : Bool) → (a && b) ≡ true → b ≡ true
-and_second a b h = grind arith
-
 and_drop : (a b : Bool) → (a ≡ true → b ≡ true) → (a && b) ≡ a
 and_drop true b h = h refl
 and_drop false b h = refl
@@ -172,7 +153,7 @@ trimmed g ok labels region x inside = weight-agree g ok (λ v. x v && eqb (get_o
 
 trimmed_around : (labels : List ℕ) (t : ℕ) (x : VertexSet) → 1 ≤ get_or labels t 0 → x t ≡ true → IsAround labels t (λ v. x v && eqb (get_or labels v 0) (get_or labels t 0))
 trimmed_around labels t x one there = record {
-  there = and_both (x t) (eqb (get_or labels t 0) (get_or labels t 0)) there (eq-eqb (get_or labels t 0) (get_or labels t 0) refl);
+  there = and_from (x t) (eqb (get_or labels t 0) (get_or labels t 0)) there (eq-eqb (get_or labels t 0) (get_or labels t 0) refl);
   inside = record {
     outside = one;
     labelled = λ v h. eqb-true (get_or labels v 0) (get_or labels t 0) (and_second (x v) (eqb (get_or labels v 0) (get_or labels t 0)) h);
@@ -234,9 +215,6 @@ leb_not l p h = grind (arith, nat_tests)
 first_is : (l p : ℕ) → leb p l ≡ not (leb (l + 1) p)
 first_is l p = grind (arith, nat_tests)
 
-turned : (a b : Bool) → not a ≡ b → a ≡ not b
-turned a b h = grind arith
-
 pub parts : LawOfParts
 parts g labels t count amount part ok one some hs weighs light =
     let n = g.vertices in
@@ -244,7 +222,7 @@ parts g labels t count amount part ok one some hs weighs light =
     let region = get_or labels t 0 in
     let later_minimum : (i : ℕ) → 2 ≤ i → i ≤ count → IsMinimumCut g (later_parts part i) = λ i two le.
     IsMinimumCut-from_le g some (later_parts part i) hs (record {
-      some_in = record { vertex = t; from_one = num.t_from_one; to_n = num.t_to_n; is_in = leb_yes i (part t) (omega (arith, num.t_last)) };
+      some_in = record { vertex = t; from_one = num.t_from_one; to_n = num.t_to_n; is_in = le-leb i (part t) (omega (arith, num.t_last)) };
       some_out = record { vertex = 1; from_one = num.s_from_one; to_n = num.s_to_n; is_in = leb_not i (part 1) (omega (arith, num.s_first)) };
     }) (omega (arith, light.light i two le, weighs)) in
     record {

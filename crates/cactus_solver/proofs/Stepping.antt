@@ -6,6 +6,7 @@ use Rattle.std.proofs.lemmas.Bool.{cases_eq, cases_lt, eq-eqb, ne_eqb}
 use Rattle.std.proofs.lemmas.List.{get_or-set_same, get_or-set_other, get_or_past, get_or-replicate, length-replicate}
 use Rattle.cut_definitions.specs.Graph.{Graph, IsGraph}
 use Rattle.cut_definitions.specs.Weight.{IsCut}
+use Rattle.cut_definitions.proofs.ListLaws.{labelled_to_n}
 use Rattle.region_flow.specs.Inflow.{IsStopReached}
 use Rattle.cactus_solver.specs.Flat.{TreeLinks, AreNodes, AreLinked}
 use Rattle.cactus_solver.specs.Fronts.{FrontsState, IsCovered, KeepsAll, HasEnds}
@@ -128,13 +129,6 @@ pub record IsSplit (g : Graph) (labels labels' : List ℕ) (h h' : HomesState) (
   pub regrouped : IsRegrouped g.vertices labels labels' (get_or labels t 0) t p.count (part_in p labels (get_or labels t 0))
   pub finer : IsFiner g.vertices labels labels' (part_in p labels (get_or labels t 0))
   pub root : get_or labels' 1 0 ≡ 0
-
--- what has a label is a vertex
-pub labelled_to_n : (labels : List ℕ) (n v : ℕ) → length labels ≡ n + 1 → 1 ≤ get_or labels v 0 → v ≤ n
-labelled_to_n labels n v long one = ⊎_elim
-    (λ (l : v < n + 1). omega (arith, l))
-    (λ (l : n + 1 ≤ v). let z = get_or_past labels v 0 (omega (arith, l, long)) in absurd (omega (arith, z, one)))
-    (cases_lt v (n + 1))
 
 -- where each vertex has entered no number has a label
 pub all_zero : (labels : List ℕ) (n : ℕ) → length labels ≡ n + 1 → get_or labels 0 0 ≡ 0 → ((v : ℕ) → 1 ≤ v → v ≤ n → get_or labels v 0 ≡ 0) → (v : ℕ) → get_or labels v 0 ≡ 0

@@ -1,8 +1,9 @@
 -- The steps of the sweep keep what holds between them.
-use Rattle.std.proofs.Common.{◌≡◌, ℕ, Bool, ◌<◌, ◌≤◌, ⊎_elim, List, length, set, get_or, sym, ◌∙◌, ap, arith}
+use Rattle.std.proofs.Common.{◌≡◌, ℕ, Bool, ◌≤◌, ⊎_elim, List, get_or, sym, ◌∙◌, ap, arith}
 use Rattle.std.specs.Prelude.{◌≢◌, ◌==◌, if◌then◌else◌}
-use Rattle.std.proofs.lemmas.Bool.{cases_lt, cases_eq, eq-eqb, ne_eqb}
-use Rattle.std.proofs.lemmas.List.{get_or-set_same, get_or-set_other, length-set, get_or_past}
+use Rattle.std.proofs.lemmas.Bool.{cases_eq, eq-eqb, ne_eqb}
+use Rattle.std.proofs.lemmas.List.{get_or-set_other}
+use Rattle.cut_definitions.proofs.ListLaws.{entry_kept}
 use Rattle.cactus_solver.specs.Flat.{sets_of, AreMade}
 use Rattle.cactus_solver.specs.Laws.{region_of}
 use Rattle.cactus_solver.specs.Sweeping.{LawOfSweepStart, LawOfSweepEntering, LawOfSweepSplitting}
@@ -17,29 +18,14 @@ sweep_start g labels a nodes single homes root others = record {
   one_home = λ u v u1 un v1 vn one same. homes u ∙ sym (homes v);
 }
 
--- a vertex that still has a label after t entered had it before
-kept_label : (labels : List ℕ) (t v : ℕ) → 1 ≤ get_or (set labels t 0) v 0 → get_or (set labels t 0) v 0 ≡ get_or labels v 0
-kept_label labels t v h = ⊎_elim
-    (λ (e : v ≡ t). ⊎_elim
-    (λ (l : t < length labels).
-    let z : get_or (set labels t 0) v 0 ≡ 0 = ap (λ (k : ℕ). get_or (set labels t 0) k 0) e ∙ get_or-set_same labels t 0 0 l in
-    absurd (omega (arith, h, z)))
-    (λ (l : length labels ≤ t).
-    let z : get_or (set labels t 0) t 0 ≡ 0 = get_or_past (set labels t 0) t 0 (omega (arith, l, length-set labels t 0)) in
-    let w : get_or (set labels t 0) v 0 ≡ 0 = ap (λ (k : ℕ). get_or (set labels t 0) k 0) e ∙ z in
-    absurd (omega (arith, h, w)))
-    (cases_lt t (length labels)))
-    (λ ne. get_or-set_other labels t v 0 0 ne)
-    (cases_eq v t)
-
 pub sweep_entering : LawOfSweepEntering
 sweep_entering g labels a t amount ok sw two to_n outside some hs weighs stop = record {
   entered = let ne : 1 ≢ t = λ e. absurd (omega (arith, e, two)) in get_or-set_other labels t 1 0 0 ne ∙ sw.entered;
   nodes = sw.nodes;
   cuts = entering g labels (sets_of a) t amount ok sw.cuts (omega arith) to_n outside some hs weighs stop;
   one_home = λ u v u1 un v1 vn one same.
-      let e = kept_label labels t u one in
-      let f = kept_label labels t v (omega (arith, one, same)) in
+      let e = entry_kept labels t u one in
+      let f = entry_kept labels t v (omega (arith, one, same)) in
       sw.one_home u v u1 un v1 vn (omega (arith, one, e)) (sym e ∙ same ∙ f);
 }
 

@@ -2,26 +2,28 @@
 use Rattle.std.proofs.Common.{◌≡◌, ℕ, ◌<◌, ◌≤◌, ◌⊎◌, inl, inr, ⊎_elim, Bool, true, false, ◌&&◌, eqb, leb, ltb, List, get_or, refl, sym, ◌∙◌, subst, ap, arith}
 use Rattle.std.proofs.Math.Path.{fun_ext}
 use Rattle.std.specs.Prelude.{◌≢◌, ◌==◌, if◌then◌else◌}
-use Rattle.std.proofs.lemmas.Bool.{cases_eq, cases_Bool, eqb-true, eq-eqb, ne_eqb}
+use Rattle.std.proofs.lemmas.Bool.{cases_eq, cases_Bool, eqb-true, eq-eqb, ne_eqb, not-true, not_from_false}
 use Rattle.std.proofs.lemmas.Bool.Decides.{nat_tests}
 use Rattle.cut_definitions.specs.Graph.{Graph}
 use Rattle.cut_definitions.specs.Weight.{VertexSet, weight, complement, minus, HasVertex, IsCut}
 use Rattle.cut_definitions.specs.Chain.{IsWithin}
 use Rattle.cut_definitions.proofs.ChainLaws.{IsPair-joined}
 use Rattle.cut_definitions.proofs.Vertices.{within_or_minus}
+use Rattle.cut_definitions.proofs.Numbers.{upto_none}
+use Rattle.cut_definitions.proofs.Bools.{same_tests, contrary}
 use Rattle.residual_chain.specs.Residuals.{IsClosed}
 use Rattle.cactus_solver.specs.Growing.{IsMember, IsPartOf, listed_upto}
 use Rattle.cactus_solver.specs.Regional.{IsAtBorder, IsRest}
 use Rattle.cactus_solver.specs.Taking.{IsSearched, IsFedIn, with_outside, LawOfFirstInner, LawOfFirstOuter, LawOfFurtherInner, LawOfFurtherOuter, LawOfBringing, LawOfBrought, LawOfComing, LawOfNoMember}
-use Rattle.cactus_solver.proofs.Listings.{in_upto, upto_range, both_ways, listed_after}
-use Rattle.cactus_solver.proofs.Regional.{contrary, not_not, not_true, true_not, nested_sides}
+use Rattle.cactus_solver.proofs.Listings.{in_upto, upto_range, listed_after}
+use Rattle.cactus_solver.proofs.Regional.{not_not, nested_sides}
 
 -- a set of the region that no step against the arcs leaves leaves out only what steps along the arcs do not lead into it from
 pub closed_out : (g : Graph) (labels feed : List ℕ) (t amount : ℕ) (against along : ℕ → ℕ → Bool) → IsSearched g labels feed t amount against along →
     (x : VertexSet) → IsMember g labels t amount x → IsClosed along (complement x)
 closed_out g labels feed t amount against along s x mx u v step out = ⊎_elim
-    (λ (h : x v ≡ true). absurd (contrary (s.closed_sets.closed x mx v u ((s.opposite v u).1 step) h) (not_true (x u) out)))
-    (λ (h : x v ≡ false). true_not (x v) h)
+    (λ (h : x v ≡ true). absurd (contrary (s.closed_sets.closed x mx v u ((s.opposite v u).1 step) h) (not-true (x u) out)))
+    (λ (h : x v ≡ false). not_from_false (x v) h)
     (cases_Bool (x v))
 
 upto_one : (k : ℕ) (b : Bool) → k ≡ (if b then 1 else 0) → b ≡ (ltb 0 k && leb k 1)
@@ -49,7 +51,7 @@ first_inner g labels feed t amount against along s found h inner is =
       no_other = λ x mx.
           let all : IsPartOf (listed_upto inner 1) x = subst (λ (q : VertexSet). IsPartOf q x) (sym same) (λ v k. h.least x (s.closed_sets.closed x mx) mx.around.there v k) in
           ⊎_elim
-          (λ (w : IsWithin n x (listed_upto inner 1)). inl (1, omega arith, omega arith, λ v a b. both_ways (x v) (listed_upto inner 1 v) (w v a b) (all v)))
+          (λ (w : IsWithin n x (listed_upto inner 1)). inl (1, omega arith, omega arith, λ v a b. same_tests (x v) (listed_upto inner 1 v) (w v a b) (all v)))
           (λ (w : HasVertex n (minus x (listed_upto inner 1))). inr (all, w))
           (within_or_minus n x (listed_upto inner 1));
     }
@@ -72,18 +74,18 @@ pub rest_of : (g : Graph) (labels feed : List ℕ) (t amount : ℕ) (against alo
 rest_of g labels feed t amount against along s e no_t outside fed closed =
     let inside : (v : ℕ) → complement e v ≡ true → get_or labels v 0 ≡ get_or labels t 0 = λ v h. ⊎_elim
     (λ k. k)
-    (λ (ne : get_or labels v 0 ≢ get_or labels t 0). absurd (contrary (outside v ne) (not_true (e v) h)))
+    (λ (ne : get_or labels v 0 ≢ get_or labels t 0). absurd (contrary (outside v ne) (not-true (e v) h)))
     (cases_eq (get_or labels v 0) (get_or labels t 0)) in
-    s.closed_sets.member (complement e) (record { there = true_not (e t) no_t; inside = record { outside = s.at_border.in_region; labelled = inside } })
+    s.closed_sets.member (complement e) (record { there = not_from_false (e t) no_t; inside = record { outside = s.at_border.in_region; labelled = inside } })
     (λ v h ne. ⊎_elim
     (λ (z : get_or feed v 0 ≡ 0). z)
-    (λ nz. absurd (contrary (fed v (record { inside = inside v h; other = ne; fed = omega (arith, nz) })) (not_true (e v) h)))
+    (λ nz. absurd (contrary (fed v (record { inside = inside v h; other = ne; fed = omega (arith, nz) })) (not-true (e v) h)))
     (cases_eq (get_or feed v 0) 0))
     (λ u v step h. ⊎_elim
     (λ (k : e v ≡ true).
     let back = (s.opposite u v).0 step in
-    absurd (contrary (closed v u (s.same_region v u back ∙ inside u h) back k) (not_true (e u) h)))
-    (λ (k : e v ≡ false). true_not (e v) k)
+    absurd (contrary (closed v u (s.same_region v u back ∙ inside u h) back k) (not-true (e u) h)))
+    (λ (k : e v ≡ false). not_from_false (e v) k)
     (cases_Bool (e v)))
 
 pub first_outer : LawOfFirstOuter
@@ -111,18 +113,18 @@ first_outer g labels feed t amount against along s found h outer is =
       };
       sets = λ j low high. let k : 1 ≡ j = omega arith in subst (λ (i : ℕ). IsRest g labels t amount (listed_upto outer i)) k rest;
       no_other = λ x rx.
-          let out : (v : ℕ) → x v ≡ false → get_or labels v 0 ≡ r = λ v k. rx.around.inside.labelled v (true_not (x v) k) in
+          let out : (v : ℕ) → x v ≡ false → get_or labels v 0 ≡ r = λ v k. rx.around.inside.labelled v (not_from_false (x v) k) in
           let along_x : IsClosed along x = subst (IsClosed along) (not_not x) (closed_out g labels feed t amount against along s (complement x) rx) in
           let fed_x : (v : ℕ) → IsFedIn labels feed t v → x v ≡ true = λ v k. ⊎_elim
           (λ (z : x v ≡ true). z)
-          (λ (z : x v ≡ false). let d = s.closed_sets.dry (complement x) rx v (true_not (x v) z) k.other in absurd (omega (arith, d, k.fed)))
+          (λ (z : x v ≡ false). let d = s.closed_sets.dry (complement x) rx v (not_from_false (x v) z) k.other in absurd (omega (arith, d, k.fed)))
           (cases_Bool (x v)) in
           let all : IsPartOf e x = λ v k. ⊎_elim
           (λ (z : x v ≡ true). z)
           (λ (z : x v ≡ false). h.least x along_x fed_x v (in_region v (out v z) ∙ k))
           (cases_Bool (x v)) in
           ⊎_elim
-          (λ (w : IsWithin n x e). inl (1, omega arith, omega arith, λ v a b. both_ways (x v) (e v) (w v a b) (all v)))
+          (λ (w : IsWithin n x e). inl (1, omega arith, omega arith, λ v a b. same_tests (x v) (e v) (w v a b) (all v)))
           (λ (w : HasVertex n (minus x e)). inr (all, w))
           (within_or_minus n x e);
     }
@@ -165,9 +167,6 @@ further_inner g labels feed t amount against along s old new count last some was
       whole = λ x mx u v l e k. h.whole x (s.closed_sets.closed x mx) u v l e k;
     })
 
-no_upto : (k j : ℕ) → k ≡ 0 → (ltb 0 k && leb k j) ≡ false
-no_upto k j h = grind (arith, nat_tests)
-
 pub further_outer : LawOfFurtherOuter
 further_outer g labels feed t amount against along s old new count last some was h region no_t =
     let n = g.vertices in
@@ -205,7 +204,7 @@ further_outer g labels feed t amount against along s old new count last some was
       sets = λ j low high.
           let e = listed_upto w j in
           rest_of g labels feed t amount against along s e
-          (let a = at_in new t refl in no_upto (w t) j (a ∙ no_t))
+          (let a = at_in new t refl in upto_none (w t) j (a ∙ no_t))
           (λ v ne. let a = at_out new v ne in in_upto (w v) j (omega (arith, a)) (omega (arith, a, low, some)))
           (λ v k.
           let a = at_in old v k.inside in
@@ -216,7 +215,7 @@ further_outer g labels feed t amount against along s old new count last some was
           let c = h.kept v (omega (arith, a, q.0)) in
           in_upto (w v) j (omega (arith, a, b, c, q.0)) (omega (arith, a, b, c, q.1, low)))
           (λ (z : listed_upto o count v ≡ false).
-          let d = s.closed_sets.dry (complement (listed_upto o count)) old_set v (true_not (listed_upto o count v) z) k.other in absurd (omega (arith, d, k.fed)))
+          let d = s.closed_sets.dry (complement (listed_upto o count)) old_set v (not_from_false (listed_upto o count v) z) k.other in absurd (omega (arith, d, k.fed)))
           (cases_Bool (listed_upto o count v)))
           (λ u v k step z.
           let a = at_in new u k in
@@ -241,12 +240,12 @@ brought g labels feed t amount against along s hub v = (
   λ ne fed x mx k. let d = s.closed_sets.dry x mx v k ne in absurd (omega (arith, d, fed)),
   λ leads x mx k. ⊎_elim
       (λ (h : x hub ≡ true). h)
-      (λ (h : x hub ≡ false). absurd (contrary k (not_true (x v) (leads (complement x) (closed_out g labels feed t amount against along s x mx) (true_not (x hub) h)))))
+      (λ (h : x hub ≡ false). absurd (contrary k (not-true (x v) (leads (complement x) (closed_out g labels feed t amount against along s x mx) (not_from_false (x hub) h)))))
       (cases_Bool (x hub)),
-  λ leads x mx k. absurd (contrary k (not_true (x v) (leads (complement x) (closed_out g labels feed t amount against along s x mx)
+  λ leads x mx k. absurd (contrary k (not-true (x v) (leads (complement x) (closed_out g labels feed t amount against along s x mx)
       (λ u fed. ⊎_elim
       (λ (h : x u ≡ true). let d = s.closed_sets.dry x mx u h fed.other in absurd (omega (arith, d, fed.fed)))
-      (λ (h : x u ≡ false). true_not (x u) h)
+      (λ (h : x u ≡ false). not_from_false (x u) h)
       (cases_Bool (x u)))))),
 )
 
@@ -254,7 +253,7 @@ pub coming : LawOfComing
 coming g labels feed t amount against along s hub v = (
   λ last comes leads x mx k. ⊎_elim
       (λ (h : x v ≡ true). h)
-      (λ (h : x v ≡ false). absurd (contrary (comes x mx k) (not_true (x last) (leads (complement x) (closed_out g labels feed t amount against along s x mx) (true_not (x v) h)))))
+      (λ (h : x v ≡ false). absurd (contrary (comes x mx k) (not-true (x last) (leads (complement x) (closed_out g labels feed t amount against along s x mx) (not_from_false (x v) h)))))
       (cases_Bool (x v)),
   λ leads x mx k. leads x (s.closed_sets.closed x mx) k,
 )
@@ -266,7 +265,7 @@ no_member g labels feed t amount hub against along s ne brings x around =
     let out : x at.outer ≡ false = ⊎_elim (λ (h : x at.outer ≡ true). absurd (at.apart (around.inside.labelled at.outer h))) (λ (h : x at.outer ≡ false). h) (cases_Bool (x at.outer)) in
     let cut : IsCut g.vertices x = record {
       some_in = record { vertex = t; from_one = at.from_one; to_n = at.to_n; is_in = around.there };
-      some_out = record { vertex = at.outer; from_one = pair.s_from_one; to_n = pair.s_to_n; is_in = true_not (x at.outer) out };
+      some_out = record { vertex = at.outer; from_one = pair.s_from_one; to_n = pair.s_to_n; is_in = not_from_false (x at.outer) out };
     } in
     let least = at.is_minimum.least x cut in
     ⊎_elim

@@ -1,17 +1,19 @@
 -- The chain of a region from the parts that are listed from both sides.
-use Rattle.std.proofs.Common.{◌≡◌, ℕ, zero, suc, ◌+◌, ◌-◌, ◌<◌, ◌≤◌, ◌⊎◌, inl, inr, ⊎_elim, Bool, true, false, not, ◌&&◌, leb, ltb, List, get_or, refl, sym, ◌∙◌, subst, ap, arith}
+use Rattle.std.proofs.Common.{◌≡◌, ℕ, zero, suc, ◌+◌, ◌-◌, ◌<◌, ◌≤◌, ◌⊎◌, inl, inr, ⊎_elim, true, false, not, ◌&&◌, leb, ltb, List, get_or, refl, sym, ◌∙◌, subst, ap, arith}
 use Rattle.std.specs.Prelude.{if◌then◌else◌}
-use Rattle.std.proofs.lemmas.Bool.{cases_lt, cases_Bool, eqb-true, eq-eqb}
+use Rattle.std.proofs.lemmas.Bool.{cases_lt, cases_Bool, eqb-true, eq-eqb, not-true}
 use Rattle.std.proofs.lemmas.Bool.Decides.{nat_tests}
 use Rattle.cut_definitions.specs.Graph.{Graph}
 use Rattle.cut_definitions.specs.Weight.{complement, minus, HasVertex}
 use Rattle.cut_definitions.specs.Chain.{SameOn}
 use Rattle.cut_definitions.proofs.Bridge.{weight-agree}
+use Rattle.cut_definitions.proofs.Bools.{turned, minus_parts, contrary}
+use Rattle.cut_definitions.proofs.Numbers.{cases_zero}
 use Rattle.cactus_solver.specs.Parted.{later_parts}
 use Rattle.cactus_solver.specs.Growing.{IsMember, IsPartOf, listed_upto}
 use Rattle.cactus_solver.specs.Regional.{AreTwoSided, two_sided, LawOfTwoSides}
-use Rattle.cactus_solver.proofs.Listings.{in_upto, upto_range, not_upto, minus_parts}
-use Rattle.cactus_solver.proofs.Regional.{contrary, not_not, not_true}
+use Rattle.cactus_solver.proofs.Listings.{in_upto, upto_range, not_upto}
+use Rattle.cactus_solver.proofs.Regional.{not_not}
 
 at_inner : (a b i o w : ℕ) → 1 ≤ a → (if ltb 0 a then i + o + w + 1 - a else (if ltb 0 b then b else o + 1)) ≡ i + o + w + 1 - a
 at_inner zero b i o w h = absurd (omega arith)
@@ -38,14 +40,6 @@ rest_upto b i one low = grind (arith, nat_tests)
 
 rest_all : (b p i j : ℕ) → b ≡ 0 → i ≤ p → leb i p ≡ not (ltb 0 b && leb b j)
 rest_all b p i j e h = grind (arith, nat_tests)
-
-flip_not : (a b : Bool) → not a ≡ b → a ≡ not b
-flip_not true b h = ap not h
-flip_not false b h = ap not h
-
-cases_zero : (k : ℕ) → (k ≡ 0) ⊎ (1 ≤ k)
-cases_zero zero = inl refl
-cases_zero (suc k) = inr (omega arith)
 
 cases_bit : (k : ℕ) → k ≤ 1 → (k ≡ 0) ⊎ (k ≡ 1)
 cases_bit zero h = inl refl
@@ -163,7 +157,7 @@ two_sides g labels t amount inner inners outer outers between at h bit left full
             let lt = h.inner_listed.to_count t in
             let some = h.some in
             let r = h.outer_listed.sets outers (omega (arith, z, some)) (omega arith) in
-            let y = not_upto (outer t) outers (h.outer_listed.to_count t) (not_true (listed_upto outer outers t) r.around.there) in
+            let y = not_upto (outer t) outers (h.outer_listed.to_count t) (not-true (listed_upto outer outers t) r.around.there) in
             let p = at_between (inner t) (outer t) inners outers between (omega (arith, lt, z)) y in
             ⊎_elim (λ (e : between ≡ 0). absurd (omega (arith, z, (full e).0))) (λ (e : between ≡ 1). omega (arith, p, e, z)) (cases_bit between bit))
             (λ (one : 1 ≤ inners).
@@ -222,13 +216,13 @@ two_sides g labels t amount inner inners outer outers between at h bit left full
           let e : between ≡ 0 = omega (arith, far, d.2) in
           let one = (full e).2 w.vertex w.from_one w.to_n z in
           let there = in_upto (outer w.vertex) d.0 one (let lo = h.outer_listed.to_count w.vertex in omega (arith, lo, far, e)) in
-          absurd (contrary p.0 (not_true (x w.vertex) (d.3 w.vertex w.from_one w.to_n ∙ there))))
+          absurd (contrary p.0 (not-true (x w.vertex) (d.3 w.vertex w.from_one w.to_n ∙ there))))
           (λ (near : i ≤ outers + between).
           record {
             first = i;
             from_two = omega (arith, d.1);
             to_count = omega (arith, near);
-            same = λ v a b. flip_not (x v) (listed_upto outer d.0 v) (d.3 v a b)
+            same = λ v a b. turned (x v) (listed_upto outer d.0 v) (d.3 v a b)
                 ∙ sym (subst (λ (q : ℕ). later_parts part i v ≡ not (listed_upto outer q v)) back (later.from_outer i (omega (arith, d.1)) near v a b));
           })
           (cases_lt (outers + between) i))

@@ -6,10 +6,10 @@ use Rattle.std.proofs.lemmas.Bool.{cases_eq, cases_lt, cases_Bool}
 use Rattle.std.proofs.lemmas.List.{take_rest, get_or-drop, get_or-append_right, get_or_append_left, get_or_past, get_or-take, length-take-le, drop_all, length-append, length-drop, append-nil}
 use Rattle.std.proofs.lemmas.List.Sums.{count_by-le-length}
 use Rattle.std.proofs.lemmas.List.Elements.{All-contains, All-contains_itself, All-get_or}
-use Rattle.cactus_tree.proofs.Groups.{contains_has, has_contains}
 use borrow.Rule.Slice.PartMut.{post_of, put_mid}
 use Rattle.cut_definitions.specs.Weight.{VertexSet}
 use Rattle.cut_definitions.specs.Cuts.{has}
+use Rattle.cut_definitions.proofs.Ascending.{contains_has, has_contains}
 use Rattle.residual_chain.specs.Residuals.{IsClosed}
 use Rattle.residual_chain.specs.Search.{mark_of}
 use Rattle.residual_chain.specs.Parts.{marked, marked_upto}

@@ -1,8 +1,8 @@
 -- What lies between the parts of a region, counted by the rows of the listed vertices.
-use Rattle.std.proofs.Common.{◌≡◌, ℕ, ◌+◌, ◌^◌, ◌<◌, ◌≤◌, ◌⊎◌, inl, inr, ⊎_elim, Bool, true, false, not, ◌&&◌, ◌||◌, eqb, ltb, leb, List, take, length, get_or, refl, sym, ◌∙◌, ap, subst, arith}
+use Rattle.std.proofs.Common.{◌≡◌, ℕ, ◌+◌, ◌^◌, ◌<◌, ◌≤◌, ⊎_elim, Bool, true, false, not, ◌&&◌, ◌||◌, eqb, ltb, leb, List, take, length, get_or, refl, sym, ◌∙◌, ap, subst, arith}
 use Rattle.std.specs.Prelude.{if◌then◌else◌, ◌≢◌}
 use Rattle.std.specs.List.{sum_by}
-use Rattle.std.proofs.lemmas.Bool.{cases_eq, cases_Bool, eq-eqb, ne_eqb, eqb-true}
+use Rattle.std.proofs.lemmas.Bool.{cases_eq, cases_Bool, eq-eqb, ne_eqb, eqb-true, or_from, or_right, or_cases}
 use Rattle.std.proofs.lemmas.Bool.Decides.{nat_tests}
 use Rattle.std.proofs.lemmas.List.{take_all}
 use Rattle.std.proofs.lemmas.List.Folds.{list_any_at, list_any_more}
@@ -15,6 +15,8 @@ use Rattle.cut_definitions.specs.Scan.{single}
 use Rattle.cut_definitions.specs.Chain.{one_part}
 use Rattle.cut_definitions.proofs.WeightLaws.{join_of, join_term}
 use Rattle.cut_definitions.proofs.Sums.{sum_by-plus, sum_by-same, sum_by-same_on, sum_by-le_each, sum_by-none}
+use Rattle.cut_definitions.proofs.Bools.{or_nothing, and_first, or_assoc, either_le}
+use Rattle.cut_definitions.proofs.Numbers.{apart_next, apart_later}
 use Rattle.weighted_graph.specs.Rows.{row_of}
 use Rattle.weighted_graph.proofs.RowLaws.{weight_to_is}
 use Rattle.region_flow.proofs.Least.{placed_at}
@@ -22,8 +24,6 @@ use Rattle.cactus_solver.specs.Parted.{later_parts}
 use Rattle.cactus_solver.specs.Searched.{is_listed}
 use Rattle.cactus_solver.specs.Listed.{PartsState, part_in, IsPartList, AreListed}
 use Rattle.cactus_solver.specs.Weighed.{counts_at, arc_adds, weighed_by, listed_below, AreWeighed, AreWeights}
-
--- ---- the number of a vertex
 
 -- ---- the row of one vertex more
 
@@ -56,12 +56,6 @@ join_second qv qu w = grind arith
 join_none : (qv qu : Bool) (w : ℕ) → join_of false false qu qv w ≡ 0
 join_none qv qu w = grind arith
 
-or_false : (a b : Bool) → b ≡ false → (a || b) ≡ a
-or_false a b h = grind arith
-
-or_true : (a b : Bool) → b ≡ true → (a || b) ≡ true
-or_true a b h = grind arith
-
 -- one edge, as the vertex v is done too
 edge_step : (listed done done' s t : VertexSet) (v a b w : ℕ) → a ≢ b → ((x : ℕ) → (s x && t x) ≡ false) → listed v ≡ true → ((x : ℕ) → done x ≡ true → listed x ≡ true) →
     done v ≡ false → ((x : ℕ) → done' x ≡ (done x || eqb v x)) →
@@ -73,9 +67,9 @@ edge_step listed done done' s t v a b w ne apart here known off more =
     ⊎_elim
     (λ (p : v ≡ a).
     let first : done a ≡ false = ap done (sym p) ∙ off in
-    let now : done' a ≡ true = more a ∙ or_true (done a) (eqb v a) (eq-eqb v a p) in
+    let now : done' a ≡ true = more a ∙ or_right (done a) (eqb v a) (eq-eqb v a p) in
     let far : v ≢ b = λ q. ne (sym p ∙ q) in
-    let kept : done' b ≡ done b = more b ∙ or_false (done b) (eqb v b) (ne_eqb v b far) in
+    let kept : done' b ≡ done b = more b ∙ or_nothing (done b) (eqb v b) (ne_eqb v b far) in
     let is : eqb v a ≡ true = eq-eqb v a p in
     let not_b : eqb v b ≡ false = ne_eqb v b far in
     let same : counts_at listed s t v b ≡ counts_at listed s t a b = ap (λ (x : ℕ). counts_at listed s t x b) p in
@@ -84,16 +78,16 @@ edge_step listed done done' s t v a b w ne apart here known off more =
     (λ (p : v ≢ a). ⊎_elim
     (λ (q : v ≡ b).
     let second : done b ≡ false = ap done (sym q) ∙ off in
-    let now : done' b ≡ true = more b ∙ or_true (done b) (eqb v b) (eq-eqb v b q) in
-    let kept : done' a ≡ done a = more a ∙ or_false (done a) (eqb v a) (ne_eqb v a p) in
+    let now : done' b ≡ true = more b ∙ or_right (done b) (eqb v b) (eq-eqb v b q) in
+    let kept : done' a ≡ done a = more a ∙ or_nothing (done a) (eqb v a) (ne_eqb v a p) in
     let is : eqb v b ≡ true = eq-eqb v b q in
     let not_a : eqb v a ≡ false = ne_eqb v a p in
     let same : counts_at listed s t v a ≡ counts_at listed s t b a = ap (λ (x : ℕ). counts_at listed s t x a) q in
     rw (second, now, kept, is, not_a, same, join_second (counts_at listed s t v b) (counts_at listed s t b a) w)
     (done_other (done a) (counts_at listed s t a b) (counts_at listed s t b a) w (λ d. once a b (known a d) (ap listed (sym q) ∙ here))))
     (λ (q : v ≢ b).
-    let kept_a : done' a ≡ done a = more a ∙ or_false (done a) (eqb v a) (ne_eqb v a p) in
-    let kept_b : done' b ≡ done b = more b ∙ or_false (done b) (eqb v b) (ne_eqb v b q) in
+    let kept_a : done' a ≡ done a = more a ∙ or_nothing (done a) (eqb v a) (ne_eqb v a p) in
+    let kept_b : done' b ≡ done b = more b ∙ or_nothing (done b) (eqb v b) (ne_eqb v b q) in
     let not_a : eqb v a ≡ false = ne_eqb v a p in
     let not_b : eqb v b ≡ false = ne_eqb v b q in
     rw (kept_a, kept_b, not_a, not_b, join_none (counts_at listed s t v b) (counts_at listed s t v a) w) (omega arith))
@@ -117,9 +111,6 @@ row_step g ok listed done done' s t v apart here known off more =
     )
 
 -- all edges weigh at most 2^61
-either_le : (b : Bool) (w : ℕ) → (if b then w else 0) ≤ w
-either_le b w = grind arith
-
 pub weighed_small : (g : Graph) → IsGraph g → (listed done s t : VertexSet) → weighed_by g listed done s t ≤ 2 ^ 61
 weighed_small g ok listed done s t =
     let term = λ (e : Edge). (if done e.u && counts_at listed s t e.u e.v || (done e.v && counts_at listed s t e.v e.u) then e.w else 0) in
@@ -167,19 +158,6 @@ below_none n = grind (arith, nat_tests)
 below_all : (n count : ℕ) → n ≤ count → (ltb 0 n && ltb n (count + 1)) ≡ ltb 0 n
 below_all n count h = grind (arith, nat_tests)
 
-listed_first : (a b : Bool) → (a && b) ≡ true → a ≡ true
-listed_first a b h = grind arith
-
-or_swap : (a b c : Bool) → (a || (b || c)) ≡ ((a || b) || c)
-or_swap a b c = grind arith
-
-or_cases : (a b : Bool) → (a || b) ≡ true → (a ≡ true) ⊎ (b ≡ true)
-or_cases true b h = inl refl
-or_cases false b h = inr h
-
-or_neither : (a b : Bool) → a ≡ false → b ≡ false → (a || b) ≡ false
-or_neither a b h k = grind arith
-
 not_here : (n i : ℕ) → n ≡ i → (ltb 0 n && ltb n i) ≡ false
 not_here n i h = grind (arith, nat_tests)
 
@@ -208,26 +186,19 @@ next_done numbers i list k one h l =
       number = is;
       listed = positive (get_or numbers v 0) i one here;
       known = λ x d. ⊎_elim
-          (λ (a : listed_below numbers i x ≡ true). listed_first (ltb 0 (get_or numbers x 0)) (ltb (get_or numbers x 0) i) a)
+          (λ (a : listed_below numbers i x ≡ true). and_first (ltb 0 (get_or numbers x 0)) (ltb (get_or numbers x 0) i) a)
           (λ (a : has (take k list) x ≡ true).
           let p = placed_at list k x a in
           let there : has list x ≡ true = subst (λ (u : ℕ). has list u ≡ true) p.there (in_list p.place (omega (arith, p.below, l))) in
           positive (get_or numbers x 0) i one (sym (h.exact x) ∙ there))
           (or_cases (listed_below numbers i x) (has (take k list) x) d);
-      off = or_neither (listed_below numbers i v) (has (take k list) v) (not_here (get_or numbers v 0) i is)
+      off = or_from (listed_below numbers i v) (has (take k list) v) (not_here (get_or numbers v 0) i is)
           (⊎_elim
           (λ (a : has (take k list) v ≡ true). let p = placed_at list k v a in absurd (h.apart p.place k 0 p.below l p.there))
           (λ (a : has (take k list) v ≡ false). a)
           (cases_Bool (has (take k list) v)));
-      more = λ x. ap (λ (b : Bool). listed_below numbers i x || b) (list_any_more (λ u. eqb u x) list k 0 l) ∙ or_swap (listed_below numbers i x) (has (take k list) x) (eqb v x);
+      more = λ x. ap (λ (b : Bool). listed_below numbers i x || b) (list_any_more (λ u. eqb u x) list k 0 l) ∙ or_assoc (listed_below numbers i x) (has (take k list) x) (eqb v x);
     }
-
--- the parts of two sets of numbers are apart
-apart_later : (n i : ℕ) → (eqb n i && leb (i + 1) n) ≡ false
-apart_later n i = grind (arith, nat_tests)
-
-apart_next : (n i : ℕ) → (eqb n i && eqb n (i + 1)) ≡ false
-apart_next n i = grind (arith, nat_tests)
 
 -- what a vertex may add, and what is there once it did
 pub record IsRowDone (g : Graph) (p : PartsState) (i : ℕ) (list : List ℕ) (k : ℕ) (s t : VertexSet) : Type 0 where

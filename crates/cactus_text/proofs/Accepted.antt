@@ -2,16 +2,16 @@
 use Rattle.std.proofs.Common.{◌≡◌, ◌≢◌, inl, inr, ◌≤◌, ◌<◌, ◌+◌, ◌-◌, ◌&&◌, ◌||◌, ◌==◌, ◌++◌, ◌∷◌, [], ℕ, zero, suc, Bool, true, false, List, length, ap, subst, sym, ◌∙◌, refl, arith, length-append}
 use Rattle.std.specs.Prelude.{nat_le, nat_lt, not, cond, codes, slice_index, slice_index_or, Option, Some, None, Result, Ok, Err, if◌then◌else◌}
 use Rattle.std.specs.List.{All, AllPairs, filter, fold, list_all, list_any, range_with_len, sum_by}
-use Rattle.std.proofs.lemmas.Bool.{cases_Bool, cases_eq, and_parts, eq-eqb, eqb-true, leb-true, ltb-true}
+use Rattle.std.proofs.lemmas.Bool.{cases_Bool, cases_eq, and_parts, eq-eqb, eqb-true, leb-true, ltb-true, not-true}
 use Rattle.std.proofs.lemmas.List.{length-map}
 use Rattle.std.proofs.lemmas.List.Sums.{AllPass-from_list_all}
 use Rattle.std.proofs.lemmas.List.Kept.{AllPairs-cons}
-use Rattle.std.proofs.lemmas.List.Elements.{filter-append}
+use Rattle.std.proofs.lemmas.List.Elements.{filter-append, All-push}
 use Rattle.std.proofs.lemmas.List.FromFn.{get_or-range_with_len, length-range_with_len}
 use Rattle.cut_definitions.specs.Cuts.{has, IsAscendingWithin}
+use Rattle.cut_definitions.proofs.Ascending.{all_at, has_contains}
 use Rattle.cactus_tree.specs.Flat.{Flat}
 use Rattle.cactus_tree.specs.FlatCuts.{IsWellFormed, IsBridgeBelow, IsCycleBelow, IsClosed, IsReached, all_edges, node_at}
-use Rattle.cactus_tree.proofs.Groups.{has_contains}
 use Rattle.cactus_text.specs.declared.reading.Counts.{Counts}
 use Rattle.cactus_text.specs.Reading.{ascends, distinct, is_cycle, is_node, is_placed, is_complete, is_joined, is_tree, is_whole, no_node, relabelled, with_node, with_bridge, with_cycle, with_line, numbers_of, plus_node, plus_bridge, plus_cycle, stated}
 use Rattle.cactus_text.proofs.Forms.{EndsBelow, ends_all, fold_size}
@@ -36,23 +36,8 @@ ascends_is low high (v ∷ vs) e =
     let both = and_parts (nat_le low v) (nat_le v high) parts.0 in
     (leb-true low v both.0, leb-true v high both.1, ascends_is (v + 1) high vs parts.1)
 
-all_push : {X : Type 0} (P : X → Type 0) (xs : List X) (x : X) → All P xs → P x → All P (xs ++ x ∷ [])
-all_push P [] x h p zero d g = p
-all_push P [] x h p (suc k) d g = absurd (omega (arith, g))
-all_push P (y ∷ xs) x h p zero d g = h 0 d (omega arith)
-all_push P (y ∷ xs) x h p (suc k) d g = all_push P xs x (λ j e m. h (suc j) e (omega (arith, m))) p k d (omega (arith, g))
-
 all_weaker : {X : Type 0} (P Q : X → Type 0) (xs : List X) → ((x : X) → P x → Q x) → All P xs → All Q xs
 all_weaker P Q xs f h = λ k d g. f (slice_index_or xs k d) (h k d g)
-
-all_at : (p : ℕ → Bool) (vs : List ℕ) (v : ℕ) → list_all p vs ≡ true → has vs v ≡ true → p v ≡ true
-all_at p [] v h g = absurd (cc g)
-all_at p (x ∷ xs) v h g =
-    let parts = and_parts (p x) (list_all p xs) h in
-    elim (cases_Bool (x == v)) [
-      | inl e ↦ ap p (sym (eqb-true x v e)) ∙ parts.0
-      | inr e ↦ all_at p xs v parts.1 (sym (ap (λ (b : Bool). b || has xs v) e) ∙ g)
-    ]
 
 filter_none : (p : List ℕ → Bool) (xs : List (List ℕ)) → list_any p xs ≡ false → length (filter p xs) ≡ 0
 filter_none p [] h = refl
@@ -60,10 +45,6 @@ filter_none p (x ∷ xs) h = elim (cases_Bool (p x)) [
   | inl e ↦ absurd (let k : true ≡ false = sym (ap (λ (b : Bool). b || list_any p xs) e) ∙ h in cc k)
   | inr e ↦ ap (λ (b : Bool). length (cond b (x ∷ filter p xs) (filter p xs))) e ∙ filter_none p xs (sym (ap (λ (b : Bool). b || list_any p xs) e) ∙ h)
 ]
-
-not_true : (b : Bool) → not b ≡ true → b ≡ false
-not_true true e = absurd (cc e)
-not_true false e = refl
 
 once_grown : (nodes : List (List ℕ)) (vs : List ℕ) (v : ℕ) → length (filter (λ l. has l v) nodes) ≤ 1
     → (has vs v ≡ true → list_any (λ l. has l v) nodes ≡ false) → length (filter (λ l. has l v) (nodes ++ vs ∷ [])) ≤ 1
@@ -101,8 +82,8 @@ node_holds flat i vs h is =
     let four = and_parts (i == length flat.nodes) (ascends 1 flat.vertices vs) three.0 in
     let longer : length flat.nodes ≤ length (flat.nodes ++ vs ∷ []) = omega (arith, length-append flat.nodes (vs ∷ [])) in
     record {
-      ascending = all_push (IsAscendingWithin 1 flat.vertices) flat.nodes vs h.ascending (ascends_is 1 flat.vertices vs four.1);
-      once = λ v. once_grown flat.nodes vs v (h.once v) (λ e. not_true (is_placed flat v) (all_at (λ u. not (is_placed flat u)) vs v three.1 e));
+      ascending = All-push (IsAscendingWithin 1 flat.vertices) flat.nodes vs h.ascending (ascends_is 1 flat.vertices vs four.1);
+      once = λ v. once_grown flat.nodes vs v (h.once v) (λ e. not-true (is_placed flat v) (all_at (λ u. not (is_placed flat u)) vs v three.1 e));
       first = λ some. first_grown flat.nodes vs i h.first (eqb-true i (length flat.nodes) four.0) two.1;
       bridges = λ k d g. let b = h.bridges k d g in (b.0, omega (arith, b.1, longer));
       cycles = λ k d g. cycle_later (length flat.nodes) (length (flat.nodes ++ vs ∷ [])) (slice_index_or flat.cycles k d) longer (h.cycles k d g);
@@ -126,7 +107,7 @@ bridge_grown flat next (Some (i ∷ j ∷ [])) h e =
       ascending = h.ascending;
       once = h.once;
       first = h.first;
-      bridges = all_push (IsBridgeBelow (length flat.nodes)) flat.bridges (i, j) h.bridges (ltb-true i j parts.0, ltb-true j (length flat.nodes) parts.1);
+      bridges = All-push (IsBridgeBelow (length flat.nodes)) flat.bridges (i, j) h.bridges (ltb-true i j parts.0, ltb-true j (length flat.nodes) parts.1);
       cycles = h.cycles;
     } in
     (subst Holds same grown, ap (λ (f : Flat). f.vertices) (sym same))
@@ -148,7 +129,7 @@ distinct_is : (xs : List ℕ) → distinct xs ≡ true → AllPairs (λ i j. i �
 distinct_is [] e = λ i j d g k. absurd (omega (arith, k))
 distinct_is (x ∷ xs) e =
     let parts = and_parts (not (has xs x)) (distinct xs) e in
-    AllPairs-cons (λ i j. i ≢ j) x xs (apart_from x xs (not_true (has xs x) parts.0)) (distinct_is xs parts.1)
+    AllPairs-cons (λ i j. i ≢ j) x xs (apart_from x xs (not-true (has xs x) parts.0)) (distinct_is xs parts.1)
 
 cycle_is : (count : ℕ) (c : List ℕ) → is_cycle count c ≡ true → IsCycleBelow count c
 cycle_is count c e =
@@ -173,7 +154,7 @@ cycle_grown flat next (Some c) h e =
       once = h.once;
       first = h.first;
       bridges = h.bridges;
-      cycles = all_push (IsCycleBelow (length flat.nodes)) flat.cycles c h.cycles (cycle_is (length flat.nodes) c is);
+      cycles = All-push (IsCycleBelow (length flat.nodes)) flat.cycles c h.cycles (cycle_is (length flat.nodes) c is);
     } in
     (subst Holds same grown, ap (λ (f : Flat). f.vertices) (sym same))
 

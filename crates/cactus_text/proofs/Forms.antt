@@ -6,10 +6,12 @@ use Rattle.std.proofs.lemmas.Bool.{cases_Bool, eq-eqb, le-leb, lt-ltb, false_fro
 use Rattle.std.proofs.lemmas.List.FromFn.{length-range_with_len}
 use Rattle.std.proofs.lemmas.List.{length-map}
 use Rattle.std.proofs.lemmas.List.Sums.{sum_by-cons}
+use Rattle.std.proofs.lemmas.List.Elements.{All-head, All-tail}
 use Rattle.cut_definitions.specs.Cuts.{has, IsAscendingWithin}
+use Rattle.cut_definitions.proofs.ListLaws.{All-back}
+use Rattle.cut_definitions.proofs.Ascending.{member_within, all_from, contains_has}
 use Rattle.cactus_tree.specs.Flat.{Flat}
 use Rattle.cactus_tree.specs.FlatCuts.{IsWellFormed, IsBridgeBelow, IsCycleBelow, IsClosed, all_edges, cycle_edges, edges_along, node_at}
-use Rattle.cactus_tree.proofs.Groups.{contains_has}
 use Rattle.cactus_text.specs.Reading.{ascends, distinct, is_cycle, is_node, is_placed, is_complete, is_joined, is_tree, relabelled}
 use Rattle.cactus_tree.specs.Flattened.{flat_of}
 use Rattle.cactus_tree.proofs.FlatShapes.{flat_form}
@@ -61,24 +63,6 @@ filter_any p (x ∷ xs) h = elim (cases_Bool (p x)) [
       ap (λ (b : Bool). b || list_any p xs) e ∙ filter_any p xs (omega (arith, k, h))
 ]
 
-all_of : (p : ℕ → Bool) (vs : List ℕ) → ((v : ℕ) → has vs v ≡ true → p v ≡ true) → list_all p vs ≡ true
-all_of p [] h = refl
-all_of p (v ∷ vs) h =
-    ap (λ (b : Bool). b && list_all p vs) (h v (ap (λ (b : Bool). b || has vs v) (eq-eqb v v refl)))
-    ∙ all_of p vs (λ u g. h u (elim (cases_Bool (v == u)) as (λ _. (v == u || has vs u) ≡ true) [
-      | inl e ↦ ap (λ (b : Bool). b || has vs u) e
-      | inr e ↦ ap (λ (b : Bool). b || has vs u) e ∙ g
-    ]))
-
-within_of : (low high v : ℕ) (vs : List ℕ) → IsAscendingWithin low high vs → has vs v ≡ true → (low ≤ v) × (v ≤ high)
-within_of low high v [] h g = absurd (cc g)
-within_of low high v (x ∷ xs) h g = elim (cases_Bool (x == v)) [
-  | inl e ↦ let same : x ≡ v = eqb-true x v e in (omega (arith, same, h.0), omega (arith, same, h.1))
-  | inr e ↦
-      let later = within_of (x + 1) high v xs h.2 (sym (ap (λ (b : Bool). b || has xs v) e) ∙ g) in
-      (omega (arith, later.0, h.0), later.1)
-]
-
 abbrev with_nodes : ℕ → List (List ℕ) → Flat
 with_nodes n nodes = record { vertices = n; nodes = nodes; bridges = []; cycles = [] }
 
@@ -96,34 +80,24 @@ node_here : (n : ℕ) (front : List (List ℕ)) (vs : List ℕ) (more : List (Li
 node_here n front vs more up once first =
     let i = length front in
     let fresh : (v : ℕ) → has vs v ≡ true → not (is_placed (with_nodes n front) v) ≡ true = λ v g.
-    let inside = within_of 1 n v vs up g in
+    let inside = member_within 1 n v vs up g in
     let one = once v inside.0 inside.1 in
     ap not (none_before (λ l. has l v) front vs more g (omega (arith, one))) in
     let last = nat_lt 0 i || has vs 1 in
     ap (λ (b : Bool). b && ascends 1 n vs && list_all (λ v. not (is_placed (with_nodes n front) v)) vs && last) (eq-eqb i i refl)
     ∙ ap (λ (b : Bool). b && list_all (λ v. not (is_placed (with_nodes n front) v)) vs && last) (ascends_true 1 n vs up)
-    ∙ ap (λ (b : Bool). b && last) (all_of (λ v. not (is_placed (with_nodes n front) v)) vs fresh)
+    ∙ ap (λ (b : Bool). b && last) (all_from (λ v. not (is_placed (with_nodes n front) v)) vs fresh)
     ∙ first
 
 first_or_later : (front more : List (List ℕ)) (vs : List ℕ) → has (slice_index_or (front ++ vs ∷ more) 0 []) 1 ≡ true → (nat_lt 0 (length front) || has vs 1) ≡ true
 first_or_later [] more vs h = h
 first_or_later (x ∷ front) more vs h = ap (λ (b : Bool). b || has vs 1) (lt-ltb 0 (suc (length front)) (omega arith))
 
-all_first : {X : Type 0} (P : X → Type 0) (x : X) (xs : List X) → All P (x ∷ xs) → P x
-all_first P x xs h = h 0 x (omega arith)
-
-all_later : {X : Type 0} (P : X → Type 0) (x : X) (xs : List X) → All P (x ∷ xs) → All P xs
-all_later P x xs h = λ k d g. h (suc k) d (omega (arith, g))
-
-all_behind : {X : Type 0} (P : X → Type 0) (front xs : List X) → All P (front ++ xs) → All P xs
-all_behind P [] xs h = h
-all_behind P (x ∷ front) xs h = all_behind P front xs (all_later P x (front ++ xs) h)
-
 are_nodes : (n : ℕ) (nodes front rest : List (List ℕ)) → FormsNodes n nodes → front ++ rest ≡ nodes → AreNodes (with_nodes n front) rest
 are_nodes n nodes front [] f e = tt
 are_nodes n nodes front (vs ∷ rest) f e =
     let up : IsAscendingWithin 1 n vs =
-    all_first (IsAscendingWithin 1 n) vs rest (all_behind (IsAscendingWithin 1 n) front (vs ∷ rest) (subst (All (IsAscendingWithin 1 n)) (sym e) f.ascending)) in
+    All-head (IsAscendingWithin 1 n) vs rest (All-back (IsAscendingWithin 1 n) front (vs ∷ rest) (subst (All (IsAscendingWithin 1 n)) (sym e) f.ascending)) in
     let once : (v : ℕ) → 1 ≤ v → v ≤ n → length (filter (λ l. has l v) (front ++ vs ∷ rest)) ≡ 1 = λ v a b.
     ap (λ ls. length (filter (λ l. has l v) ls)) e ∙ f.once v a b in
     let first = first_or_later front rest vs (ap (λ ls. has (slice_index_or ls 0 []) 1) e ∙ f.first) in
@@ -134,19 +108,19 @@ are_nodes n nodes front (vs ∷ rest) f e =
 are_bridges : (count : ℕ) (bs : List (ℕ × ℕ)) → All (IsBridgeBelow count) bs → count < 2 ^ 64 → AreBridges count bs
 are_bridges count [] h small = tt
 are_bridges count (b ∷ bs) h small =
-    let here = all_first (IsBridgeBelow count) b bs h in
-    (here.0, here.1, omega (arith, here.1, small), are_bridges count bs (all_later (IsBridgeBelow count) b bs h) small)
+    let here = All-head (IsBridgeBelow count) b bs h in
+    (here.0, here.1, omega (arith, here.1, small), are_bridges count bs (All-tail (IsBridgeBelow count) b bs h) small)
 
 all_true : (p : ℕ → Bool) (xs : List ℕ) → All (λ x. p x ≡ true) xs → list_all p xs ≡ true
 all_true p [] h = refl
 all_true p (x ∷ xs) h =
-    ap (λ (b : Bool). b && list_all p xs) (all_first (λ y. p y ≡ true) x xs h) ∙ all_true p xs (all_later (λ y. p y ≡ true) x xs h)
+    ap (λ (b : Bool). b && list_all p xs) (All-head (λ y. p y ≡ true) x xs h) ∙ all_true p xs (All-tail (λ y. p y ≡ true) x xs h)
 
 differs_from : (x : ℕ) (xs : List ℕ) → All (λ y. x ≢ y) xs → has xs x ≡ false
 differs_from x [] h = refl
 differs_from x (y ∷ ys) h =
-    ap (λ (b : Bool). b || has ys x) (false_from_ne_true (y == x) (λ e. all_first (λ z. x ≢ z) y ys h (sym (eqb-true y x e))))
-    ∙ differs_from x ys (all_later (λ z. x ≢ z) y ys h)
+    ap (λ (b : Bool). b || has ys x) (false_from_ne_true (y == x) (λ e. All-head (λ z. x ≢ z) y ys h (sym (eqb-true y x e))))
+    ∙ differs_from x ys (All-tail (λ z. x ≢ z) y ys h)
 
 pairs_first : (x : ℕ) (xs : List ℕ) → AllPairs (λ i j. i ≢ j) (x ∷ xs) → All (λ y. x ≢ y) xs
 pairs_first x xs h = λ k d g. h 0 (suc k) d (omega arith) (omega (arith, g))
@@ -172,14 +146,14 @@ cycle_true count c h =
 all_are_small : (count : ℕ) (xs : List ℕ) → All (λ i. i < count) xs → count < 2 ^ 64 → AreSmall xs
 all_are_small count [] h g = tt
 all_are_small count (x ∷ xs) h g =
-    let here = all_first (λ i. i < count) x xs h in
-    (omega (arith, here, g), all_are_small count xs (all_later (λ i. i < count) x xs h) g)
+    let here = All-head (λ i. i < count) x xs h in
+    (omega (arith, here, g), all_are_small count xs (All-tail (λ i. i < count) x xs h) g)
 
 are_cycles : (count : ℕ) (cs : List (List ℕ)) → All (IsCycleBelow count) cs → count < 2 ^ 64 → AreCycles count cs
 are_cycles count [] h small = tt
 are_cycles count (c ∷ cs) h small =
-    let here = all_first (IsCycleBelow count) c cs h in
-    (cycle_true count c here, all_are_small count c here.below small, are_cycles count cs (all_later (IsCycleBelow count) c cs h) small)
+    let here = All-head (IsCycleBelow count) c cs h in
+    (cycle_true count c here, all_are_small count c here.below small, are_cycles count cs (All-tail (IsCycleBelow count) c cs h) small)
 
 -- edges between nodes that there are
 abbrev pub EndsBelow : ℕ → List (ℕ × ℕ) → Type 0
@@ -193,26 +167,26 @@ ends_append count (e ∷ es) fs h g = (h.0, h.1, ends_append count es fs h.2 g)
 ends_bridges : (count : ℕ) (bs : List (ℕ × ℕ)) → All (IsBridgeBelow count) bs → EndsBelow count bs
 ends_bridges count [] h = tt
 ends_bridges count (b ∷ bs) h =
-    let here = all_first (IsBridgeBelow count) b bs h in
-    (omega (arith, here.0, here.1), here.1, ends_bridges count bs (all_later (IsBridgeBelow count) b bs h))
+    let here = All-head (IsBridgeBelow count) b bs h in
+    (omega (arith, here.0, here.1), here.1, ends_bridges count bs (All-tail (IsBridgeBelow count) b bs h))
 
 ends_along : (count first at : ℕ) (rest : List ℕ) → first < count → at < count → All (λ i. i < count) rest → EndsBelow count (edges_along first at rest)
 ends_along count first at [] h g a = (g, h, tt)
 ends_along count first at (next ∷ rest) h g a =
-    let here = all_first (λ i. i < count) next rest a in
-    (g, here, ends_along count first next rest h here (all_later (λ i. i < count) next rest a))
+    let here = All-head (λ i. i < count) next rest a in
+    (g, here, ends_along count first next rest h here (All-tail (λ i. i < count) next rest a))
 
 ends_cycle : (count : ℕ) (c : List ℕ) → All (λ i. i < count) c → EndsBelow count (cycle_edges c)
 ends_cycle count [] h = tt
 ends_cycle count (x ∷ xs) h =
-    let here = all_first (λ i. i < count) x xs h in
-    ends_along count x x xs here here (all_later (λ i. i < count) x xs h)
+    let here = All-head (λ i. i < count) x xs h in
+    ends_along count x x xs here here (All-tail (λ i. i < count) x xs h)
 
 ends_cycles : (count : ℕ) (cs : List (List ℕ)) → All (IsCycleBelow count) cs → EndsBelow count (flat_map cycle_edges cs)
 ends_cycles count [] h = tt
 ends_cycles count (c ∷ cs) h =
-    let here = all_first (IsCycleBelow count) c cs h in
-    ends_append count (cycle_edges c) (flat_map cycle_edges cs) (ends_cycle count c here.below) (ends_cycles count cs (all_later (IsCycleBelow count) c cs h))
+    let here = All-head (IsCycleBelow count) c cs h in
+    ends_append count (cycle_edges c) (flat_map cycle_edges cs) (ends_cycle count c here.below) (ends_cycles count cs (All-tail (IsCycleBelow count) c cs h))
 
 pub ends_all : (flat : Flat) → All (IsBridgeBelow (length flat.nodes)) flat.bridges → All (IsCycleBelow (length flat.nodes)) flat.cycles → EndsBelow (length flat.nodes) (all_edges flat)
 ends_all flat bridges cycles =
@@ -281,13 +255,13 @@ tree_true flat w =
 
 some_vertex : (n : ℕ) (nodes : List (List ℕ)) → All (IsAscendingWithin 1 n) nodes → has (slice_index_or nodes 0 []) 1 ≡ true → 1 ≤ n
 some_vertex n [] h e = absurd (cc e)
-some_vertex n (vs ∷ nodes) h e = (within_of 1 n 1 vs (all_first (IsAscendingWithin 1 n) vs nodes h) e).1
+some_vertex n (vs ∷ nodes) h e = (member_within 1 n 1 vs (All-head (IsAscendingWithin 1 n) vs nodes h) e).1
 
 cycles_below : (count : ℕ) (cs : List (List ℕ)) → All (IsCycleBelow count) cs → length cs ≤ sum_by (λ c. length c - 1) cs
 cycles_below count [] h = omega arith
 cycles_below count (c ∷ cs) h =
-    let long = (all_first (IsCycleBelow count) c cs h).long in
-    omega (arith, long, sum_by-cons (λ k. length k - 1) c cs, cycles_below count cs (all_later (IsCycleBelow count) c cs h))
+    let long = (All-head (IsCycleBelow count) c cs h).long in
+    omega (arith, long, sum_by-cons (λ k. length k - 1) c cs, cycles_below count cs (All-tail (IsCycleBelow count) c cs h))
 
 -- with a value and counts that have room
 pub well_formed_readable : (value : ℕ) (flat : Flat) → IsWellFormed flat → value ≤ 2 ^ 62 → flat.vertices ≤ 4194304

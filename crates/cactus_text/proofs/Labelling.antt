@@ -6,6 +6,7 @@ use Rattle.std.proofs.lemmas.Bool.{cases_eq, eq-eqb, ne_eqb}
 use Rattle.std.proofs.lemmas.List.{get_or-map, get_or-set_same, get_or-set_other, length-set, length-map, set-get_or}
 use Rattle.std.proofs.lemmas.List.Folds.{list_all_at}
 use Rattle.std.proofs.lemmas.List.FromFn.{get_or-range_with_len, length-range_with_len}
+use Rattle.cut_definitions.proofs.Bools.{either_way}
 use Rattle.cactus_text.specs.Reading.{relabelled}
 use Rattle.cactus_text.specs.Labels.{IsLabelled}
 
@@ -34,10 +35,6 @@ same_label c d l e = elim (cases_eq l d) [
   | inl is ↦ ap (λ (b : Bool). if b then c else l) (eq-eqb l d is) ∙ e ∙ sym is
   | inr other ↦ ap (λ (b : Bool). if b then c else l) (ne_eqb l d other)
 ]
-
-either_way : (b : Bool) (x : ℕ) → (if b then x else x) ≡ x
-either_way true x = refl
-either_way false x = refl
 
 -- the first end keeps its label
 pub at_own : (labels : List ℕ) (i j : ℕ) → i < length labels → slice_index (relabelled labels (i, j)) i ≡ slice_index labels i

@@ -10,6 +10,7 @@ use Rattle.std.proofs.lemmas.Bool.{lt-ltb, ltb-true, cases_Bool}
 use Rattle.std.proofs.lemmas.Fmt.{decimal_is_IsNumeral}
 use Rattle.std.proofs.lemmas.List.{take_at}
 use Rattle.std.proofs.lemmas.Slice.Eq.{bytes_eq-Decides}
+use Rattle.cut_definitions.proofs.Bools.{and_first, and_second}
 use Rattle.cactus_text.specs.Text.{spaced, line}
 use Rattle.cactus_text.specs.Reading.{with_front, words, values, numbers_of}
 use Rattle.cactus_text.specs.Scanned.{AreSmall, IsWord}
@@ -65,17 +66,9 @@ numbers_line word numbers w s =
     ∙ ap (λ b. if b && list_all (λ n. nat_lt n (2 ^ 64)) numbers then Some numbers else None) (bytes_same bytes)
     ∙ ap (λ b. if b then Some numbers else None) (small_test numbers s)
 
-and_left : (a b : Bool) → (a && b) ≡ true → a ≡ true
-and_left true b h = refl
-and_left false b h = h
-
-and_right : (a b : Bool) → (a && b) ≡ true → b ≡ true
-and_right true b h = h
-and_right false b h = cc
-
 small_from : (numbers : List ℕ) → list_all (λ n. nat_lt n (2 ^ 64)) numbers ≡ true → AreSmall numbers
 small_from [] h = tt
-small_from (n ∷ ns) h = (ltb-true n (2 ^ 64) (and_left _ _ h), small_from ns (and_right _ _ h))
+small_from (n ∷ ns) h = (ltb-true n (2 ^ 64) (and_first _ _ h), small_from ns (and_second _ _ h))
 
 -- where no numbers have this line none are found
 pub numbers_none : (word bytes : List ℕ) → ((numbers : List ℕ) → bytes ≡ line word numbers → AreSmall numbers → ⊥) → numbers_of word bytes ≡ None
@@ -84,7 +77,7 @@ numbers_none word bytes h =
     let same = bytes_eq bytes (line word vs) in
     let small = list_all (λ n. nat_lt n (2 ^ 64)) vs in
     ⊎_elim
-    (λ (t : (same && small) ≡ true). absurd (h vs ((bytes_eq-Decides bytes (line word vs)).0 (and_left same small t)) (small_from vs (and_right same small t))))
+    (λ (t : (same && small) ≡ true). absurd (h vs ((bytes_eq-Decides bytes (line word vs)).0 (and_first same small t)) (small_from vs (and_second same small t))))
     (λ (f : (same && small) ≡ false). ap (λ (b : Bool). if b then Some vs else None) f)
     (cases_Bool (same && small))
 
@@ -99,4 +92,4 @@ numbers_some word bytes numbers h =
     let same = bytes_eq bytes (line word vs) in
     let small = list_all (λ n. nat_lt n (2 ^ 64)) vs in
     let (passed, are) = some_of (same && small) vs numbers h in
-    ((bytes_eq-Decides bytes (line word vs)).0 (and_left same small passed) ∙ ap (line word) are, subst AreSmall are (small_from vs (and_right same small passed)))
+    ((bytes_eq-Decides bytes (line word vs)).0 (and_first same small passed) ∙ ap (line word) are, subst AreSmall are (small_from vs (and_second same small passed)))

@@ -4,8 +4,9 @@ use Rattle.std.specs.Prelude.{Option, Some, None, Result, Ok, Err, if◌then◌e
 use Rattle.std.specs.List.{list_all, range_with_len}
 use Rattle.std.proofs.lemmas.List.{get_or_past}
 use Rattle.std.proofs.lemmas.List.Folds.{list_all-append}
+use Rattle.cut_definitions.proofs.Bools.{and_true}
+use Rattle.cut_definitions.proofs.Ranges.{range_push}
 use Rattle.cactus_tree.specs.Flat.{Flat, appended_from, appended_to_last}
-use Rattle.cactus_tree.proofs.Ranges.{range_push}
 use Rattle.cactus_text.specs.declared.reading.Counts.{Counts}
 use Rattle.cactus_text.specs.Reading.{counts_of, with_bridge, with_line, is_whole, stated}
 
@@ -54,10 +55,6 @@ stated_whole k counts flat e = ap (λ (b : Bool). if b then Ok flat else Err k) 
 
 pub stated_partial : (k : ℕ) (counts : Counts) (flat : Flat) → is_whole counts flat ≡ false → stated k counts flat [] ≡ Err k
 stated_partial k counts flat e = ap (λ (b : Bool). if b then Ok flat else Err k) e
-
-and_true : (b : Bool) → (b && true) ≡ b
-and_true true = refl
-and_true false = refl
 
 pub all_more : (there : ℕ → Bool) (m : ℕ) → list_all there (range_with_len 1 (m + 1)) ≡ (list_all there (range_with_len 1 m) && there (m + 1))
 all_more there m =

@@ -4,9 +4,10 @@ ghost use Rattle.std.specs.Prelude.{◌≡◌, ◌≤◌, [], ◌∷◌, ◌++�
 ghost use Rattle.std.specs.List.{flat_map};
 ghost use Rattle.cactus_text.specs.Puts.{Puts};
 
+use cut_definitions::NoMemory;
 use itoa::{Buffer, Integer};
 use outside::{Sink, SinkFailed, write_whole};
-use std::alloc::{AllocError, Global};
+use std::alloc::Global;
 use std::marker::Model;
 
 /// How many bytes go out in one piece.
@@ -32,7 +33,7 @@ impl Model for Page {
 
 impl Page {
     /// A page that holds nothing. It takes 32 KiB, and is refused only where these are wanting.
-    pub fn new(alloc: Global) -> Result<Page, AllocError>
+    pub fn new(alloc: Global) -> Result<Page, NoMemory>
         ensures { IfOk result (λ p. p ≡ []) }
     {
         let bytes = Vec::with_capacity(alloc, PAGE_SIZE)?;

@@ -9,7 +9,8 @@ use crate::scan::{Lines, read_line, read_numbers};
 use crate::sets::Seen;
 use crate::tree::is_tree;
 use cactus_tree::FlatCactus;
-use std::alloc::{AllocError, Global};
+use cut_definitions::NoMemory;
+use std::alloc::Global;
 
 const MOST_VERTICES: u64 = 4194304;
 
@@ -87,7 +88,7 @@ impl Reader {
     }
 
     /// Takes a line, whose numbers are put into the room; false where it breaks a rule, and the reader is done with then.
-    fn take(&mut self, line: &[u8], room: &mut Vec<u64>) -> Result<bool, AllocError>
+    fn take(&mut self, line: &[u8], room: &mut Vec<u64>) -> Result<bool, NoMemory>
         requires { IsReader self.old }
         ensures { Takes (with_line self.old.counts self.old.flat line.now) self.old self.new result }
     {
@@ -102,7 +103,7 @@ impl Reader {
         }
     }
 
-    fn take_node(&mut self, line: &[u8], room: &mut Vec<u64>) -> Result<bool, AllocError>
+    fn take_node(&mut self, line: &[u8], room: &mut Vec<u64>) -> Result<bool, NoMemory>
         requires { IsReader self.old }
         ensures { Takes (with_node self.old.flat (numbers_of (codes "node") line.now)) self.old self.new result }
     {
@@ -132,7 +133,7 @@ impl Reader {
     }
 
     /// Appends a node with its vertices.
-    fn add_node(&mut self, vertices: &[u64]) -> Result<(), AllocError>
+    fn add_node(&mut self, vertices: &[u64]) -> Result<(), NoMemory>
         requires reader { IsReader self.old }
         requires small { All (λ v. v < 2 ^ 32) vertices.now }
         ensures flat { OnOk result (self.new.flat ≡ plus_node self.old.flat vertices.now) }
@@ -144,7 +145,7 @@ impl Reader {
         push_vertices(&mut self.flat, vertices)
     }
 
-    fn take_bridge(&mut self, line: &[u8]) -> Result<bool, AllocError>
+    fn take_bridge(&mut self, line: &[u8]) -> Result<bool, NoMemory>
         requires { IsReader self.old }
         ensures { Takes (with_bridge self.old.flat (numbers_of (codes "bridge") line.now)) self.old self.new result }
     {
@@ -160,7 +161,7 @@ impl Reader {
         Ok(true)
     }
 
-    fn take_cycle(&mut self, line: &[u8], room: &mut Vec<u64>) -> Result<bool, AllocError>
+    fn take_cycle(&mut self, line: &[u8], room: &mut Vec<u64>) -> Result<bool, NoMemory>
         requires { IsReader self.old }
         ensures { Takes (with_cycle self.old.flat (numbers_of (codes "cycle") line.now)) self.old self.new result }
     {
@@ -201,7 +202,7 @@ impl Reader {
     }
 
     /// Whether no line is missing, and the whole is a cactus.
-    fn is_whole(&self, alloc: Global) -> Result<bool, AllocError>
+    fn is_whole(&self, alloc: Global) -> Result<bool, NoMemory>
         requires { IsReader self.now }
         ensures { IfOk result (λ b. b ≡ is_whole self.now.counts self.now.flat) }
     {
@@ -260,7 +261,7 @@ fn are_different(marks: &mut [u64], cycle: u64, nodes: &[u64]) -> bool
 }
 
 /// Appends a node with its vertices.
-fn push_vertices(flat: &mut FlatCactus, vertices: &[u64]) -> Result<(), AllocError>
+fn push_vertices(flat: &mut FlatCactus, vertices: &[u64]) -> Result<(), NoMemory>
     requires { All (λ v. v < 2 ^ 32) vertices.now }
     ensures { OnOk result (flat.new ≡ plus_node flat.old vertices.now) }
 {
@@ -272,7 +273,7 @@ fn push_vertices(flat: &mut FlatCactus, vertices: &[u64]) -> Result<(), AllocErr
 }
 
 /// Appends a cycle with its nodes.
-fn push_members(flat: &mut FlatCactus, nodes: &[u64]) -> Result<(), AllocError>
+fn push_members(flat: &mut FlatCactus, nodes: &[u64]) -> Result<(), NoMemory>
     ensures { OnOk result (flat.new ≡ plus_cycle flat.old nodes.now) }
 {
     flat.push_cycle()?;
@@ -287,7 +288,7 @@ fn read_rest(
     alloc: Global,
     counts: Counts,
     lines: Lines,
-) -> Result<Result<FlatCactus, u64>, AllocError>
+) -> Result<Result<FlatCactus, u64>, NoMemory>
     requires { length lines < 2 ^ 64 - 2 }
     ensures { IfOk result (λ r. r ≡ stated 2 counts (no_node counts.vertices) lines.entry) }
 {

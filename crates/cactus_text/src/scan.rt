@@ -6,7 +6,7 @@ ghost use Rattle.std.specs.Char.{digit_value};
 ghost use Rattle.cactus_text.specs.Reading.{lines, numbers_of};
 ghost use Rattle.cactus_text.specs.Scanned.{IsLeading, IsRest, IsWord, TakesNumber};
 
-use std::alloc::AllocError;
+use cut_definitions::NoMemory;
 use std::marker::Model;
 
 /// The lines of a text that are still to come, each with the line feed that ends it.
@@ -208,7 +208,7 @@ pub fn read_numbers(word: &[u8], line: &[u8], room: &mut [u64]) -> bool
 }
 
 /// Whether a line is a word and some numbers, which are put into the room in place of what was there.
-pub fn read_line(word: &[u8], line: &[u8], room: &mut Vec<u64>) -> Result<bool, AllocError>
+pub fn read_line(word: &[u8], line: &[u8], room: &mut Vec<u64>) -> Result<bool, NoMemory>
     requires { IsWord word.now }
     ensures all { IfOk result (λ b. b ≡ true → numbers_of word.now line.now ≡ Some room.new.items) }
     ensures other { IfOk result (λ b. b ≡ false → numbers_of word.now line.now ≡ None) }

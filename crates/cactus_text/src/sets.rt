@@ -7,7 +7,8 @@ ghost use Rattle.cactus_tree.specs.FlatCuts.{cycle_edges};
 ghost use Rattle.cactus_text.specs.Reading.{relabelled};
 ghost use Rattle.cactus_text.specs.Labels.{IsLabelled};
 
-use std::alloc::{AllocError, Global};
+use cut_definitions::NoMemory;
+use std::alloc::Global;
 use std::marker::Model;
 
 /// The vertices that stood in a line so far. It grows with the greatest of them.
@@ -57,7 +58,7 @@ impl Seen {
     }
 
     /// Puts a vertex in.
-    fn insert(&mut self, v: u64) -> Result<(), AllocError>
+    fn insert(&mut self, v: u64) -> Result<(), NoMemory>
         ensures { OnOk result ((u : ℕ) → slice_index_or self.new u false ≡ (v == u || slice_index_or self.old u false)) }
     {
         let place = v as usize;
@@ -69,7 +70,7 @@ impl Seen {
     }
 
     /// Puts vertices in.
-    pub fn add(&mut self, vertices: &[u64]) -> Result<(), AllocError>
+    pub fn add(&mut self, vertices: &[u64]) -> Result<(), NoMemory>
         ensures { OnOk result ((u : ℕ) → slice_index_or self.new u false ≡ (has vertices.now u || slice_index_or self.old u false)) }
     {
         let mut i = vertices.len();
@@ -107,7 +108,7 @@ pub struct Joined {
 
 impl Joined {
     /// So many nodes, of which no two are joined.
-    pub fn new(alloc: Global, count: usize) -> Result<Joined, AllocError>
+    pub fn new(alloc: Global, count: usize) -> Result<Joined, NoMemory>
         ensures count { IfOk result (λ j. length j.above.items ≡ count) }
         ensures labels { IfOk result (λ j. IsLabelled j.above.items (range_with_len 0 count)) }
     {

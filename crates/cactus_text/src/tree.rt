@@ -8,7 +8,8 @@ ghost use Rattle.cactus_text.specs.Labels.{IsLabelled};
 
 use crate::sets::Joined;
 use cactus_tree::FlatCactus;
-use std::alloc::{AllocError, Global};
+use cut_definitions::NoMemory;
+use std::alloc::Global;
 
 /// Whether the nodes are one more than the edges that a tree of them takes: the bridges, and the edges of each cycle but one.
 fn has_edges_of_tree(flat: &FlatCactus) -> bool
@@ -35,7 +36,7 @@ fn join_bridges(joined: &mut Joined, bridges: &[(u64, u64)])
 }
 
 /// Whether bridges and cycles join all nodes.
-fn is_joined(alloc: Global, flat: &FlatCactus) -> Result<bool, AllocError>
+fn is_joined(alloc: Global, flat: &FlatCactus) -> Result<bool, NoMemory>
     requires { JoinsNodes flat.now }
     ensures { IfOk result (λ b. b ≡ is_joined flat.now) }
 {
@@ -49,7 +50,7 @@ fn is_joined(alloc: Global, flat: &FlatCactus) -> Result<bool, AllocError>
 
 /// Whether bridges and cycles join all nodes, and by no more edges than that takes. Time in proportion to the nodes and
 /// the edges, times the logarithm of the nodes at most.
-pub fn is_tree(alloc: Global, flat: &FlatCactus) -> Result<bool, AllocError>
+pub fn is_tree(alloc: Global, flat: &FlatCactus) -> Result<bool, NoMemory>
     requires { JoinsNodes flat.now }
     ensures { IfOk result (λ b. b ≡ is_tree flat.now) }
 {

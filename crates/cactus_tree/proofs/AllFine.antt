@@ -2,10 +2,11 @@
 use Rattle.std.proofs.Common.{◌≡◌, ℕ, suc, ◌+◌, inl, inr, Bool, true, false, ◌&&◌, ◌==◌, ◌∷◌, List, [], ◌++◌, Some, length, map, take, get_or, ap, ◌∙◌, sym, refl}
 use Rattle.std.specs.Prelude.{nat_le, slice_get, cond}
 use Rattle.std.specs.List.{filter, list_all, flat_map}
-use Rattle.std.proofs.lemmas.List.Folds.{list_all_more, list_all_at}
+use Rattle.std.proofs.lemmas.List.Folds.{list_all_more, list_all_at, list_all-append}
 use Rattle.std.proofs.lemmas.Option.{get_or_from_slice_get, slice_get_within}
 use Rattle.std.specs.declared.boxed.Box.{Box}
 use Rattle.std.specs.declared.alloc.Global.{Global}
+use Rattle.cut_definitions.proofs.Bools.{and_true}
 use Rattle.cactus_tree.specs.Normal.{shape, block_shape, child_fine}
 use Rattle.cactus_tree.specs.Placed.{is_placed, is_set, placed_step}
 use Rattle.cactus_tree.specs.Trees.{vertices, blocks, nodes_in}
@@ -31,19 +32,11 @@ and_assoc : (a b c : Bool) → (a && (b && c)) ≡ ((a && b) && c)
 and_assoc true b c = refl
 and_assoc false b c = refl
 
-and_true : (a : Bool) → (a && true) ≡ a
-and_true true = refl
-and_true false = refl
-
 four_and : (a b c d : Bool) → ((a && b) && (c && d)) ≡ ((a && c) && (b && d))
 four_and true true c d = refl
 four_and true false true d = refl
 four_and true false false d = refl
 four_and false b c d = refl
-
-pub all_append : {X : Type 0} (p : X → Bool) (xs ys : List X) → list_all p (xs ++ ys) ≡ (list_all p xs && list_all p ys)
-all_append p [] ys = refl
-all_append p (x ∷ xs) ys = ap (λ b. p x && b) (all_append p xs ys) ∙ and_assoc (p x) (list_all p xs) (list_all p ys)
 
 pub child_is : (above : Bool) (x : Node) → child_fine above (shape x) ≡ (is_set above x && is_fine x)
 child_is above x = child_parts above x ∙ ap (λ b. is_set above x && b) (sym (node_fine x))
@@ -83,7 +76,7 @@ blocks_fine [] = refl
 blocks_fine (b ∷ bs) =
     ap (λ k. k && list_all (λ c. (block_shape c).fine) bs) (block_fine b) ∙ ap (λ k. (is_placed b && all_fine (nodes_of b)) && k) (blocks_fine bs)
     ∙ four_and (is_placed b) (all_fine (nodes_of b)) (list_all is_placed bs) (all_fine (flat_map nodes_of bs))
-    ∙ ap (λ k. (is_placed b && list_all is_placed bs) && k) (sym (all_append is_fine (nodes_of b) (flat_map nodes_of bs)))
+    ∙ ap (λ k. (is_placed b && list_all is_placed bs) && k) (sym (list_all-append is_fine (nodes_of b) (flat_map nodes_of bs)))
 
 fine_step : (x : Node) → is_fine x ≡ (list_all is_placed (blocks x) && all_fine (flat_map nodes_of (blocks x)))
 fine_step x = node_fine x ∙ blocks_fine (blocks x)
@@ -99,13 +92,13 @@ inner_fine (x ∷ xs) = first (inner_fine xs) (is_inner x) refl where
 -- a node whose blocks are as they must be gives way to those below it
 pub taken_fine : (left before after : List Node) (x : Node) → before ≡ left ++ x ∷ [] → after ≡ left ++ filter is_inner (flat_map nodes_of (blocks x)) → list_all is_placed (blocks x) ≡ true → all_fine before ≡ all_fine after
 taken_fine left before after x b a h =
-    ap all_fine b ∙ all_append is_fine left (x ∷ []) ∙ ap (λ k. all_fine left && k) (and_true (is_fine x) ∙ fine_step x ∙ ap (λ k. k && all_fine (flat_map nodes_of (blocks x))) h)
-    ∙ sym (ap all_fine a ∙ all_append is_fine left (filter is_inner (flat_map nodes_of (blocks x))) ∙ ap (λ k. all_fine left && k) (inner_fine (flat_map nodes_of (blocks x))))
+    ap all_fine b ∙ list_all-append is_fine left (x ∷ []) ∙ ap (λ k. all_fine left && k) (and_true (is_fine x) ∙ fine_step x ∙ ap (λ k. k && all_fine (flat_map nodes_of (blocks x))) h)
+    ∙ sym (ap all_fine a ∙ list_all-append is_fine left (filter is_inner (flat_map nodes_of (blocks x))) ∙ ap (λ k. all_fine left && k) (inner_fine (flat_map nodes_of (blocks x))))
 
 -- and one whose blocks are not shows that all is not
 pub not_fine : (left before : List Node) (x : Node) → before ≡ left ++ x ∷ [] → list_all is_placed (blocks x) ≡ false → all_fine before ≡ false
 not_fine left before x b h =
-    ap all_fine b ∙ all_append is_fine left (x ∷ []) ∙ ap (λ k. all_fine left && k) (and_true (is_fine x) ∙ fine_step x ∙ ap (λ k. k && all_fine (flat_map nodes_of (blocks x))) h) ∙ and_false (all_fine left)
+    ap all_fine b ∙ list_all-append is_fine left (x ∷ []) ∙ ap (λ k. all_fine left && k) (and_true (is_fine x) ∙ fine_step x ∙ ap (λ k. k && all_fine (flat_map nodes_of (blocks x))) h) ∙ and_false (all_fine left)
   where
     and_false : (a : Bool) → (a && false) ≡ false
     and_false true = refl

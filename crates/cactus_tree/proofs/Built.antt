@@ -8,6 +8,7 @@ use Rattle.std.proofs.Math.Seq.{take-length}
 use Rattle.std.proofs.lemmas.List.Concat.{flat_map-append}
 use Rattle.std.proofs.lemmas.List.FromFn.{length-range_with_len, get_or-range_with_len}
 use Rattle.cut_definitions.specs.Cuts.{has, IsAscendingWithin}
+use Rattle.cut_definitions.proofs.Ascending.{has_contains}
 use Rattle.cactus_tree.specs.Entered.{entered, entered_block}
 use Rattle.cactus_tree.specs.Rooted.{IsCactus}
 use Rattle.cactus_tree.specs.Trees.{vertices, blocks, nodes_in}
@@ -16,7 +17,6 @@ use Rattle.cactus_tree.specs.declared.tree.Node.{Node}
 use Rattle.cactus_tree.specs.declared.tree.Block.{Block}
 use Rattle.cactus_tree.specs.declared.tree.Block.TheVariants.{Cycle}
 use Rattle.cactus_tree.specs.declared.tree.Children.{Children}
-use Rattle.cactus_tree.proofs.Groups.{has_contains}
 use Rattle.cactus_tree.proofs.Orders.{entered_out}
 use Rattle.cactus_tree.proofs.Widths.{widths_out, widths_cycle}
 
@@ -27,7 +27,7 @@ leaf_entered x l v b = entered_out x ∙ ap (λ vs. vs ∷ flat_map entered_bloc
 pub leaf_widths : (x : Node) → blocks x ≡ [] → widths x ≡ []
 leaf_widths x b = widths_out x ∙ ap (λ bs. joined (map block_widths bs)) b
 
-joined_map : {X : Type 0} (f : X → List ℕ) (xs : List X) → joined (map f xs) ≡ flat_map f xs
+pub joined_map : {X : Type 0} (f : X → List ℕ) (xs : List X) → joined (map f xs) ≡ flat_map f xs
 joined_map f [] = refl
 joined_map f (x ∷ xs) = ap (λ l. f x ++ l) (joined_map f xs)
 

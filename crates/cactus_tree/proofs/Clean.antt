@@ -1,17 +1,18 @@
 -- Lists of nodes in which no vertex is twice: parts of them are apart.
-use Rattle.std.proofs.Common.{◌≡◌, ℕ, ◌+◌, ◌≤◌, inl, inr, Bool, true, false, cond, List, [], ◌∷◌, ◌++◌, length, ap, ◌∙◌, sym, arith, length-append}
+use Rattle.std.proofs.Common.{◌≡◌, ℕ, ◌+◌, ◌≤◌, inl, inr, true, cond, List, [], ◌∷◌, ◌++◌, length, ap, ◌∙◌, sym, arith, length-append}
 use Rattle.std.specs.List.{All, filter, concat}
 use Rattle.std.proofs.lemmas.Bool.{or_cases, or_left, or_right, cases_lt, cases_Bool, false≢true}
-use Rattle.std.proofs.lemmas.List.Elements.{All-nil, All-cons, All-head, All-tail, All-contains, filter-append}
+use Rattle.std.proofs.lemmas.List.Elements.{All-contains, filter-append}
 use Rattle.cut_definitions.specs.Weight.{VertexSet}
 use Rattle.cut_definitions.specs.Cuts.{has, IsAscendingWithin, least}
 use Rattle.cut_definitions.proofs.Values.{least-le, Contains-least}
+use Rattle.cut_definitions.proofs.ListLaws.{longer, All-front, All-back}
+use Rattle.cut_definitions.proofs.Ascending.{contains_has, has_contains}
 use Rattle.cactus_tree.specs.Rooted.{IsCactus}
 use Rattle.cactus_tree.specs.Places.{IsVertex}
 use Rattle.cactus_tree.specs.Entered.{entered}
 use Rattle.cactus_tree.specs.declared.tree.Node.{Node}
 use Rattle.cactus_tree.proofs.Once.{all_vertices_within}
-use Rattle.cactus_tree.proofs.Groups.{contains_has, has_contains}
 use Rattle.cactus_tree.proofs.Segments.{has_append_at}
 use Rattle.cactus_tree.proofs.Sets.{HasOne, Apart, IsLeast}
 
@@ -24,32 +25,20 @@ pub record IsClean (n : ℕ) (ls : List (List ℕ)) : Type 0 where
   pub ascending : All (IsAscendingWithin 1 n) ls
   pub once : (v : ℕ) → count v ls ≤ 1
 
-All_left : {X : Type 0} (P : X → Type 0) (xs ys : List X) → All P (xs ++ ys) → All P xs
-All_left P [] ys a = All-nil P
-All_left P (x ∷ xs) ys a = All-cons P x xs (All-head P x (xs ++ ys) a) (All_left P xs ys (All-tail P x (xs ++ ys) a))
-
-All_right : {X : Type 0} (P : X → Type 0) (xs ys : List X) → All P (xs ++ ys) → All P ys
-All_right P [] ys a = a
-All_right P (x ∷ xs) ys a = All_right P xs ys (All-tail P x (xs ++ ys) a)
-
 count_both : (v : ℕ) (ls ms : List (List ℕ)) → count v (ls ++ ms) ≡ count v ls + count v ms
 count_both v ls ms = ap length (filter-append (λ l. has l v) ls ms) ∙ length-append (filter (λ l. has l v) ls) (filter (λ l. has l v) ms)
 
 pub clean_left : (n : ℕ) (ls ms : List (List ℕ)) → IsClean n (ls ++ ms) → IsClean n ls
 clean_left n ls ms c = record {
-  ascending = All_left (IsAscendingWithin 1 n) ls ms c.ascending;
+  ascending = All-front (IsAscendingWithin 1 n) ls ms c.ascending;
   once = λ v. omega (arith, count_both v ls ms, c.once v);
 }
 
 pub clean_right : (n : ℕ) (ls ms : List (List ℕ)) → IsClean n (ls ++ ms) → IsClean n ms
 clean_right n ls ms c = record {
-  ascending = All_right (IsAscendingWithin 1 n) ls ms c.ascending;
+  ascending = All-back (IsAscendingWithin 1 n) ls ms c.ascending;
   once = λ v. omega (arith, count_both v ls ms, c.once v);
 }
-
-longer : (b : Bool) (l : List ℕ) (ls : List (List ℕ)) → length ls ≤ length (cond b (l ∷ ls) ls)
-longer true l ls = omega arith
-longer false l ls = omega arith
 
 count_some : (v : ℕ) (ls : List (List ℕ)) → has (concat ls) v ≡ true → 1 ≤ count v ls
 count_some v [] h = absurd (false≢true h)

@@ -27,7 +27,8 @@ use Rattle.cactus_tree.proofs.PlaceLaws.{sizes_entered}
 use Rattle.cactus_tree.proofs.Tallies.{all_numbers, number_out, tally_bridge, tally_cycle}
 use Rattle.cactus_tree.proofs.Tasked.{sizes_bridge, sizes_cycle, sizes_out}
 use Rattle.cactus_tree.proofs.Views.{block_induction, each, view}
-use Rattle.cactus_tree.proofs.Widths.{widths_bridge, widths_cycle, widths_out}
+use Rattle.cactus_tree.proofs.Widths.{widths_bridge, widths_out}
+use Rattle.cactus_tree.proofs.Built.{ring_widths}
 
 abbrev Numbers : Type 0
 Numbers = List ℕ
@@ -204,23 +205,14 @@ bridge_case child h =
     (λ w. subst AreWide (widths_bridge child ∙ sym (append-nil (widths x))) w)
     (omega (arith, ap (λ (t : Tally). t.own) (tally_bridge child), ap (λ (t : Tally). t.under) (tally_bridge child)))
 
-joined_map : {X : Type 0} (f : X → Numbers) (xs : List X) → joined (map f xs) ≡ flat_map f xs
-joined_map f [] = refl
-joined_map f (x ∷ xs) = ap (λ l. f x ++ l) (joined_map f xs)
-
 wide_tail : (k : ℕ) (ks : Numbers) → AreWide (k ∷ ks) → AreWide ks
 wide_tail k ks h = All-tail (λ j. 2 ≤ j) k ks h
-
-cycle_widths : (nodes : Children) → block_widths (Cycle nodes) ≡ length (nodes_in nodes) ∷ flat_map widths (nodes_in nodes)
-cycle_widths nodes =
-    let xs = nodes_in nodes in
-    widths_cycle nodes ∙ ap (λ k. k ∷ joined (map widths xs)) (length-map xs widths) ∙ ap (λ l. length xs ∷ l) (joined_map widths xs)
 
 cycle_case : (nodes : Children) → AllByRecursion NodeCounted (nodes_in nodes) → BlockCounted (Cycle nodes)
 cycle_case nodes h =
     let xs = nodes_in nodes in
     several (Cycle nodes) xs h (outline_cycle nodes) (sizes_cycle nodes) (entered_cycle nodes)
-    (λ w. wide_tail (length xs) (flat_map widths xs) (subst AreWide (cycle_widths nodes) w))
+    (λ w. wide_tail (length xs) (flat_map widths xs) (subst AreWide (ring_widths nodes) w))
     (omega (arith, ap (λ (t : Tally). t.own) (tally_cycle nodes), ap (λ (t : Tally). t.under) (tally_cycle nodes), ap triangle (length-map xs number)))
 
 -- ---- several blocks
@@ -312,7 +304,7 @@ bare_found x bare f k head wide finds =
     outline_out x ∙ ap (λ (l : List (List Outline)). (let o : Outline = record { children = length (all_outlines l); inner = flat_map block_entries l } in o)) oss in
     let many : length (map outline xs ++ []) ≡ length xs = ap length (append-nil (map outline xs)) ∙ length-map xs outline in
     let ks : widths x ≡ block_widths (Cycle bare.nodes) ++ [] = widths_out x ∙ ap (λ bs. joined (map block_widths bs)) bare.one in
-    let wide_block : AreWide (length xs ∷ flat_map widths xs) = subst AreWide (ks ∙ append-nil (block_widths (Cycle bare.nodes)) ∙ cycle_widths bare.nodes) wide in
+    let wide_block : AreWide (length xs ∷ flat_map widths xs) = subst AreWide (ks ∙ append-nil (block_widths (Cycle bare.nodes)) ∙ ring_widths bare.nodes) wide in
     let two : 2 ≤ length xs = All-head (λ j. 2 ≤ j) (length xs) (flat_map widths xs) wide_block in
     let shown : Finds f k (record { children = length (map outline xs ++ []); head = head } ∷ (block_entries (map outline xs) ++ [])) (vertices x ∷ flat_map entered_block (blocks x)) =
     subst (λ ls. Finds f k (record { children = length (map outline xs ++ []); head = head } ∷ (block_entries (map outline xs) ++ [])) ls) (entered_out x)

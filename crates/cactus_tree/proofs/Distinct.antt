@@ -11,6 +11,7 @@ use Rattle.cut_definitions.specs.Weight.{VertexSet, either}
 use Rattle.cut_definitions.specs.Cuts.{has}
 use Rattle.cut_definitions.proofs.Bridge.{has_within}
 use Rattle.cut_definitions.proofs.Lists.{Contains-here, Contains-there, Contains-cons_cases, Contains-nil, Contains-map, Contains-from_map}
+use Rattle.cut_definitions.proofs.Ascending.{has_contains, contains_has}
 use Rattle.cactus_tree.specs.Sides.{Part, part, block_part, nothing, all_of, belows, all_cuts, from_here}
 use Rattle.cactus_tree.specs.Trees.{vertices, blocks, nodes_in}
 use Rattle.cactus_tree.specs.Entered.{entered, entered_block}
@@ -20,7 +21,6 @@ use Rattle.cactus_tree.specs.declared.tree.Node.{Node}
 use Rattle.cactus_tree.specs.declared.tree.Block.{Block}
 use Rattle.cactus_tree.specs.declared.tree.Children.{Children}
 use Rattle.cactus_tree.specs.declared.tree.Block.TheVariants.{Bridge, Cycle}
-use Rattle.cactus_tree.proofs.Groups.{has_contains, contains_has}
 use Rattle.cactus_tree.proofs.Once.{all_vertices_within}
 use Rattle.cactus_tree.proofs.Parts.{bridge_part, cycle_part, either_nothing}
 use Rattle.cactus_tree.specs.Different.{AreDifferent}
@@ -150,7 +150,7 @@ once_none = record {
 }
 
 -- ---- the intervals that begin at one place
-grown_apart : (s : VertexSet) (p : Part) (ps : List Part) → IsRow (p ∷ ps) → Apart s (all_of (belows (p ∷ ps))) → Apart (either s p.below) (all_of (belows ps))
+pub grown_apart : (s : VertexSet) (p : Part) (ps : List Part) → IsRow (p ∷ ps) → Apart s (all_of (belows (p ∷ ps))) → Apart (either s p.below) (all_of (belows ps))
 grown_apart s p ps r a v h k = elim (or_cases (s v) (p.below v) h) [
   | inl e ↦ a v e (or_right (p.below v) (all_of (belows ps) v) k)
   | inr e ↦ r.2 v e k

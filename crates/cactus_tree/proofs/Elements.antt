@@ -2,10 +2,10 @@
 use Rattle.std.proofs.Common.{◌≡◌, ℕ, zero, suc, ◌+◌, ◌≤◌, ◌<◌, min, max, Bool, true, false, not, ◌&&◌, ◌||◌, ◌==◌, ◌⊎◌, inl, inr, List, [], ◌∷◌, ◌++◌, length, get_or, take, drop, ap, ◌∙◌, sym, refl, arith}
 use Rattle.std.specs.Prelude.{nat_le}
 use Rattle.std.proofs.Math.Seq.{take-suc}
+use Rattle.std.proofs.lemmas.Bool.{le-leb, lt-leb}
 use Rattle.cut_definitions.specs.Weight.{VertexSet, either, minus}
 use Rattle.cut_definitions.specs.Cuts.{has}
 use Rattle.cut_definitions.specs.Scan.{single}
-use Rattle.cut_definitions.proofs.ChainLaws.{leb_yes, leb_no}
 use Rattle.vertex_set.specs.Side.{VertexList, listed}
 use Rattle.vertex_set.proofs.Bits.{listed-same, has-listed}
 use Rattle.cactus_tree.specs.CutRanges.{Range, elements_at}
@@ -97,10 +97,10 @@ one_put n s xs from place mid new h within same is step =
 -- ---- from one range to another
 le_min : (b c p : ℕ) → nat_le (min b c) p ≡ (nat_le b p || nat_le c p)
 le_min b c p = elim (le_or b p) [
-  | inl x ↦ leb_yes (min b c) p (omega (arith, x)) ∙ sym (ap (λ y. y || nat_le c p) (leb_yes b p x))
+  | inl x ↦ le-leb (min b c) p (omega (arith, x)) ∙ sym (ap (λ y. y || nat_le c p) (le-leb b p x))
   | inr x ↦ elim (le_or c p) [
-    | inl y ↦ leb_yes (min b c) p (omega (arith, y)) ∙ sym (ap (λ z. z || nat_le c p) (leb_no b p x) ∙ leb_yes c p y)
-    | inr y ↦ leb_no (min b c) p (omega (arith, x, y)) ∙ sym (ap (λ z. z || nat_le c p) (leb_no b p x) ∙ leb_no c p y)
+    | inl y ↦ le-leb (min b c) p (omega (arith, y)) ∙ sym (ap (λ z. z || nat_le c p) (lt-leb b p x) ∙ le-leb c p y)
+    | inr y ↦ lt-leb (min b c) p (omega (arith, x, y)) ∙ sym (ap (λ z. z || nat_le c p) (lt-leb b p x) ∙ lt-leb c p y)
   ]
 ]
   where
@@ -110,10 +110,10 @@ le_min b c p = elim (le_or b p) [
 le_max : (a d p : ℕ) → nat_le (max a d) p ≡ (nat_le a p && nat_le d p)
 le_max a d p = elim (le_or a p) [
   | inl x ↦ elim (le_or d p) [
-    | inl y ↦ leb_yes (max a d) p (omega (arith, x, y)) ∙ sym (ap (λ z. z && nat_le d p) (leb_yes a p x) ∙ leb_yes d p y)
-    | inr y ↦ leb_no (max a d) p (omega (arith, y)) ∙ sym (ap (λ z. z && nat_le d p) (leb_yes a p x) ∙ leb_no d p y)
+    | inl y ↦ le-leb (max a d) p (omega (arith, x, y)) ∙ sym (ap (λ z. z && nat_le d p) (le-leb a p x) ∙ le-leb d p y)
+    | inr y ↦ lt-leb (max a d) p (omega (arith, y)) ∙ sym (ap (λ z. z && nat_le d p) (le-leb a p x) ∙ lt-leb d p y)
   ]
-  | inr x ↦ leb_no (max a d) p (omega (arith, x)) ∙ sym (ap (λ z. z && nat_le d p) (leb_no a p x))
+  | inr x ↦ lt-leb (max a d) p (omega (arith, x)) ∙ sym (ap (λ z. z && nat_le d p) (lt-leb a p x))
 ]
   where
     le_or : (a b : ℕ) → (a ≤ b) ⊎ (b < a)

@@ -1,11 +1,12 @@
 -- A normal cactus has few nodes.
-use Rattle.std.proofs.Common.{◌≡◌, ℕ, ◌+◌, ◌*◌, ◌≤◌, inl, inr, true, List, [], ◌∷◌, ◌++◌, length, ap, ◌∙◌, sym, refl, arith, append-nil}
+use Rattle.std.proofs.Common.{◌≡◌, ℕ, ◌+◌, ◌*◌, ◌≤◌, inl, inr, true, List, [], ◌∷◌, ◌++◌, length, ap, ◌∙◌, sym, arith, append-nil}
 use Rattle.std.specs.List.{AllByRecursion, concat, flat_map, list_all}
 use Rattle.std.specs.declared.boxed.Box.{Box}
 use Rattle.std.specs.declared.alloc.Global.{Global}
-use Rattle.std.proofs.lemmas.Bool.{and_parts, false≢true}
-use Rattle.std.proofs.lemmas.List.{length-append, append_assoc}
-use Rattle.cut_definitions.specs.Cuts.{has}
+use Rattle.std.proofs.lemmas.Bool.{and_parts}
+use Rattle.std.proofs.lemmas.List.{length-append}
+use Rattle.std.proofs.lemmas.List.Folds.{concat-append}
+use Rattle.cut_definitions.proofs.Ascending.{length-has, contains_has}
 use Rattle.cactus_tree.specs.Entered.{entered, entered_block}
 use Rattle.cactus_tree.specs.Entries.{nodes_of}
 use Rattle.cactus_tree.specs.Normal.{shape, block_shape, child_fine}
@@ -16,7 +17,6 @@ use Rattle.cactus_tree.specs.declared.tree.Children.{Children}
 use Rattle.cactus_tree.specs.declared.tree.Block.TheVariants.{Bridge, Cycle}
 use Rattle.cactus_tree.proofs.Orders.{entered_out, entered_bridge, entered_cycle}
 use Rattle.cactus_tree.proofs.Entries.{nodes_bridge, nodes_cycle}
-use Rattle.cactus_tree.proofs.Groups.{contains_has}
 use Rattle.cactus_tree.proofs.Masses.{vertices_length}
 use Rattle.cactus_tree.specs.NormalLaws.{LawOfFewNodes}
 use Rattle.cactus_tree.proofs.Views.{block_induction, each}
@@ -26,12 +26,8 @@ use Rattle.cactus_tree.proofs.Fits.{IsPlaced, child_splits, placed_below, solid_
 abbrev mass : List (List ℕ) → ℕ
 mass ls = length (concat ls)
 
-concat_both : (ls ms : List (List ℕ)) → concat (ls ++ ms) ≡ concat ls ++ concat ms
-concat_both [] ms = refl
-concat_both (l ∷ ls) ms = ap (λ m. l ++ m) (concat_both ls ms) ∙ sym (append_assoc l (concat ls) (concat ms))
-
 mass_both : (ls ms : List (List ℕ)) → mass (ls ++ ms) ≡ mass ls + mass ms
-mass_both ls ms = ap length (concat_both ls ms) ∙ length-append (concat ls) (concat ms)
+mass_both ls ms = ap length (concat-append ls ms) ∙ length-append (concat ls) (concat ms)
 
 abbrev NodeFew : Node → Type 0
 NodeFew x = IsPlaced x → list_all (λ b. (block_shape b).fine) (blocks x) ≡ true → length (entered x) + 1 ≤ 2 * mass (entered x)
@@ -57,10 +53,6 @@ nodes_few (x ∷ xs) h f =
     let one = h.0 (placed_below x both.0) (child_splits true x both.0).1 in
     omega (arith, one, nodes_few xs h.1 both.1, length-append (entered x) (flat_map entered xs), mass_both (entered x) (flat_map entered xs))
 
-some_long : (l : List ℕ) (v : ℕ) → has l v ≡ true → 1 ≤ length l
-some_long [] v h = absurd (false≢true h)
-some_long (x ∷ xs) v h = omega arith
-
 node_case : (x : Node) → AllByRecursion BlockFew (blocks x) → NodeFew x
 node_case x h placed fine =
     let bs = blocks x in
@@ -70,7 +62,7 @@ node_case x h placed fine =
     let all : mass (entered x) ≡ length (vertices x) + mass below = ap mass (entered_out x) ∙ length-append (vertices x) (concat below) in
     elim placed [
       | inl s ↦ elim s [
-        | inl w ↦ omega (arith, few.0, size, all, some_long (vertices x) w.0 w.1)
+        | inl w ↦ omega (arith, few.0, size, all, length-has (vertices x) w.0 w.1)
         | inr k ↦ omega (arith, few.0, few.1, size, all, k)
       ]
       | inr c ↦ (
@@ -107,4 +99,4 @@ few_nodes n root h normal some =
     let few = blocks_few bs (each BlockFew block_few bs) (root_fine n root h normal) in
     let size : length (entered root) ≡ length below + 1 = omega (arith, ap length (entered_out root)) in
     let all : mass (entered root) ≡ length (vertices root) + mass below = ap mass (entered_out root) ∙ length-append (vertices root) (concat below) in
-    omega (arith, few.0, few.1, size, all, some, some_long (vertices root) 1 (contains_has (vertices root) 1 h.root_has_one), vertices_length n root h)
+    omega (arith, few.0, few.1, size, all, some, length-has (vertices root) 1 (contains_has (vertices root) 1 h.root_has_one), vertices_length n root h)

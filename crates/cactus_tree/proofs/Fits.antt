@@ -65,7 +65,7 @@ place_of above [] (b ∷ []) h =
     inr (b, (λ i. b ∷ []), both.0, (and_parts (block_shape b).is_cycle true both.1).0, (λ i. []))
 place_of above [] (b ∷ (d ∷ bs)) h = inl (inr (omega arith))
 
-cycle_view : (b : Block) → (block_shape b).is_cycle ≡ true → (nodes : Children) × (b ≡ Cycle nodes)
+pub cycle_view : (b : Block) → (block_shape b).is_cycle ≡ true → (nodes : Children) × (b ≡ Cycle nodes)
 cycle_view b h = elim (view b) [
   | inl y ↦ absurd (false≢true (sym (ap (λ (s : BlockShape). s.is_cycle) (bridge_shape y.0)) ∙ sym (ap (λ c. (block_shape c).is_cycle) y.1) ∙ h))
   | inr y ↦ y

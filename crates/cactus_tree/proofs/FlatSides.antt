@@ -5,8 +5,9 @@ use Rattle.std.proofs.lemmas.Bool.{cases_lt, cases_eq, false≢true}
 use Rattle.std.proofs.lemmas.List.{get_or-take, get_or-drop, get_or_past, length-take, length-drop}
 use Rattle.std.proofs.lemmas.List.Elements.{All-get_or, Contains-append_cases, Contains-append_left, Contains-append_right}
 use Rattle.cut_definitions.specs.Cuts.{has, IsAscendingWithin}
-use Rattle.cut_definitions.proofs.Lists.{Contains-cons_cases, Contains-map, Contains-from_map, Contains-filter, Contains-from_filter}
+use Rattle.cut_definitions.proofs.Lists.{Contains-cons_cases, Contains-map, Contains-from_map, Contains-filter, Contains-from_filter, Contains-nil}
 use Rattle.cut_definitions.proofs.Bridge.{same_ascending, IsAscendingWithin-filter}
+use Rattle.cut_definitions.proofs.Ascending.{contains_has, has_contains}
 use Rattle.cactus_tree.specs.declared.tree.Node.{Node}
 use Rattle.cactus_tree.specs.Entered.{entered}
 use Rattle.cactus_tree.specs.Rooted.{IsCactus, sides_of}
@@ -17,10 +18,10 @@ use Rattle.cactus_tree.specs.Flattened.{Joins, flat_of, joins_of, tree_joins}
 use Rattle.cactus_tree.specs.FlatLaws.{LawOfFlatSides}
 use Rattle.cactus_tree.proofs.Laid.{set_at}
 use Rattle.cactus_tree.proofs.CutRanges.{size_is, cuts_are_ranges}
-use Rattle.cactus_tree.proofs.Groups.{contains_has, has_contains, same_members}
+use Rattle.cactus_tree.proofs.Groups.{same_members}
 use Rattle.cactus_tree.proofs.Ranges.{has_range}
 use Rattle.cactus_tree.proofs.Closing.{Edges, around}
-use Rattle.cactus_tree.proofs.Pieces.{inside, within_range, IsCutOff, IsPiece, nowhere, map_one}
+use Rattle.cactus_tree.proofs.Pieces.{inside, within_range, IsCutOff, IsPiece, map_one}
 use Rattle.cactus_tree.proofs.TreePieces.{tree_holds}
 
 -- ---- lists one after another
@@ -63,7 +64,7 @@ ascending_has low high (x ∷ xs) v h is = elim (has_both_at (x ∷ []) xs v is)
 ]
   where
     only : (y w : ℕ) → (y ≡ w → ⊥) → Contains (y ∷ []) w → ⊥
-    only y w ne c = elim (Contains-cons_cases y [] w c) [ inl e ↦ ne e | inr k ↦ nowhere w k ]
+    only y w ne c = elim (Contains-cons_cases y [] w c) [ inl e ↦ ne e | inr k ↦ Contains-nil w k ]
 
 -- ---- reached and not reached
 closed_not : (edges : Edges) (set : ℕ → Bool) → IsClosed edges set → IsClosed edges (λ i. not (set i))
@@ -104,7 +105,7 @@ module _ (n : ℕ) (root : Node) (ok : IsCactus n root) where
   has_node : (i v : ℕ) → Contains (node_at flat i) v → i < length lists
   has_node i v h = elim (cases_lt i (length lists)) [
     | inl a ↦ a
-    | inr b ↦ absurd (nowhere v (subst (λ l. Contains l v) (get_or_past lists i [] b) h))
+    | inr b ↦ absurd (Contains-nil v (subst (λ l. Contains l v) (get_or_past lists i [] b) h))
   ]
 
   abbrev Unreached : Edges → ℕ → Type 0

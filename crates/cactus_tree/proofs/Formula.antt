@@ -7,6 +7,7 @@ use Rattle.std.specs.declared.alloc.Global.{Global}
 use Rattle.std.proofs.lemmas.Bool.{and_parts, false≢true}
 use Rattle.std.proofs.lemmas.List.{length-map, map-append}
 use Rattle.cut_definitions.specs.Cuts.{has}
+use Rattle.cut_definitions.proofs.Ascending.{contains_has}
 use Rattle.cactus_tree.specs.Normal.{shape, block_shape, child_fine}
 use Rattle.cactus_tree.specs.Widths.{widths, block_widths, joined}
 use Rattle.cactus_tree.specs.Trees.{vertices, blocks, nodes_in}
@@ -16,7 +17,6 @@ use Rattle.cactus_tree.specs.declared.tree.Children.{Children}
 use Rattle.cactus_tree.specs.declared.tree.Block.TheVariants.{Bridge, Cycle, rolls-Bridge, rolls-Cycle}
 use Rattle.cactus_tree.specs.declared.tree.Block.TheOpen as Open
 use Rattle.cactus_tree.specs.declared.tree.Block.TheFolds.{fold_out-Node, fold_out-Blocks, fold_out-Children, fold-roll-Block, fold-Block}
-use Rattle.cactus_tree.proofs.Groups.{contains_has}
 use Rattle.cactus_tree.proofs.Widths.{widths_out, widths_bridge, widths_cycle}
 use Rattle.cactus_tree.specs.Numbers.{Tally, number, tally, total, triangle, between, all_own, all_under}
 use Rattle.cactus_tree.specs.Formula.{BlockCensus, Census, census, block_census, alone_census, node_census, bridge_census, cycle_census, census_block_step, census_blocks_step, census_children_step, census_node_step, LawOfFormula}

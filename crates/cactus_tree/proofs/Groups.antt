@@ -1,11 +1,11 @@
 -- The vertices of each class, gathered, and what several classes have together.
-use Rattle.std.proofs.Common.{◌≡◌, ◌≢◌, ℕ, ◌+◌, ◌-◌, ◌<◌, ◌≤◌, ◌==◌, ◌||◌, suc, Bool, true, false, cond, List, [], ◌∷◌, ◌++◌, length, map, get_or, set, eqb, IsPermutation, refl, sym, ◌∙◌, ap, subst, arith, ⊎_elim}
+use Rattle.std.proofs.Common.{◌≡◌, ◌≢◌, ℕ, ◌+◌, ◌<◌, ◌≤◌, ◌==◌, ◌||◌, suc, cond, List, [], ◌∷◌, ◌++◌, length, map, get_or, set, eqb, IsPermutation, refl, sym, ◌∙◌, ap, subst, arith, ⊎_elim}
 use Rattle.std.specs.List.{All, Contains, filter, flat_map, range_with_len, dedup}
 use Rattle.std.specs.List.Sorted.{IsStrictlyIncreasing, IsSorted}
 use Rattle.std.specs.List.Retain.{IsFiltered, DiffersFromLast}
 use Rattle.std.specs.Ordering.{nat_cmp}
 use Rattle.std.specs.Global.{Vec}
-use Rattle.std.proofs.lemmas.Bool.{cases_eq, eq-eqb, ne_eqb, false≢true}
+use Rattle.std.proofs.lemmas.Bool.{cases_eq, eq-eqb, ne_eqb}
 use Rattle.std.proofs.lemmas.List.{map-set, get_or-map, get_or-set_same, get_or-set_other, length-map}
 use Rattle.std.proofs.lemmas.List.Elements.{All-weaker, All-filter, All-append, All-nil, All-contains, All-contains_itself, All-tail, filter-append}
 use Rattle.std.proofs.lemmas.List.Filters.{dedup_is}
@@ -14,11 +14,16 @@ use Rattle.std.proofs.lemmas.List.Sorted.{Contains-permutation, IsPermutation-sy
 use Rattle.std.proofs.lemmas.Map.Keys.{IsStrictlyIncreasing-dedup}
 use Rattle.cut_definitions.specs.Cuts.{has, IsAscendingWithin}
 use Rattle.cut_definitions.specs.Contraction.{label, class, lift}
-use Rattle.cut_definitions.proofs.Lists.{Contains-here, Contains-there, Contains-cons_cases, Contains-nil}
+use Rattle.cut_definitions.proofs.Lists.{Contains-here}
 use Rattle.cut_definitions.proofs.Bridge.{has_within, IsAscendingWithin-filter, same_ascending}
 use Rattle.cut_definitions.proofs.Contracted.{has-lift}
+use Rattle.cut_definitions.proofs.Bools.{same_tests}
+use Rattle.cut_definitions.proofs.Numbers.{eqb_flip}
+use Rattle.cut_definitions.proofs.ListLaws.{label_at, append_none}
+use Rattle.cut_definitions.proofs.Ascending.{has_contains, contains_has}
+use Rattle.cut_definitions.proofs.Ranges.{range_push}
 use Rattle.cactus_tree.specs.Spread.{group_at, class_of_first, AreGathered}
-use Rattle.cactus_tree.proofs.Ranges.{range_push, or_right, range_within, IsWithin}
+use Rattle.cactus_tree.proofs.Ranges.{range_within, IsWithin}
 use Rattle.cactus_tree.proofs.Segments.{has_append_at}
 
 -- ---- one more vertex
@@ -46,13 +51,6 @@ first_more classes i c =
     ∙ filter-append (class classes c) (range_with_len 1 i) ((1 + i) ∷ [])
     ∙ ap (λ k. class_of_first classes i c ++ filter (class classes c) (k ∷ [])) down
 
-label_at : (classes : List ℕ) (i : ℕ) → label classes (i + 1) ≡ get_or classes i 0
-label_at classes i = let e : i + 1 - 1 ≡ i = omega arith in ap (λ k. get_or classes k 0) e
-
-append_none : {X : Type 0} (xs : List X) → xs ++ [] ≡ xs
-append_none [] = refl
-append_none (x ∷ xs) = ap (λ l. x ∷ l) (append_none xs)
-
 pub first_same : (classes : List ℕ) (i c : ℕ) → get_or classes i 0 ≡ c → class_of_first classes (i + 1) c ≡ class_of_first classes i c ++ (i + 1) ∷ []
 first_same classes i c e =
     first_more classes i c ∙ ap (λ b. class_of_first classes i c ++ cond b ((i + 1) ∷ []) []) (eq-eqb (label classes (i + 1)) c (label_at classes i ∙ e))
@@ -70,29 +68,8 @@ gathered_more classes old new i here is grown others before c =
     (cases_eq here c)
 
 -- ---- lists as sets
-pub contains_has : (xs : List ℕ) (v : ℕ) → Contains xs v → has xs v ≡ true
-contains_has [] v h = absurd (Contains-nil v h)
-contains_has (x ∷ xs) v h =
-    ⊎_elim
-    (λ e. ap (λ b. b || has xs v) (eq-eqb x v e))
-    (λ t. or_right (x == v) (has xs v) (contains_has xs v t))
-    (Contains-cons_cases x xs v h)
-
-pub has_contains : (xs : List ℕ) (v : ℕ) → has xs v ≡ true → Contains xs v
-has_contains [] v h = absurd (false≢true h)
-has_contains (x ∷ xs) v h =
-    ⊎_elim
-    (λ e. subst (Contains (x ∷ xs)) e (Contains-here x xs))
-    (λ ne. Contains-there x xs v (has_contains xs v (sym (ap (λ b. b || has xs v) (ne_eqb x v ne)) ∙ h)))
-    (cases_eq x v)
-
-same_bool : (a b : Bool) → (a ≡ true → b ≡ true) → (b ≡ true → a ≡ true) → a ≡ b
-same_bool true b f g = sym (f refl)
-same_bool false true f g = g refl
-same_bool false false f g = refl
-
 pub same_members : (xs ys : List ℕ) (v : ℕ) → (Contains xs v → Contains ys v) → (Contains ys v → Contains xs v) → has xs v ≡ has ys v
-same_members xs ys v f g = same_bool (has xs v) (has ys v) (λ h. contains_has ys v (f (has_contains xs v h))) (λ h. contains_has xs v (g (has_contains ys v h)))
+same_members xs ys v f g = same_tests (has xs v) (has ys v) (λ h. contains_has ys v (f (has_contains xs v h))) (λ h. contains_has xs v (g (has_contains ys v h)))
 
 -- ---- rising lists are ascending
 pub ascending_from : (low high x : ℕ) (xs : List ℕ) → low ≤ x → IsStrictlyIncreasing (x ∷ xs) → All (λ v. v ≤ high) (x ∷ xs) → IsAscendingWithin low high (x ∷ xs)
@@ -109,12 +86,9 @@ All_of : {P : ℕ → Type 0} (xs : List ℕ) → ((v : ℕ) → Contains xs v �
 All_of {P} xs f = All-weaker (Contains xs) P f xs (All-contains_itself xs)
 
 -- ---- several classes together
-eqb_sym : (a b : ℕ) → eqb a b ≡ eqb b a
-eqb_sym a b = ⊎_elim (λ e. eq-eqb a b e ∙ sym (eq-eqb b a (sym e))) (λ ne. ne_eqb a b ne ∙ sym (ne_eqb b a (λ q. ne (sym q)))) (cases_eq a b)
-
 module _ (classes : List ℕ) (groups : List (Vec ℕ)) (gathered : AreGathered classes groups) where
   has_group : (c v : ℕ) → 1 ≤ v → v ≤ length classes → has (group_at groups c) v ≡ (c == label classes v)
-  has_group c v l h = ap (λ xs. has xs v) (gathered c) ∙ has_within (length classes) 1 v (class classes c) l (omega arith) ∙ eqb_sym (label classes v) c
+  has_group c v l h = ap (λ xs. has xs v) (gathered c) ∙ has_within (length classes) 1 v (class classes c) l (omega arith) ∙ eqb_flip (label classes v) c
 
   has_groups : (cs : List ℕ) (v : ℕ) → 1 ≤ v → v ≤ length classes → has (flat_map (group_at groups) cs) v ≡ has cs (label classes v)
   has_groups [] v l h = refl

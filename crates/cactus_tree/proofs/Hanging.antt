@@ -1,12 +1,12 @@
 -- What hangs from a node of a flat cactus: a bridge with a tree below it, or a cycle through the roots of several trees.
 use Rattle.std.proofs.Common.{◌≡◌, ℕ, ◌+◌, ◌≤◌, ◌<◌, Bool, true, false, List, [], ◌∷◌, ◌++◌, inl, inr, map, sym, ◌∙◌, subst, arith}
 use Rattle.std.specs.List.{Contains, AllZip}
-use Rattle.cut_definitions.proofs.Lists.{Contains-map, Contains-from_map, Contains-here, Contains-there, Contains-cons_cases}
+use Rattle.cut_definitions.proofs.Lists.{Contains-map, Contains-from_map, Contains-here, Contains-there, Contains-cons_cases, Contains-nil}
 use Rattle.cactus_tree.specs.CutRanges.{Range}
 use Rattle.cactus_tree.specs.Flattened.{Joins, TreeJoins, trees_size, roots_from, trees_from, bridge_before}
 use Rattle.cactus_tree.specs.FlatCuts.{without_one}
 use Rattle.cactus_tree.proofs.Closing.{Edges, around, split_around, IsEach}
-use Rattle.cactus_tree.proofs.Pieces.{inside, within_range, before_range, behind_range, edges_of, IsLinked, IsCutOff, IsPiece, nowhere, no_piece, linked_beside}
+use Rattle.cactus_tree.proofs.Pieces.{inside, within_range, before_range, behind_range, edges_of, IsLinked, IsCutOff, IsPiece, no_piece, linked_beside}
 
 abbrev pub range : ℕ → ℕ → Range
 range from to = record { from = from; to = to }
@@ -84,7 +84,7 @@ zip_append R (x ∷ xs) us [] vs z w = absurd z
 zip_append R (x ∷ xs) us (y ∷ ys) vs z w = (z.0, zip_append R xs us ys vs z.1 w)
 
 pub zip_first : {A B : Type 0} (R : A → B → Type 0) (xs : List A) (ys : List B) (x : A) → AllZip R xs ys → Contains xs x → (y : B) × Contains ys y × R x y
-zip_first R [] ys x z h = absurd (nowhere x h)
+zip_first R [] ys x z h = absurd (Contains-nil x h)
 zip_first R (a ∷ xs) [] x z h = absurd z
 zip_first R (a ∷ xs) (b ∷ ys) x z h = elim (Contains-cons_cases a xs x h) [
   | inl e ↦ (b, Contains-here b ys, subst (λ w. R w b) e z.0)
@@ -92,7 +92,7 @@ zip_first R (a ∷ xs) (b ∷ ys) x z h = elim (Contains-cons_cases a xs x h) [
 ]
 
 pub zip_second : {A B : Type 0} (R : A → B → Type 0) (xs : List A) (ys : List B) (y : B) → AllZip R xs ys → Contains ys y → (x : A) × Contains xs x × R x y
-zip_second R xs [] y z h = absurd (nowhere y h)
+zip_second R xs [] y z h = absurd (Contains-nil y h)
 zip_second R [] (b ∷ ys) y z h = absurd z
 zip_second R (a ∷ xs) (b ∷ ys) y z h = elim (Contains-cons_cases b ys y h) [
   | inl e ↦ (a, Contains-here a xs, subst (λ w. R a w) e z.0)

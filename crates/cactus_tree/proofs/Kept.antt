@@ -3,7 +3,7 @@ use Rattle.std.proofs.Common.{◌≡◌, ℕ, zero, suc, ◌+◌, ◌≤◌, ◌
 use Rattle.std.specs.Prelude.{nat_le, slice_index}
 use Rattle.std.specs.List.{Contains}
 use Rattle.std.proofs.lemmas.Bool.{and_parts, eqb-true, leb-true}
-use Rattle.std.proofs.lemmas.List.{append_assoc, length-append, length-map, map-append}
+use Rattle.std.proofs.lemmas.List.{append_assoc, length-append, length-map, map-append, take-map}
 use Rattle.std.proofs.lemmas.List.Elements.{Contains-append_left, Contains-append_right, Contains-append_cases}
 use Rattle.cut_definitions.proofs.Lists.{Contains-here, Contains-there, Contains-cons_cases, Contains-map, Contains-from_map}
 use Rattle.cactus_tree.specs.CutRanges.{Range}
@@ -12,7 +12,7 @@ use Rattle.cactus_tree.specs.Borders.{AllHop, hops_end, hops_more, all_borders, 
 use Rattle.cactus_tree.specs.Repeats.{all_marks, entry_at, is_between, marks_along, marks_at, passed_over, ranges_kept}
 use Rattle.cactus_tree.specs.declared.tree.outline.Entry.{Entry}
 use Rattle.cactus_tree.specs.declared.walk.borders.Border.{Border}
-use Rattle.cactus_tree.proofs.PlaceLaws.{range_placed, map_take, to_placed}
+use Rattle.cactus_tree.proofs.PlaceLaws.{range_placed, to_placed}
 
 -- ---- parts of lists
 pub map_drop : {X Y : Type 0} (f : X → Y) (d : ℕ) (xs : List X) → map f (drop d xs) ≡ drop d (map f xs)
@@ -106,7 +106,7 @@ kept_placed places [] ms = refl
 kept_placed places (b ∷ bs) [] = refl
 kept_placed places (b ∷ bs) (m ∷ ms) =
     let d = passed_over m in
-    ap (λ l. ranges_to (slice_index places b.place) (drop d l) ++ ranges_kept (map (placed places) bs) ms) (map_take (placed places) b.following bs)
+    ap (λ l. ranges_to (slice_index places b.place) (drop d l) ++ ranges_kept (map (placed places) bs) ms) (take-map (placed places) b.following bs)
     ∙ ap (λ l. ranges_to (slice_index places b.place) l ++ ranges_kept (map (placed places) bs) ms) (sym (map_drop (placed places) d (take b.following bs)))
     ∙ ap (λ l. l ++ ranges_kept (map (placed places) bs) ms) (to_placed places b.place (drop d (take b.following bs)))
     ∙ ap (λ l. map (range_placed places) (ranges_to b.place (drop d (take b.following bs))) ++ l) (kept_placed places bs ms)

@@ -5,6 +5,7 @@ use Rattle.std.proofs.lemmas.List.{append_assoc, length-append, map-append}
 use Rattle.std.proofs.lemmas.List.Elements.{All-cons, All-nil, All-append, All-weaker}
 use Rattle.cut_definitions.specs.Weight.{VertexSet, either}
 use Rattle.cut_definitions.specs.Cuts.{has}
+use Rattle.cut_definitions.proofs.ListLaws.{drop_front}
 use Rattle.cactus_tree.specs.Sides.{Part, all_of, from_here, intervals, belows, all_cuts, together, bridge_of, cycle_of}
 use Rattle.cactus_tree.specs.Entered.{in_order}
 use Rattle.cactus_tree.specs.CutRanges.{Range, IsRangeWithin, Layout, elements_at, sizes_in, ranges_from, interval_ranges, size_along, ranges_along, side_by_side, bridge_layout, cycle_layout, node_layout}
@@ -30,10 +31,6 @@ pub data AreLaid : List Part → List Layout → List Lists → Type 0 where
   more : (p : Part) (ps : List Part) (q : Layout) (qs : List Layout) (l : Lists) (ls : List Lists) → IsLaid p q l → AreLaid ps qs ls → AreLaid (p ∷ ps) (q ∷ qs) (l ∷ ls)
 
 -- ---- places
-drop_front : {X : Type 0} (b c : List X) → drop (length b) (b ++ c) ≡ c
-drop_front [] c = refl
-drop_front (x ∷ b) c = drop_front b c
-
 take_front : {X : Type 0} (b c : List X) → take (length b) (b ++ c) ≡ b
 take_front [] c = refl
 take_front (x ∷ b) c = ap (λ l. x ∷ l) (take_front b c)

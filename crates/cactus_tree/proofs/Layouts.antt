@@ -50,7 +50,7 @@ record ChildrenLaid (c : Children) : Type 0 where
 abbrev NodeLaid : Node → Type 0
 NodeLaid x = IsLaidOut (part x) (entered x)
 
-laid_along : (p q : Part) (l m : Lists) → p ≡ q → l ≡ m → IsLaidOut q m → IsLaidOut p l
+pub laid_along : (p q : Part) (l m : List (List ℕ)) → p ≡ q → l ≡ m → IsLaidOut q m → IsLaidOut p l
 laid_along p q l m e f h = subst (λ r. IsLaidOut r l) (sym e) (subst (IsLaidOut q) (sym f) h)
 
 -- values, each with a proof

@@ -62,3 +62,5 @@ pub mod Counted
 pub mod Pigeons
 pub mod Placed
 pub mod RangeMasses
+pub mod BlockLaws
+pub mod Chains

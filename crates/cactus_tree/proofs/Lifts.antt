@@ -19,7 +19,7 @@ pub record KeepsUnions (h : VertexSet → VertexSet) : Type 0 where
   pub none : h nothing ≡ nothing
   pub union : (s t : VertexSet) → h (either s t) ≡ either (h s) (h t)
 
-same_part : (b c : VertexSet) (k l : List VertexSet) → b ≡ c → k ≡ l → (let p : Part = record { below = b; cuts = k } in p) ≡ record { below = c; cuts = l }
+pub same_part : (b c : VertexSet) (k l : List VertexSet) → b ≡ c → k ≡ l → (let p : Part = record { below = b; cuts = k } in p) ≡ record { below = c; cuts = l }
 same_part b c k l e f = λ i. record { below = e i; cuts = f i }
 
 module _ (h : VertexSet → VertexSet) (keeps : KeepsUnions h) where

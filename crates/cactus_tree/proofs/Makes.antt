@@ -1,11 +1,12 @@
 -- A tree is put together from entries, and shows what was read off them.
-use Rattle.std.proofs.Common.{ne_eqb, ◌≡◌, ℕ, zero, suc, ◌+◌, ◌-◌, ◌≤◌, ◌==◌, ◌&&◌, Bool, true, false, not, List, [], ◌∷◌, ◌++◌, length, take, drop, Some, ap, ◌∙◌, sym, refl, subst, arith}
+use Rattle.std.proofs.Common.{ne_eqb, ◌≡◌, ℕ, zero, suc, ◌+◌, ◌-◌, ◌≤◌, ◌==◌, ◌&&◌, Bool, true, not, List, [], ◌∷◌, ◌++◌, length, take, drop, Some, ap, ◌∙◌, sym, refl, subst, arith}
 use Rattle.std.specs.Prelude.{slice_get, slice_index_or}
 use Rattle.std.specs.List.{list_all}
 use Rattle.std.proofs.lemmas.Bool.{false≢true, and_parts, eqb-true}
 use Rattle.std.proofs.lemmas.Option.{get_or_from_slice_get}
 use Rattle.std.proofs.lemmas.List.{append_assoc, append-nil, drop-drop, length-drop}
 use Rattle.cut_definitions.specs.Cuts.{has}
+use Rattle.cut_definitions.proofs.Bools.{and_true}
 use Rattle.cactus_tree.specs.Trees.{vertices, blocks}
 use Rattle.cactus_tree.specs.Normal.{block_shape}
 use Rattle.cactus_tree.specs.Entries.{Read, bridge_read, nothing_read, used, wanted, drawn, all_drawn, joints_of, read_entry, read_entries, left, IsReady}
@@ -18,26 +19,26 @@ use Rattle.cactus_tree.specs.Trims.{IsNodeOf, IsChildOf, IsBlockOf, Each, AreNod
 use Rattle.cactus_tree.proofs.Trims.{node_made}
 
 -- ---- pairs, one by one
-each_push : {X Y : Type 0} (P : X → Y → Type 0) (xs : List X) (ys : List Y) (x : X) (y : Y) → Each P xs ys → P x y → Each P (xs ++ x ∷ []) (ys ++ y ∷ [])
+pub each_push : {X Y : Type 0} (P : X → Y → Type 0) (xs : List X) (ys : List Y) (x : X) (y : Y) → Each P xs ys → P x y → Each P (xs ++ x ∷ []) (ys ++ y ∷ [])
 each_push P [] [] x y h p = (p, tt)
 each_push P [] (z ∷ ys) x y h p = absurd h
 each_push P (w ∷ xs) [] x y h p = absurd h
 each_push P (w ∷ xs) (z ∷ ys) x y h p = (h.0, each_push P xs ys x y h.1 p)
 
-each_length : {X Y : Type 0} (P : X → Y → Type 0) (xs : List X) (ys : List Y) → Each P xs ys → length xs ≡ length ys
+pub each_length : {X Y : Type 0} (P : X → Y → Type 0) (xs : List X) (ys : List Y) → Each P xs ys → length xs ≡ length ys
 each_length P [] [] h = refl
 each_length P [] (y ∷ ys) h = absurd h
 each_length P (x ∷ xs) [] h = absurd h
 each_length P (x ∷ xs) (y ∷ ys) h = omega (arith, each_length P xs ys h.1)
 
-each_drop : {X Y : Type 0} (P : X → Y → Type 0) (k : ℕ) (xs : List X) (ys : List Y) → Each P xs ys → Each P (drop k xs) (drop k ys)
+pub each_drop : {X Y : Type 0} (P : X → Y → Type 0) (k : ℕ) (xs : List X) (ys : List Y) → Each P xs ys → Each P (drop k xs) (drop k ys)
 each_drop P zero xs ys h = h
 each_drop P (suc k) [] [] h = tt
 each_drop P (suc k) [] (y ∷ ys) h = absurd h
 each_drop P (suc k) (x ∷ xs) [] h = absurd h
 each_drop P (suc k) (x ∷ xs) (y ∷ ys) h = each_drop P k xs ys h.1
 
-each_first : {X Y : Type 0} (P : X → Y → Type 0) (xs : List X) (y : Y) (ys : List Y) → Each P xs (y ∷ ys) → (x : X) × (rest : List X) × (xs ≡ x ∷ rest) × P x y × Each P rest ys
+pub each_first : {X Y : Type 0} (P : X → Y → Type 0) (xs : List X) (y : Y) (ys : List Y) → Each P xs (y ∷ ys) → (x : X) × (rest : List X) × (xs ≡ x ∷ rest) × P x y × Each P rest ys
 each_first P [] y ys h = absurd h
 each_first P (x ∷ xs) y ys h = (x, xs, refl, h.0, h.1)
 
@@ -45,10 +46,6 @@ pub dropped_one : {X : Type 0} (all before after : List X) (x : X) (k : ℕ) →
 dropped_one all before after x k b e = sym (ap (drop 1) e) ∙ ap (drop 1) b ∙ drop-drop 1 k all
 
 -- ---- tests of a node
-and_true : (a : Bool) → (a && true) ≡ a
-and_true true = refl
-and_true false = refl
-
 pub above_first : (vs : List ℕ) (bs : List Block) (b : Block) (r : Bool) → is_spare vs bs ≡ true → slice_get bs 0 ≡ Some b → r ≡ not (block_shape b).is_cycle → r ≡ is_above_bridge vs bs
 above_first vs bs b r spare at e =
     e ∙ sym (ap (λ t. t && list_all (λ c. not (block_shape c).is_cycle) bs) spare ∙ one bs (and_parts (length vs == 0) (length bs == 1) spare).1 at) where
@@ -117,7 +114,6 @@ pub blocks_all : (target : List Read) (js : List Joint) (bs : List Block) (stack
 blocks_all target js bs stack e d =
     subst (λ l. AreBlocksOf l bs) (sym (append-nil d.done) ∙ ap (λ (l : List Joint). d.done ++ all_drawn l d.rest) (sym e) ∙ d.whole) d.blocks_done
 
--- ---- one more entry at the end
 -- ---- a tree is put together from the last entry
 pub record Makes (r : Read) (entries : List Entry) (finished : List Node) : Type 0 where
   pub reads : List Read

@@ -2,11 +2,11 @@
 use Rattle.std.proofs.Common.{◌≡◌, ℕ, zero, suc, ◌+◌, ◌-◌, ◌≤◌, ◌<◌, Bool, true, false, not, ◌&&◌, ◌||◌, ◌==◌, ◌⊎◌, inl, inr, List, [], ◌∷◌, length, get_or, take, ap, ◌∙◌, sym, refl, arith}
 use Rattle.std.specs.Prelude.{nat_le, if◌then◌else◌}
 use Rattle.std.specs.List.{All, concat, filter, range_with_len}
-use Rattle.std.proofs.lemmas.Bool.{cases_eq, eq-eqb, ne_eqb, false≢true}
+use Rattle.std.proofs.lemmas.Bool.{cases_eq, eq-eqb, ne_eqb, false≢true, or_right, le-leb, lt-leb}
 use Rattle.std.proofs.lemmas.List.Elements.{All-get_or}
 use Rattle.cut_definitions.specs.Weight.{VertexSet}
 use Rattle.cut_definitions.specs.Cuts.{has}
-use Rattle.cut_definitions.proofs.ChainLaws.{leb_yes, leb_no}
+use Rattle.cut_definitions.proofs.Bools.{or_nothing}
 use Rattle.vertex_set.specs.Side.{VertexList}
 use Rattle.vertex_set.proofs.Bits.{filter-same, listed-none}
 use Rattle.cactus_tree.specs.CutRanges.{Range, elements_at}
@@ -34,14 +34,6 @@ no_more true false x k l e h = absurd (false≢true (sym e))
 no_more false true x k l e h = absurd (false≢true e)
 no_more false false x k l e h = h
 
--- either of two tests, of which the second fails
-or_false : (a b : Bool) → b ≡ false → (a || b) ≡ a
-or_false a b h = grind arith
-
--- either of two tests, of which the second holds
-or_true : (a b : Bool) → b ≡ true → (a || b) ≡ true
-or_true a b h = grind arith
-
 -- a set that gets one number of a range has one member more there
 count_put : (s : VertexSet) (x m low : ℕ) → s x ≡ false → low ≤ x → x < low + m →
     length (filter (λ u. s u || (x == u)) (range_with_len low m)) ≡ length (filter s (range_with_len low m)) + 1
@@ -49,11 +41,11 @@ count_put s x zero low off l h = absurd (omega (arith, l, h))
 count_put s x (suc m) low off l h = elim (cases_eq x low) [
   | inl e ↦
       one_more (s low || (x == low)) (s low) low (filter (λ u. s u || (x == u)) (range_with_len (low + 1) m)) (filter s (range_with_len (low + 1) m))
-      (or_true (s low) (x == low) (eq-eqb x low e)) (ap s (sym e) ∙ off)
-      (filter-same (λ u. s u || (x == u)) s m (low + 1) (λ v from to. or_false (s v) (x == v) (ne_eqb x v (λ same. omega (arith, e, from, same)))))
+      (or_right (s low) (x == low) (eq-eqb x low e)) (ap s (sym e) ∙ off)
+      (filter-same (λ u. s u || (x == u)) s m (low + 1) (λ v from to. or_nothing (s v) (x == v) (ne_eqb x v (λ same. omega (arith, e, from, same)))))
   | inr ne ↦
       no_more (s low || (x == low)) (s low) low (filter (λ u. s u || (x == u)) (range_with_len (low + 1) m)) (filter s (range_with_len (low + 1) m))
-      (or_false (s low) (x == low) (ne_eqb x low ne)) (count_put s x m (low + 1) off (omega (arith, l, ne)) (omega (arith, h)))
+      (or_nothing (s low) (x == low) (ne_eqb x low ne)) (count_put s x m (low + 1) off (omega (arith, l, ne)) (omega (arith, h)))
 ]
 
 -- ---- the place of an element
@@ -61,10 +53,10 @@ count_put s x (suc m) low off l h = elim (cases_eq x low) [
 inside_at : (to p : ℕ) → (nat_le to p && not (nat_le (to + 1) p)) ≡ true → p ≡ to
 inside_at to p h = elim (le_or to p) [
   | inl below ↦ elim (le_or (to + 1) p) [
-    | inl above ↦ absurd (false≢true (sym (ap (λ b. nat_le to p && not b) (leb_yes (to + 1) p above) ∙ and_false (nat_le to p)) ∙ h))
+    | inl above ↦ absurd (false≢true (sym (ap (λ b. nat_le to p && not b) (le-leb (to + 1) p above) ∙ and_false (nat_le to p)) ∙ h))
     | inr few ↦ omega (arith, below, few)
   ]
-  | inr few ↦ absurd (false≢true (sym (ap (λ b. b && not (nat_le (to + 1) p)) (leb_no to p few)) ∙ h))
+  | inr few ↦ absurd (false≢true (sym (ap (λ b. b && not (nat_le (to + 1) p)) (lt-leb to p few)) ∙ h))
 ]
   where
     le_or : (a b : ℕ) → (a ≤ b) ⊎ (b < a)
@@ -79,9 +71,9 @@ not_before n order once from to within at =
     let x = get_or order to 0 in
     let p = once x at.0 at.1 in
     let here : has (elements_at order (range to (to + 1))) x ≡ true =
-    ap (λ l. has l x) (elements_more order to to (omega arith) within) ∙ has_push (elements_at order (range to to)) x x ∙ or_true (has (elements_at order (range to to)) x) (x == x) (eq-eqb x x refl) in
+    ap (λ l. has l x) (elements_more order to to (omega arith) within) ∙ has_push (elements_at order (range to to)) x x ∙ or_right (has (elements_at order (range to to)) x) (x == x) (eq-eqb x x refl) in
     let place : p.0 ≡ to = inside_at to p.0 (sym (p.1 (range to (to + 1))) ∙ here) in
-    p.1 (range from to) ∙ ap (λ k. nat_le from k && not (nat_le to k)) place ∙ ap (λ b. nat_le from to && not b) (leb_yes to to (omega arith)) ∙ and_false (nat_le from to)
+    p.1 (range from to) ∙ ap (λ k. nat_le from k && not (nat_le to k)) place ∙ ap (λ b. nat_le from to && not b) (le-leb to to (omega arith)) ∙ and_false (nat_le from to)
   where
     and_false : (a : Bool) → (a && false) ≡ false
     and_false a = grind arith

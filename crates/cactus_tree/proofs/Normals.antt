@@ -8,6 +8,7 @@ use Rattle.std.proofs.lemmas.List.Elements.{All-cons, All-head, All-tail, All-co
 use Rattle.cut_definitions.specs.Weight.{VertexSet}
 use Rattle.cut_definitions.specs.Cuts.{has, IsAscendingWithin}
 use Rattle.cut_definitions.proofs.Lists.{Contains-cons_cases, Contains-map, Contains-from_map}
+use Rattle.cut_definitions.proofs.Ascending.{contains_has}
 use Rattle.cactus_tree.specs.Sides.{Part, part, block_part, nothing, all_of, belows}
 use Rattle.cactus_tree.specs.Trees.{vertices, blocks}
 use Rattle.cactus_tree.specs.Entered.{entered}
@@ -15,7 +16,6 @@ use Rattle.cactus_tree.specs.Entries.{read_node, kept}
 use Rattle.cactus_tree.specs.Rooted.{Rooted, IsCactus, sides_of}
 use Rattle.cactus_tree.specs.Normal.{is_normal}
 use Rattle.cactus_tree.specs.declared.tree.Node.{Node}
-use Rattle.cactus_tree.proofs.Groups.{contains_has}
 use Rattle.cactus_tree.proofs.Lifts.{own_lists}
 use Rattle.cactus_tree.proofs.Orders.{entered_out}
 use Rattle.cactus_tree.proofs.Shapes.{root_normal}
@@ -54,7 +54,7 @@ count_some v ((u ∷ us) ∷ ls) =
     ∙ ap (count v) (sym (some_cons u us ls))
 
 -- ---- no cut is empty
-filter_nothing : (xs : List ℕ) → filter nothing xs ≡ []
+pub filter_nothing : (xs : List ℕ) → filter nothing xs ≡ []
 filter_nothing [] = refl
 filter_nothing (x ∷ xs) = filter_nothing xs
 

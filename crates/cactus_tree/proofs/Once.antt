@@ -3,9 +3,8 @@ use Rattle.std.proofs.Common.{◌≡◌, ℕ, zero, suc, ◌+◌, ◌≤◌, ◌
 use Rattle.std.specs.Prelude.{nat_le, if◌then◌else◌}
 use Rattle.std.specs.List.{All, concat, filter}
 use Rattle.std.proofs.lemmas.List.Elements.{All-nil, All-cons, All-append, All-head, All-tail}
-use Rattle.std.proofs.lemmas.Bool.{eqb-true, ne_eqb, false≢true}
+use Rattle.std.proofs.lemmas.Bool.{eqb-true, ne_eqb, false≢true, le-leb, lt-leb}
 use Rattle.cut_definitions.specs.Cuts.{has, IsAscendingWithin}
-use Rattle.cut_definitions.proofs.ChainLaws.{leb_yes, leb_no}
 use Rattle.cactus_tree.specs.Places.{AreOnce, IsVertex}
 use Rattle.cactus_tree.specs.Entered.{entered}
 use Rattle.cactus_tree.specs.Rooted.{IsCactus}
@@ -40,8 +39,8 @@ never v (x ∷ xs) h (suc from) (suc to) = never v xs (zero_if (x == v) (times v
 
 suc_le : (a b : ℕ) → nat_le (suc a) (suc b) ≡ nat_le a b
 suc_le a b = elim (le_or a b) [
-  | inl h ↦ leb_yes (suc a) (suc b) (omega (arith, h)) ∙ sym (leb_yes a b h)
-  | inr h ↦ leb_no (suc a) (suc b) (omega (arith, h)) ∙ sym (leb_no a b h)
+  | inl h ↦ le-leb (suc a) (suc b) (omega (arith, h)) ∙ sym (le-leb a b h)
+  | inr h ↦ lt-leb (suc a) (suc b) (omega (arith, h)) ∙ sym (lt-leb a b h)
 ]
   where
     le_or : (a b : ℕ) → (a ≤ b) ⊎ (b < a)
@@ -51,7 +50,7 @@ abbrev inside : ℕ → ℕ → ℕ → Bool
 inside from to p = nat_le from p && not (nat_le to p)
 
 inside_none : (from p : ℕ) → inside from 0 p ≡ false
-inside_none from p = ap (λ b. nat_le from p && not b) (leb_yes 0 p (omega arith)) ∙ and_false (nat_le from p)
+inside_none from p = ap (λ b. nat_le from p && not b) (le-leb 0 p (omega arith)) ∙ and_false (nat_le from p)
   where
     and_false : (a : Bool) → (a && false) ≡ false
     and_false a = grind arith
@@ -59,15 +58,15 @@ inside_none from p = ap (λ b. nat_le from p && not b) (leb_yes 0 p (omega arith
 -- a number that stands first, and nowhere else
 here : (v x : ℕ) (xs : List ℕ) → (x == v) ≡ true → times v xs ≡ 0 → (from to : ℕ) → has (drop from (take to (x ∷ xs))) v ≡ inside from to 0
 here v x xs e h from zero = ap (λ l. has l v) (drop_nothing from) ∙ sym (inside_none from 0)
-here v x xs e h zero (suc to) = ap (λ b. b || has (take to xs) v) e ∙ sym (ap (λ b. b && not (nat_le (suc to) 0)) (leb_yes 0 0 (omega arith)) ∙ ap not (leb_no (suc to) 0 (omega arith)))
-here v x xs e h (suc from) (suc to) = never v xs h from to ∙ sym (ap (λ b. b && not (nat_le (suc to) 0)) (leb_no (suc from) 0 (omega arith)))
+here v x xs e h zero (suc to) = ap (λ b. b || has (take to xs) v) e ∙ sym (ap (λ b. b && not (nat_le (suc to) 0)) (le-leb 0 0 (omega arith)) ∙ ap not (lt-leb (suc to) 0 (omega arith)))
+here v x xs e h (suc from) (suc to) = never v xs h from to ∙ sym (ap (λ b. b && not (nat_le (suc to) 0)) (lt-leb (suc from) 0 (omega arith)))
 
 -- a number that stands behind the first
 behind : (v x : ℕ) (xs : List ℕ) (p : ℕ) → (x == v) ≡ false → ((from to : ℕ) → has (drop from (take to xs)) v ≡ inside from to p) → (from to : ℕ) → has (drop from (take to (x ∷ xs))) v ≡ inside from to (suc p)
 behind v x xs p e h from zero = ap (λ l. has l v) (drop_nothing from) ∙ sym (inside_none from (suc p))
 behind v x xs p e h zero (suc to) =
     ap (λ b. b || has (take to xs) v) e ∙ h 0 to
-    ∙ ap (λ b. b && not (nat_le to p)) (leb_yes 0 p (omega arith) ∙ sym (leb_yes 0 (suc p) (omega arith)))
+    ∙ ap (λ b. b && not (nat_le to p)) (le-leb 0 p (omega arith) ∙ sym (le-leb 0 (suc p) (omega arith)))
     ∙ ap (λ b. nat_le 0 (suc p) && not b) (sym (suc_le to p))
 behind v x xs p e h (suc from) (suc to) =
     h from to ∙ ap (λ b. b && not (nat_le to p)) (sym (suc_le from p)) ∙ ap (λ b. nat_le (suc from) (suc p) && not b) (sym (suc_le to p))

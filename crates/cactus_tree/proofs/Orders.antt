@@ -1,6 +1,5 @@
 -- The equations of the order of entering.
-use Rattle.std.specs.Prelude.{option_to_list}
-use Rattle.std.proofs.Common.{Option, Some, ◌≡◌, ℕ, ◌-◌, ◌≤◌, ◌<◌, suc, length, drop, get_or, arith, List, [], ◌∷◌, ◌++◌, map, ap, ◌∙◌, sym}
+use Rattle.std.proofs.Common.{◌≡◌, ℕ, ◌-◌, ◌≤◌, ◌<◌, suc, length, drop, get_or, arith, List, [], ◌∷◌, ◌++◌, map, ap, ◌∙◌, sym}
 use Rattle.std.specs.List.{flat_map, concat}
 use Rattle.std.proofs.Math.Seq.{drop-cons}
 use Rattle.std.specs.Borrow.{Bor}
@@ -20,7 +19,7 @@ use Rattle.cactus_tree.specs.declared.tree.Block.TheFolds.{fold_out-Node, fold_o
 abbrev Lists : Type 0
 Lists = List (List ℕ)
 
-in_order_map : {X : Type 0} (f : X → Lists) (xs : List X) → in_order (map f xs) ≡ flat_map f xs
+pub in_order_map : {X : Type 0} (f : X → List (List ℕ)) (xs : List X) → in_order (map f xs) ≡ flat_map f xs
 in_order_map f [] = λ i. []
 in_order_map f (x ∷ xs) = ap (λ l. f x ++ l) (in_order_map f xs)
 
@@ -61,9 +60,6 @@ pub walked : (node : Node) (order more : List ℕ) (before after rest : Lists) �
 walked node order more before after rest b a m =
     let whole : before ≡ vertices node ∷ after = b ∙ ap (λ l. l ++ rest) (entered_out node) ∙ ap (λ l. vertices node ∷ l) (sym a) in
     (omega (arith, ap length whole), ap (λ l. l ++ concat after) m ∙ append_assoc order (vertices node) (concat after) ∙ ap (λ l. order ++ concat l) (sym whole))
-
-pub popped_is : {X : Type 0} (before left : List X) (r : Option X) (x : X) → before ≡ left ++ option_to_list r → r ≡ Some x → before ≡ left ++ x ∷ []
-popped_is before left r x p q = p ∙ ap (λ o. left ++ option_to_list o) q
 
 -- one more block at the end of a node's list
 pub hung_entered : (x y : Node) (b : Block) → vertices y ≡ vertices x → blocks y ≡ blocks x ++ b ∷ [] → entered y ≡ entered x ++ entered_block b

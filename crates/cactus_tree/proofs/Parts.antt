@@ -6,6 +6,7 @@ use Rattle.std.specs.declared.boxed.Box.{Box}
 use Rattle.std.specs.declared.alloc.Global.{Global}
 use Rattle.cut_definitions.specs.Weight.{VertexSet, either}
 use Rattle.cut_definitions.specs.Cuts.{has}
+use Rattle.cut_definitions.proofs.Bools.{or_assoc}
 use Rattle.cactus_tree.specs.Sides.{Part, part, block_part, nothing, all_of, belows, all_cuts, together, with_below, bridge_of, cycle_of, block_step, blocks_step, children_step, node_step}
 use Rattle.cactus_tree.specs.Trees.{vertices, blocks, nodes_in}
 use Rattle.cactus_tree.specs.declared.tree.Node.{Node, out-Node}
@@ -14,6 +15,7 @@ use Rattle.cactus_tree.specs.declared.tree.Children.{Children}
 use Rattle.cactus_tree.specs.declared.tree.Block.TheVariants.{Bridge, Cycle, rolls-Bridge, rolls-Cycle}
 use Rattle.cactus_tree.specs.declared.tree.Block.TheOpen as Open
 use Rattle.cactus_tree.specs.declared.tree.Block.TheFolds.{fold_out-Node, fold_out-Blocks, fold_out-Children, fold-roll-Block, fold-Block}
+use Rattle.cactus_tree.proofs.Lifts.{same_part}
 
 pub part_out : (x : Node) → part x ≡ record { below = either (has (vertices x)) (together (map block_part (blocks x))).below; cuts = (together (map block_part (blocks x))).cuts }
 unfolding part block_part
@@ -30,10 +32,6 @@ unfolding part block_part
 cycle_part nodes = ap (fold-Block Part Part (List Part) Part block_step blocks_step children_step node_step) (sym (rolls-Cycle nodes))
     ∙ fold-roll-Block Part Part (List Part) Part block_step blocks_step children_step node_step (Open.Cycle nodes)
     ∙ ap cycle_of (fold_out-Children Part Part (List Part) Part block_step blocks_step children_step node_step nodes)
-
-or_assoc : (a b c : Bool) → a || (b || c) ≡ (a || b) || c
-or_assoc true b c = refl
-or_assoc false b c = refl
 
 or_false : (a : Bool) → a || false ≡ a
 or_false true = refl
@@ -55,9 +53,6 @@ all_cuts_append ps qs = flat_map-append (λ (p : Part). p.cuts) ps qs
 
 pub all_cuts_push : (ps : List Part) (q : Part) → all_cuts (ps ++ q ∷ []) ≡ all_cuts ps ++ q.cuts
 all_cuts_push ps q = all_cuts_append ps (q ∷ []) ∙ ap (λ cs. all_cuts ps ++ cs) (append-nil q.cuts)
-
-same_part : (b c : VertexSet) (k l : List VertexSet) → b ≡ c → k ≡ l → (let p : Part = record { below = b; cuts = k } in p) ≡ record { below = c; cuts = l }
-same_part b c k l e f = λ i. record { below = e i; cuts = f i }
 
 -- a node with one more block at the end of its list
 pub hung_part : (x y : Node) (b : Block) → vertices y ≡ vertices x → blocks y ≡ blocks x ++ b ∷ [] → part y ≡ with_below (part x) (block_part b)

@@ -5,7 +5,7 @@ use Rattle.std.specs.List.{Contains}
 use Rattle.std.proofs.lemmas.Bool.{cases_lt}
 use Rattle.std.proofs.lemmas.List.{append_assoc, map-append}
 use Rattle.std.proofs.lemmas.List.Elements.{Contains-append_cases, Contains-append_left, Contains-append_right}
-use Rattle.cut_definitions.proofs.Lists.{Contains-map, Contains-from_map}
+use Rattle.cut_definitions.proofs.Lists.{Contains-map, Contains-from_map, Contains-nil}
 use Rattle.cactus_tree.specs.CutRanges.{Range}
 use Rattle.cactus_tree.specs.Flattened.{Joins, no_joins, beside}
 use Rattle.cactus_tree.specs.FlatCuts.{IsClosed, cycle_edges, without_one, without_two, without_two_of_one}
@@ -132,15 +132,12 @@ pub record IsPiece (seeds : List ℕ) (first size : ℕ) (ranges : List Range) (
   pub each_bridge : (l : Edges) → Contains (without_one j.bridges) l → (r : Range) × Contains ranges r × IsCutOff seeds first size r (l ++ around j.cycles)
   pub each_cycle : (l : Edges) → Contains (without_two_of_one j.cycles) l → (r : Range) × Contains ranges r × IsCutOff seeds first size r (j.bridges ++ l)
 
-pub nowhere : {X : Type 0} (x : X) → Contains [] x → ⊥
-nowhere x h = omega (arith, h.1)
-
 pub no_piece : (seeds : List ℕ) (first : ℕ) → IsPiece seeds first 0 [] no_joins
 no_piece seeds first = record {
   linked = record { closed = λ set b h k. tt; reached = λ set h k i a b. absurd (omega (arith, a, b)) };
-  each_range = λ r h. absurd (nowhere r h);
-  each_bridge = λ l h. absurd (nowhere l h);
-  each_cycle = λ l h. absurd (nowhere l h);
+  each_range = λ r h. absurd (Contains-nil r h);
+  each_bridge = λ l h. absurd (Contains-nil l h);
+  each_cycle = λ l h. absurd (Contains-nil l h);
 }
 
 -- ---- two pieces side by side

@@ -2,7 +2,7 @@
 use Rattle.std.proofs.Common.{◌≡◌, ℕ, zero, suc, ◌+◌, ◌≤◌, List, [], ◌∷◌, ◌++◌, length, take, drop, map, ap, ◌∙◌, sym, refl, subst, arith}
 use Rattle.std.specs.Prelude.{slice_index}
 use Rattle.std.specs.List.{All, concat, filter, range_with_len}
-use Rattle.std.proofs.lemmas.List.{append_assoc, length-append, map-append}
+use Rattle.std.proofs.lemmas.List.{append_assoc, length-append, map-append, take-map}
 use Rattle.std.proofs.lemmas.List.Elements.{All-head, All-tail}
 use Rattle.cut_definitions.specs.Cuts.{has}
 use Rattle.cactus_tree.specs.CutRanges.{Range, IsRangeWithin, elements_at, cut_ranges, size_of}
@@ -21,6 +21,7 @@ use Rattle.cactus_tree.proofs.CutRanges.{cuts_are_ranges, ranges_within, size_is
 use Rattle.cactus_tree.proofs.Outlined.{borders_give, outline_fits}
 use Rattle.cactus_tree.proofs.Orders.{entered_out}
 use Rattle.std.specs.List.{flat_map}
+use Rattle.cut_definitions.proofs.ListLaws.{mapped_length}
 
 pub places_length : (k : ℕ) (ls : List (List ℕ)) → length (places_from k ls) ≡ length ls + 1
 places_length k [] = omega arith
@@ -73,11 +74,6 @@ set_placed ls low r h =
     ∙ ap has (elements_concat ls r.from r.to (omega (arith, h.some)) h.to_high)
 
 -- ---- borders at places
-pub map_take : {X Y : Type 0} (f : X → Y) (k : ℕ) (xs : List X) → take k (map f xs) ≡ map f (take k xs)
-map_take f zero xs = refl
-map_take f (suc k) [] = refl
-map_take f (suc k) (x ∷ xs) = ap (λ l. f x ∷ l) (map_take f k xs)
-
 pub to_placed : (places : List ℕ) (from : ℕ) (bs : List Border) → ranges_to (slice_index places from) (map (placed places) bs) ≡ map (range_placed places) (ranges_to from bs)
 to_placed places from [] = refl
 to_placed places from (b ∷ bs) = ap (λ l. (let r : Range = record { from = slice_index places from; to = slice_index places b.place } in r) ∷ l) (to_placed places from bs)
@@ -85,7 +81,7 @@ to_placed places from (b ∷ bs) = ap (λ l. (let r : Range = record { from = sl
 pub between_placed : (places : List ℕ) (bs : List Border) → ranges_between (map (placed places) bs) ≡ map (range_placed places) (ranges_between bs)
 between_placed places [] = refl
 between_placed places (b ∷ bs) =
-    ap (λ l. ranges_to (slice_index places b.place) l ++ ranges_between (map (placed places) bs)) (map_take (placed places) b.following bs)
+    ap (λ l. ranges_to (slice_index places b.place) l ++ ranges_between (map (placed places) bs)) (take-map (placed places) b.following bs)
     ∙ ap (λ l. l ++ ranges_between (map (placed places) bs)) (to_placed places b.place (take b.following bs))
     ∙ ap (λ l. map (range_placed places) (ranges_to b.place (take b.following bs)) ++ l) (between_placed places bs)
     ∙ sym (map-append (range_placed places) (ranges_to b.place (take b.following bs)) (ranges_between bs))
@@ -119,10 +115,6 @@ sides_between n x =
 along_length : (s : List ℕ) (m k : ℕ) → length (borders_along s m k) ≡ m + 1
 along_length s zero k = refl
 along_length s (suc m) k = omega (arith, along_length s m (k + slice_index s k))
-
-mapped_length : {X Y : Type 0} (f : X → Y) (xs : List X) → length (map f xs) ≡ length xs
-mapped_length f [] = refl
-mapped_length f (x ∷ xs) = ap suc (mapped_length f xs)
 
 along_fit : (places : List ℕ) (long : ℕ) (s : List ℕ) (m k : ℕ) (rest : List Border) → ((j : ℕ) → slice_index places j ≤ long) → AreBorders long rest → AreBorders long (map (placed places) (borders_along s m k) ++ rest)
 along_fit places long s zero k rest h r = (h k, omega arith, r)

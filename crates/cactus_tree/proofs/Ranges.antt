@@ -1,22 +1,13 @@
 -- The list of all vertices.
-use Rattle.std.proofs.Common.{◌≡◌, ℕ, ◌+◌, ◌≤◌, ◌<◌, ◌==◌, ◌||◌, Bool, true, zero, suc, [], ◌∷◌, ◌++◌, ◌∙◌, ap, arith, ⊎_elim}
+use Rattle.std.proofs.Common.{◌≡◌, ℕ, ◌+◌, ◌≤◌, ◌<◌, ◌==◌, ◌||◌, true, zero, suc, [], ap, arith, ⊎_elim}
 use Rattle.std.specs.List.{All, range_with_len}
 use Rattle.std.proofs.lemmas.List.Elements.{All-nil, All-cons, All-weaker}
-use Rattle.std.proofs.lemmas.Bool.{cases_eq, eq-eqb}
+use Rattle.std.proofs.lemmas.Bool.{cases_eq, eq-eqb, or_right}
 use Rattle.cut_definitions.specs.Cuts.{has, IsAscendingWithin}
-
-pub range_push : (low m : ℕ) → range_with_len low (suc m) ≡ range_with_len low m ++ (low + m) ∷ []
-range_push low zero = let e : low ≡ low + 0 = omega arith in ap (λ k. k ∷ []) e
-range_push low (suc m) =
-    let e : (low + 1) + m ≡ low + suc m = omega arith in
-    ap (λ l. low ∷ l) (range_push (low + 1) m ∙ ap (λ k. range_with_len (low + 1) m ++ k ∷ []) e)
 
 pub range_ascending : (m low high : ℕ) → low + m ≡ high + 1 → IsAscendingWithin low high (range_with_len low m)
 range_ascending zero low high e = tt
 range_ascending (suc m) low high e = (omega arith, omega arith, range_ascending m (low + 1) high (omega arith))
-
-pub or_right : (a b : Bool) → b ≡ true → (a || b) ≡ true
-or_right a b h = grind arith
 
 pub has_range : (m low v : ℕ) → low ≤ v → v < low + m → has (range_with_len low m) v ≡ true
 has_range zero low v l h = absurd (omega arith)

@@ -4,10 +4,10 @@ use Rattle.std.specs.Prelude.{nat_le}
 use Rattle.std.specs.List.{list_all, Contains}
 use Rattle.std.proofs.lemmas.Simd.{map-map}
 use Rattle.std.proofs.lemmas.List.{length-map}
-use Rattle.cut_definitions.proofs.ChainLaws.{leb_yes, leb_no}
 use Rattle.std.proofs.lemmas.List.Folds.{list_all-map}
 use Rattle.std.specs.declared.boxed.Box.{Box}
 use Rattle.std.specs.declared.alloc.Global.{Global}
+use Rattle.std.proofs.lemmas.Bool.{le-leb, lt-leb}
 use Rattle.cactus_tree.specs.Normal.{NodeShape, BlockShape, shape, block_shape, child_fine, well_placed, is_normal, shape_block_step, shape_blocks_step, shape_children_step, shape_node_step}
 use Rattle.cactus_tree.specs.Trees.{vertices, blocks, nodes_in}
 use Rattle.cactus_tree.specs.declared.tree.Node.{Node, out-Node}
@@ -56,12 +56,12 @@ length_shapes xs = length-map xs shape
 -- a cycle with children enough is as they are
 pub wide_fine : (nodes : Children) → 2 ≤ length (nodes_in nodes) → (block_shape (Cycle nodes)).fine ≡ list_all (λ x. child_fine true (shape x)) (nodes_in nodes)
 wide_fine nodes h =
-    let yes : nat_le 2 (length (map shape (nodes_in nodes))) ≡ true = leb_yes 2 _ (omega (arith, length_shapes (nodes_in nodes))) in
+    let yes : nat_le 2 (length (map shape (nodes_in nodes))) ≡ true = le-leb 2 _ (omega (arith, length_shapes (nodes_in nodes))) in
     cycle_fine nodes ∙ ap (λ b. b && list_all (λ x. child_fine true (shape x)) (nodes_in nodes)) yes
 
 pub narrow_fine : (nodes : Children) → length (nodes_in nodes) < 2 → (block_shape (Cycle nodes)).fine ≡ false
 narrow_fine nodes h =
-    let no : nat_le 2 (length (map shape (nodes_in nodes))) ≡ false = leb_no 2 _ (omega (arith, length_shapes (nodes_in nodes))) in
+    let no : nat_le 2 (length (map shape (nodes_in nodes))) ≡ false = lt-leb 2 _ (omega (arith, length_shapes (nodes_in nodes))) in
     cycle_fine nodes ∙ ap (λ b. b && list_all (λ x. child_fine true (shape x)) (nodes_in nodes)) no
 
 pub child_parts : (above : Bool) (x : Node) → child_fine above (shape x) ≡ (well_placed (length (vertices x) == 0) (above ∷ map (λ b. (block_shape b).is_cycle) (blocks x)) && list_all (λ b. (block_shape b).fine) (blocks x))

@@ -2,15 +2,15 @@
 use Rattle.std.proofs.Common.{◌≡◌, ℕ, ◌-◌, ◌<◌, ◌≤◌, ◌&&◌, ◌||◌, Bool, true, false, cond, List, [], ◌∷◌, length, map, get_or, refl, sym, ◌∙◌, ap, subst, arith, ⊎_elim}
 use Rattle.std.specs.Prelude.{nat_le}
 use Rattle.std.specs.List.{All, Contains, filter, range_with_len}
-use Rattle.std.proofs.lemmas.Bool.{cases_Bool, cases_lt}
+use Rattle.std.proofs.lemmas.Bool.{cases_Bool, cases_lt, le-leb, lt-leb}
 use Rattle.std.proofs.lemmas.Simd.{map-map}
 use Rattle.std.proofs.lemmas.List.Elements.{All-weaker, All-map, All-filter, All-contains, All-get_or}
 use Rattle.cut_definitions.specs.Weight.{VertexSet}
 use Rattle.cut_definitions.specs.Cuts.{has, IsAscendingWithin}
 use Rattle.cut_definitions.specs.Contraction.{label, lift}
 use Rattle.cut_definitions.proofs.Bridge.{has_within, IsAscendingWithin-filter, same_ascending}
-use Rattle.cut_definitions.proofs.ChainLaws.{leb_yes, leb_no}
 use Rattle.cut_definitions.proofs.Contracted.{has-lift}
+use Rattle.cut_definitions.proofs.Ascending.{contains_has, has_contains}
 use Rattle.cactus_tree.specs.Sides.{Part, part_by, cuts}
 use Rattle.cactus_tree.specs.Entered.{entered}
 use Rattle.cactus_tree.specs.Rooted.{IsCactus, places, sides_of}
@@ -18,7 +18,6 @@ use Rattle.cactus_tree.specs.Spread.{AreClasses, spread_set}
 use Rattle.cactus_tree.specs.Widths.{widths}
 use Rattle.cactus_tree.specs.Trees.{vertices}
 use Rattle.cactus_tree.specs.declared.tree.Node.{Node}
-use Rattle.cactus_tree.proofs.Groups.{contains_has, has_contains}
 use Rattle.cactus_tree.proofs.Lifts.{KeepsUnions, lifted, own_lists}
 use Rattle.cactus_tree.proofs.Orders.{entered_out}
 use Rattle.cactus_tree.proofs.Ranges.{IsWithin, range_within}
@@ -39,16 +38,16 @@ keeps n classes = record {
 -- ---- the lift of a list, as a set
 inside : (n : ℕ) (classes : List ℕ) (s : VertexSet) (v : ℕ) → 1 ≤ v → v ≤ n → spread_set n classes s v ≡ s (label classes v)
 inside n classes s v l h =
-    ap (λ b. b && (nat_le v n && s (label classes v))) (leb_yes 1 v l) ∙ ap (λ b. b && s (label classes v)) (leb_yes v n h)
+    ap (λ b. b && (nat_le v n && s (label classes v))) (le-leb 1 v l) ∙ ap (λ b. b && s (label classes v)) (le-leb v n h)
 
 below_one : (n : ℕ) (classes : List ℕ) (s : VertexSet) (v : ℕ) → v < 1 → spread_set n classes s v ≡ false
-below_one n classes s v h = ap (λ b. b && (nat_le v n && s (label classes v))) (leb_no 1 v h)
+below_one n classes s v h = ap (λ b. b && (nat_le v n && s (label classes v))) (lt-leb 1 v h)
 
 above_and : (a b : Bool) → (a && (false && b)) ≡ false
 above_and a b = grind arith
 
 above_n : (n : ℕ) (classes : List ℕ) (s : VertexSet) (v : ℕ) → n < v → spread_set n classes s v ≡ false
-above_n n classes s v h = ap (λ b. nat_le 1 v && (b && s (label classes v))) (leb_no v n h) ∙ above_and (nat_le 1 v) (s (label classes v))
+above_n n classes s v h = ap (λ b. nat_le 1 v && (b && s (label classes v))) (lt-leb v n h) ∙ above_and (nat_le 1 v) (s (label classes v))
 
 outside : (classes l : List ℕ) (v : ℕ) → (IsWithin 1 (length classes) v → ⊥) → has (lift classes l) v ≡ false
 outside classes l v never =

@@ -6,6 +6,7 @@ use Rattle.std.proofs.lemmas.List.Concat.{flat_map-append}
 use Rattle.std.proofs.lemmas.List.Folds.{flat_map-map}
 use Rattle.std.specs.declared.boxed.Box.{Box}
 use Rattle.std.specs.declared.alloc.Global.{Global}
+use Rattle.cut_definitions.proofs.ListLaws.{drop_front}
 use Rattle.cactus_tree.specs.Trees.{vertices, blocks, nodes_in}
 use Rattle.cactus_tree.specs.declared.tree.Node.{Node, out-Node}
 use Rattle.cactus_tree.specs.declared.tree.Block.{Block, out-Block}
@@ -17,7 +18,6 @@ use Rattle.cactus_tree.specs.declared.tree.Block.TheOpen as Open
 use Rattle.cactus_tree.specs.declared.tree.Block.TheOpen.{Block-F}
 use Rattle.cactus_tree.specs.declared.tree.Block.TheFolds.{fold_out-Node, fold_out-Blocks, fold_out-Children, fold-roll-Block, fold-Block}
 use Rattle.cactus_tree.specs.declared.flattening.Task.{Task}
-use Rattle.cactus_tree.specs.Widths.{joined}
 use Rattle.cactus_tree.specs.Entered.{entered, entered_block}
 use Rattle.cactus_tree.specs.Outlines.{sizes, block_sizes, sizes_block_step, sizes_blocks_step, sizes_children_step, sizes_node_step}
 use Rattle.cactus_tree.specs.Flat.{Flat}
@@ -29,6 +29,7 @@ use Rattle.cactus_tree.proofs.JoinsOut.{joins_out, joins_bridge, joins_cycle}
 use Rattle.cactus_tree.proofs.Outlined.{outline_fits}
 use Rattle.cactus_tree.proofs.TreePieces.{tree_holds}
 use Rattle.cactus_tree.proofs.Weights.{node_weight, block_weight, node_weight_out, block_weight_bridge, block_weight_cycle, blocks_weight, nodes_weight}
+use Rattle.cactus_tree.proofs.Built.{joined_map}
 
 pub pendings_push : (ts : List Task) (t : Task) → pendings (ts ++ t ∷ []) ≡ pending t ∷ pendings ts
 pendings_push [] t = refl
@@ -41,10 +42,6 @@ stacked_map f xs i x before after rest some within is b a =
 -- ---- the sizes of the subtrees
 abbrev Numbers : Type 0
 Numbers = List ℕ
-
-joined_map : {X : Type 0} (f : X → Numbers) (xs : List X) → joined (map f xs) ≡ flat_map f xs
-joined_map f [] = refl
-joined_map f (x ∷ xs) = ap (λ l. f x ++ l) (joined_map f xs)
 
 abbrev pub with_size : Numbers → Numbers
 with_size l = (length l + 1) ∷ l
@@ -74,10 +71,6 @@ sizes_many x = sym (outline_fits x).size ∙ (tree_holds x).size
 -- the first of them is that of the whole tree
 pub sizes_first : (x : Node) (rest : Numbers) → get_or (sizes x ++ rest) 0 0 ≡ (tree_joins x).size
 sizes_first x rest = (outline_fits x).first [] rest ∙ sizes_many x
-
-drop_front : {X : Type 0} (xs ys : List X) → drop (length xs) (xs ++ ys) ≡ ys
-drop_front [] ys = refl
-drop_front (x ∷ xs) ys = drop_front xs ys
 
 drop_twice : {X : Type 0} (m n : ℕ) (xs : List X) → drop (m + n) xs ≡ drop n (drop m xs)
 drop_twice zero n xs = let e : 0 + n ≡ n = omega arith in ap (λ k. drop k xs) e

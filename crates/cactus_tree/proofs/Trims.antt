@@ -4,13 +4,14 @@ use Rattle.std.specs.Prelude.{nat_le}
 use Rattle.std.specs.List.{All, Contains, list_all, flat_map}
 use Rattle.std.specs.declared.boxed.Box.{Box}
 use Rattle.std.specs.declared.alloc.Global.{Global}
-use Rattle.std.proofs.lemmas.Bool.{and_parts, false≢true}
+use Rattle.std.proofs.lemmas.Bool.{and_parts, false≢true, not-true, and_from, le-leb}
 use Rattle.std.proofs.lemmas.List.{length-map}
 use Rattle.std.proofs.lemmas.List.Elements.{All-nil, All-cons, All-head, All-tail, Contains-append_left, Contains-append_right, Contains-append_cases, filter-append}
 use Rattle.cut_definitions.specs.Weight.{VertexSet, either}
 use Rattle.cut_definitions.specs.Cuts.{has}
-use Rattle.cut_definitions.proofs.ChainLaws.{leb_yes}
 use Rattle.cut_definitions.proofs.Lists.{Contains-here, Contains-there, Contains-cons_cases}
+use Rattle.cut_definitions.proofs.Bools.{not_or_true, from_not_and}
+use Rattle.cut_definitions.proofs.ListLaws.{only}
 use Rattle.cactus_tree.specs.Sides.{Part, part, block_part, nothing, all_of, belows, all_cuts, from_here}
 use Rattle.cactus_tree.specs.Trees.{vertices, blocks, nodes_in}
 use Rattle.cactus_tree.specs.Entered.{entered, entered_block}
@@ -41,25 +42,13 @@ cuts_out x = ap (λ (p : Part). p.cuts) (part_out x)
 abbrev cycles_of : List Block → List Bool
 cycles_of bs = map (λ b. (block_shape b).is_cycle) bs
 
-or_true : (e : Bool) → (not e || true) ≡ true
-or_true true = refl
-or_true false = refl
-
-pub both_true : (a b : Bool) → a ≡ true → b ≡ true → (a && b) ≡ true
-both_true true b e f = f
-both_true false b e f = absurd (false≢true e)
-
-pub from_not : (a : Bool) → not a ≡ true → a ≡ false
-from_not false h = refl
-from_not true h = absurd (false≢true h)
-
-well_many : (e above : Bool) (cs : List Bool) → 2 ≤ length cs → well_placed e (above ∷ cs) ≡ true
+pub well_many : (e above : Bool) (cs : List Bool) → 2 ≤ length cs → well_placed e (above ∷ cs) ≡ true
 well_many e above cs h =
-    ap (λ b. not e || (b && (not (length (above ∷ cs) == 2) || list_all (λ c. c) (above ∷ cs)))) (leb_yes 2 (length (above ∷ cs)) (omega (arith, h)))
+    ap (λ b. not e || (b && (not (length (above ∷ cs) == 2) || list_all (λ c. c) (above ∷ cs)))) (le-leb 2 (length (above ∷ cs)) (omega (arith, h)))
     ∙ ap (λ b. not e || (true && (not b || list_all (λ c. c) (above ∷ cs)))) (ne_eqb (length (above ∷ cs)) 2 (λ k. omega (arith, h, k)))
-    ∙ or_true e
+    ∙ not_or_true e
 
-well_own : (v : ℕ) (vs : List ℕ) (around : List Bool) → well_placed (length (v ∷ vs) == 0) around ≡ true
+pub well_own : (v : ℕ) (vs : List ℕ) (around : List Bool) → well_placed (length (v ∷ vs) == 0) around ≡ true
 well_own v vs around = ap (λ b. not b || (nat_le 2 (length around) && (not (length around == 2) || list_all (λ c. c) around))) (ne_eqb (length (v ∷ vs)) 0 (λ k. omega (arith, k)))
 
 pub none_of : (vs : List ℕ) → (length vs == 0) ≡ true → vs ≡ []
@@ -72,17 +61,13 @@ placed_of above [] [] stays some = absurd (some refl refl)
 placed_of above [] (b ∷ []) stays some = absurd (false≢true (sym stays))
 placed_of above [] (b ∷ (d ∷ bs)) stays some = well_many true above (cycles_of (b ∷ (d ∷ bs))) (omega arith)
 
-not_false : (a : Bool) → (not a && true) ≡ false → a ≡ true
-not_false true h = refl
-not_false false h = absurd (false≢true (sym h))
-
 cycle_placed : (vs : List ℕ) (bs : List Block) → is_above_bridge vs bs ≡ false → (vs ≡ [] → bs ≡ [] → ⊥) → well_placed (length vs == 0) (true ∷ cycles_of bs) ≡ true
 cycle_placed (v ∷ vs) bs stays some = well_own v vs (true ∷ cycles_of bs)
 cycle_placed [] [] stays some = absurd (some refl refl)
-cycle_placed [] (b ∷ []) stays some = ap (λ c. c && true) (not_false (block_shape b).is_cycle stays)
+cycle_placed [] (b ∷ []) stays some = ap (λ c. c && true) (from_not_and (block_shape b).is_cycle stays)
 cycle_placed [] (b ∷ (d ∷ bs)) stays some = well_many true true (cycles_of (b ∷ (d ∷ bs))) (omega arith)
 
-bridge_to_cycle : (e : Bool) (cs : List Bool) → well_placed e (false ∷ cs) ≡ true → well_placed e (true ∷ cs) ≡ true
+pub bridge_to_cycle : (e : Bool) (cs : List Bool) → well_placed e (false ∷ cs) ≡ true → well_placed e (true ∷ cs) ≡ true
 bridge_to_cycle false cs h = refl
 bridge_to_cycle true [] h = absurd (false≢true h)
 bridge_to_cycle true (c ∷ []) h = absurd (false≢true h)
@@ -95,11 +80,11 @@ with_whole b c ks ls e f s h = elim (Contains-cons_cases b ks s h) [
   | inr k ↦ Contains-there c ls s (f s k)
 ]
 
-same_cons : (b c : VertexSet) (ks ls : List VertexSet) → b ≡ c → SameSets ks ls → SameSets (b ∷ ks) (c ∷ ls)
+pub same_cons : (b c : VertexSet) (ks ls : List VertexSet) → b ≡ c → SameSets ks ls → SameSets (b ∷ ks) (c ∷ ls)
 same_cons b c ks ls e f = λ s. (with_whole b c ks ls e (λ t. (f t).0) s, with_whole c b ls ks (sym e) (λ t. (f t).1) s)
 
 -- the set is there already
-same_own : (b c : VertexSet) (ks ls : List VertexSet) → b ≡ c → Contains ks b → SameSets ks ls → SameSets ks (c ∷ ls)
+pub same_own : (b c : VertexSet) (ks ls : List VertexSet) → b ≡ c → Contains ks b → SameSets ks ls → SameSets ks (c ∷ ls)
 same_own b c ks ls e own f = λ s. (
   (λ h. Contains-there c ls s ((f s).0 h)),
   (λ h. elim (Contains-cons_cases c ls s h) [
@@ -126,11 +111,11 @@ hung_kept r child stays h e w =
       cuts = subst (λ (p : Part). SameSets p.cuts (r.part.below ∷ r.part.cuts)) (sym (bridge_part child)) (same_cons (part x).below r.part.below (part x).cuts r.part.cuts s.below s.cuts);
       lists = ap some_in (entered_bridge child) ∙ s.lists;
       counts = widths_bridge child ∙ s.counts;
-      fine = ap (λ (b : BlockShape). b.fine) (bridge_shape child) ∙ child_parts false x ∙ both_true _ _ placed s.fine;
+      fine = ap (λ (b : BlockShape). b.fine) (bridge_shape child) ∙ child_parts false x ∙ and_from _ _ placed s.fine;
     }
 
 -- ---- a bridge to a node that is left out
-own_cut : (b : Block) → (block_shape b).fine ≡ true → Contains (block_part b).cuts (block_part b).below
+pub own_cut : (b : Block) → (block_shape b).fine ≡ true → Contains (block_part b).cuts (block_part b).below
 own_cut b h = elim (view b) [
   | inl y ↦ subst (λ (p : Part). Contains p.cuts p.below) (sym (ap block_part y.1 ∙ bridge_part y.0)) (Contains-here (part y.0.value).below (part y.0.value).cuts)
   | inr y ↦ subst (λ (p : Part). Contains p.cuts p.below) (sym (ap block_part y.1 ∙ cycle_part y.0))
@@ -169,7 +154,7 @@ trimmed_kept r x stays h g =
       cuts = same_cons (part x).below r.part.below (part x).cuts r.part.cuts s.below s.cuts;
       lists = s.lists;
       counts = s.counts;
-      fine = child_parts true x ∙ both_true _ _ placed s.fine;
+      fine = child_parts true x ∙ and_from _ _ placed s.fine;
     }
 
 -- ---- a node of a cycle that gives way to the node below its bridge
@@ -185,16 +170,13 @@ over_bridge r child s =
       cuts = subst (λ (p : Part). SameSets p.cuts (r.part.below ∷ r.part.cuts)) (bridge_part child) s.cuts;
       lists = sym (ap some_in (entered_bridge child)) ∙ s.lists;
       counts = sym (widths_bridge child) ∙ s.counts;
-      fine = child_parts true x ∙ both_true _ _ (bridge_to_cycle (length (vertices x) == 0) (cycles_of (blocks x)) fine.0) fine.1;
+      fine = child_parts true x ∙ and_from _ _ (bridge_to_cycle (length (vertices x) == 0) (cycles_of (blocks x)) fine.0) fine.1;
     }
-
-only : {X : Type 0} (x y : X) → x ∷ [] ≡ y ∷ [] → x ≡ y
-only x y h = ap (λ l. (elim l [ [] ↦ x | (z ∷ zs) ↦ z ])) h
 
 pub trimmed_below : (r : Read) (x f : Node) (b : Block) → is_above_bridge (vertices x) (blocks x) ≡ true → blocks x ≡ b ∷ [] → nodes_of b ≡ f ∷ [] → IsNodeOf r x → IsChildOf r f
 trimmed_below r x f b above bs nodes h g =
     let parts = and_parts (is_spare (vertices x) (blocks x)) (list_all (λ c. not (block_shape c).is_cycle) (blocks x)) above in
-    let straight : (block_shape b).is_cycle ≡ false = from_not (block_shape b).is_cycle (and_parts (not (block_shape b).is_cycle) true (sym (ap (list_all (λ c. not (block_shape c).is_cycle)) bs) ∙ parts.1)).0 in
+    let straight : (block_shape b).is_cycle ≡ false = not-true (block_shape b).is_cycle (and_parts (not (block_shape b).is_cycle) true (sym (ap (list_all (λ c. not (block_shape c).is_cycle)) bs) ∙ parts.1)).0 in
     let s : ShowsBlock (bridge_read r) b = hung_spare r x b parts.0 bs h g.cuts g.wide in
     elim (view b) [
       | inl y ↦ subst (ShowsChild r) (only y.0.value f (sym (nodes_bridge y.0) ∙ sym (ap nodes_of y.1) ∙ nodes)) (over_bridge r y.0 (subst (ShowsBlock (bridge_read r)) y.1 s))
@@ -284,7 +266,7 @@ children_counts (r ∷ rs) (x ∷ xs) h =
     let m = children_counts rs xs h.1 in (
       omega (arith, m.0),
       ap (λ l. l ++ joined (map widths xs)) h.0.counts ∙ ap (λ l. r.counts ++ l) m.1,
-      both_true _ _ h.0.fine m.2,
+      and_from _ _ h.0.fine m.2,
     )
 
 -- ---- a cycle
@@ -353,7 +335,7 @@ blocks_counts (r ∷ rs) [] h = absurd h
 blocks_counts (r ∷ rs) (b ∷ bs) h =
     let m = blocks_counts rs bs h.1 in (
       ap (λ l. l ++ joined (map block_widths bs)) h.0.counts ∙ ap (λ l. r.counts ++ l) m.0,
-      both_true _ _ h.0.fine m.1,
+      and_from _ _ h.0.fine m.1,
     )
 
 pub node_made : (own : List ℕ) (rs : List Read) (x : Node) → vertices x ≡ own → AreBlocksOf rs (blocks x) → IsNodeOf (node_read has own rs) x

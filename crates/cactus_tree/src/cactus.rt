@@ -19,7 +19,8 @@ use crate::tree::{
     number_of, put_trimmed, spread_node,
 };
 use crate::vertex_list::VertexList;
-use std::alloc::{AllocError, Global};
+use cut_definitions::NoMemory;
+use std::alloc::Global;
 use std::marker::Model;
 
 /// A tree of nodes, joined by bridges and cycles, in which each of the vertices 1 to n is in exactly one node.
@@ -46,7 +47,7 @@ impl Model for Cactus {
 }
 
 /// The ascending list of the vertices 1 to n.
-fn all_vertices(alloc: Global, n: u32) -> Result<VertexList, AllocError>
+fn all_vertices(alloc: Global, n: u32) -> Result<VertexList, NoMemory>
     ensures { IfOk result (λ l. l ≡ range_with_len 1 n) }
 {
     let mut list = VertexList::new(alloc);
@@ -59,7 +60,7 @@ fn all_vertices(alloc: Global, n: u32) -> Result<VertexList, AllocError>
 impl Cactus {
     /// The cactus of one node with all vertices, which has no cut. It takes 4n bytes, and is refused only where these
     /// are wanting.
-    pub fn single(alloc: Global, n: u32) -> Result<Cactus, AllocError>
+    pub fn single(alloc: Global, n: u32) -> Result<Cactus, NoMemory>
         requires { 1 ≤ n }
         ensures n { IfOk result (λ c. c.vertices ≡ n) }
         ensures vertices { IfOk result (λ c. vertices c.root ≡ range_with_len 1 n) }
@@ -126,7 +127,7 @@ impl Cactus {
     ///
     /// One step for each node and block. It takes memory for the nodes on the stack, at most 8 bytes a node, and is
     /// refused only where that is wanting.
-    pub fn is_normal_within(&self, alloc: Global) -> Result<bool, AllocError>
+    pub fn is_normal_within(&self, alloc: Global) -> Result<bool, NoMemory>
         ensures { IfOk result (λ b. b ≡ is_normal self.now.root) }
     {
         let is_normal = is_normal_below(alloc, self.root())?;
@@ -140,7 +141,7 @@ impl Cactus {
     /// form. The tree is taken over and its nodes are moved. One step for each node and block, in loops, so that a deep
     /// tree does not run out of stack. It takes memory in proportion to the nodes, and is refused only where that is
     /// wanting; the cactus is dropped then.
-    pub fn normal(self, alloc: Global) -> Result<Cactus, AllocError>
+    pub fn normal(self, alloc: Global) -> Result<Cactus, NoMemory>
         requires { HasNoEmptySide self }
         ensures n { IfOk result (λ c. c.vertices ≡ self.vertices) }
         ensures normal { IfOk result (λ c. is_normal c.root ≡ true) }
@@ -172,7 +173,7 @@ impl Cactus {
     ///
     /// One step for each node and block. It takes memory for the nodes on the stack, at most 8 bytes a node, and is
     /// refused only where that is wanting.
-    pub fn count_within(&self, alloc: Global) -> Result<u64, AllocError>
+    pub fn count_within(&self, alloc: Global) -> Result<u64, NoMemory>
         requires normal { is_normal self.now.root ≡ true }
         requires few { self.now.vertices ≤ 4194304 }
         ensures number { IfOk result (λ k. k ≡ number self.now.root) }
@@ -188,7 +189,7 @@ impl Cactus {
     /// Each side becomes the set of the vertices whose class is in it, and the tree keeps its form. It takes memory in
     /// proportion to n and the nodes, and is refused only where that is wanting; the cactus is dropped then. Time O(n log n) for
     /// gathering and sorting, and one step for each node, in loops, so that a deep tree does not run out of stack.
-    pub fn spread(self, alloc: Global, n: u32, classes: &[u32]) -> Result<Cactus, AllocError>
+    pub fn spread(self, alloc: Global, n: u32, classes: &[u32]) -> Result<Cactus, NoMemory>
         requires { AreClasses n self.vertices classes.now }
         ensures n { IfOk result (λ c. c.vertices ≡ n) }
         ensures lists { IfOk result (λ c. entered c.root ≡ map (lift classes.now) (entered self.root)) }

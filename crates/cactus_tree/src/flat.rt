@@ -1,9 +1,10 @@
 //! The flat cactus: nodes, bridges and cycles by the numbers of the nodes.
 
-ghost use Rattle.std.specs.Prelude.{◌≡◌, ◌<◌, ◌+◌, [], ◌∷◌, ◌++◌, slice_range, OnOk, OnErr, Some, length, slice_get};
+ghost use Rattle.std.specs.Prelude.{◌≡◌, ◌<◌, ◌+◌, [], ◌∷◌, ◌++◌, slice_range, IfOk, OnOk, OnErr, Some, length, slice_get};
 ghost use Rattle.cactus_tree.specs.Flat.{AreStarts, appended_to_last, start_of};
 
-use std::alloc::{AllocError, Global};
+use cut_definitions::NoMemory;
+use std::alloc::Global;
 use std::marker::Model;
 
 /// A cactus whose nodes are numbered from 0: the vertices of each node, the bridges as pairs of node numbers, and the
@@ -64,8 +65,25 @@ impl FlatCactus {
         }
     }
 
+    /// The same with room for all vertices, for so many nodes and for as many bridges.
+    pub fn with_capacity(alloc: Global, n: u32, nodes: usize) -> Result<FlatCactus, NoMemory>
+        ensures { IfOk result (λ f. f ≡ record { vertices = n; nodes = []; bridges = []; cycles = [] }) }
+    {
+        let vertices = Vec::with_capacity(alloc, n as usize)?;
+        let node_starts = Vec::with_capacity(alloc, nodes)?;
+        let bridges = Vec::with_capacity(alloc, nodes)?;
+        Ok(FlatCactus {
+            n,
+            vertices,
+            node_starts,
+            bridges,
+            members: Vec::new(alloc),
+            cycle_starts: Vec::new(alloc),
+        })
+    }
+
     /// Appends a node without vertices. Where memory is wanting the cactus stays as it was.
-    pub fn push_node(&mut self) -> Result<(), AllocError>
+    pub fn push_node(&mut self) -> Result<(), NoMemory>
         ensures ok { OnOk result (self.new ≡ record self.old { nodes = self.old.nodes ++ [] ∷ [] }) }
         ensures err { OnErr result (self.new ≡ self.old) }
     {
@@ -74,7 +92,7 @@ impl FlatCactus {
     }
 
     /// Appends a vertex to the last node. Where memory is wanting the cactus stays as it was.
-    pub fn push_vertex(&mut self, v: u32) -> Result<(), AllocError>
+    pub fn push_vertex(&mut self, v: u32) -> Result<(), NoMemory>
         requires { 0 < length self.old.nodes }
         ensures ok { OnOk result (self.new ≡ record self.old { nodes = appended_to_last self.old.nodes v }) }
         ensures err { OnErr result (self.new ≡ self.old) }
@@ -84,7 +102,7 @@ impl FlatCactus {
     }
 
     /// Appends a bridge between the nodes of these numbers. Where memory is wanting the cactus stays as it was.
-    pub fn push_bridge(&mut self, i: u64, j: u64) -> Result<(), AllocError>
+    pub fn push_bridge(&mut self, i: u64, j: u64) -> Result<(), NoMemory>
         ensures ok { OnOk result (self.new ≡ record self.old { bridges = self.old.bridges ++ (i, j) ∷ [] }) }
         ensures err { OnErr result (self.new ≡ self.old) }
     {
@@ -93,7 +111,7 @@ impl FlatCactus {
     }
 
     /// Appends a cycle without nodes. Where memory is wanting the cactus stays as it was.
-    pub fn push_cycle(&mut self) -> Result<(), AllocError>
+    pub fn push_cycle(&mut self) -> Result<(), NoMemory>
         ensures ok { OnOk result (self.new ≡ record self.old { cycles = self.old.cycles ++ [] ∷ [] }) }
         ensures err { OnErr result (self.new ≡ self.old) }
     {
@@ -102,7 +120,7 @@ impl FlatCactus {
     }
 
     /// Appends the node of this number to the last cycle. Where memory is wanting the cactus stays as it was.
-    pub fn push_member(&mut self, node: u64) -> Result<(), AllocError>
+    pub fn push_member(&mut self, node: u64) -> Result<(), NoMemory>
         requires { 0 < length self.old.cycles }
         ensures ok { OnOk result (self.new ≡ record self.old { cycles = appended_to_last self.old.cycles node }) }
         ensures err { OnErr result (self.new ≡ self.old) }

@@ -10,7 +10,8 @@ ghost use Rattle.cactus_tree.specs.Tasks.{node, block, pending, pendings, pendin
 use crate::cactus::Cactus;
 use crate::flat::FlatCactus;
 use crate::tree::{Block, Blocks, Children, Node, subtree_sizes};
-use std::alloc::{AllocError, Global};
+use cut_definitions::NoMemory;
+use std::alloc::Global;
 
 /// What is still to be entered: a node of a cycle, or a block below the node of a number.
 #[derive(Drop)]
@@ -20,7 +21,7 @@ enum Task<'a> {
 }
 
 /// Puts the nodes of a cycle on the stack, the first on top.
-fn stack_nodes<'a>(stack: &mut Vec<Task<'a>>, nodes: &'a Children) -> Result<(), AllocError>
+fn stack_nodes<'a>(stack: &mut Vec<Task<'a>>, nodes: &'a Children) -> Result<(), NoMemory>
     ensures { OnOk result (pendings stack.new.items ≡ map node (nodes_in nodes.now) ++ pendings stack.old.items) }
 {
     let mut i = nodes.len();
@@ -32,7 +33,7 @@ fn stack_nodes<'a>(stack: &mut Vec<Task<'a>>, nodes: &'a Children) -> Result<(),
 }
 
 /// Puts the blocks below the node of a number on the stack, the first on top.
-fn stack_blocks<'a>(stack: &mut Vec<Task<'a>>, up: u64, items: &'a Blocks) -> Result<(), AllocError>
+fn stack_blocks<'a>(stack: &mut Vec<Task<'a>>, up: u64, items: &'a Blocks) -> Result<(), NoMemory>
     ensures { OnOk result (pendings stack.new.items ≡ map (block up) (blocks_in items.now) ++ pendings stack.old.items) }
 {
     let mut i = items.len();
@@ -44,7 +45,7 @@ fn stack_blocks<'a>(stack: &mut Vec<Task<'a>>, up: u64, items: &'a Blocks) -> Re
 }
 
 /// Appends a node with its vertices.
-fn add_node(flat: &mut FlatCactus, item: &Node) -> Result<(), AllocError>
+fn add_node(flat: &mut FlatCactus, item: &Node) -> Result<(), NoMemory>
     ensures { OnOk result (flat.new ≡ with_node flat.old item.now) }
 {
     flat.push_node()?;
@@ -60,7 +61,7 @@ fn add_cycle(
     up: u64,
     nodes: &Children,
     subtrees: &[usize],
-) -> Result<(), AllocError>
+) -> Result<(), NoMemory>
     requires { (rest : List ℕ) × (drop (length flat.old.nodes) subtrees.now ≡ flat_map sizes (nodes_in nodes.now) ++ rest) }
     ensures { OnOk result (flat.new ≡ with_cycle flat.old up (nodes_in nodes.now)) }
 {
@@ -79,7 +80,7 @@ fn enter_node<'a>(
     flat: &mut FlatCactus,
     stack: &mut Vec<Task<'a>>,
     item: &'a Node,
-) -> Result<(), AllocError>
+) -> Result<(), NoMemory>
     ensures flat { OnOk result (flat.new ≡ with_node flat.old item.now) }
     ensures stack { OnOk result (pendings stack.new.items ≡ map (block (length flat.old.nodes)) (blocks item.now) ++ pendings stack.old.items) }
 {
@@ -96,7 +97,7 @@ fn enter_block<'a>(
     subtrees: &[usize],
     item: &'a Block,
     up: u64,
-) -> Result<(), AllocError>
+) -> Result<(), NoMemory>
     requires { (rest : List ℕ) × (drop (length flat.old.nodes) subtrees.now ≡ block_sizes item.now ++ rest) }
     ensures flat { OnOk result (flat.new ≡ gained flat.old (block up item.now)) }
     ensures stack { OnOk result (pendings stack.new.items ≡ next_of (length flat.old.nodes) (block up item.now) ++ pendings stack.old.items) }
@@ -122,7 +123,7 @@ fn enter<'a>(
     stack: &mut Vec<Task<'a>>,
     subtrees: &[usize],
     task: Task<'a>,
-) -> Result<(), AllocError>
+) -> Result<(), NoMemory>
     requires { (rest : List ℕ) × (drop (length flat.old.nodes) subtrees.now ≡ pending_sizes (pending task) ++ rest) }
     ensures flat { OnOk result (flat.new ≡ gained flat.old (pending task.entry)) }
     ensures stack { OnOk result (pendings stack.new.items ≡ next_of (length flat.old.nodes) (pending task.entry) ++ pendings stack.old.items) }
@@ -145,12 +146,12 @@ fn enter<'a>(
 ///
 /// One step for each node, block and vertex, in loops with a stack, so that a deep tree does not run out of stack. It
 /// takes memory in proportion to the nodes and to n, and is refused only where that is wanting.
-pub fn flatten(alloc: Global, cactus: &Cactus) -> Result<FlatCactus, AllocError>
+pub fn flatten(alloc: Global, cactus: &Cactus) -> Result<FlatCactus, NoMemory>
     ensures { IfOk result (λ f. f ≡ flat_of cactus.now) }
 {
     let root = cactus.root();
     let subtrees = subtree_sizes(alloc, root)?;
-    let mut flat = FlatCactus::new(alloc, cactus.n());
+    let mut flat = FlatCactus::with_capacity(alloc, cactus.n(), subtrees.len())?;
     let mut stack = Vec::new(alloc);
     stack.push(Task::Enter(root))?;
     'walk: while let Some(task) = stack.pop() {

@@ -4,7 +4,8 @@ ghost use Rattle.std.specs.Prelude.{List, ◌≡◌, ℕ, [], ◌∷◌, ◌++�
 ghost use Rattle.cactus_tree.specs.Trees.{blocks_in, nodes_in};
 
 use crate::vertex_list::VertexList;
-use std::alloc::{AllocError, Global};
+use cut_definitions::NoMemory;
+use std::alloc::Global;
 
 mod count;
 mod entries;
@@ -86,7 +87,7 @@ impl Blocks {
     }
 
     /// The empty list with room for so many blocks. For none it takes no memory.
-    pub fn with_capacity(alloc: Global, count: usize) -> Result<Blocks, AllocError>
+    pub fn with_capacity(alloc: Global, count: usize) -> Result<Blocks, NoMemory>
         ensures { IfOk result (λ b. blocks_in b ≡ []) }
     {
         let items = Vec::with_capacity(alloc, count)?;
@@ -94,7 +95,7 @@ impl Blocks {
     }
 
     /// Appends a block. Where memory is wanting the list stays as it was, and the block is dropped.
-    pub fn push(&mut self, item: Block) -> Result<(), AllocError>
+    pub fn push(&mut self, item: Block) -> Result<(), NoMemory>
         ensures ok { OnOk result (blocks_in self.new ≡ blocks_in self.old ++ item ∷ []) }
         ensures err { OnErr result (blocks_in self.new ≡ blocks_in self.old) }
     {
@@ -112,7 +113,7 @@ impl Blocks {
 
     /// Takes the blocks from the place `at` on out of the list, in order, and gives them as a list of their own. It takes
     /// memory for that list; where it is wanting the list stays as it was.
-    pub fn split_off(&mut self, at: usize) -> Result<Blocks, AllocError>
+    pub fn split_off(&mut self, at: usize) -> Result<Blocks, NoMemory>
         requires { at ≤ length (blocks_in self.old) }
         ensures front { OnOk result (blocks_in self.new ≡ take at (blocks_in self.old)) }
         ensures back { IfOk result (λ b. blocks_in b ≡ drop at (blocks_in self.old)) }
@@ -149,7 +150,7 @@ impl Children {
     }
 
     /// The empty list with room for so many nodes. For none it takes no memory.
-    pub fn with_capacity(alloc: Global, count: usize) -> Result<Children, AllocError>
+    pub fn with_capacity(alloc: Global, count: usize) -> Result<Children, NoMemory>
         ensures { IfOk result (λ c. nodes_in c ≡ []) }
     {
         let items = Vec::with_capacity(alloc, count)?;
@@ -157,7 +158,7 @@ impl Children {
     }
 
     /// Appends a node. Where memory is wanting the list stays as it was, and the node is dropped.
-    pub fn push(&mut self, item: Node) -> Result<(), AllocError>
+    pub fn push(&mut self, item: Node) -> Result<(), NoMemory>
         ensures ok { OnOk result (nodes_in self.new ≡ nodes_in self.old ++ item ∷ []) }
         ensures err { OnErr result (nodes_in self.new ≡ nodes_in self.old) }
     {
@@ -167,7 +168,7 @@ impl Children {
 
     /// Appends the nodes of another list, in order. Where memory is wanting the list stays as it was, and the others are
     /// dropped.
-    pub fn append(&mut self, more: Children) -> Result<(), AllocError>
+    pub fn append(&mut self, more: Children) -> Result<(), NoMemory>
         ensures ok { OnOk result (nodes_in self.new ≡ nodes_in self.old ++ nodes_in more) }
         ensures err { OnErr result (nodes_in self.new ≡ nodes_in self.old) }
     {
@@ -186,7 +187,7 @@ impl Children {
 
     /// Takes the nodes from the place `at` on out of the list, in order, and gives them as a list of their own. It takes
     /// memory for that list; where it is wanting the list stays as it was.
-    pub fn split_off(&mut self, at: usize) -> Result<Children, AllocError>
+    pub fn split_off(&mut self, at: usize) -> Result<Children, NoMemory>
         requires { at ≤ length (nodes_in self.old) }
         ensures front { OnOk result (nodes_in self.new ≡ take at (nodes_in self.old)) }
         ensures back { IfOk result (λ c. nodes_in c ≡ drop at (nodes_in self.old)) }

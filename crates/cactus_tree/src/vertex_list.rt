@@ -3,7 +3,8 @@
 ghost use Rattle.std.specs.Prelude.{◌≡◌, [], ◌∷◌, ◌++◌, ◌<◌, length, option_to_list, IsSome, ◌↔◌, OnOk, OnErr, slice_get};
 ghost use Rattle.cactus_tree.specs.Entered.{name_of, renamed};
 
-use std::alloc::{AllocError, Global};
+use cut_definitions::NoMemory;
+use std::alloc::Global;
 use std::marker::Model;
 
 /// A list of vertices; contracts see it as a list of numbers.
@@ -38,7 +39,7 @@ impl VertexList {
     }
 
     /// Appends a vertex. Where memory is wanting the list stays as it was.
-    pub fn push(&mut self, item: u32) -> Result<(), AllocError>
+    pub fn push(&mut self, item: u32) -> Result<(), NoMemory>
         ensures ok { OnOk result (self.new ≡ self.old ++ item ∷ []) }
         ensures err { OnErr result (self.new ≡ self.old) }
     {

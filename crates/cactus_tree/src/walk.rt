@@ -14,12 +14,13 @@ mod shown;
 
 use crate::cactus::Cactus;
 pub use borders::{Border, next_start};
+use cut_definitions::NoMemory;
 pub use masses::masses_before;
 pub use places::{CutPlaces, KeptPlaces, cut_places, kept_places};
 use repeats::{next_kept, passed_over};
 use shown::change_side;
 pub use shown::{Span, put_range};
-use std::alloc::{AllocError, Global};
+use std::alloc::Global;
 use std::marker::Model;
 use vertex_set::Side;
 
@@ -82,7 +83,7 @@ impl Walk {
     /// the block above it is left out, since that cycle has a cut with the same side. One step for each node and vertex, in
     /// loops, so that a deep tree does not run out of stack. It takes memory in proportion to the nodes and to n, and is
     /// refused only where that is wanting.
-    pub fn new(alloc: Global, cactus: &Cactus) -> Result<Walk, AllocError>
+    pub fn new(alloc: Global, cactus: &Cactus) -> Result<Walk, NoMemory>
         ensures n { IfOk result (λ w. w.vertices ≡ cactus.now.vertices) }
         ensures sides { IfOk result (λ w. (side : List ℕ) → Contains w.to_come side ↔ Contains (sides_of cactus.now) side) }
         ensures few { IfOk result (λ w. length w.to_come ≤ length (sides_of cactus.now)) }

@@ -6,9 +6,10 @@ use Rattle.std.proofs.lemmas.Bool.{and_parts, and_from, ltb-true, lt-ltb, cases_
 use Rattle.std.proofs.lemmas.List.{map-append}
 use Rattle.std.proofs.lemmas.List.Folds.{list_all-append, concat-append}
 use Rattle.cut_definitions.specs.Cuts.{least}
+use Rattle.cut_definitions.proofs.ListLaws.{taken}
+use Rattle.cut_definitions.proofs.Bools.{same_tests}
 use Rattle.canonical_cactus.specs.Canonical.{Arranged, all_vertices, leasts, ascend, rises, last_from}
 use Rattle.canonical_cactus.specs.Standing.{least_in, lesser_of, or_zero}
-use Rattle.cactus_tree.proofs.Sets.{same_test}
 
 abbrev pub first_or_zero : List ℕ → ℕ
 first_or_zero [] = 0
@@ -19,14 +20,6 @@ last_or_zero [] = 0
 last_or_zero (x ∷ xs) = last_from x xs
 
 -- ---- lists
-pub taken : {X : Type 0} (xs : List X) (i : ℕ) (x : X) → slice_get xs i ≡ Some x → take (i + 1) xs ≡ take i xs ++ x ∷ []
-taken [] zero x e = cc
-taken [] (suc i) x e = cc
-taken (y ∷ ys) zero x e = let same : y ≡ x = cc in ap (λ z. z ∷ []) same
-taken (y ∷ ys) (suc i) x e =
-    let next : suc i + 1 ≡ suc (i + 1) = omega arith in
-    ap (λ k. take k (y ∷ ys)) next ∙ ap (λ l. y ∷ l) (taken ys i x e)
-
 pub mapped : {X Y : Type 0} (f : X → Y) (xs : List X) (i : ℕ) (x : X) → slice_get xs i ≡ Some x → map f (take (i + 1) xs) ≡ map f (take i xs) ++ f x ∷ []
 mapped f xs i x e = ap (map f) (taken xs i x e) ∙ map-append f (take i xs) (x ∷ [])
 
@@ -126,7 +119,7 @@ ascend_more (x ∷ xs) i y none some = elim (cases_eq i 0) [
     ascend_next : (x : ℕ) (xs : List ℕ) (y : ℕ) → ascend ((x ∷ xs) ++ y ∷ []) ≡ (ascend (x ∷ xs) && nat_lt (last_from x xs) y)
     ascend_next x xs y =
         let next = last_from x xs in
-        same_test (ascend ((x ∷ xs) ++ y ∷ [])) (ascend (x ∷ xs) && nat_lt next y)
+        same_tests (ascend ((x ∷ xs) ++ y ∷ [])) (ascend (x ∷ xs) && nat_lt next y)
         (λ h. let r = ascend_back x xs y h in and_from (ascend (x ∷ xs)) (nat_lt next y) r.0 (lt-ltb next y r.1))
         (λ h. let both = and_parts (ascend (x ∷ xs)) (nat_lt next y) h in ascend_there x xs y both.0 (ltb-true next y both.1))
 

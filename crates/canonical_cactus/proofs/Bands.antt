@@ -8,8 +8,9 @@ use Rattle.cactus_tree.specs.Walking.{AreChained}
 use Rattle.cactus_tree.specs.declared.walk.borders.Border.{Border}
 use Rattle.cactus_tree.specs.declared.walk.shown.Span.{Span}
 use Rattle.cactus_tree.proofs.Stepping.{place_within}
+use Rattle.cactus_tree.proofs.Chains.{no_less}
 use Rattle.balanced_cut.specs.Ends.{mass_to, range_between, span_mass}
-use Rattle.balanced_cut.proofs.Moving.{behind_there, between_fits, no_less}
+use Rattle.balanced_cut.proofs.Moving.{behind_there, between_fits}
 use Rattle.canonical_cactus.specs.FirstBest.{AreLess, IsFound, IsRanked, IsWanted, count_of}
 use Rattle.canonical_cactus.specs.declared.first_side.Ranked.{Ranked}
 

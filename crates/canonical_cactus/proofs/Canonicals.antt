@@ -1,13 +1,15 @@
 -- A tree that shows what was read off a cactus without an empty side is a canonical cactus with the same sides.
-use Rattle.std.proofs.Common.{◌≡◌, ℕ, ◌≤◌, ◌<◌, inl, inr, true, List, [], ◌∷◌, length, map, ap, ◌∙◌, sym, refl, subst, arith}
+use Rattle.std.proofs.Common.{◌≡◌, ℕ, ◌≤◌, ◌<◌, inl, inr, true, List, [], ◌∷◌, length, map, ap, ◌∙◌, sym, subst, arith}
 use Rattle.std.specs.Prelude.{slice_index_or}
-use Rattle.std.specs.List.{All, Contains, filter, range_with_len}
+use Rattle.std.specs.List.{Contains, filter, range_with_len}
 use Rattle.std.proofs.lemmas.Bool.{false≢true, or_left, and_from}
 use Rattle.std.proofs.lemmas.List.{map-id}
-use Rattle.std.proofs.lemmas.List.Elements.{All-nil, All-cons, All-contains}
+use Rattle.std.proofs.lemmas.List.Elements.{All-contains}
 use Rattle.cut_definitions.specs.Weight.{VertexSet}
 use Rattle.cut_definitions.specs.Cuts.{has, IsAscendingWithin}
-use Rattle.cut_definitions.proofs.Lists.{Contains-here, Contains-there, Contains-cons_cases, Contains-map, Contains-from_map}
+use Rattle.cut_definitions.proofs.Lists.{Contains-cons_cases, Contains-map, Contains-from_map}
+use Rattle.cut_definitions.proofs.ListLaws.{All-from_each}
+use Rattle.cut_definitions.proofs.Ascending.{contains_has}
 use Rattle.cactus_tree.specs.Sides.{Part, part, block_part, nothing, all_of, belows}
 use Rattle.cactus_tree.specs.Trees.{vertices, blocks}
 use Rattle.cactus_tree.specs.Entered.{entered}
@@ -19,21 +21,17 @@ use Rattle.cactus_tree.specs.Different.{HaveSameSides, HasNoEmptySide}
 use Rattle.cactus_tree.specs.Trims.{SameSets, NoneEmpty}
 use Rattle.cactus_tree.specs.declared.tree.Node.{Node}
 use Rattle.cactus_tree.proofs.Clean.{root_clean}
-use Rattle.cactus_tree.proofs.Groups.{contains_has}
 use Rattle.cactus_tree.proofs.Lifts.{own_lists}
 use Rattle.cactus_tree.proofs.Orders.{entered_out}
 use Rattle.cactus_tree.proofs.Shapes.{root_normal}
 use Rattle.cactus_tree.proofs.Trims.{below_out}
+use Rattle.cactus_tree.proofs.Normals.{filter_nothing}
 use Rattle.canonical_cactus.specs.Canonical.{arranged, is_canonical}
 use Rattle.canonical_cactus.specs.Laws.{over}
 use Rattle.canonical_cactus.specs.Making.{AreApart, ShowsNode, IsGood, IsNodeOf}
 use Rattle.canonical_cactus.specs.declared.parts.Placed.{Placed}
 
 -- ---- no cut is empty
-filter_nothing : (xs : List ℕ) → filter nothing xs ≡ []
-filter_nothing [] = refl
-filter_nothing (x ∷ xs) = filter_nothing xs
-
 none_empty : (n : ℕ) (root : Node) → IsCactus n root → HasNoEmptySide (over n root) → NoneEmpty ((part root).below ∷ (part root).cuts)
 none_empty n root h some c = elim (Contains-cons_cases (part root).below (part root).cuts nothing c) [
   | inl k ↦ (
@@ -55,22 +53,18 @@ good_root n root h some = record {
 }
 
 -- ---- the tree
-all_from : {X : Type 0} (P : X → Type 0) (xs : List X) → ((x : X) → Contains xs x → P x) → All P xs
-all_from P [] h = All-nil P
-all_from P (x ∷ xs) h = All-cons P x xs (h x (Contains-here x xs)) (all_from P xs (λ y k. h y (Contains-there x xs y k)))
-
 same_vertices : (root x : Node) → ShowsNode (read_node has kept root) x → vertices x ≡ vertices root
 same_vertices root x s = s.own ∙ ap (λ ls. slice_index_or (map kept ls) 0 []) (entered_out root)
 
 shown_cactus : (n : ℕ) (root x : Node) → IsCactus n root → ShowsNode (read_node has kept root) x → IsCactus n x
 shown_cactus n root x h s = record {
-  ascending = all_from (IsAscendingWithin 1 n) (entered x) (λ l k. elim (s.lists.members l k) [
+  ascending = All-from_each (IsAscendingWithin 1 n) (entered x) (λ l k. elim (s.lists.members l k) [
     | inl e ↦ subst (IsAscendingWithin 1 n) (sym e) tt
     | inr t ↦ All-contains (IsAscendingWithin 1 n) (entered root) l h.ascending (subst (λ ls. Contains ls l) (map-id (entered root)) t)
   ]);
   in_one_node = λ v l k. s.lists.often v ∙ ap (λ ls. length (filter (λ m. has m v) ls)) (map-id (entered root)) ∙ h.in_one_node v l k;
   root_has_one = subst (λ l. Contains l 1) (sym (same_vertices root x s)) h.root_has_one;
-  wide = all_from (λ k. 2 ≤ k) (widths x) (λ k m. omega (arith, s.wide k m));
+  wide = All-from_each (λ k. 2 ≤ k) (widths x) (λ k m. omega (arith, s.wide k m));
 }
 
 shown_canonical : (n : ℕ) (root x : Node) → IsCactus n root → ShowsNode (read_node has kept root) x → is_canonical x ≡ true

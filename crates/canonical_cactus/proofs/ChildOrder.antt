@@ -8,6 +8,7 @@ use Rattle.cactus_tree.specs.Sides.{Part, all_of, belows, from_here}
 use Rattle.cactus_tree.proofs.Sets.{IsIn, Apart, SameFamily, same_set}
 use Rattle.cactus_tree.proofs.Rows.{IsRow}
 use Rattle.cactus_tree.proofs.Cycles.{cycle_cuts, cycle_cases, cycle_here, cycle_within, here_first, here_above}
+use Rattle.cactus_tree.proofs.Distinct.{grown_apart}
 
 module _ (p q : Part) (ps qs : List Part) (rp : IsRow (p ∷ ps)) (rq : IsRow (q ∷ qs))
     (f : (s : VertexSet) → Contains (cycle_cuts (p ∷ ps)) s → Contains (cycle_cuts (q ∷ qs)) s)
@@ -43,12 +44,6 @@ next_in s p q ps a h v e = elim (or_cases (s v) (q.below v) (h v (or_right (s v)
   | inr k ↦ k
 ]
 
-pub both_apart : (s : VertexSet) (p : Part) (ps : List Part) → IsRow (p ∷ ps) → Apart s (all_of (belows (p ∷ ps))) → Apart (either s p.below) (all_of (belows ps))
-both_apart s p ps r a v h k = elim (or_cases (s v) (p.below v) h) [
-  | inl e ↦ a v e (or_right (p.below v) (all_of (belows ps) v) k)
-  | inr e ↦ r.2 v e k
-]
-
 pub grown : (s : VertexSet) (ps qs : List Part) → IsRow ps → IsRow qs → Apart s (all_of (belows ps)) → Apart s (all_of (belows qs)) →
     SameFamily (from_here s (belows ps)) (from_here s (belows qs)) → belows ps ≡ belows qs
 grown s [] [] rp rq ap' aq f = refl
@@ -64,8 +59,8 @@ grown s (p ∷ ps) (q ∷ qs) rp rq ap' aq f =
     let there : IsIn s1 s2 = here_above s1 (belows ps) s2 ((g s2).1 (here_first s2 (belows qs))) in
     let e : p.below ≡ q.below = same_set p.below q.below (next_in s p q ps ap' there) (next_in s q p qs aq back) in
     let h : SameFamily (from_here s1 (belows ps)) (from_here s1 (belows qs)) = subst (λ b. SameFamily (from_here s1 (belows ps)) (from_here b (belows qs))) (same_set s2 s1 back there) g in
-    let aq1 : Apart s1 (all_of (belows qs)) = subst (λ b. Apart b (all_of (belows qs))) (same_set s2 s1 back there) (both_apart s q qs rq aq) in
-    let rest : belows ps ≡ belows qs = grown s1 ps qs rp.3 rq.3 (both_apart s p ps rp ap') aq1 h in
+    let aq1 : Apart s1 (all_of (belows qs)) = subst (λ b. Apart b (all_of (belows qs))) (same_set s2 s1 back there) (grown_apart s q qs rq aq) in
+    let rest : belows ps ≡ belows qs = grown s1 ps qs rp.3 rq.3 (grown_apart s p ps rp ap') aq1 h in
     ap (λ b. b ∷ belows ps) e ∙ ap (λ bs. q.below ∷ bs) rest
 
 -- the children behind the first one, by the cuts that have the first

@@ -2,11 +2,11 @@
 use Rattle.std.proofs.Common.{◌≡◌, ℕ, zero, suc, ◌+◌, ◌≤◌, ◌<◌, ◌⊎◌, inl, inr, true, false, not, ◌&&◌, List, [], ◌∷◌, ◌++◌, length, get_or, take, drop, ap, ◌∙◌, sym, subst, arith}
 use Rattle.std.specs.Prelude.{nat_le}
 use Rattle.std.specs.Ordering.{is_gt}
-use Rattle.std.proofs.lemmas.Bool.{cases_lt, false≢true}
+use Rattle.std.proofs.lemmas.Bool.{cases_lt, false≢true, le-leb, lt-leb}
 use Rattle.std.proofs.lemmas.Bool.Decides.{nat_tests}
 use Rattle.std.proofs.lemmas.List.Elements.{All-get_or}
 use Rattle.cut_definitions.specs.Cuts.{has}
-use Rattle.cut_definitions.proofs.ChainLaws.{leb_yes, leb_no}
+use Rattle.cut_definitions.proofs.Ascending.{has_one}
 use Rattle.vertex_set.proofs.Bits.{filter-same}
 use Rattle.cactus_tree.specs.CutRanges.{Range, elements_at}
 use Rattle.cactus_tree.specs.Places.{IsVertex, is_inside}
@@ -23,15 +23,15 @@ range from to = record { from = from; to = to }
 -- a place is in a range, or it is not
 whether : (r : Range) (p : ℕ) → ((r.from ≤ p) × (p < r.to) × (is_inside r p ≡ true)) ⊎ (((p < r.from) ⊎ (r.to ≤ p)) × (is_inside r p ≡ false))
 whether r p = elim (cases_lt p r.from) [
-  | inl low ↦ inr (inl low, ap (λ b. b && not (nat_le r.to p)) (leb_no r.from p low))
+  | inl low ↦ inr (inl low, ap (λ b. b && not (nat_le r.to p)) (lt-leb r.from p low))
   | inr from ↦ elim (cases_lt p r.to) [
-    | inl to ↦ inl (from, to, ap (λ b. b && not (nat_le r.to p)) (leb_yes r.from p from) ∙ ap not (leb_no r.to p to))
-    | inr high ↦ inr (inr high, ap (λ b. b && not (nat_le r.to p)) (leb_yes r.from p from) ∙ ap not (leb_yes r.to p high))
+    | inl to ↦ inl (from, to, ap (λ b. b && not (nat_le r.to p)) (le-leb r.from p from) ∙ ap not (lt-leb r.to p to))
+    | inr high ↦ inr (inr high, ap (λ b. b && not (nat_le r.to p)) (le-leb r.from p from) ∙ ap not (le-leb r.to p high))
   ]
 ]
 
 inside_yes : (r : Range) (p : ℕ) → r.from ≤ p → p < r.to → is_inside r p ≡ true
-inside_yes r p from to = ap (λ b. b && not (nat_le r.to p)) (leb_yes r.from p from) ∙ ap not (leb_no r.to p to)
+inside_yes r p from to = ap (λ b. b && not (nat_le r.to p)) (le-leb r.from p from) ∙ ap not (lt-leb r.to p to)
 
 inside_not : (r : Range) (p : ℕ) → (p < r.from) ⊎ (r.to ≤ p) → is_inside r p ≡ false
 inside_not r p out = elim (whether r p) [
@@ -60,9 +60,6 @@ one_inside p q h = elim (whether (range p (p + 1)) q) [
 ]
 
 -- the tests of one element
-has_one : (x v : ℕ) → has (x ∷ []) v ≡ true → x ≡ v
-has_one x v h = grind (arith, nat_tests, h)
-
 has_itself : (x : ℕ) → has (x ∷ []) x ≡ true
 has_itself x = grind (arith, nat_tests)
 

@@ -1,42 +1,18 @@
 -- Nodes and blocks are drawn from a stack of finished nodes, and a tree is put together from the last entry.
-use Rattle.std.proofs.Common.{◌≡◌, ℕ, zero, suc, ◌+◌, ◌-◌, ◌≤◌, List, [], ◌∷◌, ◌++◌, length, take, drop, ap, ◌∙◌, sym, refl, subst, arith}
+use Rattle.std.proofs.Common.{◌≡◌, ℕ, ◌+◌, ◌-◌, ◌≤◌, List, [], ◌∷◌, ◌++◌, length, take, drop, ap, ◌∙◌, sym, refl, subst, arith}
 use Rattle.std.specs.Prelude.{slice_index_or}
 use Rattle.std.proofs.lemmas.List.{append_assoc, append-nil, length-drop, length-take-le}
 use Rattle.cut_definitions.specs.Cuts.{has}
 use Rattle.cactus_tree.specs.Entries.{Read, bridge_read, cycle_read, node_read, nothing_read, used, wanted, drawn, all_drawn}
-use Rattle.cactus_tree.specs.Trims.{Each}
 use Rattle.cactus_tree.specs.declared.tree.entries.Joint as tree_joint
 use Rattle.cactus_tree.proofs.Entries.{drawn_front}
+use Rattle.cactus_tree.proofs.Makes.{each_push, each_length, each_drop, each_first}
 use Rattle.canonical_cactus.specs.Making.{IsNodeOf, IsChildOf, IsBlockOf, AreNodesOf, AreChildrenOf, AreBlocksOf}
 use Rattle.canonical_cactus.specs.Taken.{joints_of, read_entry, read_entries, left, IsReady}
 use Rattle.canonical_cactus.specs.declared.entries.Entry.{Entry}
 use Rattle.canonical_cactus.specs.declared.parts.Placed.{Placed}
 use Rattle.canonical_cactus.specs.declared.parts.Hung.{Hung}
 use Rattle.canonical_cactus.proofs.Taken.{read_push, left_push, ready_pop}
-
--- ---- pairs, one by one
-each_push : {X Y : Type 0} (P : X → Y → Type 0) (xs : List X) (ys : List Y) (x : X) (y : Y) → Each P xs ys → P x y → Each P (xs ++ x ∷ []) (ys ++ y ∷ [])
-each_push P [] [] x y h p = (p, tt)
-each_push P [] (z ∷ ys) x y h p = absurd h
-each_push P (w ∷ xs) [] x y h p = absurd h
-each_push P (w ∷ xs) (z ∷ ys) x y h p = (h.0, each_push P xs ys x y h.1 p)
-
-each_length : {X Y : Type 0} (P : X → Y → Type 0) (xs : List X) (ys : List Y) → Each P xs ys → length xs ≡ length ys
-each_length P [] [] h = refl
-each_length P [] (y ∷ ys) h = absurd h
-each_length P (x ∷ xs) [] h = absurd h
-each_length P (x ∷ xs) (y ∷ ys) h = omega (arith, each_length P xs ys h.1)
-
-each_drop : {X Y : Type 0} (P : X → Y → Type 0) (k : ℕ) (xs : List X) (ys : List Y) → Each P xs ys → Each P (drop k xs) (drop k ys)
-each_drop P zero xs ys h = h
-each_drop P (suc k) [] [] h = tt
-each_drop P (suc k) [] (y ∷ ys) h = absurd h
-each_drop P (suc k) (x ∷ xs) [] h = absurd h
-each_drop P (suc k) (x ∷ xs) (y ∷ ys) h = each_drop P k xs ys h.1
-
-each_first : {X Y : Type 0} (P : X → Y → Type 0) (xs : List X) (y : Y) (ys : List Y) → Each P xs (y ∷ ys) → (x : X) × (rest : List X) × (xs ≡ x ∷ rest) × P x y × Each P rest ys
-each_first P [] y ys h = absurd h
-each_first P (x ∷ xs) y ys h = (x, xs, refl, h.0, h.1)
 
 -- ---- nodes are drawn for a cycle
 pub record DrawsNodes (rs : List Read) (nodes stack : List Placed) : Type 0 where

@@ -2,14 +2,13 @@
 use Rattle.std.proofs.Common.{◌≡◌, ℕ, ◌≤◌, inl, inr, true, List, [], ◌∷◌, ◌++◌, length, map, ap, ◌∙◌, sym, refl, subst, arith}
 use Rattle.std.specs.List.{All, Contains, list_all, flat_map}
 use Rattle.std.specs.List.Sorted.{IsPermutation}
-use Rattle.std.proofs.lemmas.Bool.{and_from}
+use Rattle.std.proofs.lemmas.Bool.{and_from, le-leb}
 use Rattle.std.proofs.lemmas.List.{length-map}
 use Rattle.std.proofs.lemmas.List.Elements.{All-nil, All-cons, All-head, All-tail, Contains-append_left, Contains-append_right, Contains-append_cases}
 use Rattle.std.proofs.lemmas.List.Folds.{list_all-map}
 use Rattle.std.proofs.lemmas.List.Sorted.{IsPermutation-map, IsPermutation-sym, length_permutation}
 use Rattle.cut_definitions.specs.Weight.{VertexSet, either}
 use Rattle.cut_definitions.specs.Cuts.{has}
-use Rattle.cut_definitions.proofs.ChainLaws.{leb_yes}
 use Rattle.cut_definitions.proofs.Lists.{Contains-there, Contains-cons_cases}
 use Rattle.cactus_tree.specs.Sides.{Part, part, block_part, nothing, all_of, belows, all_cuts, from_here}
 use Rattle.cactus_tree.specs.Trees.{vertices, blocks, nodes_in}
@@ -26,7 +25,7 @@ use Rattle.cactus_tree.proofs.Parts.{cycle_part}
 use Rattle.cactus_tree.proofs.Orders.{entered_out, entered_cycle}
 use Rattle.cactus_tree.proofs.Widths.{widths_out, widths_cycle}
 use Rattle.cactus_tree.proofs.Shapes.{wide_fine}
-use Rattle.cactus_tree.proofs.Trims.{below_out, cuts_out, both_true}
+use Rattle.cactus_tree.proofs.Trims.{below_out, cuts_out}
 use Rattle.cactus_tree.proofs.Cycles.{here_first, cycle_cuts, cycle_cases, cycle_here, cycle_own, cycle_rest}
 use Rattle.canonical_cactus.specs.Canonical.{Arranged, arranged, arranged_block, ascend, leasts, rises}
 use Rattle.canonical_cactus.specs.Making.{AreWide, AreApart, SameLists, ShowsNode, ShowsChild, ShowsBlock, IsGood}
@@ -160,8 +159,8 @@ lists_show (r ∷ rs) (x ∷ xs) h =
       omega (arith, m.0),
       same_both (entered x) r.lists (flat_map entered xs) (lists_read rs) h.0.lists m.1,
       wide_both (widths x) (joined (map widths xs)) h.0.wide m.2,
-      both_true _ _ h.0.fine m.3,
-      both_true _ _ h.0.in_order m.4,
+      and_from _ _ h.0.fine m.3,
+      and_from _ _ h.0.in_order m.4,
     )
 
 pub together : (rs : List Read) (xs : List Node) → Each ShowsChild rs xs → Together rs xs
@@ -198,7 +197,7 @@ cycle_made rs xs nodes t long p turn up =
       wide = subst AreWide (sym (widths_cycle nodes)) counts;
       fine = wide_fine nodes (omega (arith, long, many)) ∙ passes_moved (λ x. child_fine true (shape x)) xs ys p t.fine;
       in_order = ap (λ (a : Arranged). a.in_order) (arranged_cycle nodes)
-          ∙ and_from _ _ (leb_yes 3 (length (map arranged ys)) (omega (arith, long, many, length-map ys arranged))) (and_from _ _ up orders);
+          ∙ and_from _ _ (le-leb 3 (length (map arranged ys)) (omega (arith, long, many, length-map ys arranged))) (and_from _ _ up orders);
     }
 
 -- ---- the blocks of a node
@@ -238,8 +237,8 @@ blocks_show (r ∷ rs) (b ∷ bs) h =
       ap (λ s. either s (all_of (belows (map block_part bs)))) h.0.below ∙ ap (either r.part.below) m.0,
       same_both (entered_block b) r.lists (flat_map entered_block bs) (lists_read rs) h.0.lists m.1,
       wide_both (block_widths b) (joined (map block_widths bs)) h.0.wide m.2,
-      both_true _ _ h.0.fine m.3,
-      both_true _ _ h.0.in_order m.4,
+      and_from _ _ h.0.fine m.3,
+      and_from _ _ h.0.in_order m.4,
     )
 
 pub beside : (rs : List Read) (bs : List Block) → Each ShowsBlock rs bs → Beside rs bs

@@ -1,8 +1,7 @@
 -- The first of the best sides: the steps of the search for it.
-use Rattle.std.proofs.Common.{◌≡◌, ℕ, ◌+◌, ◌<◌, ◌⊎◌, inl, inr, List, length, get_or, ap, ◌∙◌, arith}
+use Rattle.std.proofs.Common.{◌≡◌, ℕ, ◌+◌, ◌<◌, ◌⊎◌, inl, inr, List, length, ap, arith}
 use Rattle.std.specs.Ordering.{is_gt}
 use Rattle.std.proofs.lemmas.Cmp.{nat_list_cmp_total, tied_itself, upto}
-use Rattle.std.proofs.lemmas.List.{get_or_default}
 use Rattle.cactus_tree.specs.Borders.{border_at}
 use Rattle.cactus_tree.specs.Walking.{AreBorders}
 use Rattle.cactus_tree.specs.declared.walk.borders.Border.{Border}
@@ -17,10 +16,6 @@ pub no_later_both : (a b c : List ℕ) → IsNoLater a b → IsNoLater b c → I
 no_later_both a b c = upto nat_list_cmp_total a b c
 
 -- ---- borders
--- a border that is read
-pub read_at : (bs : List Border) (i : ℕ) (x : Border) → x ≡ get_or bs i x → i < length bs → x ≡ border_at bs i
-read_at bs i x e l = e ∙ get_or_default bs i x record { place = 0; following = 0 } l
-
 -- the last border of a block is there
 pub last_there : (n : ℕ) (bs : List Border) (i : ℕ) → AreBorders n bs → i < length bs → i + (border_at bs i).following < length bs
 last_there n bs i h l = elim (none_or_some (border_at bs i).following) [

@@ -8,6 +8,7 @@ use Rattle.std.specs.declared.cmp.Ordering.TheVariants.{Less}
 use Rattle.std.proofs.lemmas.Cmp.{nat_cmp_total, tied_itself}
 use Rattle.std.proofs.lemmas.Bool.{cases_eq, false≢true}
 use Rattle.std.proofs.lemmas.Bool.Decides.{nat_tests}
+use Rattle.cut_definitions.proofs.Orderings.{lesser_first}
 
 less_numbers : (x y : ℕ) → x < y → nat_cmp x y ≡ Less
 less_numbers x y l = grind (arith, nat_tests, l)
@@ -22,10 +23,6 @@ same_first true true x k l o e h = both_first x k l o h
 same_first true false x k l o e h = absurd (false≢true (sym e))
 same_first false true x k l o e h = absurd (false≢true e)
 same_first false false x k l o e h = h
-
--- a lesser first element
-lesser_first : (x y : ℕ) (k l : List ℕ) → x < y → slice_cmp nat_cmp (x ∷ k) (y ∷ l) ≡ Less
-lesser_first x y k l h = ap (λ c. ordering_then c (slice_cmp nat_cmp k l)) (less_numbers x y h)
 
 -- a list that begins with less than what a test lets through of greater numbers, if that is some
 below_some : (q : ℕ → Bool) (x y : ℕ) (k : List ℕ) (m low : ℕ) → x < low → low ≤ y → y < low + m → q y ≡ true → slice_cmp nat_cmp (x ∷ k) (filter q (range_with_len low m)) ≡ Less

@@ -10,6 +10,7 @@ use Rattle.std.proofs.lemmas.List.Elements.{All-head}
 use Rattle.cut_definitions.specs.Weight.{VertexSet}
 use Rattle.cut_definitions.specs.Cuts.{has, IsAscendingWithin}
 use Rattle.cut_definitions.proofs.Bridge.{has_first_of}
+use Rattle.cut_definitions.proofs.Ascending.{contains_has}
 use Rattle.cactus_tree.specs.Sides.{block_part, all_of, belows}
 use Rattle.cactus_tree.specs.Entered.{entered, entered_block}
 use Rattle.cactus_tree.specs.Rooted.{IsCactus}
@@ -21,11 +22,10 @@ use Rattle.cactus_tree.specs.declared.tree.Children.{Children}
 use Rattle.cactus_tree.specs.declared.tree.Block.TheVariants.{Bridge, Cycle}
 use Rattle.cactus_tree.proofs.Orders.{entered_out, entered_bridge, entered_cycle}
 use Rattle.cactus_tree.proofs.Shapes.{bridge_shape, cycle_fine, child_parts, root_normal}
-use Rattle.cactus_tree.proofs.Groups.{contains_has}
 use Rattle.canonical_cactus.specs.Canonical.{Arranged, arranged, arranged_block, leasts, ascend, rises, is_canonical}
 use Rattle.cactus_tree.proofs.Sets.{HasOne, Apart}
 use Rattle.cactus_tree.proofs.Clean.{IsClean, clean_left, clean_right, clean_apart, root_clean}
-use Rattle.cactus_tree.proofs.Views.{view}
+use Rattle.cactus_tree.proofs.Fits.{cycle_view}
 use Rattle.canonical_cactus.proofs.Arrangement.{arranged_out, arranged_bridge, arranged_cycle, blocks_covered}
 
 pub record IsFit (n : ℕ) (x : Node) : Type 0 where
@@ -72,12 +72,6 @@ place_of above [] (b ∷ []) h =
     let both = and_parts above ((block_shape b).is_cycle && true) h in
     inr (b, (λ i. b ∷ []), both.0, (and_parts (block_shape b).is_cycle true both.1).0, (λ i. []))
 place_of above [] (b ∷ (d ∷ bs)) h = inl (inr (omega arith))
-
-cycle_view : (b : Block) → (block_shape b).is_cycle ≡ true → (nodes : Children) × (b ≡ Cycle nodes)
-cycle_view b h = elim (view b) [
-  | inl y ↦ absurd (false≢true (sym (ap (λ (s : BlockShape). s.is_cycle) (bridge_shape y.0)) ∙ sym (ap (λ c. (block_shape c).is_cycle) y.1) ∙ h))
-  | inr y ↦ y
-]
 
 child_splits : (above : Bool) (x : Node) → child_fine above (shape x) ≡ true →
     (well_placed (length (vertices x) == 0) (above ∷ cycles_of (blocks x)) ≡ true) × (list_all (λ b. (block_shape b).fine) (blocks x) ≡ true)

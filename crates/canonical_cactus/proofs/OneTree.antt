@@ -1,5 +1,5 @@
 -- Two canonical cactuses with the same sides are one tree, and have one flat cactus.
-use Rattle.std.proofs.Common.{◌≡◌, ℕ, inl, inr, true, List, [], ◌∷◌, ◌++◌, map, ap, ◌∙◌, sym, subst, arith}
+use Rattle.std.proofs.Common.{◌≡◌, ℕ, inl, true, List, [], ◌∷◌, ◌++◌, map, ap, ◌∙◌, sym, subst, arith}
 use Rattle.std.specs.List.{Contains, filter, flat_map, concat, range_with_len}
 use Rattle.std.specs.declared.boxed.Box.{Box}
 use Rattle.std.specs.declared.alloc.Global.{Global}
@@ -7,7 +7,8 @@ use Rattle.std.proofs.lemmas.List.Elements.{All-contains}
 use Rattle.cut_definitions.specs.Weight.{VertexSet}
 use Rattle.cut_definitions.specs.Cuts.{has}
 use Rattle.cut_definitions.proofs.Bridge.{has_within}
-use Rattle.cut_definitions.proofs.Lists.{Contains-map, Contains-from_map, Contains-here, Contains-there, Contains-cons_cases}
+use Rattle.cut_definitions.proofs.Lists.{Contains-map, Contains-from_map}
+use Rattle.cut_definitions.proofs.Ascending.{has_contains}
 use Rattle.cactus_tree.specs.Sides.{part}
 use Rattle.cactus_tree.specs.Rooted.{IsCactus, sides_of}
 use Rattle.cactus_tree.specs.Different.{HaveSameSides}
@@ -23,13 +24,13 @@ use Rattle.cactus_tree.specs.declared.tree.Block.TheVariants.{Bridge, Cycle, rol
 use Rattle.cactus_tree.specs.declared.tree.Block.TheOpen as Open
 use Rattle.cactus_tree.specs.declared.tree.Block.TheFolds.{fold_out-Node, fold_out-Blocks, fold_out-Children, fold-roll-Block, fold-Block}
 use Rattle.cactus_tree.proofs.Once.{all_vertices_within, each_there}
-use Rattle.cactus_tree.proofs.Groups.{has_contains}
 use Rattle.cactus_tree.proofs.Orders.{entered_out, entered_bridge, entered_cycle}
 use Rattle.cactus_tree.proofs.JoinsOut.{joins_out, joins_bridge, joins_cycle}
 use Rattle.canonical_cactus.specs.Canonical.{is_canonical}
 use Rattle.canonical_cactus.specs.Plain.{Tree, Branches, Ring, node, bridge, cycle, plain, plain_block, hung, ring_of, plain_block_step, plain_blocks_step, plain_children_step, plain_node_step}
 use Rattle.canonical_cactus.specs.Laws.{over, LawOfOneTree, LawOfOneFlat}
 use Rattle.cactus_tree.proofs.Sets.{IsIn, same_set}
+use Rattle.cactus_tree.proofs.Trims.{with_whole}
 use Rattle.canonical_cactus.proofs.Arrangement.{node_covered}
 use Rattle.canonical_cactus.proofs.Fits.{IsFit, root_fit, root_solid}
 use Rattle.canonical_cactus.proofs.Sound.{node_sound}
@@ -52,10 +53,10 @@ root_vertices n root h v e =
     All-contains (IsVertex n) (concat (entered root)) v (all_vertices_within n root h)
     (has_contains (concat (entered root)) v (ap (λ (s : VertexSet). s v) (node_covered root).listed ∙ e))
 
-root_all : (n : ℕ) (root : Node) → IsCactus n root → (v : ℕ) → IsVertex n v → (part root).below v ≡ true
+pub root_all : (n : ℕ) (root : Node) → IsCactus n root → (v : ℕ) → IsVertex n v → (part root).below v ≡ true
 root_all n root h v w = sym (ap (λ (s : VertexSet). s v) (node_covered root).listed) ∙ each_there n root h v w.0 w.1
 
-cuts_over : (n : ℕ) (c d : Node) → IsCactus n c → IsCactus n d → IsFit n c → IsFit n d →
+pub cuts_over : (n : ℕ) (c d : Node) → IsCactus n c → IsCactus n d → IsFit n c → IsFit n d →
     ((side : List ℕ) → Contains (sides_of (over n c)) side → Contains (sides_of (over n d)) side) → (s : VertexSet) → Contains (part c).cuts s → Contains (part d).cuts s
 cuts_over n c d hc hd fc fd f s k =
     let list : VertexSet → List ℕ = λ t. filter t (range_with_len 1 n) in
@@ -63,12 +64,6 @@ cuts_over n c d hc hd fc fd f s k =
     let one : AreVertices n s = λ v e. root_vertices n c hc v ((node_sound n c fc).0.within s k v e) in
     let other : AreVertices n r.0 = λ v e. root_vertices n d hd v ((node_sound n d fd).0.within r.0 r.1 v e) in
     subst (λ t. Contains (part d).cuts t) (listed_same n r.0 s other one r.2) r.1
-
-with_whole : (b c : VertexSet) (ks ls : List VertexSet) → b ≡ c → ((s : VertexSet) → Contains ks s → Contains ls s) → (s : VertexSet) → Contains (b ∷ ks) s → Contains (c ∷ ls) s
-with_whole b c ks ls e f s h = elim (Contains-cons_cases b ks s h) [
-  | inl k ↦ subst (λ t. Contains (c ∷ ls) t) (sym e ∙ k) (Contains-here c ls)
-  | inr k ↦ Contains-there c ls s (f s k)
-]
 
 -- what any fold makes of two canonical cactuses with the same sides
 module _ (A B : Type 0) (F : Node → A) (G : Block → B) (node_of : List ℕ → List B → A) (bridge_of : A → B) (cycle_of : List A → B)

@@ -7,6 +7,7 @@ use Rattle.std.proofs.lemmas.Bool.{cases_Bool, lt-ltb, false≢true, cases_lt}
 use Rattle.std.proofs.lemmas.List.{append_assoc, append-nil, reverse-append}
 use Rattle.std.proofs.lemmas.List.Elements.{All-head, All-tail}
 use Rattle.std.proofs.lemmas.List.Sorted.{Contains-permutation, IsPermutation-map, IsPermutation-sym, IsPermutation-refl, IsPermutation-trans, IsPermutation-cons, IsPermutation-to_front}
+use Rattle.std.proofs.lemmas.List.Folds.{flat_map-map}
 use Rattle.cut_definitions.specs.Cuts.{has, least}
 use Rattle.cut_definitions.proofs.Lists.{Contains-here, Contains-there, Contains-cons_cases, Contains-nil}
 use Rattle.cactus_tree.specs.Sides.{part, block_part, nothing}
@@ -19,6 +20,7 @@ use Rattle.cactus_tree.specs.declared.tree.Block.{Block}
 use Rattle.cactus_tree.specs.declared.tree.Children.{Children}
 use Rattle.cactus_tree.specs.declared.tree.Block.TheVariants.{Cycle}
 use Rattle.cactus_tree.proofs.Cycles.{cycle_cuts}
+use Rattle.cactus_tree.proofs.Trims.{own_cut}
 use Rattle.canonical_cactus.specs.Canonical.{Arranged, arranged, arranged_block, all_vertices, ascend, leasts, rises}
 use Rattle.canonical_cactus.specs.Standing.{least_in, lesser_of, or_zero}
 use Rattle.canonical_cactus.specs.Making.{AreApart, ShowsChild, ShowsBlock, IsGood, IsNodeOf, IsChildOf, IsBlockOf, AreBlocksOf, AreChildrenOf, key_of, last_of, ends_rise, faced}
@@ -26,7 +28,6 @@ use Rattle.canonical_cactus.specs.declared.parts.Placed.{Placed}
 use Rattle.canonical_cactus.specs.declared.parts.Hung.{Hung}
 use Rattle.canonical_cactus.proofs.Arrangement.{node_covered, block_covered, arranged_out, arranged_cycle}
 use Rattle.canonical_cactus.proofs.Ascending.{least_both, zero_least}
-use Rattle.canonical_cactus.proofs.Spared.{own_cut}
 use Rattle.canonical_cactus.proofs.Moved.{count_moved}
 use Rattle.canonical_cactus.proofs.Spaced.{apart_right, differ, ascends, last_there, rises_forth, rises_back}
 use Rattle.canonical_cactus.proofs.Turned.{cycle_turned, top_twice, top_map}
@@ -39,10 +40,6 @@ abbrev pub block_in : Hung → Block
 block_in h = h.block
 
 -- ---- lists
-flat_of_map : {X Y Z : Type 0} (f : Y → List Z) (g : X → Y) (xs : List X) → flat_map f (map g xs) ≡ flat_map (λ x. f (g x)) xs
-flat_of_map f g [] = refl
-flat_of_map f g (x ∷ xs) = ap (λ l. f (g x) ++ l) (flat_of_map f g xs)
-
 map_twice : {X Y Z : Type 0} (f : Y → Z) (g : X → Y) (xs : List X) → map f (map g xs) ≡ map (λ x. f (g x)) xs
 map_twice f g [] = refl
 map_twice f g (x ∷ xs) = ap (λ l. f (g x) ∷ l) (map_twice f g xs)
@@ -113,7 +110,7 @@ node_finished own rs hs ks p moves sorted v bs l a =
           let shown : Each ShowsBlock rs (map block_in hs) = each_shows (λ (r : Read). IsGood r.part.cuts r) IsBlockOf ShowsBlock block_in GoodBlocks blocks_head blocks_tail (λ r h n. n.shows) rs hs a g in
           let together = beside rs (map block_in hs) shown in
           let moved : IsPermutation (map block_in hs) (blocks x) = subst (IsPermutation (map block_in hs)) (sym bs) (IsPermutation-map block_in hs ks moves) in
-          let apart : AreApart (flat_map (λ (h : Hung). entered_block h.block) ks) = moved_apart hs ks moves (subst AreApart (flat_of_map entered_block block_in hs) (λ n. subst (λ m. m ≤ 1) (sym (together.lists.often n)) (g.2 n))) in
+          let apart : AreApart (flat_map (λ (h : Hung). entered_block h.block) ks) = moved_apart hs ks moves (subst AreApart (flat_map-map entered_block block_in hs) (λ n. subst (λ m. m ≤ 1) (sym (together.lists.often n)) (g.2 n))) in
           let up : ascend (map key_of ks) ≡ true = ascends f (λ (h : Hung). entered_block h.block) (λ h. (block_covered h.block).arranged ∙ sym (block_covered h.block).listed) key_of ks sorted
           (λ h k. ap or_zero (right h k) ∙ zero_least (f h).vertices)
           (λ h k. blocks_some rs hs a g h (Contains-permutation ks hs h (IsPermutation-sym hs ks moves) k))
@@ -183,7 +180,7 @@ ends_differ rs p (q ∷ qs) a g some e =
     let inside : Contains (q ∷ qs) z = last_there q qs in
     let f : Placed → Arranged = λ (w : Placed). arranged w.node in
     let shown : Each ShowsChild rs (map node_in all) = each_shows (λ (r : Read). IsGood (r.part.below ∷ r.part.cuts) r) IsChildOf ShowsChild node_in GoodChildren children_head children_tail (λ r w n. n.shows) rs all a g in
-    let apart : AreApart (flat_map (λ (w : Placed). entered w.node) all) = subst AreApart (flat_of_map entered node_in all) (λ n. subst (λ m. m ≤ 1) (sym ((together rs (map node_in all) shown).lists.often n)) (g.2 n)) in
+    let apart : AreApart (flat_map (λ (w : Placed). entered w.node) all) = subst AreApart (flat_map-map entered node_in all) (λ n. subst (λ m. m ≤ 1) (sym ((together rs (map node_in all) shown).lists.often n)) (g.2 n)) in
     let key : (w : Placed) → Contains all w → place_key w ≡ least (f w).vertices = λ w k. ap or_zero (children_right rs all a w k) ∙ zero_least (f w).vertices in
     differ f (λ (w : Placed). entered w.node) (λ w. (node_covered w.node).arranged ∙ sym (node_covered w.node).listed) p (q ∷ qs) z apart
     (children_some rs all a g p (Contains-here p (q ∷ qs))) (children_some rs all a g z (Contains-there p (q ∷ qs) z inside)) inside

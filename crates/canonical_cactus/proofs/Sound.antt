@@ -23,16 +23,11 @@ use Rattle.cactus_tree.proofs.Cycles.{cycle_cuts, cycle_within, cycle_nonempty, 
 use Rattle.canonical_cactus.proofs.Turns.{IsTorn, cycle_torn}
 use Rattle.cactus_tree.proofs.Views.{block_induction, each}
 use Rattle.cactus_tree.proofs.Clean.{clean_apart}
+use Rattle.cactus_tree.proofs.Trims.{cuts_out, below_out}
 use Rattle.canonical_cactus.proofs.Arrangement.{node_covered, block_covered, blocks_covered, nodes_covered}
 use Rattle.canonical_cactus.proofs.Fits.{IsFit, IsFitBlock, AreFitBlocks, AreFitNodes, IsSolid, IsPlaced, blocks_head, blocks_tail, nodes_head, nodes_placed, nodes_tail, node_blocks, own_apart, bridge_child, cycle_children}
 
 -- ---- a node as a part
-pub below_out : (x : Node) → (part x).below ≡ either (has (vertices x)) (all_of (belows (map block_part (blocks x))))
-below_out x = ap (λ (p : Part). p.below) (part_out x)
-
-pub cuts_out : (x : Node) → (part x).cuts ≡ all_cuts (map block_part (blocks x))
-cuts_out x = ap (λ (p : Part). p.cuts) (part_out x)
-
 row_one : (bs : List Block) → 1 ≤ length bs → IsRow (map block_part bs) → HasOne (all_of (belows (map block_part bs)))
 row_one [] k r = absurd (omega (arith, k))
 row_one (b ∷ bs) k r = (r.1.0, or_left ((block_part b).below r.1.0) (all_of (belows (map block_part bs)) r.1.0) r.1.1)

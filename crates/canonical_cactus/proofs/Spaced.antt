@@ -1,5 +1,5 @@
 -- Parts of a tree without a common vertex have different least vertices.
-use Rattle.std.proofs.Common.{◌≡◌, ℕ, suc, ◌≤◌, ◌<◌, inl, inr, Bool, true, false, cond, List, [], ◌∷◌, ◌++◌, length, map, ap, ◌∙◌, sym, refl, subst, arith}
+use Rattle.std.proofs.Common.{◌≡◌, ℕ, suc, ◌≤◌, ◌<◌, inl, inr, true, cond, List, [], ◌∷◌, ◌++◌, length, map, ap, ◌∙◌, sym, refl, subst, arith}
 use Rattle.std.specs.Prelude.{nat_lt}
 use Rattle.std.specs.List.{Contains, filter, flat_map, concat, list_all}
 use Rattle.std.specs.List.Sorted.{IsNonDecreasingBy}
@@ -8,20 +8,16 @@ use Rattle.std.proofs.lemmas.List.{map-append, length-append, length-map}
 use Rattle.cut_definitions.specs.Weight.{VertexSet}
 use Rattle.cut_definitions.specs.Cuts.{has, least}
 use Rattle.cut_definitions.proofs.Lists.{Contains-here, Contains-there, Contains-cons_cases, Contains-nil, Contains-from_map}
-use Rattle.cut_definitions.proofs.Values.{Contains-least}
+use Rattle.cut_definitions.proofs.ListLaws.{longer}
+use Rattle.cut_definitions.proofs.Ascending.{least_has}
 use Rattle.cactus_tree.specs.Entries.{top_first}
-use Rattle.cactus_tree.proofs.Groups.{contains_has}
 use Rattle.cactus_tree.proofs.Segments.{has_append_at, has_both}
 use Rattle.canonical_cactus.specs.Canonical.{Arranged, ascend, rises, last_from}
 use Rattle.canonical_cactus.specs.Making.{count_with, AreApart, last_of}
 use Rattle.canonical_cactus.proofs.Moved.{count_both, each_passes}
-use Rattle.canonical_cactus.proofs.Ascending.{first_or_zero, last_or_zero, last_more}
+use Rattle.canonical_cactus.proofs.Ascending.{first_or_zero, last_or_zero, last_more, first_more}
 
 -- ---- a vertex in two lists
-longer : (b : Bool) (l : List ℕ) (ls : List (List ℕ)) → length ls ≤ length (cond b (l ∷ ls) ls)
-longer true l ls = omega arith
-longer false l ls = omega arith
-
 count_some : (v : ℕ) (ls : List (List ℕ)) → has (concat ls) v ≡ true → 1 ≤ count_with v ls
 count_some v [] h = absurd (false≢true h)
 count_some v (l ∷ ls) h =
@@ -40,10 +36,6 @@ apart_left ls ms c v = omega (arith, count_both v ls ms, c v)
 pub apart_right : (ls ms : List (List ℕ)) → AreApart (ls ++ ms) → AreApart ms
 apart_right ls ms c v = omega (arith, count_both v ls ms, c v)
 
-least_there : (l : List ℕ) → (l ≡ [] → ⊥) → has l (least l) ≡ true
-least_there [] h = absurd (h refl)
-least_there (x ∷ xs) h = contains_has (x ∷ xs) (least (x ∷ xs)) (Contains-least x xs)
-
 -- ---- parts with their lists
 module _ {X : Type 0} (f : X → Arranged) (l : X → List (List ℕ)) (covered : (x : X) → has (f x).vertices ≡ has (concat (l x))) where
   listed : (xs : List X) (x : X) (v : ℕ) → Contains xs x → has (concat (l x)) v ≡ true → has (concat (flat_map l xs)) v ≡ true
@@ -58,7 +50,7 @@ module _ {X : Type 0} (f : X → Arranged) (l : X → List (List ℕ)) (covered 
   pub differ : (x : X) (xs : List X) (y : X) → AreApart (flat_map l (x ∷ xs)) → ((f x).vertices ≡ [] → ⊥) → ((f y).vertices ≡ [] → ⊥) → Contains xs y → least (f x).vertices ≡ least (f y).vertices → ⊥
   differ x xs y c hx hy h e =
       let at : (z : X) → ((f z).vertices ≡ [] → ⊥) → has (concat (l z)) (least (f z).vertices) ≡ true =
-      λ z some. sym (ap (λ (s : VertexSet). s (least (f z).vertices)) (covered z)) ∙ least_there (f z).vertices some in
+      λ z some. sym (ap (λ (s : VertexSet). s (least (f z).vertices)) (covered z)) ∙ least_has (f z).vertices some in
       let here = at x hx in
       let there : has (concat (l y)) (least (f x).vertices) ≡ true = ap (has (concat (l y))) e ∙ at y hy in
       apart_there (l x) (flat_map l xs) (least (f x).vertices) c here (listed xs y (least (f x).vertices) h there)
@@ -86,17 +78,13 @@ last_key : {X : Type 0} (key : X → ℕ) (x : X) (xs : List X) → last_from (k
 last_key key x [] = refl
 last_key key x (y ∷ ys) = last_key key y ys
 
-first_before : (xs : List ℕ) (y : ℕ) → 0 < length xs → first_or_zero (xs ++ y ∷ []) ≡ first_or_zero xs
-first_before [] y h = absurd (omega (arith, h))
-first_before (x ∷ xs) y h = refl
-
 first_turned : {X : Type 0} (key : X → ℕ) (x : X) (xs : List X) → (0 < length (top_first (x ∷ xs))) × (first_or_zero (map key (top_first (x ∷ xs))) ≡ key (last_of x xs))
 first_turned key x [] = (omega arith, refl)
 first_turned key x (y ∷ ys) =
     let r = first_turned key y ys in
     let front = top_first (y ∷ ys) in (
       omega (arith, length-append front (x ∷ [])),
-      ap first_or_zero (map-append key front (x ∷ [])) ∙ first_before (map key front) (key x) (omega (arith, r.0, length-map front key)) ∙ r.1,
+      ap first_or_zero (map-append key front (x ∷ [])) ∙ first_more (map key front) (key x) (omega (arith, r.0, length-map front key)) ∙ r.1,
     )
 
 ends : (xs : List ℕ) → 0 < length xs → rises xs ≡ nat_lt (first_or_zero xs) (last_or_zero xs)

@@ -1,32 +1,31 @@
 -- What can be spared of a node, a bridge or a child of a cycle is left out, and the rest shows the same.
-use Rattle.std.proofs.Common.{ne_eqb, ◌≡◌, ℕ, ◌≤◌, inl, inr, Bool, true, false, not, ◌&&◌, ◌||◌, ◌==◌, List, [], ◌∷◌, ◌++◌, length, map, ap, ◌∙◌, sym, refl, subst, arith, append-nil}
-use Rattle.std.specs.Prelude.{nat_le}
+use Rattle.std.proofs.Common.{◌≡◌, ℕ, inl, inr, Bool, true, false, not, ◌&&◌, ◌==◌, List, [], ◌∷◌, ◌++◌, length, map, ap, ◌∙◌, sym, refl, subst, arith, append-nil}
 use Rattle.std.specs.List.{Contains, list_all, flat_map}
 use Rattle.std.specs.declared.boxed.Box.{Box}
 use Rattle.std.specs.declared.alloc.Global.{Global}
-use Rattle.std.proofs.lemmas.Bool.{and_parts, false≢true}
-use Rattle.cut_definitions.specs.Weight.{VertexSet, either}
+use Rattle.std.proofs.lemmas.Bool.{and_parts, false≢true, and_from, not-true}
+use Rattle.cut_definitions.specs.Weight.{either}
 use Rattle.cut_definitions.specs.Cuts.{has}
-use Rattle.cut_definitions.proofs.ChainLaws.{leb_yes}
-use Rattle.cut_definitions.proofs.Lists.{Contains-here, Contains-there, Contains-cons_cases}
+use Rattle.cut_definitions.proofs.Lists.{Contains-here}
+use Rattle.cut_definitions.proofs.Bools.{from_not_and}
+use Rattle.cut_definitions.proofs.ListLaws.{only}
 use Rattle.cactus_tree.specs.Sides.{Part, part, block_part, nothing, all_of, belows, all_cuts}
-use Rattle.cactus_tree.specs.Trees.{vertices, blocks, nodes_in}
+use Rattle.cactus_tree.specs.Trees.{vertices, blocks}
 use Rattle.cactus_tree.specs.Entered.{entered, entered_block}
 use Rattle.cactus_tree.specs.Widths.{widths, block_widths, joined}
-use Rattle.cactus_tree.specs.Normal.{BlockShape, shape, block_shape, well_placed}
+use Rattle.cactus_tree.specs.Normal.{BlockShape, block_shape, well_placed}
 use Rattle.cactus_tree.specs.Entries.{Read, bridge_read, nodes_of}
 use Rattle.cactus_tree.specs.Trims.{SameSets, NoneEmpty, is_spare, is_above_bridge}
 use Rattle.cactus_tree.specs.declared.tree.Node.{Node}
 use Rattle.cactus_tree.specs.declared.tree.Block.{Block}
 use Rattle.cactus_tree.specs.declared.tree.Block.TheVariants.{Bridge}
-use Rattle.cactus_tree.proofs.Parts.{bridge_part, cycle_part, either_nothing}
+use Rattle.cactus_tree.proofs.Parts.{bridge_part, either_nothing}
 use Rattle.cactus_tree.proofs.Orders.{entered_out, entered_bridge}
 use Rattle.cactus_tree.proofs.Widths.{widths_out, widths_bridge}
-use Rattle.cactus_tree.proofs.Shapes.{bridge_shape, cycle_shape, cycle_fine, child_parts}
+use Rattle.cactus_tree.proofs.Shapes.{bridge_shape, cycle_shape, child_parts}
 use Rattle.cactus_tree.proofs.Entries.{nodes_bridge}
-use Rattle.cactus_tree.proofs.Trims.{below_out, cuts_out, both_true, from_not, none_of, with_whole}
+use Rattle.cactus_tree.proofs.Trims.{below_out, cuts_out, none_of, well_many, well_own, bridge_to_cycle, same_cons, same_own, own_cut}
 use Rattle.cactus_tree.proofs.Views.{view}
-use Rattle.cactus_tree.proofs.Cycles.{cycle_cuts, cycle_whole}
 use Rattle.canonical_cactus.specs.Canonical.{Arranged, arranged, arranged_block, all_vertices, ascend, leasts}
 use Rattle.canonical_cactus.specs.Standing.{least_in}
 use Rattle.canonical_cactus.specs.Making.{SameLists, AreWide, ShowsNode, ShowsChild, ShowsBlock, IsNodeOf, IsChildOf, IsBlockOf}
@@ -39,65 +38,17 @@ use Rattle.canonical_cactus.proofs.Moved.{same_without}
 abbrev cycles_of : List Block → List Bool
 cycles_of bs = map (λ b. (block_shape b).is_cycle) bs
 
-or_true : (e : Bool) → (not e || true) ≡ true
-or_true true = refl
-or_true false = refl
-
-well_many : (e above : Bool) (cs : List Bool) → 2 ≤ length cs → well_placed e (above ∷ cs) ≡ true
-well_many e above cs h =
-    ap (λ b. not e || (b && (not (length (above ∷ cs) == 2) || list_all (λ c. c) (above ∷ cs)))) (leb_yes 2 (length (above ∷ cs)) (omega (arith, h)))
-    ∙ ap (λ b. not e || (true && (not b || list_all (λ c. c) (above ∷ cs)))) (ne_eqb (length (above ∷ cs)) 2 (λ k. omega (arith, h, k)))
-    ∙ or_true e
-
-well_own : (v : ℕ) (vs : List ℕ) (around : List Bool) → well_placed (length (v ∷ vs) == 0) around ≡ true
-well_own v vs around = ap (λ b. not b || (nat_le 2 (length around) && (not (length around == 2) || list_all (λ c. c) around))) (ne_eqb (length (v ∷ vs)) 0 (λ k. omega (arith, k)))
-
 placed_of : (above : Bool) (vs : List ℕ) (bs : List Block) → is_spare vs bs ≡ false → (vs ≡ [] → bs ≡ [] → ⊥) → well_placed (length vs == 0) (above ∷ cycles_of bs) ≡ true
 placed_of above (v ∷ vs) bs stays some = well_own v vs (above ∷ cycles_of bs)
 placed_of above [] [] stays some = absurd (some refl refl)
 placed_of above [] (b ∷ []) stays some = absurd (false≢true (sym stays))
 placed_of above [] (b ∷ (d ∷ bs)) stays some = well_many true above (cycles_of (b ∷ (d ∷ bs))) (omega arith)
 
-not_false : (a : Bool) → (not a && true) ≡ false → a ≡ true
-not_false true h = refl
-not_false false h = absurd (false≢true (sym h))
-
 cycle_placed : (vs : List ℕ) (bs : List Block) → is_above_bridge vs bs ≡ false → (vs ≡ [] → bs ≡ [] → ⊥) → well_placed (length vs == 0) (true ∷ cycles_of bs) ≡ true
 cycle_placed (v ∷ vs) bs stays some = well_own v vs (true ∷ cycles_of bs)
 cycle_placed [] [] stays some = absurd (some refl refl)
-cycle_placed [] (b ∷ []) stays some = ap (λ c. c && true) (not_false (block_shape b).is_cycle stays)
+cycle_placed [] (b ∷ []) stays some = ap (λ c. c && true) (from_not_and (block_shape b).is_cycle stays)
 cycle_placed [] (b ∷ (d ∷ bs)) stays some = well_many true true (cycles_of (b ∷ (d ∷ bs))) (omega arith)
-
-bridge_to_cycle : (e : Bool) (cs : List Bool) → well_placed e (false ∷ cs) ≡ true → well_placed e (true ∷ cs) ≡ true
-bridge_to_cycle false cs h = refl
-bridge_to_cycle true [] h = absurd (false≢true h)
-bridge_to_cycle true (c ∷ []) h = absurd (false≢true h)
-bridge_to_cycle true (c ∷ (d ∷ cs)) h = well_many true true (c ∷ (d ∷ cs)) (omega arith)
-
--- ---- lists of sets
-same_cons : (b c : VertexSet) (ks ls : List VertexSet) → b ≡ c → SameSets ks ls → SameSets (b ∷ ks) (c ∷ ls)
-same_cons b c ks ls e f = λ s. (with_whole b c ks ls e (λ t. (f t).0) s, with_whole c b ls ks (sym e) (λ t. (f t).1) s)
-
--- the set is there already
-same_own : (b c : VertexSet) (ks ls : List VertexSet) → b ≡ c → Contains ks b → SameSets ks ls → SameSets ks (c ∷ ls)
-same_own b c ks ls e own f = λ s. (
-  (λ h. Contains-there c ls s ((f s).0 h)),
-  (λ h. elim (Contains-cons_cases c ls s h) [
-    | inl k ↦ subst (λ t. Contains ks t) (e ∙ k) own
-    | inr k ↦ (f s).1 k
-  ]),
-)
-
--- a block has what is below it as a cut
-pub own_cut : (b : Block) → (block_shape b).fine ≡ true → Contains (block_part b).cuts (block_part b).below
-own_cut b h = elim (view b) [
-  | inl y ↦ subst (λ (p : Part). Contains p.cuts p.below) (sym (ap block_part y.1 ∙ bridge_part y.0)) (Contains-here (part y.0.value).below (part y.0.value).cuts)
-  | inr y ↦ subst (λ (p : Part). Contains p.cuts p.below) (sym (ap block_part y.1 ∙ cycle_part y.0))
-      (whole_of (nodes_in y.0) (and_parts _ _ (sym (ap (λ c. (block_shape c).fine) y.1 ∙ cycle_fine y.0) ∙ h)).0)
-] where
-  whole_of : (xs : List Node) → nat_le 2 (length (map shape xs)) ≡ true → Contains (cycle_cuts (map part xs)) (all_of (belows (map part xs)))
-  whole_of [] k = absurd (false≢true k)
-  whole_of (x ∷ xs) k = cycle_whole (part x) (map part xs)
 
 -- ---- a node without a vertex and without a block
 no_node : (r : Read) (x : Node) → ShowsNode r x → NoneEmpty (r.part.below ∷ r.part.cuts) → vertices x ≡ [] → blocks x ≡ [] → ⊥
@@ -122,7 +73,7 @@ hung_kept r p child h e b l stays n =
             cuts = subst (λ (q : Part). SameSets q.cuts (r.part.below ∷ r.part.cuts)) (sym (bridge_part child)) (same_cons (part x).below r.part.below (part x).cuts r.part.cuts s.below s.cuts);
             lists = subst (λ ls. SameLists ls r.lists) (sym (entered_bridge child)) s.lists;
             wide = subst AreWide (sym (widths_bridge child)) s.wide;
-            fine = ap (λ (k : BlockShape). k.fine) (bridge_shape child) ∙ child_parts false x ∙ both_true _ _ placed s.fine;
+            fine = ap (λ (k : BlockShape). k.fine) (bridge_shape child) ∙ child_parts false x ∙ and_from _ _ placed s.fine;
             in_order = ap (λ (k : Arranged). k.in_order) (arranged_bridge child) ∙ s.in_order;
           };
     }
@@ -178,7 +129,7 @@ trimmed_kept r p stays n = record {
         cuts = same_cons (part x).below r.part.below (part x).cuts r.part.cuts s.below s.cuts;
         lists = s.lists;
         wide = s.wide;
-        fine = child_parts true x ∙ both_true _ _ placed s.fine;
+        fine = child_parts true x ∙ and_from _ _ placed s.fine;
         in_order = s.in_order;
       };
 }
@@ -193,12 +144,9 @@ over_bridge r child s =
       cuts = subst (λ (p : Part). SameSets p.cuts (r.part.below ∷ r.part.cuts)) (bridge_part child) s.cuts;
       lists = subst (λ ls. SameLists ls r.lists) (entered_bridge child) s.lists;
       wide = subst AreWide (widths_bridge child) s.wide;
-      fine = child_parts true x ∙ both_true _ _ (bridge_to_cycle (length (vertices x) == 0) (cycles_of (blocks x)) fine.0) fine.1;
+      fine = child_parts true x ∙ and_from _ _ (bridge_to_cycle (length (vertices x) == 0) (cycles_of (blocks x)) fine.0) fine.1;
       in_order = sym (ap (λ (k : Arranged). k.in_order) (arranged_bridge child)) ∙ s.in_order;
     }
-
-only : {X : Type 0} (x y : X) → x ∷ [] ≡ y ∷ [] → x ≡ y
-only x y h = ap (λ l. (elim l [ [] ↦ x | (z ∷ zs) ↦ z ])) h
 
 -- the block that is a bridge down to a node
 is_bridge : (b : Block) (f : Node) → (block_shape b).is_cycle ≡ false → nodes_of b ≡ f ∷ [] → (child : Box Node Global) × (b ≡ Bridge child) × (child.value ≡ f)
@@ -211,7 +159,7 @@ pub trimmed_below : (r : Read) (p q : Placed) (b : Block) → q.least ≡ p.leas
 trimmed_below r p q b l above bs nodes n =
     let x = p.node in
     let parts = and_parts (is_spare (vertices x) (blocks x)) (list_all (λ c. not (block_shape c).is_cycle) (blocks x)) above in
-    let straight : (block_shape b).is_cycle ≡ false = from_not (block_shape b).is_cycle (and_parts (not (block_shape b).is_cycle) true (sym (ap (list_all (λ c. not (block_shape c).is_cycle)) bs) ∙ parts.1)).0 in
+    let straight : (block_shape b).is_cycle ≡ false = not-true (block_shape b).is_cycle (and_parts (not (block_shape b).is_cycle) true (sym (ap (list_all (λ c. not (block_shape c).is_cycle)) bs) ∙ parts.1)).0 in
     let y = is_bridge b q.node straight nodes in
     let v : vertices x ≡ [] = none_of (vertices x) (and_parts _ _ parts.0).0 in
     let a : arranged_block b ≡ arranged q.node = ap arranged_block y.1 ∙ arranged_bridge y.0 ∙ ap arranged y.2 in

@@ -8,7 +8,7 @@ use Rattle.cactus_tree.specs.Sides.{Part, nothing, all_of, belows, from_here}
 use Rattle.cactus_tree.proofs.Sets.{IsIn, HasOne, Apart, IsLeast, SameFamily, same_set, or_forth}
 use Rattle.cactus_tree.proofs.Rows.{IsRow}
 use Rattle.cactus_tree.proofs.Cycles.{cycle_cuts, cycle_cases, cycle_here, cycle_rest, cycle_within, cycle_whole, here_above}
-use Rattle.canonical_cactus.proofs.ChildOrder.{both_apart}
+use Rattle.cactus_tree.proofs.Distinct.{grown_apart}
 
 -- the last of several parts
 abbrev pub last_part : Part → List Part → Part
@@ -46,7 +46,7 @@ here_short s p [] r a x c = elim (Contains-cons_cases s (from_here (either s p.b
 ]
 here_short s p (q ∷ qs) r a x c = elim (Contains-cons_cases s (from_here (either s p.below) (belows (q ∷ qs))) x c) [
   | inl e ↦ inr (subst (λ y. Apart y (last_part q qs).below) e (λ v h k. a v h (last_in p (q ∷ qs) v k)))
-  | inr h ↦ elim (here_short (either s p.below) q qs r.3 (both_apart s p (q ∷ qs) r a) x h) [
+  | inr h ↦ elim (here_short (either s p.below) q qs r.3 (grown_apart s p (q ∷ qs) r a) x h) [
     | inl k ↦ inl (λ v e. k v (or_forth (s v) (p.below v) (all_of (belows (q ∷ qs)) v) e))
     | inr k ↦ inr k
   ]
@@ -74,7 +74,7 @@ front_cut s p (q ∷ qs) = Contains-there s (from_here (either s p.below) (below
 
 pub front_apart : (s : VertexSet) (p : Part) (ps : List Part) → IsRow (p ∷ ps) → Apart s (all_of (belows (p ∷ ps))) → Apart (front s p ps) (last_part p ps).below
 front_apart s p [] r a v h k = a v h (or_left (p.below v) false k)
-front_apart s p (q ∷ qs) r a v h k = front_apart (either s p.below) q qs r.3 (both_apart s p (q ∷ qs) r a) v h k
+front_apart s p (q ∷ qs) r a v h k = front_apart (either s p.below) q qs r.3 (grown_apart s p (q ∷ qs) r a) v h k
 
 pub front_rest : (s : VertexSet) (p : Part) (ps : List Part) → IsIn (either s (all_of (belows (p ∷ ps)))) (either (last_part p ps).below (front s p ps))
 front_rest s p [] v e = turned (s v) (p.below v) e

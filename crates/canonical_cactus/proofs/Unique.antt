@@ -10,6 +10,7 @@ use Rattle.cut_definitions.specs.Weight.{VertexSet, either}
 use Rattle.cut_definitions.specs.Cuts.{has, least}
 use Rattle.cut_definitions.proofs.Bridge.{same_ascending}
 use Rattle.cut_definitions.proofs.Lists.{Contains-nil}
+use Rattle.cut_definitions.proofs.Bools.{same_tests}
 use Rattle.cactus_tree.specs.Sides.{Part, part, block_part, all_of, belows, all_cuts}
 use Rattle.cactus_tree.specs.Trees.{vertices, blocks, nodes_in}
 use Rattle.cactus_tree.specs.declared.tree.Node.{Node}
@@ -19,16 +20,17 @@ use Rattle.cactus_tree.specs.declared.tree.Block.TheVariants.{Bridge, Cycle}
 use Rattle.cactus_tree.proofs.Parts.{bridge_part, cycle_part}
 use Rattle.cactus_tree.proofs.Induction.{tree_induction}
 use Rattle.canonical_cactus.specs.Canonical.{arranged, arranged_block, leasts, ascend, rises, last_from}
-use Rattle.cactus_tree.proofs.Sets.{IsIn, IsLeast, SameFamily, same_test}
+use Rattle.cactus_tree.proofs.Sets.{IsIn, IsLeast, SameFamily}
 use Rattle.cactus_tree.proofs.Rows.{row_within, in_some_cut, row_head}
 use Rattle.cactus_tree.proofs.Cycles.{cycle_cuts, cycle_head}
 use Rattle.canonical_cactus.proofs.ChildOrder.{cycle_order}
 use Rattle.canonical_cactus.proofs.Turns.{last_part, first_same}
 use Rattle.cactus_tree.proofs.Views.{view}
 use Rattle.cactus_tree.proofs.Clean.{least_is}
+use Rattle.cactus_tree.proofs.Trims.{below_out, cuts_out}
 use Rattle.canonical_cactus.proofs.Arrangement.{node_covered, block_covered}
 use Rattle.canonical_cactus.proofs.Fits.{IsFit, IsFitBlock, AreFitBlocks, AreFitNodes, IsPlaced, blocks_head, blocks_tail, nodes_head, nodes_placed, nodes_tail, node_blocks, own_apart, own_ascending, bridge_child, cycle_children}
-use Rattle.canonical_cactus.proofs.Sound.{below_out, cuts_out, placed_one, node_sound, block_sound, nodes_row, blocks_row, placed_kind, same_cuts, solid_leaves_out, cycle_is_torn, torn_or_whole}
+use Rattle.canonical_cactus.proofs.Sound.{placed_one, node_sound, block_sound, nodes_row, blocks_row, placed_kind, same_cuts, solid_leaves_out, cycle_is_torn, torn_or_whole}
 
 at_of : (s t : VertexSet) → s ≡ t → (v : ℕ) → s v ≡ t v
 at_of s t e v = ap (λ (y : VertexSet). y v) e
@@ -144,7 +146,7 @@ module _ (n : ℕ) (A B : Type 0) (F : Node → A) (G : Block → B) (node_of : 
       subst (λ l. SameFamily l (all_cuts (map block_part (blocks y)))) (cuts_out x) (subst (λ l. SameFamily (part x).cuts l) (cuts_out y) cuts) in
       let r = blocks_same (blocks x) (blocks y) h (node_blocks n x fx) (node_blocks n y fy) listed in
       let own : vertices x ≡ vertices y = same_ascending 1 n (vertices x) (vertices y) (own_ascending n x fx) (own_ascending n y fy)
-      (λ v low high. same_test (has (vertices x) v) (has (vertices y) v) (own_in x y fx e r.1 v) (own_in y x fy (sym e) (sym r.1) v)) in
+      (λ v low high. same_tests (has (vertices x) v) (has (vertices y) v) (own_in x y fx e r.1 v) (own_in y x fy (sym e) (sym r.1) v)) in
       node_is x ∙ ap (λ l. node_of l (map G (blocks x))) own ∙ ap (node_of (vertices y)) r.0 ∙ sym (node_is y)
 
   -- ---- a bridge

@@ -59,7 +59,7 @@ fn shed_blocks(alloc: Global, stack: &mut Vec<Node>, blocks: Blocks) -> Result<V
     ensures joints { IfOk result (λ j. map as_joint (top_first j.items) ≡ map joint_of (blocks_in blocks)) }
 {
     let mut blocks = blocks;
-    let mut joints = Vec::new(alloc);
+    let mut joints = Vec::with_capacity(alloc, blocks.len())?;
     'back: while let Some(block) = blocks.pop() {
         let joint = shed_block(stack, block)?;
         joints.push(joint)?;
@@ -67,12 +67,13 @@ fn shed_blocks(alloc: Global, stack: &mut Vec<Node>, blocks: Blocks) -> Result<V
     Ok(joints)
 }
 
-/// The entries of a tree, in the order in which it is entered.
-pub fn entries_of(alloc: Global, root: Node) -> Result<Vec<Entry>, NoMemory>
+/// The entries of a tree, in the order in which it is entered. Room for so many nodes as are expected is reserved at once,
+/// since a long list that grows is copied again and again; there may be more of them, or fewer.
+pub fn entries_of(alloc: Global, root: Node, expected: usize) -> Result<Vec<Entry>, NoMemory>
     ensures { IfOk result (λ e. Shows root e.items []) }
 {
-    let mut entries = Vec::new(alloc);
-    let mut stack = Vec::new(alloc);
+    let mut entries = Vec::with_capacity(alloc, expected)?;
+    let mut stack = Vec::with_capacity(alloc, expected)?;
     stack.push(root)?;
     'walk: while let Some(node) = stack.pop() {
         let Node { vertices, blocks } = node;

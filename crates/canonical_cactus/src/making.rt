@@ -27,7 +27,7 @@ pub fn canonical(alloc: Global, cactus: Cactus) -> Result<Cactus, NoMemory>
     ensures sides { IfOk result (λ c. HaveSameSides c cactus) }
 {
     let n = cactus.n();
-    let entries = entries_of(alloc, cactus.into_root())?;
+    let entries = entries_of(alloc, cactus.into_root(), n as usize)?;
     let placed = put_in_order(alloc, entries)?;
     Ok(Cactus::from_root(n, placed.node))
 }

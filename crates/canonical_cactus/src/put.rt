@@ -19,7 +19,7 @@ fn draw_nodes(alloc: Global, stack: &mut Vec<Placed>, count: usize) -> Result<Ve
     ensures count { IfOk result (λ v. length v.items ≡ count) }
     ensures stack { OnOk result (top_first stack.new.items ≡ drop count (top_first stack.old.items)) }
 {
-    let mut nodes = Vec::new(alloc);
+    let mut nodes = Vec::with_capacity(alloc, count)?;
     'draw: while nodes.len() < count {
         let node = stack.pop().unwrap();
         nodes.push(trimmed(node))?;
@@ -94,7 +94,7 @@ fn draw_blocks(
     ensures stack { OnOk result (top_first stack.new.items ≡ drop (wanted (map as_joint (top_first joints.items))) (top_first stack.old.items)) }
 {
     let mut joints = joints;
-    let mut blocks = Vec::new(alloc);
+    let mut blocks = Vec::with_capacity(alloc, joints.len())?;
     'draw: while let Some(joint) = joints.pop() {
         let block = draw_block(alloc, stack, joint)?;
         blocks.push(block)?;
@@ -111,7 +111,7 @@ pub fn put_in_order(alloc: Global, entries: Vec<Entry>) -> Result<Placed, NoMemo
     ensures { IfOk result (λ p. (r : Read) → read_entries has entries.items [] ≡ r ∷ [] → IsNodeOf r p) }
 {
     let mut entries = entries;
-    let mut finished = Vec::new(alloc);
+    let mut finished = Vec::with_capacity(alloc, entries.len())?;
     'up: while let Some(entry) = entries.pop() {
         let Entry { vertices, joints } = entry;
         let blocks = draw_blocks(alloc, &mut finished, joints)?;

@@ -28,7 +28,7 @@ pub fn node_of(alloc: Global, vertices: VertexList, row: Vec<Hung>) -> Result<Pl
     let mut row = row;
     sort_down(&mut row);
     let mut least = least_vertex(&vertices);
-    let mut blocks = Blocks::new(alloc);
+    let mut blocks = Blocks::with_capacity(alloc, row.len())?;
     'fill: while let Some(next) = row.pop() {
         least = lesser(least, next.least);
         blocks.push(next.block)?;
@@ -66,7 +66,7 @@ pub fn cycle_of(alloc: Global, nodes: Vec<Placed>) -> Result<Hung, NoMemory>
     let mut nodes = nodes;
     face(&mut nodes);
     let mut least = None;
-    let mut children = Children::new(alloc);
+    let mut children = Children::with_capacity(alloc, nodes.len())?;
     'close: while let Some(next) = nodes.pop() {
         least = lesser(least, next.least);
         children.push(next.node)?;
@@ -83,7 +83,7 @@ pub fn star_of(alloc: Global, first: Placed, second: Placed) -> Result<Hung, NoM
 {
     let first = hang(alloc, first)?;
     let second = hang(alloc, second)?;
-    let mut blocks = Vec::new(alloc);
+    let mut blocks = Vec::with_capacity(alloc, 2)?;
     blocks.push(first)?;
     blocks.push(second)?;
     let none = VertexList::new(alloc);

@@ -1,23 +1,25 @@
 -- The unions of components by their masses.
 use Rattle.std.proofs.Common.{◌≡◌, ℕ, zero, suc, ◌+◌, ◌-◌, ◌<◌, ◌≤◌, ⊎_elim, Bool, true, false, ◌&&◌, ◌||◌, eqb, leb, List, length, get_or, min, refl, sym, ◌∙◌, ap, arith}
-use Rattle.std.specs.Prelude.{◌≢◌, if◌then◌else◌, IfOk, Result, Ok, Err}
+use Rattle.std.specs.Prelude.{◌≢◌, if◌then◌else◌}
 use Rattle.std.specs.List.{Contains}
-use Rattle.std.proofs.lemmas.Bool.{cases_eq, cases_Bool, eq-eqb, ne_eqb, false≢true}
+use Rattle.std.proofs.lemmas.Bool.{cases_eq, cases_Bool, eq-eqb, ne_eqb, false≢true, and_left, and_right, le-leb, lt-leb}
 use Rattle.std.proofs.lemmas.List.Elements.{All-weaker, All-contains_itself}
 use Rattle.cut_definitions.specs.Weight.{VertexSet, either}
 use Rattle.cut_definitions.specs.Cuts.{has, least}
 use Rattle.cut_definitions.specs.Balance.{mass, balance, IsBest}
 use Rattle.cut_definitions.proofs.Masses.{mass-agree, mass-either, mass-complement, mass-none}
-use Rattle.cut_definitions.proofs.ChainLaws.{leb_yes, leb_no}
 use Rattle.vertex_set.specs.Side.{VertexList, listed}
 use Rattle.vertex_set.proofs.Bits.{has-listed}
 use Rattle.component_cuts.specs.Parts.{part_at, divided, unions, IsPart, IsNumbering}
 use Rattle.component_cuts.specs.Doubling.{chosen_vertices}
 use Rattle.component_cuts.specs.Sums.{mass_of_number, sum_of_rows, AreRows, IsBestSum}
-use Rattle.component_cuts.proofs.Divided.{in_part, least_has, length_divided, numbering_divides, to_part}
+use Rattle.component_cuts.proofs.Divided.{in_part, length_divided, numbering_divides, to_part}
 use Rattle.component_cuts.proofs.Doubled.{part_kept, union_from, union_to}
 use Rattle.component_cuts.proofs.Rows.{sums_made}
 use Rattle.cut_definitions.proofs.Bridge.{IsAscendingWithin-filter}
+use Rattle.cut_definitions.proofs.Bools.{and_kept}
+use Rattle.cut_definitions.proofs.Numbers.{later_same}
+use Rattle.cut_definitions.proofs.Ascending.{least_has}
 
 -- the masses of the numbers of a numbering
 pub record AreSums (masses part_of : List ℕ) (count : ℕ) (sums : List ℕ) : Type 0 where
@@ -26,15 +28,6 @@ pub record AreSums (masses part_of : List ℕ) (count : ℕ) (sums : List ℕ) :
 -- the vertices of the chosen numbers up to that of a row
 abbrev pick : List ℕ → (ℕ → Bool) → ℕ → VertexSet
 pick part_of chosen row v = chosen (get_or part_of v 0) && leb (get_or part_of v 0) (row + 1)
-
-and_false : (a b : Bool) → b ≡ false → (a && b) ≡ false
-and_false a b h = grind arith
-
-and_true : (a b : Bool) → b ≡ true → (a && b) ≡ a
-and_true a b h = grind arith
-
-first_false : (a b : Bool) → a ≡ false → (a && b) ≡ false
-first_false a b h = grind arith
 
 with_next : (a b c d e : Bool) → b ≡ false → c ≡ true → d ≡ a → e ≡ true → (a && c) ≡ ((a && b) || (d && e))
 with_next a b c d e p q r s = grind arith
@@ -52,17 +45,14 @@ apart a b d false h = last_false (a && b) d
     last_false : (a d : Bool) → (a && (d && false)) ≡ false
     last_false a d = grind arith
 
-leb_same : (l m : ℕ) → l ≢ m + 1 → leb l m ≡ leb l (m + 1)
-leb_same l m ne = grind arith
-
 pick_more : (part_of : List ℕ) (chosen : ℕ → Bool) (row v : ℕ) → pick part_of chosen (suc row) v ≡ either (pick part_of chosen row) (λ u. chosen (row + 2) && eqb (get_or part_of u 0) (row + 2)) v
 pick_more part_of chosen row v =
     let l = get_or part_of v 0 in
     let next : suc row + 1 ≡ row + 1 + 1 = omega arith in
     let at : leb l (suc row + 1) ≡ leb l (row + 1 + 1) = ap (leb l) next in
     ⊎_elim
-    (λ (e : l ≡ row + 2). with_next (chosen l) (leb l (row + 1)) (leb l (suc row + 1)) (chosen (row + 2)) (eqb l (row + 2)) (leb_no l (row + 1) (omega arith)) (leb_yes l (suc row + 1) (omega arith)) (ap chosen (sym e)) (eq-eqb l (row + 2) e))
-    (λ (ne : l ≢ row + 2). without_next (chosen l) (leb l (row + 1)) (leb l (suc row + 1)) (chosen (row + 2)) (eqb l (row + 2)) (leb_same l (row + 1) (λ q. ne (omega arith)) ∙ sym at) (ne_eqb l (row + 2) ne))
+    (λ (e : l ≡ row + 2). with_next (chosen l) (leb l (row + 1)) (leb l (suc row + 1)) (chosen (row + 2)) (eqb l (row + 2)) (lt-leb l (row + 1) (omega arith)) (le-leb l (suc row + 1) (omega arith)) (ap chosen (sym e)) (eq-eqb l (row + 2) e))
+    (λ (ne : l ≢ row + 2). without_next (chosen l) (leb l (row + 1)) (leb l (suc row + 1)) (chosen (row + 2)) (eqb l (row + 2)) (later_same l (row + 1) (λ q. ne (omega arith)) ∙ sym at) (ne_eqb l (row + 2) ne))
     (cases_eq l (row + 2))
 
 chosen_mass : (masses part_of : List ℕ) (b : Bool) (i w : ℕ) → w ≡ mass_of_number masses part_of i → mass masses (λ u. b && eqb (get_or part_of u 0) i) ≡ (if b then w else 0)
@@ -77,8 +67,8 @@ mass_picked n count part_of masses sums h long are chosen first zero le =
     let l = get_or part_of v 0 in
     let low : 1 ≤ l = h.from_one v one (omega arith) in
     ⊎_elim
-    (λ (e : l ≡ 1). first_false (chosen l) (leb l 1) (ap chosen e ∙ first))
-    (λ (ne : l ≢ 1). and_false (chosen l) (leb l 1) (leb_no l 1 (omega arith)))
+    (λ (e : l ≡ 1). and_left (chosen l) (leb l 1) (ap chosen e ∙ first))
+    (λ (ne : l ≢ 1). and_right (chosen l) (leb l 1) (lt-leb l 1 (omega arith)))
     (cases_eq l 1))
     ∙ mass-none masses
 mass_picked n count part_of masses sums h long are chosen first (suc row) le =
@@ -87,7 +77,7 @@ mass_picked n count part_of masses sums h long are chosen first (suc row) le =
     let split : mass masses (pick part_of chosen (suc row)) ≡ mass masses (either s t) = mass-agree masses (pick part_of chosen (suc row)) (either s t) (λ v one to. pick_more part_of chosen row v) in
     let both : mass masses (either s t) ≡ mass masses s + mass masses t = mass-either masses s t
     (λ v one to. let l = get_or part_of v 0 in
-    apart (chosen l) (leb l (row + 1)) (chosen (row + 2)) (eqb l (row + 2)) (λ e. leb_no l (row + 1) (omega (arith, from_eqb l (row + 2) e)))) in
+    apart (chosen l) (leb l (row + 1)) (chosen (row + 2)) (eqb l (row + 2)) (λ e. lt-leb l (row + 1) (omega (arith, from_eqb l (row + 2) e)))) in
     let here : mass masses t ≡ (if chosen (row + 2) then get_or sums (row + 2) 0 else 0) = chosen_mass masses part_of (chosen (row + 2)) (row + 2) (get_or sums (row + 2) 0) (are.each (row + 2) (omega arith)) in
     omega (arith, mass_picked n count part_of masses sums h long are chosen first row (omega arith))
   where
@@ -101,7 +91,7 @@ mass_chosen n count part_of masses sums h long are chosen first one s same =
     (λ v low high.
     let l = get_or part_of v 0 in
     let to : l ≤ count = h.to_count v in
-    same v low (omega arith) ∙ sym (and_true (chosen l) (leb l (count - 1 + 1)) (leb_yes l (count - 1 + 1) (omega arith))))
+    same v low (omega arith) ∙ sym (and_kept (chosen l) (leb l (count - 1 + 1)) (le-leb l (count - 1 + 1) (omega arith))))
     ∙ mass_picked n count part_of masses sums h long are chosen first (count - 1) (omega arith)
 
 pub balance_is : (masses side : List ℕ) (sum : ℕ) → mass masses (has side) ≡ sum → balance masses side ≡ min sum (mass masses (λ v. true) - sum)
@@ -190,7 +180,3 @@ best_chosen n count part_of masses sums table width sum h long are two width_is 
     (λ v one to. ap (λ (x : VertexList). has x.members v) e ∙ has-listed n t v one to) ∙ sum_is in
     is_best masses (unions p) s.members (chosen_is_union n count part_of masses chosen s h two long first e (omega arith))
     (λ other c. omega (arith, none_better n count part_of masses sums table width sum h long are two width_is rows best other c, balance_is masses s.members sum mass_is))
-
-pub if_ok_more : {A E : Type 0} (P Q : A → Type 0) (r : Result A E) → ((x : A) → P x → Q x) → IfOk r P → IfOk r Q
-if_ok_more P Q (Ok x) more h = more x h
-if_ok_more P Q (Err e) more h = h

@@ -9,9 +9,10 @@ use Rattle.cut_definitions.specs.Cuts.{has, least, IsAscendingWithin}
 use Rattle.cut_definitions.specs.Components.{HasComponents}
 use Rattle.cut_definitions.proofs.Lists.{Contains-from_map, Contains-map}
 use Rattle.cut_definitions.proofs.Bridge.{same_ascending}
+use Rattle.cut_definitions.proofs.Ascending.{has_contains, contains_has, member_within, least_has}
 use Rattle.component_cuts.specs.Parts.{Parts, part_at, IsDivision, IsPart}
 use Rattle.component_cuts.specs.Laws.{LawOfComponents, LawOfOneNumber}
-use Rattle.component_cuts.proofs.Divided.{Contains-from_has, has_from_Contains, member_within, least_has, least_most}
+use Rattle.component_cuts.proofs.Divided.{least_most}
 
 -- ---- the least vertices ascend
 
@@ -50,11 +51,11 @@ leasts_ascend p d =
 -- ---- they are the vertices that are joined to no lesser one
 
 at_least : (p : Parts) (i : ℕ) → IsPart p i → has (map least p.parts) (least (part_at p i)) ≡ true
-at_least p i is = has_from_Contains (map least p.parts) (least (part_at p i)) (Contains-map least p.parts (part_at p i) (Contains-get_or p.parts (i - 1) [] (omega (arith, is.0, is.1))))
+at_least p i is = contains_has (map least p.parts) (least (part_at p i)) (Contains-map least p.parts (part_at p i) (Contains-get_or p.parts (i - 1) [] (omega (arith, is.0, is.1))))
 
 from_least : (p : Parts) (v : ℕ) → has (map least p.parts) v ≡ true → (i : ℕ) × IsPart p i × (least (part_at p i) ≡ v)
 from_least p v h =
-    let r = Contains-from_map least p.parts v (Contains-from_has (map least p.parts) v h) in
+    let r = Contains-from_map least p.parts v (has_contains (map least p.parts) v h) in
     let k = r.1.0 in
     let here : get_or p.parts k [] ≡ r.0 = get_or_default p.parts k [] r.0 r.1.1 ∙ r.1.2 in
     (suc k, place p k r.1.1, ap least (part_there p k ∙ here) ∙ r.2)

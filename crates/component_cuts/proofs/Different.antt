@@ -1,8 +1,7 @@
 -- Lists without repeats.
-use Rattle.std.proofs.Common.{◌≡◌, ℕ, ◌≤◌, inl, inr, ⊎_elim, Bool, true, false, List, [], ◌∷◌, ◌++◌, length, length-append, map, refl, sym, ◌∙◌, ap, subst, arith, true≢false}
-use Rattle.std.specs.declared.cmp.Ordering.{Ordering}
-use Rattle.std.specs.declared.cmp.Ordering.TheVariants.{Less, Equal, Greater}
-use Rattle.std.specs.Ordering.{nat_cmp, is_eq, eq_by_cmp}
+use Rattle.std.proofs.Common.{◌≡◌, ℕ, ◌≤◌, inl, inr, ⊎_elim, Bool, true, false, List, [], ◌∷◌, ◌++◌, length, length-append, map, refl, sym, ◌∙◌, ap, subst, arith}
+use Rattle.std.specs.declared.cmp.Ordering.TheVariants.{Less}
+use Rattle.std.specs.Ordering.{nat_cmp, eq_by_cmp}
 use Rattle.std.specs.Cmp.Lexicographic.{slice_cmp}
 use Rattle.std.specs.List.{Contains, IsDistinct}
 use Rattle.std.specs.List.Sorted.{IsPermutation}
@@ -12,6 +11,7 @@ use Rattle.std.proofs.lemmas.List.Elements.{All-contains, All-contains_itself, A
 use Rattle.std.proofs.lemmas.Map.Keys.{IsDistinct-from_sorted, IsDistinct-cons, IsDistinct-head, IsDistinct-tail, IsDistinct-IsPermutation, sorted_head, sorted_tail}
 use Rattle.std.proofs.lemmas.Map.Lookups.{exact_bytes}
 use Rattle.cut_definitions.proofs.Lists.{Contains-here, Contains-there, Contains-nil, Contains-cons_cases, Contains-from_map}
+use Rattle.cut_definitions.proofs.Orderings.{less_itself, from_is_eq}
 use Rattle.component_cuts.specs.Doubling.{AreDifferent, IsAscending}
 
 abbrev Lists : Type 0
@@ -19,11 +19,6 @@ Lists = List (List ℕ)
 
 abbrev same_list : List ℕ → List ℕ → Bool
 same_list = eq_by_cmp (slice_cmp nat_cmp)
-
-from_is_eq : (o : Ordering) → is_eq o ≡ true → o ≡ Equal
-from_is_eq Less e = absurd (true≢false (sym e))
-from_is_eq Equal e = refl
-from_is_eq Greater e = absurd (true≢false (sym e))
 
 not_same : (x y : List ℕ) → (x ≡ y → ⊥) → same_list x y ≡ false
 not_same x y ne =
@@ -98,9 +93,6 @@ no_more (x ∷ xs) ys h to =
     omega (arith, ap length r.whole, length-append r.before (x ∷ r.after), length-append r.before r.after)
 
 -- ---- two ascending lists with the same members are equal
-
-less_itself : (x : List ℕ) → slice_cmp nat_cmp x x ≡ Less → ⊥
-less_itself x h = false≢true (sym (ap is_eq h) ∙ (eq_by_cmp_equiv nat_list_cmp_total).refl x)
 
 after_head : (x : List ℕ) (xs : Lists) (s : List ℕ) → IsAscending (x ∷ xs) → Contains xs s → slice_cmp nat_cmp x s ≡ Less
 after_head x xs s h c = All-contains (λ y. slice_cmp nat_cmp x y ≡ Less) xs s (All-from_recursion (λ y. slice_cmp nat_cmp x y ≡ Less) xs (sorted_head (slice_cmp nat_cmp) x xs h)) c

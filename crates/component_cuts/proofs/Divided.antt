@@ -1,53 +1,18 @@
 -- A numbering of the vertices divides them.
-use Rattle.std.proofs.Common.{◌≡◌, ℕ, ◌+◌, ◌-◌, ◌<◌, ◌≤◌, inl, inr, ⊎_elim, true, false, eqb, List, [], ◌∷◌, length, get_or, refl, sym, ◌∙◌, ap, subst, arith}
+use Rattle.std.proofs.Common.{◌≡◌, ℕ, ◌-◌, ◌<◌, ◌≤◌, ⊎_elim, true, eqb, List, [], length, get_or, refl, sym, ◌∙◌, ap, subst, arith}
 use Rattle.std.specs.Prelude.{◌≢◌}
-use Rattle.std.specs.List.{Contains}
-use Rattle.std.proofs.lemmas.Bool.{cases_eq, cases_lt, eq-eqb, eqb-true, ne_eqb, false≢true}
+use Rattle.std.proofs.lemmas.Bool.{cases_eq, cases_lt, eq-eqb, eqb-true}
 use Rattle.std.proofs.lemmas.List.FromFn.{get_or-map-range_with_len, length-map-range_with_len}
 use Rattle.cut_definitions.specs.Cuts.{has, least, IsAscendingWithin}
-use Rattle.cut_definitions.proofs.Lists.{Contains-here, Contains-there, Contains-nil, Contains-cons_cases}
-use Rattle.cut_definitions.proofs.Values.{least-le, Contains-least}
-use Rattle.cut_definitions.proofs.Bridge.{has_none, has_within, has_low, has_first_of, IsAscendingWithin-filter}
+use Rattle.cut_definitions.proofs.Values.{least-le}
+use Rattle.cut_definitions.proofs.Bridge.{has_none, has_within, IsAscendingWithin-filter}
+use Rattle.cut_definitions.proofs.Ascending.{has_contains, member_within, least_has}
 use Rattle.component_cuts.specs.Parts.{part_at, IsPart, IsDivision, IsFirst, IsNumbering, numbered, divided}
 
 -- ---- members of lists
 
-has_later : (x v : ℕ) (xs : List ℕ) → x ≢ v → has (x ∷ xs) v ≡ has xs v
-has_later x v xs ne = rw (ne_eqb x v ne) refl
-
-pub Contains-from_has : (xs : List ℕ) (v : ℕ) → has xs v ≡ true → Contains xs v
-Contains-from_has [] v h = absurd (false≢true h)
-Contains-from_has (x ∷ xs) v h =
-    ⊎_elim
-    (λ (e : x ≡ v). subst (Contains (x ∷ xs)) e (Contains-here x xs))
-    (λ (ne : x ≢ v). Contains-there x xs v (Contains-from_has xs v (sym (has_later x v xs ne) ∙ h)))
-    (cases_eq x v)
-
-pub has_from_Contains : (xs : List ℕ) (v : ℕ) → Contains xs v → has xs v ≡ true
-has_from_Contains [] v h = absurd (Contains-nil v h)
-has_from_Contains (x ∷ xs) v h =
-    ⊎_elim
-    (λ (e : x ≡ v). subst (λ (u : ℕ). has (x ∷ xs) u ≡ true) e (has_first_of x xs))
-    (λ (ne : x ≢ v). has_later x v xs ne ∙ has_from_Contains xs v (elim (Contains-cons_cases x xs v h) [ inl e ↦ absurd (ne e) | inr t ↦ t ]))
-    (cases_eq x v)
-
-pub has_high : (low high v : ℕ) (s : List ℕ) → IsAscendingWithin low high s → high < v → has s v ≡ false
-has_high low high v [] a l = refl
-has_high low high v (x ∷ xs) a l = has_later x v xs (λ e. omega (arith, a.1)) ∙ has_high (x + 1) high v xs a.2 l
-
--- a member of an ascending list
-pub member_within : (low high v : ℕ) (s : List ℕ) → IsAscendingWithin low high s → has s v ≡ true → (low ≤ v) × (v ≤ high)
-member_within low high v s a is = (
-  ⊎_elim (λ (l : v < low). absurd (false≢true (sym (has_low low high v s a l) ∙ is))) (λ (l : low ≤ v). l) (cases_lt v low),
-  ⊎_elim (λ (l : high < v). absurd (false≢true (sym (has_high low high v s a l) ∙ is))) (λ (l : v ≤ high). l) (cases_lt high v),
-)
-
-pub least_has : (xs : List ℕ) → xs ≢ [] → has xs (least xs) ≡ true
-least_has [] ne = absurd (ne refl)
-least_has (x ∷ xs) ne = has_from_Contains (x ∷ xs) (least (x ∷ xs)) (Contains-least x xs)
-
 pub least_most : (xs : List ℕ) (v : ℕ) → has xs v ≡ true → least xs ≤ v
-least_most xs v h = least-le xs v (Contains-from_has xs v h)
+least_most xs v h = least-le xs v (has_contains xs v h)
 
 -- ---- the parts of a numbering
 

@@ -5,7 +5,7 @@ use Rattle.std.specs.Ordering.{nat_cmp}
 use Rattle.std.specs.Cmp.Lexicographic.{slice_cmp}
 use Rattle.std.specs.List.{Contains, filter, list_all, range_with_len}
 use Rattle.std.proofs.Math.Nat.{pow-suc}
-use Rattle.std.proofs.lemmas.Bool.{cases_Bool, false≢true}
+use Rattle.std.proofs.lemmas.Bool.{cases_Bool, false≢true, or_left, or_right, or_cases}
 use Rattle.std.proofs.lemmas.List.{length-map}
 use Rattle.std.proofs.lemmas.List.Elements.{Contains-append_left, Contains-append_right, Contains-append_cases}
 use Rattle.std.proofs.lemmas.List.Kept.{IsStrictlySortedBy-filter}
@@ -16,10 +16,11 @@ use Rattle.cut_definitions.proofs.Lists.{Contains-here, Contains-nil, Contains-c
 use Rattle.cut_definitions.proofs.Sides.{IsAscendingWithin-lower, IsSide-from_Contains, Contains-from_IsSide}
 use Rattle.cut_definitions.proofs.Bridge.{has_none, has_low, has_within, same_ascending, IsAscendingWithin-filter}
 use Rattle.cut_definitions.proofs.Order.{sides_sorted}
+use Rattle.cut_definitions.proofs.Bools.{in_minus, minus_first, minus_second, put_back, same_tests, minus_same, or_same}
+use Rattle.cut_definitions.proofs.Ascending.{least_has, member_within}
 use Rattle.component_cuts.specs.Parts.{Parts, part_at, keeps, unions, IsPart, IsDivision}
 use Rattle.component_cuts.specs.Doubling.{union_of, AreDifferent, IsAscending}
 use Rattle.component_cuts.specs.Laws.{LawOfNumber}
-use Rattle.component_cuts.proofs.Divided.{least_has, member_within}
 use Rattle.component_cuts.proofs.Weightless.{all_parts, one_part, keeps_two, keeps_from, first_has_one, ascending_from_two, all_unions}
 use Rattle.component_cuts.proofs.Different.{different_append, different_map, different_ascending, no_more, only_ascending}
 
@@ -41,41 +42,6 @@ some_member : (s : List ℕ) → (s ≡ []) ⊎ (s ≢ [])
 some_member [] = inl refl
 some_member (x ∷ xs) = inr (λ e. cc)
 
-same_from_both : (a b : Bool) → (a ≡ true → b ≡ true) → (b ≡ true → a ≡ true) → a ≡ b
-same_from_both true b f g = sym (f refl)
-same_from_both false true f g = g refl
-same_from_both false false f g = refl
-
-or_cases : (a b : Bool) → (a || b) ≡ true → (a ≡ true) ⊎ (b ≡ true)
-or_cases true b h = inl refl
-or_cases false b h = inr h
-
-or_first : (a b : Bool) → a ≡ true → (a || b) ≡ true
-or_first a b h = grind arith
-
-or_second : (a b : Bool) → b ≡ true → (a || b) ≡ true
-or_second a b h = grind arith
-
-or_same : (a b c d : Bool) → a ≡ c → b ≡ d → (a || b) ≡ (c || d)
-or_same a b c d e f = grind arith
-
-and_not_same : (a b c d : Bool) → a ≡ c → b ≡ d → (a && not b) ≡ (c && not d)
-and_not_same a b c d e f = grind arith
-
-and_first : (a b : Bool) → (a && not b) ≡ true → a ≡ true
-and_first a b h = grind arith
-
-and_second : (a b : Bool) → (a && not b) ≡ true → b ≡ false
-and_second a b h = grind arith
-
-and_both : (a b : Bool) → a ≡ true → b ≡ false → (a && not b) ≡ true
-and_both a b h k = grind arith
-
-put_back : (q s : Bool) → (q ≡ true → s ≡ true) → (q || (s && not q)) ≡ s
-put_back true s h = sym (h refl)
-put_back false true h = refl
-put_back false false h = refl
-
 take_off : (q a b : Bool) → (q ≡ true → a ≡ b) → (q || a) ≡ (q || b) → a ≡ b
 take_off true a b h e = h refl
 take_off false a b h e = e
@@ -88,7 +54,7 @@ part_within p h i v is a = member_within 1 p.vertices v (part_at p i) (h.ascendi
 
 pub part_kept : (p : Parts) → IsDivision p → (q i u v : ℕ) → IsPart p q → IsPart p i → has (part_at p i) u ≡ true → has (part_at p i) v ≡ true → has (part_at p q) u ≡ has (part_at p q) v
 part_kept p h q i u v qs is a b =
-    same_from_both (has (part_at p q) u) (has (part_at p q) v)
+    same_tests (has (part_at p q) u) (has (part_at p q) v)
     (λ t. subst (λ (j : ℕ). has (part_at p j) v ≡ true) (h.apart i q u is qs a t) b)
     (λ t. subst (λ (j : ℕ). has (part_at p j) u ≡ true) (h.apart i q v is qs b t) a)
 
@@ -123,7 +89,7 @@ together p h k one qs t is_t =
     let first = least_has q (h.nonempty (k + 1) qs) in
     let w = part_within p h (k + 1) (least q) qs first in
     record {
-      nonempty = λ e. has_none (union_of n q t) (least q) e (has_union n q t (least q) w.0 w.1 ∙ or_first (has q (least q)) (has t (least q)) first);
+      nonempty = λ e. has_none (union_of n q t) (least q) e (has_union n q t (least q) w.0 w.1 ∙ or_left (has q (least q)) (has t (least q)) first);
       ascending = union_ascends n q t;
       kept = λ i u v is a b.
           let wu = part_within p h i u is a in
@@ -158,13 +124,13 @@ rest_is_union p h k qs s is_s ne =
           let wu = part_within p h i u is a in
           let wv = part_within p h i v is b in
           has_without p k s u wu.0 wu.1
-          ∙ (and_not_same (has s u) (has q u) (has s v) (has q v) (is_s.kept i u v is a b) (part_kept p h (k + 1) i u v qs is a b) ∙ sym (has_without p k s v wv.0 wv.1));
+          ∙ (minus_same (has s u) (has q u) (has s v) (has q v) (is_s.kept i u v is a b) (part_kept p h (k + 1) i u v qs is a b) ∙ sym (has_without p k s v wv.0 wv.1));
       inside = λ i v is a b.
           let wv = part_within p h i v is a in
           let both = sym (has_without p k s v wv.0 wv.1) ∙ b in
-          let z = is_s.inside i v is a (and_first (has s v) (has q v) both) in
+          let z = is_s.inside i v is a (minus_first (has s v) (has q v) both) in
           let low : 2 ≤ i = z.0 in
-          let other : i ≢ k + 1 = λ e. false≢true (sym (and_second (has s v) (has q v) both) ∙ subst (λ (j : ℕ). has (part_at p j) v ≡ true) e a) in
+          let other : i ≢ k + 1 = λ e. false≢true (sym (minus_second (has s v) (has q v) both) ∙ subst (λ (j : ℕ). has (part_at p j) v ≡ true) e a) in
           (low, omega (arith, z.1));
     }
 
@@ -186,10 +152,10 @@ with_last p h k qs list are s is_s is =
     ⊎_elim
     (λ (none : t ≡ []).
     let same : q ≡ s = same_ascending 1 n q s (h.ascending (k + 1) qs) is_s.ascending
-    (λ v one to. same_from_both (has q v) (has s v) (has_last p h k qs s is_s is v)
+    (λ v one to. same_tests (has q v) (has s v) (has_last p h k qs s is_s is v)
     (λ b. ⊎_elim
     (λ (y : has q v ≡ true). y)
-    (λ (x : has q v ≡ false). absurd (has_none t v none (has_without p k s v one to ∙ and_both (has s v) (has q v) b x)))
+    (λ (x : has q v ≡ false). absurd (has_none t v none (has_without p k s v one to ∙ in_minus (has s v) (has q v) b x)))
     (cases_Bool (has q v)))) in
     Contains-append_right (map f list) (q ∷ []) s (subst (Contains (q ∷ [])) same (Contains-here q [])))
     (λ (some : t ≢ []).
@@ -245,7 +211,7 @@ union_tells p h k qs s t is_s is_t e =
     let q = part_at p (k + 1) in
     same_ascending 1 n s t is_s.ascending is_t.ascending
     (λ v one to. take_off (has q v) (has s v) (has t v)
-    (λ a. same_from_both (has s v) (has t v) (λ b. absurd (lacks_next p h k qs s is_s v a b)) (λ b. absurd (lacks_next p h k qs t is_t v a b)))
+    (λ a. same_tests (has s v) (has t v) (λ b. absurd (lacks_next p h k qs s is_s v a b)) (λ b. absurd (lacks_next p h k qs t is_t v a b)))
     (sym (has_union n q s v one to) ∙ (ap (λ (xs : List ℕ). has xs v) e ∙ has_union n q t v one to)))
 
 -- a union with the last part is not that part
@@ -255,7 +221,7 @@ union_is_more p h k qs t is_t e =
     let q = part_at p (k + 1) in
     let own = least_has t is_t.nonempty in
     let w = member_within 1 n (least t) t is_t.ascending own in
-    let in_q : has q (least t) ≡ true = ap (λ (xs : List ℕ). has xs (least t)) (sym e) ∙ (has_union n q t (least t) w.0 w.1 ∙ or_second (has q (least t)) (has t (least t)) own) in
+    let in_q : has q (least t) ≡ true = ap (λ (xs : List ℕ). has xs (least t)) (sym e) ∙ (has_union n q t (least t) w.0 w.1 ∙ or_right (has q (least t)) (has t (least t)) own) in
     lacks_next p h k qs t is_t (least t) in_q own
 
 different_doubled : (p : Parts) → IsDivision p → (k : ℕ) → IsPart p (k + 1) → (list : List (List ℕ)) → AreUnionsTo p k list → AreDifferent (doubled_list p k list)
@@ -277,7 +243,7 @@ different_doubled p h k qs list are =
     elim (Contains-append_cases (map f list) (q ∷ []) s b) [
       | inl d ↦ (
           let t = Contains-from_map f list s d in
-          out (ap (λ (xs : List ℕ). has xs (least q)) (sym t.2) ∙ (has_union n q t.0 (least q) w.0 w.1 ∙ or_first (has q (least q)) (has t.0 (least q)) first)))
+          out (ap (λ (xs : List ℕ). has xs (least q)) (sym t.2) ∙ (has_union n q t.0 (least q) w.0 w.1 ∙ or_left (has q (least q)) (has t.0 (least q)) first)))
       | inr d ↦ elim (Contains-cons_cases q [] s d) [ inl e ↦ out (ap (λ (xs : List ℕ). has xs (least q)) (sym e) ∙ first) | inr z ↦ Contains-nil s z ]
     ])
 

@@ -1,14 +1,15 @@
 -- Sides that are gathered vertex by vertex and side by side.
 use Rattle.std.proofs.Common.{◌≡◌, ℕ, ◌+◌, ◌≤◌, ◌<◌, ⊎_elim, Bool, true, false, ◌&&◌, ◌||◌, eqb, leb, List, [], ◌∷◌, ◌++◌, length, map, take, get_or, refl, sym, ◌∙◌, ap, arith}
 use Rattle.std.specs.Prelude.{◌≢◌}
-use Rattle.std.proofs.lemmas.Bool.{cases_eq, eq-eqb, ne_eqb}
+use Rattle.std.proofs.lemmas.Bool.{cases_eq, eq-eqb, ne_eqb, or_right, and_right, le-leb, lt-leb}
 use Rattle.std.specs.List.{All}
 use Rattle.std.proofs.lemmas.List.{append_assoc, map-append, take_more}
 use Rattle.std.proofs.lemmas.List.Elements.{All-append, All-map, All-cons, All-nil}
 use Rattle.cut_definitions.specs.Weight.{VertexSet, either}
 use Rattle.cut_definitions.specs.Cuts.{has}
 use Rattle.cut_definitions.specs.Scan.{single}
-use Rattle.cut_definitions.proofs.ChainLaws.{leb_yes, leb_no}
+use Rattle.cut_definitions.proofs.Bools.{or_nothing, and_kept}
+use Rattle.cut_definitions.proofs.Numbers.{later_same}
 use Rattle.vertex_set.specs.Side.{VertexList, listed}
 use Rattle.vertex_set.proofs.Bits.{has-listed, listed-same, listed-none}
 use Rattle.component_cuts.specs.Parts.{divided, part_at}
@@ -20,24 +21,9 @@ use Rattle.component_cuts.proofs.Divided.{part_divided}
 abbrev pub gathered_to : ℕ → List ℕ → ℕ → ℕ → VertexList
 gathered_to n part_of number v = listed n (λ u. eqb (get_or part_of u 0) number && leb u v)
 
-and_false : (a b : Bool) → b ≡ false → (a && b) ≡ false
-and_false a b h = grind arith
-
-and_true : (a b : Bool) → b ≡ true → (a && b) ≡ a
-and_true a b h = grind arith
-
-or_true : (a b : Bool) → b ≡ true → (a || b) ≡ true
-or_true a b h = grind arith
-
-or_false : (a b : Bool) → b ≡ false → (a || b) ≡ a
-or_false a b h = grind arith
-
-later_same : (u v : ℕ) → u ≢ v + 1 → leb u v ≡ leb u (v + 1)
-later_same u v ne = grind arith
-
 pub gathered_start : (n : ℕ) (part_of : List ℕ) (number : ℕ) (side : VertexList) → side ≡ record { vertices = n; members = [] } → side ≡ gathered_to n part_of number 0
 gathered_start n part_of number side e =
-    e ∙ sym (listed-same n (λ u. eqb (get_or part_of u 0) number && leb u 0) (λ u. false) (λ u one to. and_false (eqb (get_or part_of u 0) number) (leb u 0) (leb_no u 0 one))
+    e ∙ sym (listed-same n (λ u. eqb (get_or part_of u 0) number && leb u 0) (λ u. false) (λ u one to. and_right (eqb (get_or part_of u 0) number) (leb u 0) (lt-leb u 0 one))
     ∙ listed-none n (λ u. false) (λ u. refl))
 
 pub gathered_in : (n : ℕ) (part_of : List ℕ) (number v : ℕ) → get_or part_of (v + 1) 0 ≡ number →
@@ -50,9 +36,9 @@ gathered_in n part_of number v is =
     let b = has (gathered_to n part_of number v).members u in
     ⊎_elim
     (λ (e : u ≡ v + 1).
-    or_true b (eqb (v + 1) u) (eq-eqb (v + 1) u (sym e))
-    ∙ sym (and_true a (leb u (v + 1)) (leb_yes u (v + 1) (omega arith)) ∙ eq-eqb (get_or part_of u 0) number (ap (λ (x : ℕ). get_or part_of x 0) e ∙ is)))
-    (λ (ne : u ≢ v + 1). or_false b (eqb (v + 1) u) (ne_eqb (v + 1) u (λ q. ne (sym q))) ∙ (old ∙ ap (λ (x : Bool). a && x) (later_same u v ne)))
+    or_right b (eqb (v + 1) u) (eq-eqb (v + 1) u (sym e))
+    ∙ sym (and_kept a (leb u (v + 1)) (le-leb u (v + 1) (omega arith)) ∙ eq-eqb (get_or part_of u 0) number (ap (λ (x : ℕ). get_or part_of x 0) e ∙ is)))
+    (λ (ne : u ≢ v + 1). or_nothing b (eqb (v + 1) u) (ne_eqb (v + 1) u (λ q. ne (sym q))) ∙ (old ∙ ap (λ (x : Bool). a && x) (later_same u v ne)))
     (cases_eq u (v + 1)))
 
 pub gathered_out : (n : ℕ) (part_of : List ℕ) (number v : ℕ) → get_or part_of (v + 1) 0 ≢ number → gathered_to n part_of number v ≡ gathered_to n part_of number (v + 1)
@@ -69,7 +55,7 @@ pub gathered_end : (n count : ℕ) (part_of : List ℕ) (number v : ℕ) → n �
     gathered_to n part_of number v ≡ record { vertices = n; members = part_at (divided n count part_of) number }
 gathered_end n count part_of number v le one to =
     listed-same n (λ u. eqb (get_or part_of u 0) number && leb u v) (λ u. eqb (get_or part_of u 0) number)
-    (λ u low high. and_true (eqb (get_or part_of u 0) number) (leb u v) (leb_yes u v (omega arith)))
+    (λ u low high. and_kept (eqb (get_or part_of u 0) number) (leb u v) (le-leb u v (omega arith)))
     ∙ ap (λ (xs : List ℕ). let s : VertexList = record { vertices = n; members = xs } in s) (sym (part_divided n count part_of number one to))
 
 -- ---- unions with one part
@@ -118,7 +104,7 @@ taken_to n s v = listed n (λ u. s u && leb u v)
 
 pub taken_start : (n : ℕ) (s : VertexSet) (side : VertexList) → side ≡ record { vertices = n; members = [] } → side ≡ taken_to n s 0
 taken_start n s side e =
-    e ∙ sym (listed-same n (λ u. s u && leb u 0) (λ u. false) (λ u one to. and_false (s u) (leb u 0) (leb_no u 0 one)) ∙ listed-none n (λ u. false) (λ u. refl))
+    e ∙ sym (listed-same n (λ u. s u && leb u 0) (λ u. false) (λ u one to. and_right (s u) (leb u 0) (lt-leb u 0 one)) ∙ listed-none n (λ u. false) (λ u. refl))
 
 pub taken_in : (n : ℕ) (s : VertexSet) (v : ℕ) → s (v + 1) ≡ true → listed n (either (has (taken_to n s v).members) (single (v + 1))) ≡ taken_to n s (v + 1)
 taken_in n s v is =
@@ -127,8 +113,8 @@ taken_in n s v is =
     let old = has-listed n (λ u. s u && leb u v) u one to in
     let b = has (taken_to n s v).members u in
     ⊎_elim
-    (λ (e : u ≡ v + 1). or_true b (eqb (v + 1) u) (eq-eqb (v + 1) u (sym e)) ∙ sym (and_true (s u) (leb u (v + 1)) (leb_yes u (v + 1) (omega arith)) ∙ (ap s e ∙ is)))
-    (λ (ne : u ≢ v + 1). or_false b (eqb (v + 1) u) (ne_eqb (v + 1) u (λ q. ne (sym q))) ∙ (old ∙ ap (λ (x : Bool). s u && x) (later_same u v ne)))
+    (λ (e : u ≡ v + 1). or_right b (eqb (v + 1) u) (eq-eqb (v + 1) u (sym e)) ∙ sym (and_kept (s u) (leb u (v + 1)) (le-leb u (v + 1) (omega arith)) ∙ (ap s e ∙ is)))
+    (λ (ne : u ≢ v + 1). or_nothing b (eqb (v + 1) u) (ne_eqb (v + 1) u (λ q. ne (sym q))) ∙ (old ∙ ap (λ (x : Bool). s u && x) (later_same u v ne)))
     (cases_eq u (v + 1)))
 
 pub taken_out : (n : ℕ) (s : VertexSet) (v : ℕ) → s (v + 1) ≡ false → taken_to n s v ≡ taken_to n s (v + 1)
@@ -140,4 +126,4 @@ taken_out n s v out =
     (cases_eq u (v + 1)))
 
 pub taken_end : (n : ℕ) (s : VertexSet) (v : ℕ) → n ≤ v → taken_to n s v ≡ listed n s
-taken_end n s v le = listed-same n (λ u. s u && leb u v) s (λ u low high. and_true (s u) (leb u v) (leb_yes u v (omega arith)))
+taken_end n s v le = listed-same n (λ u. s u && leb u v) s (λ u low high. and_kept (s u) (leb u v) (le-leb u v (omega arith)))

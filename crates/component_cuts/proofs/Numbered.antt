@@ -7,6 +7,7 @@ use Rattle.cut_definitions.specs.Weight.{VertexSet, weight, minus}
 use Rattle.cut_definitions.specs.Components.{AreJoined}
 use Rattle.cut_definitions.proofs.Bridge.{weight-agree}
 use Rattle.cut_definitions.proofs.WeightLaws.{weight-minus-minus}
+use Rattle.cut_definitions.proofs.Bools.{not_in_minus, in_minus}
 use Rattle.weighted_graph.specs.Searches.{is_seen, IsClosed}
 use Rattle.weighted_graph.proofs.Searched.{closed_weighs_nothing}
 use Rattle.component_cuts.specs.Parts.{AreComponents, IsFirst, IsNumbering, divided}
@@ -77,14 +78,8 @@ same_lesser number old new h i v one l =
     (λ (ne : get_or old v 0 ≢ 0). same (get_or new v 0) (get_or old v 0) (h.kept v ne))
     (cases_eq (get_or old v 0) 0)
 
-not_seen : (a b : Bool) → a ≡ true → b ≡ false → (a && not b) ≡ true
-not_seen a b p q = grind arith
-
 seen_before : (a b : Bool) → b ≡ true → (a && not b) ≡ false
 seen_before a b p = grind arith
-
-seen_never : (a b : Bool) → a ≡ false → (a && not b) ≡ false
-seen_never a b p = grind arith
 
 -- the vertices of the new number are those that are marked now and were not
 new_marks : (number count : ℕ) (old new : List ℕ) → AreNumbered number old new → ((u : ℕ) → get_or old u 0 ≤ count) → count < number → (v : ℕ) → of_number new number v ≡ minus (is_seen (marks new)) (is_seen (marks old)) v
@@ -93,8 +88,8 @@ new_marks number count old new h most l v =
     let b = is_seen (marks old) v in
     ⊎_elim
     (λ (e : get_or old v 0 ≡ 0). ⊎_elim
-    (λ z. ne_eqb (get_or new v 0) number (λ q. omega arith) ∙ sym (seen_never a b (unseen_from_none new v z)))
-    (λ z. eq-eqb (get_or new v 0) number z ∙ sym (not_seen a b (seen_from_number new v (λ q. omega arith)) (unseen_from_none old v e)))
+    (λ z. ne_eqb (get_or new v 0) number (λ q. omega arith) ∙ sym (not_in_minus a b (unseen_from_none new v z)))
+    (λ z. eq-eqb (get_or new v 0) number z ∙ sym (in_minus a b (seen_from_number new v (λ q. omega arith)) (unseen_from_none old v e)))
     (h.given v e))
     (λ (ne : get_or old v 0 ≢ 0).
     let few : get_or old v 0 ≤ count = most v in

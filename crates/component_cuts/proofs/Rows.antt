@@ -2,10 +2,11 @@
 use Rattle.std.proofs.Common.{◌≡◌, ℕ, zero, suc, ◌+◌, ◌-◌, ◌*◌, ◌<◌, ◌≤◌, ⊎_elim, Bool, true, false, not, ◌&&◌, ◌||◌, eqb, ltb, List, [], length, set, get_or, length-set, get_or-set_same, get_or-set_other, refl, sym, ◌∙◌, ap, subst, arith}
 use Rattle.std.specs.Prelude.{◌≢◌, if◌then◌else◌}
 use Rattle.std.proofs.Math.Nat.{mul-le-mul_left}
-use Rattle.std.proofs.lemmas.Bool.{cases_eq, cases_lt, cases_Bool, eq-eqb, eqb-true, ne_eqb, false≢true}
+use Rattle.std.proofs.lemmas.Bool.{cases_eq, cases_lt, cases_Bool, eq-eqb, eqb-true, ne_eqb, false≢true, or_right}
 use Rattle.cut_definitions.specs.Weight.{either}
 use Rattle.cut_definitions.specs.Cuts.{has}
 use Rattle.cut_definitions.specs.Scan.{single}
+use Rattle.cut_definitions.proofs.Bools.{or_nothing}
 use Rattle.vertex_set.specs.Side.{VertexList, listed}
 use Rattle.vertex_set.proofs.Bits.{has-listed}
 use Rattle.component_cuts.specs.Sums.{has_sum, is_made, sum_of_rows, AreRows}
@@ -26,12 +27,6 @@ sum_at table width row sum =
 pub place_within : (width row sum n : ℕ) → sum < width → (row + 1) * width ≤ n → (1 ≤ row * width + sum + 1) × (row * width + sum + 1 ≤ n)
 place_within width row sum n l le = (omega arith, omega arith)
 
-or_kept : (a b : Bool) → b ≡ false → (a || b) ≡ a
-or_kept a b h = grind arith
-
-or_set : (a b : Bool) → b ≡ true → (a || b) ≡ true
-or_set a b h = grind arith
-
 -- what an inserted sum changes
 set_sum : (old new : VertexList) (width row x : ℕ) → x < width → (row + 1) * width ≤ old.vertices → new ≡ listed old.vertices (either (has old.members) (single (row * width + x + 1))) → has_sum new width (row + 1) x ≡ true
 set_sum old new width row x l le e =
@@ -39,7 +34,7 @@ set_sum old new width row x l le e =
     let w = place_within width row x old.vertices l le in
     sum_at new width row x
     ∙ (ap (λ (t : VertexList). has t.members p) e
-    ∙ (has-listed old.vertices (either (has old.members) (single p)) p w.0 w.1 ∙ or_set (has old.members p) (eqb p p) (eq-eqb p p refl)))
+    ∙ (has-listed old.vertices (either (has old.members) (single p)) p w.0 w.1 ∙ or_right (has old.members p) (eqb p p) (eq-eqb p p refl)))
 
 keep_sum : (old new : VertexList) (width row x other sum : ℕ) → x < width → new ≡ listed old.vertices (either (has old.members) (single (row * width + x + 1))) →
     (other ≡ row + 1 → sum ≢ x) → other * width ≤ old.vertices → sum < width → has_sum new width other sum ≡ has_sum old width other sum
@@ -60,7 +55,7 @@ keep_sum old new width row x (suc k) sum lx e differ le l =
     let same : has_sum new width (k + 1) sum ≡ has_sum old width (k + 1) sum =
     sum_at new width k sum
     ∙ (ap (λ (t : VertexList). has t.members q) e
-    ∙ (has-listed old.vertices (either (has old.members) (single p)) q w.0 w.1 ∙ (or_kept (has old.members q) (eqb p q) (ne_eqb p q ne) ∙ sym (sum_at old width k sum)))) in
+    ∙ (has-listed old.vertices (either (has old.members) (single p)) q w.0 w.1 ∙ (or_nothing (has old.members q) (eqb p q) (ne_eqb p q ne) ∙ sym (sum_at old width k sum)))) in
     subst (λ (j : ℕ). has_sum new width j sum ≡ has_sum old width j sum) (sym next) same
 
 made_same : (old new : VertexList) (width row weight sum : ℕ) → sum < width → ((s : ℕ) → s < width → has_sum new width row s ≡ has_sum old width row s) → is_made new width row weight sum ≡ is_made old width row weight sum

@@ -7,12 +7,13 @@ use Rattle.std.specs.Cmp.{IsTotalOrder}
 use Rattle.std.specs.Cmp.Lexicographic.{slice_cmp}
 use Rattle.std.specs.List.{All, AllPairs, Contains}
 use Rattle.std.specs.List.Sorted.{IsPermutation, IsSorted, IsStrictlySortedBy}
-use Rattle.std.proofs.lemmas.Cmp.{nat_list_cmp_total, nat_cmp_total, then_total, on_total, tied_itself}
+use Rattle.std.proofs.lemmas.Cmp.{nat_list_cmp_total, nat_cmp_total, then_total, on_total}
 use Rattle.std.proofs.lemmas.List.{get_or_default}
 use Rattle.std.proofs.lemmas.List.Elements.{All-head, All-tail, All-map, recursion_from_All}
 use Rattle.std.proofs.lemmas.List.Sorted.{All-permutation, Contains-permutation, IsPermutation-sym, IsPermutation-map, ranks_by, sorted_far}
 use Rattle.std.proofs.lemmas.Map.Lookups.{exact_bytes}
 use Rattle.cut_definitions.proofs.Lists.{Contains-map}
+use Rattle.cut_definitions.proofs.Orderings.{then_same}
 use Rattle.vertex_set.specs.Side.{VertexList}
 use Rattle.component_cuts.specs.Doubling.{members_of, AreDifferent, IsAscending}
 use Rattle.component_cuts.proofs.Different.{different_permuted}
@@ -25,11 +26,6 @@ pub side_total : IsTotalOrder side_cmp
 side_total = then_total (on_total (λ (s : VertexList). s.members) nat_list_cmp_total) (on_total (λ (s : VertexList). s.vertices) nat_cmp_total)
 
 -- over one n the members alone decide
-then_same : (o : Ordering) (v w : ℕ) → v ≡ w → ordering_then o (nat_cmp v w) ≡ o
-then_same Less v w e = refl
-then_same Equal v w e = subst (λ u. nat_cmp v u ≡ Equal) e (tied_itself nat_cmp_total v)
-then_same Greater v w e = refl
-
 reversed_less : (o : Ordering) → is_lt o ≡ false → (o ≡ Equal → Less ≡ Equal) → ordering_reverse o ≡ Less
 reversed_less Less p q = absurd (true≢false p)
 reversed_less Equal p q = sym (q refl)

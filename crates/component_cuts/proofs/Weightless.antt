@@ -1,10 +1,10 @@
 -- The minimum cuts of a graph in several components.
 use Rattle.std.proofs.Common.{◌≡◌, ℕ, ◌+◌, ◌-◌, ◌<◌, ◌≤◌, ⊎_elim, Bool, true, false, not, cond, ◌||◌, eqb, List, [], ◌∷◌, length, get_or, refl, sym, ◌∙◌, ap, subst, arith}
 use Rattle.std.specs.Prelude.{◌≢◌}
-use Rattle.std.specs.List.{All, Contains, filter, list_all}
-use Rattle.std.proofs.lemmas.Bool.{cases_lt, cases_Bool, eq-eqb, eqb-true, false≢true}
+use Rattle.std.specs.List.{All, filter, list_all}
+use Rattle.std.proofs.lemmas.Bool.{cases_lt, cases_Bool, eq-eqb, eqb-true, false≢true, not-true, not_from_false, or_left, or_right}
 use Rattle.std.proofs.lemmas.List.{get_or_default}
-use Rattle.std.proofs.lemmas.List.Elements.{All-contains, All-from_get_or, All-weaker, All-contains_itself}
+use Rattle.std.proofs.lemmas.List.Elements.{All-from_get_or}
 use Rattle.std.proofs.lemmas.List.Sums.{AllPass-from_list_all, list_all-from_AllPass}
 use Rattle.cut_definitions.specs.declared.edge_list.Edge.{Edge}
 use Rattle.cut_definitions.specs.Graph.{Graph, IsGraph}
@@ -14,35 +14,19 @@ use Rattle.cut_definitions.specs.Components.{AreJoined}
 use Rattle.cut_definitions.proofs.Sums.{sum_by-same_on, sum_by-none}
 use Rattle.cut_definitions.proofs.Values.{value-le}
 use Rattle.cut_definitions.proofs.Bridge.{has_first_of}
-use Rattle.cut_definitions.proofs.WeightLaws.{cut_of, cut_term}
+use Rattle.cut_definitions.proofs.WeightLaws.{cut_term}
+use Rattle.cut_definitions.proofs.Bools.{same_tests}
+use Rattle.cut_definitions.proofs.Ascending.{all_at, all_from, least_has, member_within}
 use Rattle.weighted_graph.specs.RowLaws.{no_edge, edge_at}
-use Rattle.weighted_graph.proofs.Searched.{ends_joined}
+use Rattle.weighted_graph.proofs.Searched.{ends_joined, cut_same}
 use Rattle.component_cuts.specs.Parts.{Parts, part_at, keeps, unions, IsPart, IsDivision, AreComponents}
 use Rattle.component_cuts.specs.Laws.{LawOfMinimumCuts}
-use Rattle.component_cuts.proofs.Divided.{Contains-from_has, has_from_Contains, least_has, least_most, member_within}
+use Rattle.component_cuts.proofs.Divided.{least_most}
 
 -- ---- tests of all members
 
-pub all_at : (f : ℕ → Bool) (xs : List ℕ) (v : ℕ) → list_all f xs ≡ true → has xs v ≡ true → f v ≡ true
-all_at f xs v all is = All-contains (λ u. f u ≡ true) xs v (AllPass-from_list_all f xs all) (Contains-from_has xs v is)
-
-pub all_from : (f : ℕ → Bool) (xs : List ℕ) → ((v : ℕ) → has xs v ≡ true → f v ≡ true) → list_all f xs ≡ true
-all_from f xs h = list_all-from_AllPass f xs (All-weaker (Contains xs) (λ u. f u ≡ true) (λ u c. h u (has_from_Contains xs u c)) xs (All-contains_itself xs))
-
-or_first : (a b : Bool) → a ≡ true → (a || b) ≡ true
-or_first a b h = grind arith
-
-or_second : (a b : Bool) → b ≡ true → (a || b) ≡ true
-or_second a b h = grind arith
-
-or_left : (a b : Bool) → (a || b) ≡ true → a ≡ false → b ≡ true
-or_left a b h k = grind arith
-
-not_true : (a : Bool) → not a ≡ true → a ≡ false
-not_true a h = grind arith
-
-not_false : (a : Bool) → a ≡ false → not a ≡ true
-not_false a h = grind arith
+or_other : (a b : Bool) → (a || b) ≡ true → a ≡ false → b ≡ true
+or_other a b h k = grind arith
 
 -- a side that keeps a part has two of its members or none
 pub keeps_two : (side part : List ℕ) (u v : ℕ) → keeps side part ≡ true → has part u ≡ true → has part v ≡ true → has side u ≡ has side v
@@ -50,16 +34,16 @@ keeps_two side part u v h a b =
     ⊎_elim
     (λ (all : list_all (has side) part ≡ true). all_at (has side) part u all a ∙ sym (all_at (has side) part v all b))
     (λ (some : list_all (has side) part ≡ false).
-    let none = or_left (list_all (has side) part) (list_all (λ w. not (has side w)) part) h some in
-    not_true (has side u) (all_at (λ w. not (has side w)) part u none a) ∙ sym (not_true (has side v) (all_at (λ w. not (has side w)) part v none b)))
+    let none = or_other (list_all (has side) part) (list_all (λ w. not (has side w)) part) h some in
+    not-true (has side u) (all_at (λ w. not (has side w)) part u none a) ∙ sym (not-true (has side v) (all_at (λ w. not (has side w)) part v none b)))
     (cases_Bool (list_all (has side) part))
 
 -- a side keeps a part where one member tells of all
 pub keeps_from : (side part : List ℕ) (u : ℕ) → ((v : ℕ) → has part v ≡ true → has side v ≡ has side u) → keeps side part ≡ true
 keeps_from side part u same =
     ⊎_elim
-    (λ (is : has side u ≡ true). or_first (list_all (has side) part) (list_all (λ w. not (has side w)) part) (all_from (has side) part (λ v a. same v a ∙ is)))
-    (λ (is : has side u ≡ false). or_second (list_all (has side) part) (list_all (λ w. not (has side w)) part) (all_from (λ w. not (has side w)) part (λ v a. not_false (has side v) (same v a ∙ is))))
+    (λ (is : has side u ≡ true). or_left (list_all (has side) part) (list_all (λ w. not (has side w)) part) (all_from (has side) part (λ v a. same v a ∙ is)))
+    (λ (is : has side u ≡ false). or_right (list_all (has side) part) (list_all (λ w. not (has side w)) part) (all_from (λ w. not (has side w)) part (λ v a. not_from_false (has side v) (same v a ∙ is))))
     (cases_Bool (has side u))
 
 -- what holds of each part by its number holds of all
@@ -72,9 +56,6 @@ pub one_part : (p : Parts) (P : List ℕ → Type 0) → All P p.parts → (i : 
 one_part p P all i h = all (i - 1) [] (omega (arith, h.0, h.1))
 
 -- ---- sets that weigh nothing
-
-cut_same : (a b : Bool) (w : ℕ) → a ≡ b → cut_of a b w ≡ 0
-cut_same a b w e = grind arith
 
 weighs_nothing : (g : Graph) → IsGraph g → (s : VertexSet) → ((u v : ℕ) → 1 ≤ u → u ≤ g.vertices → 1 ≤ v → v ≤ g.vertices → AreJoined g u v → s u ≡ s v) → weight g s ≡ 0
 weighs_nothing g ok s same =
@@ -93,14 +74,9 @@ joined_in_part g p h i u v is one to joined a =
     let same : i ≡ c.0 = (h.joined i c.0 u v is c.1 a c.2).1 joined in
     subst (λ (j : ℕ). has (part_at p j) v ≡ true) (sym same) c.2
 
-same_from_both : (a b : Bool) → (a ≡ true → b ≡ true) → (b ≡ true → a ≡ true) → a ≡ b
-same_from_both true b f g = sym (f refl)
-same_from_both false true f g = g refl
-same_from_both false false f g = refl
-
 part_weighs_nothing : (g : Graph) → IsGraph g → (p : Parts) → AreComponents g p → (i : ℕ) → IsPart p i → weight g (has (part_at p i)) ≡ 0
 part_weighs_nothing g ok p h i is = weighs_nothing g ok (has (part_at p i)) (λ u v u1 un v1 vn joined.
-    same_from_both (has (part_at p i) u) (has (part_at p i) v)
+    same_tests (has (part_at p i) u) (has (part_at p i) v)
     (joined_in_part g p h i u v is v1 vn joined)
     (joined_in_part g p h i v u is u1 un (λ s none. sym (joined s none))))
 
@@ -162,7 +138,7 @@ unfolding mincuts unions
 all_unions g ok p h two =
     let none = nothing g ok p h two in
     filter_equal (λ s. eqb (weight g (has s)) (value g)) (λ s. list_all (keeps s) p.parts) (sides g.vertices)
-    (λ s. same_from_both (eqb (weight g (has s)) (value g)) (list_all (keeps s) p.parts)
+    (λ s. same_tests (eqb (weight g (has s)) (value g)) (list_all (keeps s) p.parts)
     (λ is. union_from_nothing g p h s (eqb-true (weight g (has s)) (value g) is ∙ none))
     (λ is. eq-eqb (weight g (has s)) (value g) (union_weighs_nothing g ok p h s is ∙ sym none)))
     ∙ ap (λ (n : ℕ). filter (λ s. list_all (keeps s) p.parts) (sides n)) (sym h.same_vertices)

@@ -2,7 +2,7 @@
 use Rattle.std.proofs.Common.{◌≡◌, ℕ, zero, suc, ◌+◌, ◌-◌, ◌<◌, ◌≤◌, ◌⊎◌, ⊎_elim, Bool, true, false, not, ◌&&◌, leb, eqb, List, [], ◌∷◌, refl, sym, ◌∙◌, subst, ap, arith}
 use Rattle.std.specs.Prelude.{if◌then◌else◌}
 use Rattle.std.specs.List.{Contains, filter}
-use Rattle.std.proofs.lemmas.Bool.{cases_lt, cases_eq, leb-true, eqb-true, eq-eqb, and_parts, false≢true}
+use Rattle.std.proofs.lemmas.Bool.{cases_lt, cases_eq, leb-true, eqb-true, eq-eqb, and_parts, false≢true, not-true, leb-false, le-leb, lt-leb, not_from_true}
 use Rattle.cut_definitions.specs.Weight.{VertexSet, parts, minus, HasVertex, IsMinimumCut}
 use Rattle.cut_definitions.specs.Cuts.{has, mincuts, side_of}
 use Rattle.cut_definitions.specs.Chain.{SameOn, first_parts, one_part, IsFirstParts, IsWithin}
@@ -10,8 +10,9 @@ use Rattle.cut_definitions.specs.Laws.{LawOfChainAcross}
 use Rattle.cut_definitions.proofs.Lists.{Contains-here, Contains-there, Contains-nil, Contains-cons_cases, Contains-filter, Contains-from_filter}
 use Rattle.cut_definitions.proofs.Bridge.{Contains-mincuts_side_of}
 use Rattle.cut_definitions.proofs.Vertices.{within_or_minus, IsMinimumCut-agree}
-use Rattle.cut_definitions.proofs.ChainLaws.{IsPair, IsPair-joined, leb_yes, leb_no, nesting}
-use Rattle.cut_definitions.proofs.ChainLists.{kept_in, kept_s, kept_t, parts_ends, set_with_minimum, first_parts_side}
+use Rattle.cut_definitions.proofs.ChainLaws.{IsPair, IsPair-joined, nesting}
+use Rattle.cut_definitions.proofs.ChainLists.{kept_in, kept_s, set_with_minimum, first_parts_side}
+use Rattle.cut_definitions.proofs.Bools.{in_minus, one_parts}
 
 -- the first parts of a numbering, but for all of them, are just the sets of the entries
 record AreNumbered (n s t : ℕ) (set : List ℕ → VertexSet) (entries : List (List ℕ)) (count : ℕ) (part : ℕ → ℕ) : Type 0 where
@@ -41,15 +42,6 @@ placed_from n count part x none (suc k) lt out =
     placed_from n count part x none k (omega arith) (subst (λ (i : ℕ). HasVertex n (minus (first_parts part i) x)) e h))
     (within_or_minus n (first_parts part (suc k)) x)
 
-in_minus : (a b : Bool) → a ≡ true → b ≡ false → (a && not b) ≡ true
-in_minus a b h k = grind arith
-
-out_of_not : (b : Bool) → not b ≡ true → b ≡ false
-out_of_not b h = grind arith
-
-leb_out : (a b : ℕ) → leb a b ≡ false → b < a
-leb_out a b h = ⊎_elim (λ (l : b < a). l) (λ (l : a ≤ b). absurd (false≢true (sym h ∙ leb_yes a b l))) (cases_lt b a)
-
 -- a set with s and without t has a place
 placed : (n s t : ℕ) (set : List ℕ → VertexSet) (entries : List (List ℕ)) (count : ℕ) (part : ℕ → ℕ) → IsPair n s t → AreNumbered n s t set entries count part →
     (x : VertexSet) → x t ≡ false → IsPlaced n count part x
@@ -57,7 +49,7 @@ placed n s t set entries count part pair a x xt =
     let some : 1 ≤ count = omega (arith, a.from_one t pair.t_from_one pair.t_to_n, a.to_count t pair.t_from_one pair.t_to_n) in
     let at_t : part t ≤ count - 1 + 1 = omega (arith, a.t_last) in
     placed_from n count part x (λ v l u h. absurd (omega (arith, leb-true (part v) 0 h, a.from_one v l u))) (count - 1) (omega arith)
-    (record { vertex = t; from_one = pair.t_from_one; to_n = pair.t_to_n; is_in = in_minus (first_parts part (count - 1 + 1) t) (x t) (leb_yes (part t) (count - 1 + 1) at_t) xt })
+    (record { vertex = t; from_one = pair.t_from_one; to_n = pair.t_to_n; is_in = in_minus (first_parts part (count - 1 + 1) t) (x t) (le-leb (part t) (count - 1 + 1) at_t) xt })
 
 -- ---- one more set divides the part in which it ends
 
@@ -81,17 +73,17 @@ raised_most false p = omega arith
 
 same_low : (b : Bool) (p i j : ℕ) → (b ≡ false → i < p) → j ≤ i → leb p j ≡ leb (if b then p else p + 1) j
 same_low true p i j out l = refl
-same_low false p i j out l = let high : i < p = out refl in leb_no p j (omega arith) ∙ sym (leb_no (p + 1) j (omega arith))
+same_low false p i j out l = let high : i < p = out refl in lt-leb p j (omega arith) ∙ sym (lt-leb (p + 1) j (omega arith))
 
 same_there : (b : Bool) (p i : ℕ) → (b ≡ true → p ≤ i + 1) → (b ≡ false → i < p) → b ≡ leb (if b then p else p + 1) (i + 1)
-same_there true p i low out = sym (leb_yes p (i + 1) (low refl))
-same_there false p i low out = let high : i < p = out refl in sym (leb_no (p + 1) (i + 1) (omega arith))
+same_there true p i low out = sym (le-leb p (i + 1) (low refl))
+same_there false p i low out = let high : i < p = out refl in sym (lt-leb (p + 1) (i + 1) (omega arith))
 
 one_more : (p j : ℕ) → leb p j ≡ leb (p + 1) (j + 1)
-one_more p j = ⊎_elim (λ (l : j < p). leb_no p j l ∙ sym (leb_no (p + 1) (j + 1) (omega arith))) (λ (l : p ≤ j). leb_yes p j l ∙ sym (leb_yes (p + 1) (j + 1) (omega arith))) (cases_lt j p)
+one_more p j = ⊎_elim (λ (l : j < p). lt-leb p j l ∙ sym (lt-leb (p + 1) (j + 1) (omega arith))) (λ (l : p ≤ j). le-leb p j l ∙ sym (le-leb (p + 1) (j + 1) (omega arith))) (cases_lt j p)
 
 same_high : (b : Bool) (p i j : ℕ) → (b ≡ true → p ≤ i + 1) → i < j → leb p j ≡ leb (if b then p else p + 1) (j + 1)
-same_high true p i j low l = let few : p ≤ i + 1 = low refl in leb_yes p j (omega arith) ∙ sym (leb_yes p (j + 1) (omega arith))
+same_high true p i j low l = let few : p ≤ i + 1 = low refl in le-leb p j (omega arith) ∙ sym (le-leb p (j + 1) (omega arith))
 same_high false p i j low l = one_more p j
 
 -- a set that ends inside the part after `last`, which a vertex with it and one without it show
@@ -127,7 +119,7 @@ divided_none_empty n count part x d full i from to =
     let both = and_parts (eqb (part h.vertex) (d.last + 1)) (not (x h.vertex)) h.is_in in
     let is : part h.vertex ≡ d.last + 1 = eqb-true _ _ both.0 in
     let same : part h.vertex + 1 ≡ i = omega arith in
-    one_part_at n (raised part x) i h.vertex h.from_one h.to_n (raised_out (x h.vertex) (part h.vertex) (out_of_not (x h.vertex) both.1) ∙ same))
+    one_part_at n (raised part x) i h.vertex h.from_one h.to_n (raised_out (x h.vertex) (part h.vertex) (not-true (x h.vertex) both.1) ∙ same))
     (λ further.
     let h = full (i - 1) (omega (arith, ne, further)) (omega arith) in
     let is : part h.vertex ≡ i - 1 = eqb-true _ _ h.is_in in
@@ -197,10 +189,6 @@ divided n s t set entries count part new a xs xt d = record {
 
 -- ---- one more set that is nested with those before
 
-is_true : (b : Bool) → (b ≡ false → ⊥) → b ≡ true
-is_true true h = refl
-is_true false h = absurd (h refl)
-
 -- a set that has more than all first parts up to its place divides the part after that
 dividing : (n s t : ℕ) (set : List ℕ → VertexSet) (entries : List (List ℕ)) (count : ℕ) (part : ℕ → ℕ) (x : VertexSet) → AreNumbered n s t set entries count part →
     ((entry : List ℕ) → Contains entries entry → IsWithin n x (set entry) ⊎ IsWithin n (set entry) x) → (p : IsPlaced n count part x) →
@@ -209,12 +197,12 @@ dividing n s t set entries count part x a nested p more = record {
   last = p.last;
   below_count = p.below_count;
   low = low;
-  high = λ v l u out. leb_out (part v) p.last (off v l u out);
+  high = λ v l u out. leb-false (part v) p.last (off v l u out);
   with_it = record {
     vertex = more.vertex;
     from_one = more.from_one;
     to_n = more.to_n;
-    is_in = both_true _ _ (eq-eqb (part more.vertex) (p.last + 1) (omega (arith, low more.vertex more.from_one more.to_n in_more.0, leb_out (part more.vertex) p.last (out_of_not _ in_more.1)))) in_more.0;
+    is_in = both_true _ _ (eq-eqb (part more.vertex) (p.last + 1) (omega (arith, low more.vertex more.from_one more.to_n in_more.0, leb-false (part more.vertex) p.last (not-true _ in_more.1)))) in_more.0;
   };
   without_it = record {
     vertex = p.next.vertex;
@@ -223,7 +211,7 @@ dividing n s t set entries count part x a nested p more = record {
     is_in = both_true _ _ (eq-eqb (part p.next.vertex) (p.last + 1) (omega (
       arith,
       leb-true (part p.next.vertex) (p.last + 1) in_next.0,
-      leb_out (part p.next.vertex) p.last (off p.next.vertex p.next.from_one p.next.to_n (out_of_not _ in_next.1)),
+      leb-false (part p.next.vertex) p.last (off p.next.vertex p.next.from_one p.next.to_n (not-true _ in_next.1)),
     ))) in_next.1;
   };
 }
@@ -248,7 +236,7 @@ dividing n s t set entries count part x a nested p more = record {
         ⊎_elim
         (λ (w : IsWithin n x (set e.0)). leb-true (part v) (p.last + 1) (sym (e.2 v l u) ∙ w v l u h))
         (λ (w : IsWithin n (set e.0) x).
-        absurd (false≢true (sym (out_of_not _ in_next.1) ∙ w p.next.vertex p.next.from_one p.next.to_n (e.2 p.next.vertex p.next.from_one p.next.to_n ∙ in_next.0))))
+        absurd (false≢true (sym (not-true _ in_next.1) ∙ w p.next.vertex p.next.from_one p.next.to_n (e.2 p.next.vertex p.next.from_one p.next.to_n ∙ in_next.0))))
         (nested e.0 e.1))
         (λ (all : count ≤ p.last + 1). omega (arith, a.to_count v l u))
         (cases_lt (p.last + 1) count)
@@ -367,7 +355,7 @@ chain_across g s t ok joined x hx xs xt = (
     minimum side h = set_with_minimum g ok s side (Contains-from_filter crossing (mincuts g) side h).0
 
     ends : (side : List ℕ) → Contains entries side → (set side s ≡ true) × (set side t ≡ false)
-    ends side h = (kept_s (has side s), kept_t (parts (has side) s t) (Contains-from_filter crossing (mincuts g) side h).1)
+    ends side h = (kept_s (has side s), not_from_true (parts (has side) s t) (Contains-from_filter crossing (mincuts g) side h).1)
 
     all : Numbering n s t set entries
     all =
@@ -386,7 +374,7 @@ chain_across g s t ok joined x hx xs xt = (
     first : (y : VertexSet) → IsMinimumCut g y → y s ≡ true → y t ≡ false → IsFirstParts n count part y
     first y hy ys yt =
         let side = side_of n y in
-        let parted : parts (has side) s t ≡ true = first_parts_side n y s t pair.s_from_one pair.s_to_n pair.t_from_one pair.t_to_n ∙ parts_ends (y s) (y t) ys yt in
+        let parted : parts (has side) s t ≡ true = first_parts_side n y s t pair.s_from_one pair.s_to_n pair.t_from_one pair.t_to_n ∙ one_parts (y s) (y t) ys yt in
         let f = a.taken side (Contains-filter crossing (mincuts g) side (Contains-mincuts_side_of g ok y hy) parted) in
         record {
           last = f.last;

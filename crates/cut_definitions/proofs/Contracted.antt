@@ -2,7 +2,7 @@
 use Rattle.std.proofs.Common.{◌≡◌, ℕ, zero, suc, ◌+◌, ◌-◌, ◌<◌, ◌≤◌, ◌⊎◌, inl, inr, ⊎_elim, Bool, true, false, not, ◌&&◌, ◌||◌, List, [], ◌∷◌, map, eqb, ltb, length, refl, sym, ◌∙◌, ap, arith}
 use Rattle.std.specs.Prelude.{◌≢◌, if◌then◌else◌}
 use Rattle.std.specs.List.{filter, flat_map, sum_by, range_with_len}
-use Rattle.std.proofs.lemmas.Bool.{cases_eq, cases_order, cases_Bool, eq-eqb, ltb-false}
+use Rattle.std.proofs.lemmas.Bool.{cases_eq, cases_order, cases_Bool, eq-eqb}
 use Rattle.std.proofs.lemmas.Bool.Decides.{nat_tests}
 use Rattle.std.proofs.lemmas.List.Elements.{All-weaker}
 use Rattle.std.proofs.lemmas.List.Sums.{sum_by-cons, sum_by-append}
@@ -14,6 +14,7 @@ use Rattle.cut_definitions.specs.Contraction.{label, classes, class, pairs, rela
 use Rattle.cut_definitions.proofs.Sums.{sum_by-plus, sum_by-same, sum_by-same_on, sum_by-none}
 use Rattle.cut_definitions.proofs.WeightLaws.{cut_of, cut_term, join_of, join_term}
 use Rattle.cut_definitions.proofs.Bridge.{has_within, weight-agree}
+use Rattle.cut_definitions.proofs.Numbers.{not_positive}
 
 -- ---- sums over maps, joined lists and ranges
 
@@ -102,7 +103,7 @@ cut_of-sum a b f xs =
 abbrev class_term : VertexSet → ℕ → ℕ → ℕ → ℕ × ℕ → ℕ
 class_term s a b w p = cut_of (s p.0) (s p.1) (join_of (eqb a p.0) (eqb b p.0) (eqb a p.1) (eqb b p.1) w)
 
-cut_of-zero : (a b : Bool) → cut_of a b 0 ≡ 0
+pub cut_of-zero : (a b : Bool) → cut_of a b 0 ≡ 0
 cut_of-zero a b = grind arith
 
 cut_of-flip : (a b : Bool) (w : ℕ) → cut_of a b w ≡ cut_of b a w
@@ -148,9 +149,6 @@ class_terms s n a b w a1 an b1 bn =
 pub record FitsGraph (g : Graph) (labels : List ℕ) : Type 0 where
   pub from_one : (v : ℕ) → 1 ≤ v → v ≤ g.vertices → 1 ≤ label labels v
   pub to_classes : (v : ℕ) → 1 ≤ v → v ≤ g.vertices → label labels v ≤ classes labels
-
-pub not_positive : (w : ℕ) → ltb 0 w ≡ false → w ≡ 0
-not_positive w h = let le : w ≤ 0 = ltb-false 0 w h in omega arith
 
 -- the weight of a set in the contracted graph
 pub weight-relabel : (g : Graph) → IsGraph g → (labels : List ℕ) → FitsGraph g labels → (s : VertexSet) →

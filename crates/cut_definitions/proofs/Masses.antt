@@ -8,6 +8,7 @@ use Rattle.std.proofs.lemmas.List.Elements.{All-get_or}
 use Rattle.cut_definitions.specs.Weight.{VertexSet, complement, either}
 use Rattle.cut_definitions.specs.Balance.{AreMasses, mass, mass_of}
 use Rattle.cut_definitions.proofs.Sums.{sum_by-plus, sum_by-same, sum_by-none}
+use Rattle.cut_definitions.proofs.Bools.{counted_in, counted_out, term_bound}
 
 -- what a vertex of mass m adds to the mass of a set that has it or not
 abbrev pub mass_term : List ℕ → VertexSet → ℕ → ℕ
@@ -78,9 +79,6 @@ pub mass-none : (masses : List ℕ) → mass masses (λ v. false) ≡ 0
 unfolding mass
 mass-none masses = sum_by-none (mass_term masses (λ v. false)) (λ v. refl) (range_with_len 1 (length masses))
 
-term_bound : (a : Bool) (m most : ℕ) → m ≤ most → (if a then m else 0) ≤ most
-term_bound a m most h = grind arith
-
 -- no set has a mass of 2^86 or more
 pub mass-bound : (masses : List ℕ) (s : VertexSet) → AreMasses masses → mass masses s < 2 ^ 86
 unfolding mass
@@ -90,12 +88,6 @@ mass-bound masses s are =
     omega (arith, at_most_each (mass_term masses s) (2 ^ 64 - 1) (length masses) 1 each, are.few)
 
 -- ---- one more vertex in a set
-single_term : (a : Bool) (m : ℕ) → a ≡ false → (if a then m else 0) ≡ 0
-single_term a m h = grind arith
-
-held_term : (a : Bool) (m : ℕ) → a ≡ true → (if a then m else 0) ≡ m
-held_term a m h = grind arith
-
 -- of a range without the vertex nothing is added up
 none_there : (masses : List ℕ) (x k low : ℕ) → x < low → sum_by (mass_term masses (λ v. x == v)) (range_with_len low k) ≡ 0
 none_there masses x zero low l = refl
@@ -103,7 +95,7 @@ none_there masses x (suc k) low l =
     omega (
       arith,
       sum_by-cons (mass_term masses (λ v. x == v)) low (range_with_len (low + 1) k),
-      single_term (x == low) (mass_of masses low) (ne_eqb x low (λ e. omega (arith, e, l))),
+      counted_out (x == low) (mass_of masses low) (ne_eqb x low (λ e. omega (arith, e, l))),
       none_there masses x k (low + 1) (omega (arith, l)),
     )
 
@@ -114,14 +106,14 @@ one_there masses x (suc k) low l h = elim (cases_eq x low) [
   | inl e ↦ omega (
     arith,
     sum_by-cons (mass_term masses (λ v. x == v)) low (range_with_len (low + 1) k),
-    held_term (x == low) (mass_of masses low) (eq-eqb x low e),
+    counted_in (x == low) (mass_of masses low) (eq-eqb x low e),
     none_there masses x k (low + 1) (omega (arith, e)),
     ap (mass_of masses) e,
   )
   | inr ne ↦ omega (
     arith,
     sum_by-cons (mass_term masses (λ v. x == v)) low (range_with_len (low + 1) k),
-    single_term (x == low) (mass_of masses low) (ne_eqb x low ne),
+    counted_out (x == low) (mass_of masses low) (ne_eqb x low ne),
     one_there masses x k (low + 1) (omega (arith, l, ne)) (omega (arith, h)),
   )
 ]

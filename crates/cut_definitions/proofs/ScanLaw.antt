@@ -11,6 +11,8 @@ use Rattle.cut_definitions.specs.Cuts.{has}
 use Rattle.cut_definitions.specs.Scan.{single, weight_to, IsScanned}
 use Rattle.cut_definitions.proofs.Sums.{sum_by-plus, sum_by-same, sum_by-le_each, sum_by-none, sum_by-same_on}
 use Rattle.cut_definitions.proofs.WeightLaws.{cut_of, cut_term, join_of, join_term}
+use Rattle.cut_definitions.proofs.Bools.{parts_flip}
+use Rattle.cut_definitions.proofs.Singles.{out_at}
 
 -- what an edge adds to the weight within a set that another set parts
 abbrev pub within_of : Bool → Bool → Bool → Bool → ℕ → ℕ
@@ -53,18 +55,11 @@ edge-within_second : (yu yv xu xv pu pv a b : Bool) (w : ℕ) →
     within_of (xu || pu) (xv || pv) a b w + join_of yu yv xu xv w ≤ within_of (yu || (xu || pu)) (yv || (xv || pv)) a b w
 edge-within_second yu yv xu xv pu pv a b w c d e f g h = grind arith
 
--- where y is not in p, no vertex that is y is
-out_at : (p : VertexSet) (y v : ℕ) → p y ≡ false → eqb y v ≡ true → p v ≡ false
-out_at p y v h e = let same : y ≡ v = eqb-true y v e in rw (← same) h
-
 parted_at : (s : VertexSet) (x y u v : ℕ) → parts s x y ≡ true → eqb x u ≡ true → eqb y v ≡ true → parts s u v ≡ true
 parted_at s x y u v h a b =
     let xu : x ≡ u = eqb-true x u a in
     let yv : y ≡ v = eqb-true y v b in
     rw (← xu, ← yv) h
-
-parts_flip : (a b : Bool) → (if a then not b else b) ≡ true → (if b then not a else a) ≡ true
-parts_flip a b h = grind arith
 
 join_none : (a b : Bool) (w : ℕ) → join_of a b false false w ≡ 0
 join_none a b w = grind arith

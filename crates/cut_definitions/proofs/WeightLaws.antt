@@ -1,6 +1,7 @@
 -- Laws on the weights of sets.
 use Rattle.std.proofs.Common.{◌≡◌, ℕ, ◌+◌, ◌*◌, ◌≤◌, Bool, true, false, not, ◌&&◌, ◌||◌, arith}
 use Rattle.std.specs.Bool.{if◌then◌else◌}
+use Rattle.std.proofs.lemmas.Bool.{or_left}
 use Rattle.cut_definitions.specs.declared.edge_list.Edge.{Edge}
 use Rattle.cut_definitions.specs.Graph.{Graph}
 use Rattle.cut_definitions.specs.Weight.{VertexSet, weight, between, complement, both, either, minus, neither, HasVertex, IsCut, IsMinimumCut}
@@ -93,9 +94,6 @@ both_out a b h = grind arith
 minus_out : (a b : Bool) → not a ≡ true → not (a && not b) ≡ true
 minus_out a b h = grind arith
 
-either_in : (a b : Bool) → a ≡ true → (a || b) ≡ true
-either_in a b h = grind arith
-
 either_out : (a b : Bool) → (not a && not b) ≡ true → not (a || b) ≡ true
 either_out a b h = grind arith
 
@@ -108,7 +106,7 @@ crossing g s t hs ht x =
       some_out = HasVertex-more n (complement s) (complement (both s t)) (λ v. both_out (s v) (t v)) hs.is_cut.some_out;
     } in
     let union : IsCut n (either s t) = record {
-      some_in = HasVertex-more n s (either s t) (λ v. either_in (s v) (t v)) hs.is_cut.some_in;
+      some_in = HasVertex-more n s (either s t) (λ v. or_left (s v) (t v)) hs.is_cut.some_in;
       some_out = HasVertex-more n (neither s t) (complement (either s t)) (λ v. either_out (s v) (t v)) x.outside;
     } in
     let first : IsCut n (minus s t) = record {

@@ -1,9 +1,7 @@
 -- The bands of borders: which ranges they have, and how their ends move on.
 use Rattle.std.proofs.Common.{◌≡◌, ℕ, zero, suc, ◌+◌, ◌-◌, ◌≤◌, ◌<◌, min, max, ◌⊎◌, inl, inr, Bool, true, false, List, [], ◌∷◌, ◌++◌, length, get_or, map, take, drop, ap, ◌∙◌, sym, refl, subst, arith}
-use Rattle.std.specs.Prelude.{nat_le}
 use Rattle.std.specs.List.{filter}
-use Rattle.std.proofs.lemmas.Bool.{cases_Bool}
-use Rattle.std.proofs.lemmas.Bool.Decides.{leb_tells}
+use Rattle.std.proofs.lemmas.Bool.{cases_Bool, cases_lt, le-leb, lt-leb}
 use Rattle.std.proofs.lemmas.List.{length-append, length-drop, length-map, length-take, map-append}
 use Rattle.std.proofs.lemmas.List.Elements.{filter-append}
 use Rattle.std.proofs.Math.Seq.{take-suc}
@@ -14,34 +12,10 @@ use Rattle.cactus_tree.specs.Walking.{AreBorders, AreChained}
 use Rattle.cactus_tree.specs.declared.walk.borders.Border.{Border}
 use Rattle.cactus_tree.proofs.Elements.{drop_nothing}
 use Rattle.cactus_tree.proofs.Stepping.{end_there, place_within}
+use Rattle.cactus_tree.proofs.Chains.{next_at, no_less}
 use Rattle.cut_listing.specs.Bands.{AreEnds, AreRising, AreShort, IsShort, is_heavy, mass_at, range_balance, range_between, ranges_of, whole}
 
 -- ---- borders of one block
--- the next border of the same block
-next_at : (bs : List Border) (i j : ℕ) → AreChained bs → j ≡ i + 1 → 0 < (border_at bs i).following → ((border_at bs i).place ≤ (border_at bs j).place) × ((border_at bs i).following ≡ (border_at bs j).following + 1)
-next_at [] i j h e some = absurd (omega (arith, some))
-next_at (b ∷ bs) i zero h e some = absurd (omega (arith, e))
-next_at (b ∷ bs) zero (suc j) h e some =
-    let z : 0 ≡ j = omega (arith, e) in
-    subst (λ k. (b.place ≤ (border_at bs k).place) × (b.following ≡ (border_at bs k).following + 1)) z (h.0 some)
-next_at (b ∷ bs) (suc i) (suc j) h e some = next_at bs i j h.1 (omega (arith, e)) some
-
--- the border so many behind one of the same block
-later : (k : ℕ) (bs : List Border) (i j : ℕ) → AreChained bs → j ≡ i + k → k ≤ (border_at bs i).following → ((border_at bs i).place ≤ (border_at bs j).place) × ((border_at bs i).following ≡ (border_at bs j).following + k)
-later zero bs i j h e few =
-    let same : i ≡ j = omega (arith, e) in
-    subst (λ m. ((border_at bs i).place ≤ (border_at bs m).place) × ((border_at bs i).following ≡ (border_at bs m).following + 0)) same (omega arith, omega arith)
-later (suc k) bs i j h e few =
-    let first = next_at bs i (i + 1) h refl (omega (arith, few)) in
-    let rest = later k bs (i + 1) j h (omega (arith, e)) (omega (arith, few, first.1)) in
-    (omega (arith, first.0, rest.0), omega (arith, first.1, rest.1))
-
--- the places of two borders of a block
-no_less : (bs : List Border) (i a b : ℕ) → AreChained bs → i ≤ a → a ≤ b → b ≤ i + (border_at bs i).following → (border_at bs a).place ≤ (border_at bs b).place
-no_less bs i a b h ia ab few =
-    let first = later (a - i) bs i a h (omega (arith, ia)) (omega (arith, ia, ab, few)) in
-    (later (b - a) bs a b h (omega (arith, ab)) (omega (arith, first.1, ia, ab, few))).0
-
 -- a border of a block is there
 pub block_there : (n : ℕ) (bs : List Border) (i e : ℕ) → AreBorders n bs → i < length bs → i ≤ e → e ≤ i + (border_at bs i).following → e < length bs
 block_there n bs i e h w ie few = elim (lt_or i e) [
@@ -68,9 +42,6 @@ mass_rises before bs i a b h c up w ia ab few =
     up.rise (border_at bs a).place (border_at bs b).place (no_less bs i a b c ia ab few) (place_there before bs b h up (block_there (length before - 1) bs i b h w (omega (arith, ia, ab)) few))
 
 -- ---- the ends move on
-le_or : (a b : ℕ) → (a < b) ⊎ (b ≤ a)
-le_or a b = grind arith
-
 -- an end that is at least the next border
 pub short_max : (before : List ℕ) (bs : List Border) (mass start end from : ℕ) → from ≡ max end (start + 1) → IsShort before bs mass start end → IsShort before bs mass start from
 short_max before bs mass start end from e s = record {
@@ -80,7 +51,7 @@ short_max before bs mass start end from e s = record {
 
 -- one border on
 short_next : (before : List ℕ) (bs : List Border) (mass start end : ℕ) → AreBorders (length before - 1) bs → AreChained bs → AreRising before → start < length bs → IsShort before bs mass start end → IsShort before bs mass (start + 1) end
-short_next before bs mass start end h c up w s = elim (le_or 0 (border_at bs start).following) [
+short_next before bs mass start end h c up w s = elim (cases_lt 0 (border_at bs start).following) [
   | inl some ↦
       let next = next_at bs start (start + 1) c refl some in
       record {
@@ -120,12 +91,6 @@ too_light whole here there least a b c = omega (arith, a, b, c)
 too_heavy : (whole here there least : ℕ) → here ≤ there → there ≤ whole → here + (whole - least + 1) ≤ there → min (there - here) (whole - (there - here)) < least
 too_heavy whole here there least a b c = omega (arith, a, b, c)
 
-yes_le : (a b : ℕ) → a ≤ b → nat_le a b ≡ true
-yes_le a b h = elim (leb_tells a b) [ inl t ↦ t.0 | inr f ↦ absurd (omega (arith, f.1, h)) ]
-
-no_le : (a b : ℕ) → b < a → nat_le a b ≡ false
-no_le a b h = elim (leb_tells a b) [ inl t ↦ absurd (omega (arith, t.1, h)) | inr f ↦ f.0 ]
-
 -- whether a place is one of a band
 pub record IsInside (q : ℕ → Bool) (low high from to : ℕ) : Type 0 where
   pub inside : (e : ℕ) → low ≤ e → e < high → from ≤ e → e < to → q e ≡ true
@@ -145,13 +110,13 @@ heavy_inside before bs least start from to h c up w ends =
           let enough = ends.enough (omega (arith, f, m)) in
           let more = mass_rises before bs start from e h c up w (omega (arith, ends.behind)) f (omega (arith, m)) in
           let less = ends.short.high.less e (omega (arith, l)) t in
-          yes_le least (range_balance before (range_between bs start e)) (heavy_enough (whole before) here (mass_at before bs e) least (rises e l m) (small e l m) (omega (arith, enough, more)) less);
+          le-leb least (range_balance before (range_between bs start e)) (heavy_enough (whole before) here (mass_at before bs e) least (rises e l m) (small e l m) (omega (arith, enough, more)) less);
       before = λ e l m f.
-          no_le least (range_balance before (range_between bs start e)) (too_light (whole before) here (mass_at before bs e) least (rises e l m) (small e l m) (ends.short.low.less e (omega (arith, l)) f));
+          lt-leb least (range_balance before (range_between bs start e)) (too_light (whole before) here (mass_at before bs e) least (rises e l m) (small e l m) (ends.short.low.less e (omega (arith, l)) f));
       behind = λ e l m t.
           let much = ends.too_much (omega (arith, t, m)) in
           let more = mass_rises before bs start to e h c up w (omega (arith, ends.behind_to)) t (omega (arith, m)) in
-          no_le least (range_balance before (range_between bs start e)) (too_heavy (whole before) here (mass_at before bs e) least (rises e l m) (small e l m) (omega (arith, much, more)));
+          lt-leb least (range_balance before (range_between bs start e)) (too_heavy (whole before) here (mass_at before bs e) least (rises e l m) (small e l m) (omega (arith, much, more)));
     }
 
 -- ---- lists

@@ -7,11 +7,12 @@ use Rattle.std.specs.Ordering.{nat_cmp, is_lt, ordering_reverse}
 use Rattle.std.specs.Cmp.Lexicographic.{slice_cmp}
 use Rattle.std.specs.List.{All, Contains, filter}
 use Rattle.std.specs.List.Sorted.{IsStrictlySortedBy}
-use Rattle.std.proofs.lemmas.Cmp.{nat_list_cmp_total, tied_itself}
+use Rattle.std.proofs.lemmas.Cmp.{nat_list_cmp_total}
 use Rattle.std.proofs.lemmas.List.Elements.{All-nil, All-take, All-weaker, All-contains, All-contains_itself, All-from_recursion, recursion_from_All}
 use Rattle.std.proofs.lemmas.Map.Keys.{sorted_head, sorted_tail}
 use Rattle.std.proofs.lemmas.Map.Lookups.{exact_bytes}
 use Rattle.cut_definitions.proofs.Lists.{Contains-here, Contains-there, Contains-cons_cases, Contains-nil}
+use Rattle.cut_definitions.proofs.Orderings.{less_itself}
 use Rattle.cactus_tree.specs.Different.{AreDifferent}
 use Rattle.cut_listing.specs.Listings.{IsAscending, IsListing, put, put_by, different}
 
@@ -24,9 +25,6 @@ cmp = slice_cmp nat_cmp
 -- ---- the order
 less_equal : Less ≡ Equal → ⊥
 less_equal e = true≢false (ap is_lt e)
-
-pub less_itself : (x : List ℕ) → slice_cmp nat_cmp x x ≡ Less → ⊥
-less_itself x h = less_equal (sym h ∙ tied_itself nat_list_cmp_total x)
 
 pub less_on : (x y z : List ℕ) → slice_cmp nat_cmp x y ≡ Less → slice_cmp nat_cmp y z ≡ Less → slice_cmp nat_cmp x z ≡ Less
 less_on = nat_list_cmp_total.trans

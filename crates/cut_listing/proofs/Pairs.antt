@@ -2,7 +2,7 @@
 use Rattle.std.proofs.Common.{ne_eqb, ◌≡◌, ℕ, zero, suc, ◌+◌, ◌-◌, ◌≤◌, ◌<◌, min, inl, inr, Bool, true, false, not, ◌&&◌, ◌||◌, ◌==◌, List, [], ◌∷◌, ◌++◌, length, get_or, ap, ◌∙◌, sym, refl, subst, arith, true≢false}
 use Rattle.std.specs.Prelude.{if◌then◌else◌, nat_le}
 use Rattle.std.specs.List.{Contains, concat, filter, flat_map, range_with_len, sum_by}
-use Rattle.std.proofs.lemmas.Bool.{and_parts, cases_Bool, eq-eqb, leb-true}
+use Rattle.std.proofs.lemmas.Bool.{and_parts, cases_Bool, eq-eqb, leb-true, lt-leb, le-leb}
 use Rattle.std.proofs.lemmas.List.Elements.{All-contains}
 use Rattle.std.proofs.lemmas.List.FromFn.{get_or-range_with_len, length-range_with_len}
 use Rattle.std.proofs.lemmas.List.Sums.{get_or-le-sum_by, sum_by-cons}
@@ -10,15 +10,14 @@ use Rattle.cut_definitions.specs.Balance.{mass, mass_of}
 use Rattle.cut_definitions.specs.Cuts.{has, IsAscendingWithin}
 use Rattle.cut_definitions.specs.Weight.{VertexSet, complement, parts}
 use Rattle.cut_definitions.proofs.Bridge.{has_low, has_within}
-use Rattle.cut_definitions.proofs.ChainLaws.{leb_no, leb_yes}
 use Rattle.cut_definitions.proofs.Lists.{Contains-filter, Contains-from_filter, Contains-from_map}
 use Rattle.cut_definitions.proofs.Masses.{mass_term}
+use Rattle.cut_definitions.proofs.Ascending.{contains_has}
 use Rattle.cactus_tree.specs.Entered.{entered, entered_block}
 use Rattle.cactus_tree.specs.Rooted.{IsCactus, Rooted, sides_of}
 use Rattle.cactus_tree.specs.Sides.{Part, cuts}
 use Rattle.cactus_tree.specs.Trees.{blocks, vertices}
 use Rattle.cactus_tree.specs.declared.tree.Node.{Node, out-Node, roll-Node}
-use Rattle.cactus_tree.proofs.Groups.{contains_has}
 use Rattle.cactus_tree.proofs.Layouts.{cut_is_segment}
 use Rattle.cactus_tree.proofs.Orders.{entered_out}
 use Rattle.cactus_tree.proofs.Parts.{part_out}
@@ -66,16 +65,16 @@ module _ (n u v : ℕ) (masses : List ℕ) (are : ArePairMasses n u v masses) (u
   some_mass s = elim (cases_Bool (s u)) [
     | inl held ↦
         let one : mass_of masses u ≡ 1 = are.ones u u_from u_to ∙ ap (λ b. if b || (u == v) then 1 else 0) (eq-eqb u u refl) in
-        leb_yes 1 (mass masses s) (omega (arith, one, own_mass masses s u u_from (omega (arith, u_to, are.many)) held)) ∙ sym (ap (λ b. b || s v) held)
+        le-leb 1 (mass masses s) (omega (arith, one, own_mass masses s u u_from (omega (arith, u_to, are.many)) held)) ∙ sym (ap (λ b. b || s v) held)
     | inr lacks ↦ elim (cases_Bool (s v)) [
       | inl held ↦
           let one : mass_of masses v ≡ 1 = are.ones v v_from v_to ∙ ap (λ b. if (v == u) || b then 1 else 0) (eq-eqb v v refl) ∙ ap (λ b. if b then 1 else 0) (or_yes (v == u)) in
-          leb_yes 1 (mass masses s) (omega (arith, one, own_mass masses s v v_from (omega (arith, v_to, are.many)) held)) ∙ sym (ap (λ b. b || s v) lacks ∙ held)
+          le-leb 1 (mass masses s) (omega (arith, one, own_mass masses s v v_from (omega (arith, v_to, are.many)) held)) ∙ sym (ap (λ b. b || s v) lacks ∙ held)
       | inr out ↦
           let none : mass masses s ≡ 0 = no_mass masses s (λ w l h there. are.ones w l (omega (arith, h, are.many))
           ∙ ap (λ b. if b || (w == v) then 1 else 0) (ne_eqb w u (λ e. true≢false (sym there ∙ ap s e ∙ lacks)))
           ∙ ap (λ b. if b then 1 else 0) (ne_eqb w v (λ e. true≢false (sym there ∙ ap s e ∙ out)))) in
-          leb_no 1 (mass masses s) (omega (arith, none)) ∙ sym (ap (λ b. b || s v) lacks ∙ out)
+          lt-leb 1 (mass masses s) (omega (arith, none)) ∙ sym (ap (λ b. b || s v) lacks ∙ out)
     ]
   ]
     where
@@ -92,9 +91,9 @@ module _ (n u v : ℕ) (masses : List ℕ) (are : ArePairMasses n u v masses) (u
       ∙ one_of (has side u) (has side v)
     where
       both : (a b : ℕ) → nat_le 1 (min a b) ≡ (nat_le 1 a && nat_le 1 b)
-      both zero b = leb_no 1 (min zero b) (omega arith) ∙ sym (ap (λ t. t && nat_le 1 b) (leb_no 1 zero (omega arith)))
-      both (suc a) zero = leb_no 1 (min (suc a) zero) (omega arith) ∙ sym (ap (λ t. t && nat_le 1 zero) (leb_yes 1 (suc a) (omega arith)) ∙ leb_no 1 zero (omega arith))
-      both (suc a) (suc b) = leb_yes 1 (min (suc a) (suc b)) (omega arith) ∙ sym (ap (λ t. t && nat_le 1 (suc b)) (leb_yes 1 (suc a) (omega arith)) ∙ leb_yes 1 (suc b) (omega arith))
+      both zero b = lt-leb 1 (min zero b) (omega arith) ∙ sym (ap (λ t. t && nat_le 1 b) (lt-leb 1 zero (omega arith)))
+      both (suc a) zero = lt-leb 1 (min (suc a) zero) (omega arith) ∙ sym (ap (λ t. t && nat_le 1 zero) (le-leb 1 (suc a) (omega arith)) ∙ lt-leb 1 zero (omega arith))
+      both (suc a) (suc b) = le-leb 1 (min (suc a) (suc b)) (omega arith) ∙ sym (ap (λ t. t && nat_le 1 (suc b)) (le-leb 1 (suc a) (omega arith)) ∙ le-leb 1 (suc b) (omega arith))
 
       one_of : (a b : Bool) → ((a || b) && (not a || not b)) ≡ (if a then not b else b)
       one_of true true = refl
@@ -176,8 +175,8 @@ module _ (c : Rooted) (is : IsCactus c.vertices c.root) where
       absent zero up out = has_low 1 c.vertices 0 side up (omega arith)
       absent (suc v) up out = elim (cases_Bool (has side (suc v))) [
         | inl held ↦
-            let low = leb_yes 1 (suc v) (omega arith) in
-            let high = leb_yes (suc v) c.vertices (ascends_to 1 c.vertices (suc v) side up held) in
+            let low = le-leb 1 (suc v) (omega arith) in
+            let high = le-leb (suc v) c.vertices (ascends_to 1 c.vertices (suc v) side up held) in
             absurd (true≢false (sym (ap (λ b. b && nat_le (suc v) c.vertices) low ∙ high) ∙ out))
         | inr lacks ↦ lacks
       ]

@@ -1,5 +1,5 @@
 -- Gathering the sides of a walk, and how many are allowed.
-use Rattle.std.proofs.Common.{◌≡◌, ℕ, length, zero, suc, ◌==◌, ◌||◌, ◌&&◌, ◌⊎◌, inl, inr, true≢false, ◌+◌, ◌*◌, ◌/◌, ◌<◌, ◌≤◌, Bool, true, false, List, [], ◌∷◌, ◌++◌, get_or, refl, sym, ◌∙◌, ap, subst, arith}
+use Rattle.std.proofs.Common.{◌≡◌, ℕ, length, ◌==◌, ◌||◌, ◌&&◌, inl, inr, true≢false, ◌+◌, ◌*◌, ◌/◌, ◌<◌, ◌≤◌, Bool, true, false, List, [], ◌∷◌, ◌++◌, get_or, refl, sym, ◌∙◌, ap, subst, arith}
 use Rattle.std.specs.Prelude.{◌↔◌}
 use Rattle.std.specs.List.{All, Contains, filter, flat_map, range_with_len}
 use Rattle.std.proofs.Math.Nat.{div-mul-le_self}
@@ -19,20 +19,16 @@ use Rattle.cut_definitions.proofs.Bridge.{IsAscendingWithin-filter}
 use Rattle.cactus_tree.specs.Rooted.{Rooted, sides_of}
 use Rattle.cactus_tree.specs.Sides.{cuts}
 use Rattle.cut_definitions.specs.Cuts.{has}
+use Rattle.cut_definitions.proofs.Numbers.{cases_le}
+use Rattle.cut_definitions.proofs.Ascending.{contains_has}
 use Rattle.cactus_tree.specs.declared.tree.Node.{Node}
 use Rattle.cactus_tree.specs.Entered.{entered_block}
 use Rattle.cactus_tree.specs.Rooted.{IsCactus}
 use Rattle.cactus_tree.specs.Trees.{vertices, blocks}
-use Rattle.cactus_tree.proofs.Groups.{contains_has}
 use Rattle.cactus_tree.proofs.Orders.{entered_out}
 
 abbrev Lists : Type 0
 Lists = List (List ℕ)
-
-at_most_or_more : (a b : ℕ) → (a ≤ b) ⊎ (b < a)
-at_most_or_more zero b = inl (omega arith)
-at_most_or_more (suc a) zero = inr (omega arith)
-at_most_or_more (suc a) (suc b) = elim (at_most_or_more a b) [ inl l ↦ inl (omega arith) | inr m ↦ inr (omega arith) ]
 
 -- ---- the sides
 pub sides_ascend : (c : Rooted) → All (IsAscendingWithin 1 c.vertices) (sides_of c)
@@ -70,7 +66,7 @@ few_fit count largest n size h f =
 pub many_do_not : (count largest n size : ℕ) → 0 < n → largest / n < count → size ≡ n → largest < count * size
 many_do_not count largest n size p h f =
     let same : count * size ≡ count * n = ap (λ k. count * k) f in
-    elim (at_most_or_more (count * n) largest) [
+    elim (cases_le (count * n) largest) [
       | inl l ↦ absurd (let m = le-div count largest n p l in omega (arith, m, h))
       | inr m ↦ omega (arith, m, same)
     ]

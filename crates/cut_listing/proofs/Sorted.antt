@@ -1,14 +1,14 @@
 -- Sides over one n, sorted, are their listing, where they are different.
-use Rattle.std.proofs.Common.{◌≡◌, ℕ, suc, ◌≤◌, Bool, cond, true, inl, inr, List, [], ◌∷◌, length, get_or, refl, sym, ◌∙◌, ap, subst, arith, true≢false}
+use Rattle.std.proofs.Common.{◌≡◌, ℕ, suc, ◌≤◌, Bool, cond, inl, inr, List, [], ◌∷◌, length, get_or, refl, sym, ◌∙◌, ap, subst, arith}
 use Rattle.std.specs.declared.cmp.Ordering.{Ordering}
-use Rattle.std.specs.declared.cmp.Ordering.TheVariants.{Less, Equal, Greater}
-use Rattle.std.specs.Ordering.{nat_cmp, is_lt, is_eq, eq_by_cmp, ordering_then}
+use Rattle.std.specs.declared.cmp.Ordering.TheVariants.{Less, Equal}
+use Rattle.std.specs.Ordering.{nat_cmp, eq_by_cmp, ordering_then}
 use Rattle.std.specs.Cmp.{IsTotalOrder}
 use Rattle.std.specs.Cmp.Lexicographic.{slice_cmp}
 use Rattle.std.specs.List.{All, Contains, dedup, dedup_from}
 use Rattle.std.proofs.lemmas.Bool.{cases_Bool}
 use Rattle.std.specs.List.Sorted.{IsStrictlySortedBy, IsPermutation, IsSorted}
-use Rattle.std.proofs.lemmas.Cmp.{nat_list_cmp_total, nat_cmp_total, then_total, on_total, tied_itself, eq_by_cmp_equiv}
+use Rattle.std.proofs.lemmas.Cmp.{nat_list_cmp_total, nat_cmp_total, then_total, on_total, eq_by_cmp_equiv}
 use Rattle.std.proofs.lemmas.List.{length-map}
 use Rattle.std.proofs.lemmas.List.Elements.{All-head, All-tail, All-map, All-from_recursion}
 use Rattle.std.proofs.lemmas.List.Filters.{All-dedup}
@@ -17,6 +17,7 @@ use Rattle.std.proofs.lemmas.List.Sorted.{All-permutation, Contains-permutation,
 use Rattle.std.proofs.lemmas.Map.Keys.{sorted_head, sorted_tail}
 use Rattle.std.proofs.lemmas.Map.Lookups.{exact_bytes, exact_unsigned}
 use Rattle.cut_definitions.proofs.Lists.{Contains-map, Contains-from_map}
+use Rattle.cut_definitions.proofs.Orderings.{then_parts, then_same, from_is_eq}
 use Rattle.vertex_set.specs.Side.{VertexList}
 use Rattle.cactus_tree.specs.Different.{AreDifferent}
 use Rattle.cut_listing.specs.Listings.{IsAscending, members_of, different}
@@ -29,11 +30,6 @@ side_cmp x y = ordering_then (slice_cmp nat_cmp x.members y.members) (nat_cmp x.
 pub side_total : IsTotalOrder side_cmp
 side_total = then_total (on_total (λ (s : VertexList). s.members) nat_list_cmp_total) (on_total (λ (s : VertexList). s.vertices) nat_cmp_total)
 
-then_parts : (o p : Ordering) → ordering_then o p ≡ Equal → (o ≡ Equal) × (p ≡ Equal)
-then_parts Less p e = absurd (true≢false (ap is_lt e))
-then_parts Equal p e = (refl, e)
-then_parts Greater p e = absurd (true≢false (ap (λ o. is_eq o) (sym e)))
-
 equal_sides : (x y : VertexList) → x.members ≡ y.members → x.vertices ≡ y.vertices → x ≡ y
 equal_sides x y e f = λ i. record { vertices = f i; members = e i }
 
@@ -42,17 +38,7 @@ one_side x y e =
     let p = then_parts (slice_cmp nat_cmp x.members y.members) (nat_cmp x.vertices y.vertices) e in
     equal_sides x y (exact_bytes x.members y.members p.0) (exact_unsigned x.vertices y.vertices p.1)
 
-from_is_eq : (o : Ordering) → is_eq o ≡ true → o ≡ Equal
-from_is_eq Less e = absurd (true≢false (sym e))
-from_is_eq Equal e = refl
-from_is_eq Greater e = absurd (true≢false (sym e))
-
 -- over one n the members alone decide
-pub then_same : (o : Ordering) (v w : ℕ) → v ≡ w → ordering_then o (nat_cmp v w) ≡ o
-then_same Less v w e = refl
-then_same Equal v w e = subst (λ u. nat_cmp v u ≡ Equal) e (tied_itself nat_cmp_total v)
-then_same Greater v w e = refl
-
 members_ascending : (n : ℕ) (xs : List VertexList) → All (λ (s : VertexList). s.vertices ≡ n) xs → IsStrictlySortedBy side_cmp xs → IsAscending (members_of xs)
 members_ascending n [] over up = ascending_nil
 members_ascending n (x ∷ xs) over up =

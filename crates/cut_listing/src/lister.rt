@@ -13,7 +13,8 @@ use crate::pair::{number_of_parting, parting_sides};
 use crate::sorting::sort_sides;
 use crate::weighed::{balanced_sides, number_of_balanced};
 use cactus_tree::{Cactus, Walk};
-use std::alloc::{AllocError, Global};
+use cut_definitions::NoMemory;
+use std::alloc::Global;
 use vertex_set::Side;
 
 /// A listing may have so many sides that their number times n is no larger than this.
@@ -62,7 +63,7 @@ impl<'a> Lister<'a> {
     }
 
     /// The number of the different sides that are asked for, from the tree.
-    fn number_of_sides(&self, alloc: Global, cactus: &Cactus) -> Result<u64, AllocError>
+    fn number_of_sides(&self, alloc: Global, cactus: &Cactus) -> Result<u64, NoMemory>
         requires n { cactus.now.vertices ≡ self.now.n }
         requires normal { is_normal cactus.now.root ≡ true }
         requires few { cactus.now.vertices ≤ 4194304 }
@@ -76,7 +77,7 @@ impl<'a> Lister<'a> {
     }
 
     /// Keeps a side where it is asked for, and hands back a room for the next one.
-    fn keep(&self, alloc: Global, room: Side, found: &mut Vec<Side>) -> Result<Side, AllocError>
+    fn keep(&self, alloc: Global, room: Side, found: &mut Vec<Side>) -> Result<Side, NoMemory>
         requires room { IsOver self.now.n room }
         requires found { All (λ s. s.vertices ≡ self.now.n) found.old.items }
         ensures room { IfOk result (λ next. next.vertices ≡ self.now.n) }
@@ -91,7 +92,7 @@ impl<'a> Lister<'a> {
     }
 
     /// The sides of a walk that are asked for, in the order of the tree.
-    fn walked_sides(&self, alloc: Global, cactus: &Cactus) -> Result<Vec<Side>, AllocError>
+    fn walked_sides(&self, alloc: Global, cactus: &Cactus) -> Result<Vec<Side>, NoMemory>
         requires n { cactus.now.vertices ≡ self.now.n }
         requires normal { is_normal cactus.now.root ≡ true }
         ensures over_n { IfOk result (λ v. All (λ s. s.vertices ≡ self.now.n) v.items) }
@@ -108,7 +109,7 @@ impl<'a> Lister<'a> {
     }
 
     /// The different sides that are asked for, in the order of the tree.
-    fn found_sides(&self, alloc: Global, cactus: &Cactus) -> Result<Vec<Side>, AllocError>
+    fn found_sides(&self, alloc: Global, cactus: &Cactus) -> Result<Vec<Side>, NoMemory>
         requires n { cactus.now.vertices ≡ self.now.n }
         requires normal { is_normal cactus.now.root ≡ true }
         requires few { cactus.now.vertices ≤ 4194304 }
@@ -124,7 +125,7 @@ impl<'a> Lister<'a> {
     }
 
     /// The different sides that are asked for, in the order of lists.
-    fn gather(&self, alloc: Global, cactus: &Cactus) -> Result<Vec<Side>, AllocError>
+    fn gather(&self, alloc: Global, cactus: &Cactus) -> Result<Vec<Side>, NoMemory>
         requires n { cactus.now.vertices ≡ self.now.n }
         requires normal { is_normal cactus.now.root ≡ true }
         requires few { cactus.now.vertices ≤ 4194304 }

@@ -13,8 +13,8 @@ ghost use Rattle.cut_listing.specs.Pairs.{ArePairMasses, vertex_or_one};
 
 use crate::weighed::{balanced_sides, number_of_balanced};
 use cactus_tree::Cactus;
-use cut_definitions::VertexWeights;
-use std::alloc::{AllocError, Global};
+use cut_definitions::{NoMemory, VertexWeights};
+use std::alloc::Global;
 use vertex_set::Side;
 
 /// A vertex of 1 to n, and vertex 1 for a number that is none: neither is in a side.
@@ -25,7 +25,7 @@ fn vertex_or_one(n: u32, v: u32) -> u32
 }
 
 /// The mass 1 for each of two vertices of 1 to n, and none for all others.
-fn pair_weights(alloc: Global, n: u32, first: u32, second: u32) -> Result<VertexWeights, AllocError>
+fn pair_weights(alloc: Global, n: u32, first: u32, second: u32) -> Result<VertexWeights, NoMemory>
     requires few { n ≤ 4194304 }
     requires first_from_one { 1 ≤ first }
     requires first_to_n { first ≤ n }
@@ -45,7 +45,7 @@ fn parting_weights(
     cactus: &Cactus,
     first: u32,
     second: u32,
-) -> Result<VertexWeights, AllocError>
+) -> Result<VertexWeights, NoMemory>
     requires few { cactus.now.vertices ≤ 4194304 }
     ensures { IfOk result (ArePairMasses cactus.now.vertices (vertex_or_one cactus.now.vertices first) (vertex_or_one cactus.now.vertices second)) }
 {
@@ -63,7 +63,7 @@ pub(crate) fn number_of_parting(
     cactus: &Cactus,
     first: u32,
     second: u32,
-) -> Result<u64, AllocError>
+) -> Result<u64, NoMemory>
     requires normal { is_normal cactus.now.root ≡ true }
     requires few { cactus.now.vertices ≤ 4194304 }
     ensures { IfOk result (λ k. k ≡ length (different (filter (λ side. parts (has side) first second) (sides_of cactus.now)))) }
@@ -82,7 +82,7 @@ pub(crate) fn parting_sides(
     cactus: &Cactus,
     first: u32,
     second: u32,
-) -> Result<Vec<Side>, AllocError>
+) -> Result<Vec<Side>, NoMemory>
     requires normal { is_normal cactus.now.root ≡ true }
     requires few { cactus.now.vertices ≤ 4194304 }
     ensures over_n { IfOk result (λ v. All (λ s. s.vertices ≡ cactus.now.vertices) v.items) }

@@ -19,8 +19,8 @@ ghost use Rattle.cut_listing.specs.Bands.{AreEnds, AreRising, AreShort, IsShort,
 ghost use Rattle.cut_listing.specs.Listings.{different, members_of};
 
 use cactus_tree::{Border, Cactus, kept_places, masses_before, put_range};
-use cut_definitions::VertexWeights;
-use std::alloc::{AllocError, Global};
+use cut_definitions::{NoMemory, VertexWeights};
+use std::alloc::Global;
 use vertex_set::Side;
 
 /// The borders from one on that are before another.
@@ -116,7 +116,7 @@ fn side_between(
     order: &[u32],
     from: Border,
     to: Border,
-) -> Result<Side, AllocError>
+) -> Result<Side, NoMemory>
     requires vertices { All (IsVertex n) order.now }
     requires to { to.place ≤ length order.now }
     ensures n { IfOk result (λ s. s.vertices ≡ n) }
@@ -136,7 +136,7 @@ fn add_sides(
     borders: &[Border],
     start: usize,
     band: Band,
-) -> Result<(), AllocError>
+) -> Result<(), NoMemory>
     requires vertices { All (IsVertex n) order.now }
     requires borders { AreBorders (length order.now) borders.now }
     requires start { start < length borders.now }
@@ -161,7 +161,7 @@ fn gather_bands(
     repeats: &[bool],
     before: &[u128],
     least: u64,
-) -> Result<Vec<Side>, AllocError>
+) -> Result<Vec<Side>, NoMemory>
     requires vertices { All (IsVertex n) order.now }
     requires long { length before.now ≡ length order.now + 1 }
     requires borders { AreBorders (length order.now) borders.now }
@@ -190,7 +190,7 @@ pub(crate) fn number_of_balanced(
     cactus: &Cactus,
     weights: &VertexWeights,
     least: u64,
-) -> Result<u64, AllocError>
+) -> Result<u64, NoMemory>
     requires normal { is_normal cactus.now.root ≡ true }
     requires masses { length weights.now ≡ cactus.now.vertices }
     ensures { IfOk result (λ k. k ≡ length (different (filter (is_balanced weights.now least) (sides_of cactus.now)))) }
@@ -211,7 +211,7 @@ pub(crate) fn balanced_sides(
     cactus: &Cactus,
     weights: &VertexWeights,
     least: u64,
-) -> Result<Vec<Side>, AllocError>
+) -> Result<Vec<Side>, NoMemory>
     requires normal { is_normal cactus.now.root ≡ true }
     requires masses { length weights.now ≡ cactus.now.vertices }
     ensures over_n { IfOk result (λ v. All (λ s. s.vertices ≡ cactus.now.vertices) v.items) }

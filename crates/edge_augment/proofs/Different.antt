@@ -15,19 +15,19 @@ use Rattle.cactus_tree.specs.Trees.{blocks}
 use Rattle.cactus_tree.specs.declared.tree.Node.{Node}
 use Rattle.cactus_tree.specs.declared.tree.Block.{Block}
 use Rattle.cactus_tree.proofs.Parts.{part_out}
+use Rattle.cactus_tree.proofs.Trims.{own_cut}
 use Rattle.edge_augment.specs.Ends.{end_sets}
 use Rattle.edge_augment.specs.Laws.{LawOfSeveral, LawOfDifferent}
 use Rattle.edge_augment.specs.NewEdges.{least_at, new_edges, opposite_pairs, upward}
 use Rattle.edge_augment.proofs.Leaves.{disjoint_sets}
 use Rattle.edge_augment.proofs.Inside.{AreFine, fine_split}
-use Rattle.edge_augment.proofs.Outside.{block_whole}
 use Rattle.edge_augment.proofs.EndSets.{root_fine, inside, outside, full}
 use Rattle.edge_augment.proofs.Pairing.{has_least, number}
 
 -- ---- two or more
 some_cut : (bs : List Block) → AreFine bs → 1 ≤ length bs → (s : VertexSet) × Contains (all_cuts (map block_part bs)) s
 some_cut [] f h = absurd (omega (arith, h))
-some_cut (b ∷ bs) f h = ((block_part b).below, Contains-append_left (block_part b).cuts (all_cuts (map block_part bs)) (block_part b).below (block_whole b (fine_split b bs f).0))
+some_cut (b ∷ bs) f h = ((block_part b).below, Contains-append_left (block_part b).cuts (all_cuts (map block_part bs)) (block_part b).below (own_cut b (fine_split b bs f).0))
 
 two_members : (xs : List (List ℕ)) (l m : List ℕ) → Contains xs l → Contains xs m → l ≢ m → 2 ≤ length xs
 two_members [] l m c d h = absurd (Contains-nil l c)

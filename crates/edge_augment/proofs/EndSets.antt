@@ -9,6 +9,8 @@ use Rattle.cut_definitions.specs.Cuts.{has, side_of, IsAscendingWithin}
 use Rattle.cut_definitions.proofs.Bridge.{has-side_of, has_within, IsAscendingWithin-filter, same_ascending}
 use Rattle.cut_definitions.proofs.Sides.{IsAscendingWithin-lower}
 use Rattle.cut_definitions.proofs.Lists.{Contains-here, Contains-there, Contains-cons_cases, Contains-nil, Contains-map, Contains-from_map}
+use Rattle.cut_definitions.proofs.Bools.{parts_from_false, same_tests}
+use Rattle.cut_definitions.proofs.Ascending.{contains_has, has_contains}
 use Rattle.cactus_tree.specs.Sides.{Part, part, block_part, all_cuts}
 use Rattle.cactus_tree.specs.Normal.{block_shape, is_normal}
 use Rattle.cactus_tree.specs.Entered.{entered, entered_block}
@@ -17,7 +19,6 @@ use Rattle.cactus_tree.specs.Rooted.{IsCactus, sides_of}
 use Rattle.cactus_tree.specs.Trees.{vertices, blocks}
 use Rattle.cactus_tree.specs.declared.tree.Node.{Node}
 use Rattle.cactus_tree.specs.declared.tree.Block.{Block}
-use Rattle.cactus_tree.proofs.Groups.{contains_has, has_contains}
 use Rattle.cactus_tree.proofs.Once.{each_there, all_vertices_within}
 use Rattle.cactus_tree.proofs.Orders.{entered_out}
 use Rattle.cactus_tree.proofs.Parts.{part_out}
@@ -25,12 +26,14 @@ use Rattle.cactus_tree.proofs.Segments.{has_append_at}
 use Rattle.cactus_tree.proofs.Shapes.{root_normal}
 use Rattle.edge_augment.specs.Ends.{end_sets}
 use Rattle.edge_augment.specs.Laws.{over, IsCutSet, IsSublist, LawOfEndSets}
-use Rattle.cactus_tree.proofs.Sets.{Apart, same_test}
+use Rattle.cactus_tree.proofs.Sets.{Apart}
 use Rattle.cactus_tree.proofs.Clean.{IsClean, count, clean_apart, root_clean}
+use Rattle.cactus_tree.proofs.Trims.{own_cut}
+use Rattle.cactus_tree.proofs.BlockLaws.{block_laid}
 use Rattle.edge_augment.proofs.Leaves.{IsLeft, none, drops, keeps, count_more, first_of, ends_once, end_sets_left}
-use Rattle.edge_augment.proofs.Within.{of_lists, block_laid, block_below, blocks_within, of_left}
+use Rattle.edge_augment.proofs.Within.{of_lists, block_below, blocks_within, of_left}
 use Rattle.edge_augment.proofs.Inside.{HasInside, AreFine, IsFull, fine_split}
-use Rattle.edge_augment.proofs.Outside.{ends_inside, ends_outside, ends_full, ends_cut, block_whole, own_within}
+use Rattle.edge_augment.proofs.Outside.{ends_inside, ends_outside, ends_full, ends_cut, own_within}
 
 -- ---- a normal cactus by the lists of its root
 pub root_fine : (n : ℕ) (root : Node) → IsCactus n root → is_normal root ≡ true → AreFine (blocks root)
@@ -114,9 +117,6 @@ cut_lacks_one n root h s c = false_from_ne_true (s 1) (λ e.
     clean_apart n (vertices root ∷ []) (flat_map entered_block (blocks root)) (root_lists n root h) 1
     (own_within (vertices root) 1 (root_one n root h)) (blocks_within (blocks root) s (root_cuts root s c) 1 e))
 
-parts_false : (a b : Bool) → a ≡ false → (if a then not b else b) ≡ b
-parts_false a b h = grind arith
-
 parts_true : (a b c : Bool) → a ≡ true → (b || c) ≡ true → (b ≡ true → c ≡ true → ⊥) → (if a then not b else b) ≡ c
 parts_true a true true h k g = absurd (g refl refl)
 parts_true a true false h k g = rw h refl
@@ -133,13 +133,13 @@ end_is_set n root h k l c =
       ascending = end_ascending n root h l c;
       is_side = elim (ends_cut (vertices root) (blocks root) l c) [
         | inl m ↦ (let there : Contains cuts (has l) = subst (λ (p : Part). Contains p.cuts (has l)) (sym (part_out root)) m in
-            let e : side_of n (has l) ≡ list (has l) = side_is n (has l) (has l) n_one (λ v a b. parts_false (has l 1) (has l v) (cut_lacks_one n root h (has l) there)) in
+            let e : side_of n (has l) ≡ list (has l) = side_is n (has l) (has l) n_one (λ v a b. parts_from_false (has l 1) (has l v) (cut_lacks_one n root h (has l) there)) in
             subst (λ z. Contains (sides_of (over n root)) z) (sym e) (Contains-map list cuts (has l) there))
         | inr m ↦ (let b : Block = m.1 in
             let only : blocks root ≡ b ∷ [] = m.2 in
             let fine : (block_shape b).fine ≡ true = (fine_split b [] (subst AreFine only (root_fine n root h k))).0 in
             let t : VertexSet = (block_part b).below in
-            let there : Contains cuts t = subst (λ (p : Part). Contains p.cuts t) (sym (part_out root)) (subst (λ bs. Contains (all_cuts (map block_part bs)) t) (sym only) (Contains-append_left (block_part b).cuts [] t (block_whole b fine))) in
+            let there : Contains cuts t = subst (λ (p : Part). Contains p.cuts t) (sym (part_out root)) (subst (λ bs. Contains (all_cuts (map block_part bs)) t) (sym only) (Contains-append_left (block_part b).cuts [] t (own_cut b fine))) in
             let clean : IsClean n (l ∷ (entered_block b ++ [])) = subst (λ own. IsClean n (own ∷ (entered_block b ++ []))) m.0 (subst (λ bs. IsClean n (vertices root ∷ flat_map entered_block bs)) only (root_lists n root h)) in
             let own_one : has l 1 ≡ true = subst (λ own. has own 1 ≡ true) m.0 (root_one n root h) in
             let every : (v : ℕ) → 1 ≤ v → v ≤ n → (has l v || t v) ≡ true = λ v a d. all_below b l v
@@ -174,7 +174,7 @@ has_end n root h k y c =
         f.0,
         f.1,
         (λ v x. let w = ascending_vertex 1 n f.0 (end_ascending n root h f.0 f.1) v x in
-            sym (parts_false (has y 1) (has y v) e) ∙ at v w.0 w.1 ∙ f.2 v x),
+            sym (parts_from_false (has y 1) (has y v) e) ∙ at v w.0 w.1 ∙ f.2 v x),
       ))
     ]
   where
@@ -191,7 +191,7 @@ end_sets_law n root h k set = (
         let w = full n root h k r.0 r.1 in
         let same : r.0 ≡ set = once_same w.0 (end_sets root) (ends_once n root h w.0) r.0 set r.1 c w.1 (sub w.0 (r.2 w.0 w.1)) in
         same_ascending 1 n other set o.ascending (end_ascending n root h set c)
-        (λ v a b. same_test (has other v) (has set v) (sub v) (λ e. r.2 v (subst (λ l. has l v ≡ true) (sym same) e)));
+        (λ v a b. same_tests (has other v) (has set v) (sub v) (λ e. r.2 v (subst (λ l. has l v ≡ true) (sym same) e)));
   }),
   (λ m. let r = has_end n root h k set m.is_set in
       let e : r.0 ≡ set = m.none_within r.0 (end_is_set n root h k r.0 r.1) r.2 in

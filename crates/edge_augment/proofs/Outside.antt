@@ -1,27 +1,21 @@
 -- Each cut has the set of an end node inside and that of another outside.
-use Rattle.std.proofs.Common.{◌≡◌, ℕ, ◌≤◌, ◌⊎◌, inl, inr, true, false, List, [], ◌∷◌, ◌++◌, map, length, refl, ap, ◌∙◌, sym, subst, arith}
-use Rattle.std.specs.Prelude.{nat_le}
-use Rattle.std.specs.List.{Contains, flat_map, list_all}
-use Rattle.std.proofs.lemmas.Bool.{or_left, and_parts, leb-true}
-use Rattle.std.proofs.lemmas.List.{length-map}
+use Rattle.std.proofs.Common.{◌≡◌, ℕ, ◌≤◌, ◌⊎◌, inl, inr, false, List, [], ◌∷◌, ◌++◌, map, length, refl, ◌∙◌, subst, arith}
+use Rattle.std.specs.List.{Contains, flat_map}
+use Rattle.std.proofs.lemmas.Bool.{or_left}
 use Rattle.std.proofs.lemmas.List.Elements.{Contains-append_left, Contains-append_right, Contains-append_cases}
 use Rattle.cut_definitions.specs.Weight.{VertexSet}
 use Rattle.cut_definitions.specs.Cuts.{has}
 use Rattle.cut_definitions.proofs.Lists.{Contains-here, Contains-there, Contains-cons_cases, Contains-nil}
-use Rattle.cactus_tree.specs.Sides.{Part, part, block_part, all_of, belows, all_cuts, cycle_of}
-use Rattle.cactus_tree.specs.Normal.{shape, block_shape, child_fine}
+use Rattle.cactus_tree.specs.Sides.{part, block_part, all_of, belows, all_cuts}
 use Rattle.cactus_tree.specs.Entered.{entered_block, in_order}
-use Rattle.cactus_tree.specs.Trees.{nodes_in}
 use Rattle.cactus_tree.specs.declared.tree.Node.{Node}
 use Rattle.cactus_tree.specs.declared.tree.Block.{Block}
-use Rattle.cactus_tree.proofs.Parts.{bridge_part, cycle_part}
-use Rattle.cactus_tree.proofs.Shapes.{cycle_fine}
 use Rattle.cactus_tree.proofs.Segments.{has_append_at}
 use Rattle.edge_augment.specs.Ends.{block_leaves, ends_of}
 use Rattle.cactus_tree.proofs.Sets.{IsIn, HasOne, Apart}
 use Rattle.cactus_tree.proofs.Clean.{IsClean, clean_right}
 use Rattle.cactus_tree.proofs.Cycles.{cycle_cuts, cycle_whole}
-use Rattle.cactus_tree.proofs.Views.{view, each}
+use Rattle.cactus_tree.proofs.Views.{each}
 use Rattle.edge_augment.proofs.Within.{of_lists, of_left, block_within, block_below, blocks_within, apart_in}
 use Rattle.edge_augment.proofs.OwnCuts.{BlockOwn, block_own, own_blocks}
 use Rattle.edge_augment.proofs.Inside.{HasInside, AreFine, IsFull, block_rich, cuts_rich, leaves_full, fine_split}
@@ -78,17 +72,6 @@ ends_full own (b ∷ (c ∷ cs)) one f l h = leaves_full (b ∷ (c ∷ cs)) f l 
 whole_of : (xs : List Node) → 2 ≤ length xs → Contains (cycle_cuts (map part xs)) (all_of (belows (map part xs)))
 whole_of [] k = absurd (omega (arith, k))
 whole_of (x ∷ xs) k = cycle_whole (part x) (map part xs)
-
--- all that is below a block is a cut
-pub block_whole : (b : Block) → (block_shape b).fine ≡ true → Contains (block_part b).cuts (block_part b).below
-block_whole b f = elim (view b) [
-  | inl h ↦ subst (λ (p : Part). Contains p.cuts p.below) (sym (ap block_part h.1 ∙ bridge_part h.0)) (Contains-here (part h.0.value).below (part h.0.value).cuts)
-  | inr h ↦ (let xs = nodes_in h.0 in
-      let g = and_parts (nat_le 2 (length (map shape xs))) (list_all (λ x. child_fine true (shape x)) xs) (sym (cycle_fine h.0) ∙ sym (ap (λ c. (block_shape c).fine) h.1) ∙ f) in
-      let wide : 2 ≤ length xs = omega (arith, leb-true 2 (length (map shape xs)) g.0, length-map xs shape) in
-      let here : Contains (cycle_of (map part xs)).cuts (cycle_of (map part xs)).below = whole_of xs wide in
-      subst (λ (p : Part). Contains p.cuts p.below) (sym (ap block_part h.1 ∙ cycle_part h.0)) here)
-]
 
 abbrev pub IsRootEnd : List ℕ → List Block → List ℕ → Type 0
 IsRootEnd own bs l = (own ≡ l) × (b : Block) × (bs ≡ b ∷ [])

@@ -11,9 +11,10 @@ use Rattle.cut_definitions.specs.Cuts.{has, least}
 use Rattle.cut_definitions.proofs.Bridge.{has_within}
 use Rattle.cut_definitions.proofs.Values.{Contains-least}
 use Rattle.cut_definitions.proofs.Lists.{Contains-here, Contains-there, Contains-cons_cases, Contains-nil, Contains-map, Contains-from_map}
+use Rattle.cut_definitions.proofs.Bools.{one_parts}
+use Rattle.cut_definitions.proofs.Ascending.{contains_has}
 use Rattle.cactus_tree.specs.Sides.{part}
 use Rattle.cactus_tree.specs.Entered.{entered}
-use Rattle.cactus_tree.proofs.Groups.{contains_has}
 use Rattle.cactus_tree.proofs.Layouts.{laid_out}
 use Rattle.cactus_tree.proofs.Segments.{has_append_at}
 use Rattle.edge_augment.specs.Ends.{end_sets}
@@ -107,9 +108,6 @@ pick a b c h long e some more low high =
 
 half : (n : ℕ) → (2 * (n / 2) ≤ n) × (n ≤ 2 * (n / 2) + 1)
 half n = (omega arith, omega arith)
-
-one_parts : (a b : Bool) → a ≡ true → b ≡ false → (if a then not b else b) ≡ true
-one_parts a b h k = rw (h, k) refl
 
 other_parts : (a b : Bool) → a ≡ false → b ≡ true → (if a then not b else b) ≡ true
 other_parts a b h k = rw (h, k) refl

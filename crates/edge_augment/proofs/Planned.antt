@@ -1,6 +1,6 @@
 -- What is made of the end nodes of a cactus is an augmentation, and no other is less.
-use Rattle.std.proofs.Common.{◌≡◌, ℕ, ◌+◌, ◌-◌, ◌/◌, ◌<◌, ◌≤◌, ⊎_elim, Bool, true, false, not, List, [], ◌∷◌, length, get_or, refl, ap, ◌∙◌, sym, subst, arith}
-use Rattle.std.specs.Prelude.{if◌then◌else◌, min, max}
+use Rattle.std.proofs.Common.{◌≡◌, ℕ, ◌+◌, ◌-◌, ◌/◌, ◌<◌, ◌≤◌, ⊎_elim, true, List, [], ◌∷◌, length, get_or, refl, ap, ◌∙◌, sym, subst, arith}
+use Rattle.std.specs.Prelude.{min, max}
 use Rattle.std.specs.List.{All}
 use Rattle.std.specs.List.Sorted.{IsPermutation, IsSorted, IsNonDecreasingBy}
 use Rattle.std.proofs.lemmas.Bool.{cases_lt}
@@ -8,6 +8,7 @@ use Rattle.std.proofs.lemmas.List.Sorted.{All-permutation, Contains-permutation,
 use Rattle.cut_definitions.specs.Weight.{VertexSet, parts}
 use Rattle.cut_definitions.specs.Cuts.{has, least, IsAscendingWithin}
 use Rattle.cut_definitions.proofs.Lists.{Contains-map}
+use Rattle.cut_definitions.proofs.Bools.{parts_flip}
 use Rattle.cactus_tree.specs.Normal.{is_normal}
 use Rattle.cactus_tree.specs.Places.{IsVertex}
 use Rattle.cactus_tree.specs.Rooted.{Rooted, IsCactus}
@@ -60,16 +61,10 @@ edges_within n root h k some i d lt =
     )
 
 -- ---- a pair parts a set in either order
-flipped : (a b : Bool) → (if a then not b else b) ≡ true → (if b then not a else a) ≡ true
-flipped true true e = e
-flipped true false e = refl
-flipped false true e = refl
-flipped false false e = e
-
 parts_upward : (s : VertexSet) (a b : ℕ) → parts s a b ≡ true → parts s (min a b) (max a b) ≡ true
 parts_upward s a b h =
     ⊎_elim
-    (λ (lt : b < a). let low : min a b ≡ b = omega (arith, lt) in let high : max a b ≡ a = omega (arith, lt) in rw (low, high) (flipped (s a) (s b) h))
+    (λ (lt : b < a). let low : min a b ≡ b = omega (arith, lt) in let high : max a b ≡ a = omega (arith, lt) in rw (low, high) (parts_flip (s a) (s b) h))
     (λ (le : a ≤ b). let low : min a b ≡ a = omega (arith, le) in let high : max a b ≡ b = omega (arith, le) in rw (low, high) h)
     (cases_lt b a)
 

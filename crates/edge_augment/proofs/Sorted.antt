@@ -1,10 +1,10 @@
 -- Sorted lists whose elements differ ascend strictly.
 use Rattle.std.proofs.Common.{◌≡◌, ℕ, zero, suc, ◌+◌, ◌<◌, ◌≤◌, ◌⊎◌, inl, inr, Bool, true, false, ◌==◌, ◌&&◌, List, [], ◌∷◌, length, get_or, refl, ap, ◌∙◌, sym, subst, arith, true≢false}
 use Rattle.std.specs.Prelude.{◌≢◌}
-use Rattle.std.specs.Bool.{Decides, one_answer}
+use Rattle.std.specs.Bool.{Decides}
 use Rattle.std.specs.List.{AllPairs, AllByRecursion, Contains, sum_by}
 use Rattle.std.specs.List.Sorted.{IsStrictlySortedBy, IsPermutation, IsSorted, IsNonDecreasingBy}
-use Rattle.std.specs.Ordering.{nat_cmp, is_lt, is_eq, ordering_reverse, ordering_then}
+use Rattle.std.specs.Ordering.{nat_cmp, is_lt, ordering_reverse}
 use Rattle.std.specs.Cmp.{IsTotalOrder, nat_cmp_is}
 use Rattle.std.specs.Cmp.Lexicographic.{slice_cmp}
 use Rattle.std.specs.declared.cmp.Ordering.{Ordering}
@@ -20,6 +20,8 @@ use Rattle.std.proofs.lemmas.Map.Lookups.{exact_unsigned}
 use Rattle.std.proofs.lemmas.Map.Made.{AllPairs-from_IsDistinct, IsDistinct-from_AllPairs}
 use Rattle.cut_definitions.specs.Cuts.{has}
 use Rattle.cut_definitions.proofs.Bridge.{has_first_of}
+use Rattle.cut_definitions.proofs.Numbers.{eqb_flip}
+use Rattle.cut_definitions.proofs.Orderings.{then_less, then_parts}
 use Rattle.cactus_tree.proofs.Clean.{count}
 use Rattle.cactus_tree.proofs.Sets.{HasOne}
 use Rattle.edge_augment.specs.Augmentations.{pair_cmp}
@@ -41,9 +43,6 @@ strictly c (x ∷ xs) h = (
 )
 
 -- ---- sets by their first vertices
-then_less : (o p : Ordering) → o ≡ Less → ordering_then o p ≡ Less
-then_less o p e = ap (λ q. ordering_then q p) e
-
 pub before : (l m : List ℕ) → HasOne (has l) → HasOne (has m) → get_or l 0 0 ≤ get_or m 0 0 → AreDisjoint l m → slice_cmp nat_cmp l m ≡ Less
 before [] m one two le apart = absurd (false≢true one.1)
 before (a ∷ l) [] one two le apart = absurd (false≢true two.1)
@@ -73,11 +72,6 @@ sets_strictly xs full apart up = strictly (slice_cmp nat_cmp) xs (λ i j d lt wi
 -- ---- pairs
 pub pair_total : IsTotalOrder pair_cmp
 pair_total = then_total (on_total (λ (p : ℕ × ℕ). p.0) nat_cmp_total) (on_total (λ (p : ℕ × ℕ). p.1) nat_cmp_total)
-
-then_parts : (o p : Ordering) → ordering_then o p ≡ Equal → (o ≡ Equal) × (p ≡ Equal)
-then_parts Less p e = absurd (true≢false (ap is_lt e))
-then_parts Equal p e = (refl, e)
-then_parts Greater p e = absurd (true≢false (ap (λ o. is_eq o) (sym e)))
 
 one_pair : (p q : ℕ × ℕ) → pair_cmp p q ≡ Equal → p ≡ q
 one_pair p q e =
@@ -112,9 +106,6 @@ pairs_strictly (x ∷ (y ∷ ys)) up differ =
     (λ i j d lt within. differ (suc i) (suc j) d (omega (arith, lt)) (omega (arith, within))) in
     ((first, all_later x y ys first rest.0), rest)
 
-eqb-comm : (a b : ℕ) → (a == b) ≡ (b == a)
-eqb-comm a b = one_answer (a == b) (b == a) (Decides-eqb a b) ((λ e. sym ((Decides-eqb b a).0 e)), (λ e. (Decides-eqb b a).1 (sym e)))
-
 same : ℕ × ℕ → ℕ × ℕ → Bool
 same p q = (p.0 == q.0) && (p.1 == q.1)
 
@@ -126,5 +117,5 @@ differ_moved xs ys p h =
       (λ e. let r = and_parts (a.0 == b.0) (a.1 == b.1) e in let f = (Decides-eqb a.0 b.0).0 r.0 in let g = (Decides-eqb a.1 b.1).0 r.1 in λ i. (f i, g i)),
       (λ e. rw ((Decides-eqb a.0 b.0).1 (ap (λ (q : ℕ × ℕ). q.0) e), (Decides-eqb a.1 b.1).1 (ap (λ (q : ℕ × ℕ). q.1) e)) refl),
     ) in
-    let flips : (a b : ℕ × ℕ) → same a b ≡ same b a = λ a b. ap (λ t. t && (a.1 == b.1)) (eqb-comm a.0 b.0) ∙ ap (λ t. (b.0 == a.0) && t) (eqb-comm a.1 b.1) in
+    let flips : (a b : ℕ × ℕ) → same a b ≡ same b a = λ a b. ap (λ t. t && (a.1 == b.1)) (eqb_flip a.0 b.0) ∙ ap (λ t. (b.0 == a.0) && t) (eqb_flip a.1 b.1) in
     AllPairs-from_IsDistinct decides ys (IsDistinct-IsPermutation same flips xs ys p (IsDistinct-from_AllPairs decides xs h))

@@ -4,22 +4,18 @@ use Rattle.std.specs.List.{flat_map}
 use Rattle.std.specs.Borrow.{Bor}
 use Rattle.std.proofs.lemmas.Bool.Decides.{nat_tests}
 use Rattle.std.proofs.lemmas.List.{append-nil, append_assoc}
-use Rattle.cactus_tree.specs.Entered.{in_order}
 use Rattle.cactus_tree.specs.Trees.{vertices, blocks, nodes_in}
 use Rattle.cactus_tree.specs.declared.tree.Node.{Node}
 use Rattle.cactus_tree.specs.declared.tree.Block.{Block}
 use Rattle.cactus_tree.specs.declared.tree.Children.{Children}
 use Rattle.cactus_tree.specs.declared.tree.Block.TheVariants.{Cycle}
+use Rattle.cactus_tree.proofs.Orders.{in_order_map}
 use Rattle.edge_augment.specs.Ends.{leaves, block_leaves, leaves_of, ends_of, end_sets}
 use Rattle.edge_augment.specs.Walks.{leaves_waiting, alone_if}
 use Rattle.edge_augment.proofs.Leaves.{leaves_out, leaves_cycle}
 
 abbrev Lists : Type 0
 Lists = List (List ℕ)
-
-in_order_map : {X : Type 0} (f : X → Lists) (xs : List X) → in_order (map f xs) ≡ flat_map f xs
-in_order_map f [] = refl
-in_order_map f (x ∷ xs) = ap (λ l. f x ++ l) (in_order_map f xs)
 
 -- the end nodes of the nodes of a cycle, one node after another
 pub cycle_leaves : (nodes : Children) → block_leaves (Cycle nodes) ≡ flat_map leaves (nodes_in nodes)

@@ -7,6 +7,7 @@ use Rattle.std.proofs.lemmas.List.Elements.{All-from_recursion}
 use Rattle.std.proofs.lemmas.List.Sums.{sum_by-cons}
 use Rattle.cut_definitions.specs.declared.edge_list.Edge.{Edge}
 use Rattle.cut_definitions.specs.Graph.{IsBefore, IsEdgeWithin}
+use Rattle.cut_definitions.proofs.Ascending.{IsBefore-trans}
 use Rattle.graph_maker.specs.Made.{double, ring_edges}
 
 -- Ascending lists.
@@ -16,12 +17,9 @@ abbrev pub Climbs : Edge → List Edge → Type 0
 Climbs d [] = Unit {0}
 Climbs d (e ∷ es) = IsBefore d e × Climbs e es
 
-before_all : (a b c : Edge) → IsBefore a b → IsBefore b c → IsBefore a c
-before_all a b c p q = grind arith
-
 climbs_below : (d e : Edge) (es : List Edge) → IsBefore d e → Climbs e es → Climbs d es
 climbs_below d e [] p c = tt
-climbs_below d e (f ∷ es) p c = (before_all d e f p c.0, c.1)
+climbs_below d e (f ∷ es) p c = (IsBefore-trans d e f p c.0, c.1)
 
 climbs_over_all : (d : Edge) (es : List Edge) → Climbs d es → AllByRecursion (IsBefore d) es
 climbs_over_all d [] c = tt

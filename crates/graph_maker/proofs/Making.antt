@@ -1,15 +1,16 @@
 -- The made graph has the five edges of each ring and no others.
-use Rattle.std.proofs.Common.{◌≡◌, ℕ, zero, suc, ◌+◌, ◌-◌, ◌*◌, ◌/◌, ◌<◌, ◌≤◌, ⊎_elim, Bool, true, false, cond, eqb, ltb, List, [], ◌∷◌, ◌++◌, length, get_or, refl, sym, ap, subst, ◌∙◌, min, max, add-one, add-zero, zero-add, append_assoc, append-nil, arith}
+use Rattle.std.proofs.Common.{◌≡◌, ℕ, zero, suc, ◌+◌, ◌-◌, ◌*◌, ◌/◌, ◌<◌, ◌≤◌, ⊎_elim, Bool, true, false, cond, eqb, ltb, List, [], ◌∷◌, ◌++◌, length, get_or, refl, sym, ap, subst, ◌∙◌, min, max, add-one, zero-add, append_assoc, append-nil, arith}
 use Rattle.std.specs.List.{Contains, flat_map, range_with_len}
 use Rattle.std.proofs.lemmas.Bool.{cases_lt, eq-eqb, ne_eqb, ltb-true, lt-ltb}
 use Rattle.std.proofs.lemmas.Grind.{flat_map-append}
-use Rattle.std.proofs.lemmas.List.Elements.{All-from_recursion, All-weaker}
+use Rattle.std.proofs.lemmas.List.Elements.{All-from_recursion, All-weaker, Contains-append_left, Contains-append_right, Contains-append_cases}
 use Rattle.cut_definitions.specs.declared.edge_list.Edge.{Edge}
 use Rattle.cut_definitions.specs.Graph.{Graph, IsEdgeWithin, IsEdgeList}
 use Rattle.cut_definitions.proofs.Lists.{Contains-cons_cases, Contains-nil}
+use Rattle.cut_definitions.proofs.Ranges.{range_push}
 use Rattle.graph_maker.specs.Made.{double, joining, following, five_edges, at_first, behind_first, ring_edges, made_graph, IsOfRing, LawOfMaking}
 use Rattle.graph_maker.proofs.Climbs.{IsOwn, pairs_from_climbs, rings_climb, rings_own, twos, all_length}
-use Rattle.graph_maker.proofs.Members.{contains_left, contains_right, contains_cases, contains_joined, from_joined}
+use Rattle.graph_maker.proofs.Members.{contains_joined, from_joined}
 
 joining-less : (u v : ℕ) → u ≤ v → joining u v ≡ double u v
 joining-less u v h =
@@ -121,7 +122,7 @@ none_other : (rings : ℕ) (e : Edge) → Contains (all_edges rings) e → IsOfR
 none_other rings e h =
     let t = from_joined (ring_edges rings) 0 rings e h in
     ⊎_elim (from_first rings t.place e (omega (arith, t.below))) (from_others rings t.place e (omega (arith, t.below)))
-    (contains_cases (at_first rings t.place) (behind_first rings t.place) e t.member)
+    (Contains-append_cases (at_first rings t.place) (behind_first rings t.place) e t.member)
 
 -- Each of the five is in the list.
 
@@ -129,10 +130,10 @@ in_list : (rings ring : ℕ) (d e : Edge) → ring < rings → Contains (ring_ed
 in_list rings ring d e less h same = contains_joined (ring_edges rings) 0 rings ring e (omega arith) (omega arith) (subst (λ z. Contains (ring_edges rings ring) z) same h)
 
 in_first : (rings ring : ℕ) (d : Edge) → Contains (at_first rings ring) d → Contains (ring_edges rings ring) d
-in_first rings ring d h = contains_left (at_first rings ring) (behind_first rings ring) d h
+in_first rings ring d h = Contains-append_left (at_first rings ring) (behind_first rings ring) d h
 
 in_others : (rings ring : ℕ) (d : Edge) → Contains (behind_first rings ring) d → Contains (ring_edges rings ring) d
-in_others rings ring d h = contains_right (at_first rings ring) (behind_first rings ring) d h
+in_others rings ring d h = Contains-append_right (at_first rings ring) (behind_first rings ring) d h
 
 -- the link from the last ring stands in ring 0
 has_back : (rings : ℕ) → Contains (at_first rings 0) (double 1 (4 * rings - 1))
@@ -187,17 +188,11 @@ making number low high = record {
 
 -- The list grows ring by ring.
 
-range_more : (low n : ℕ) → range_with_len low (suc n) ≡ range_with_len low n ++ (low + n) ∷ []
-range_more low zero = ap (λ (k : ℕ). k ∷ []) (sym (add-zero low))
-range_more low (suc n) =
-    let same : (low + 1) + n ≡ low + suc n = omega arith in
-    ap (λ ks. low ∷ ks) (range_more (low + 1) n) ∙ ap (λ (k : ℕ). low ∷ (range_with_len (low + 1) n ++ k ∷ [])) same
-
 pub ring_added : (rings ring : ℕ) (old first new : List Edge) → old ≡ flat_map (ring_edges rings) (range_with_len 0 ring) →
     first ≡ old ++ at_first rings ring → new ≡ first ++ behind_first rings ring → new ≡ flat_map (ring_edges rings) (range_with_len 0 (ring + 1))
 ring_added rings ring old first new was at behind =
     let next : range_with_len 0 (ring + 1) ≡ range_with_len 0 ring ++ ring ∷ [] =
-    ap (range_with_len 0) (add-one ring) ∙ range_more 0 ring ∙ ap (λ (k : ℕ). range_with_len 0 ring ++ k ∷ []) (zero-add ring) in
+    ap (range_with_len 0) (add-one ring) ∙ range_push 0 ring ∙ ap (λ (k : ℕ). range_with_len 0 ring ++ k ∷ []) (zero-add ring) in
     let mine : flat_map (ring_edges rings) (ring ∷ []) ≡ ring_edges rings ring = append-nil (ring_edges rings ring) in
     let split : flat_map (ring_edges rings) (range_with_len 0 (ring + 1)) ≡ flat_map (ring_edges rings) (range_with_len 0 ring) ++ ring_edges rings ring =
     ap (flat_map (ring_edges rings)) next ∙ flat_map-append (ring_edges rings) (range_with_len 0 ring) (ring ∷ []) ∙ ap (λ es. flat_map (ring_edges rings) (range_with_len 0 ring) ++ es) mine in

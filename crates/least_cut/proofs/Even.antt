@@ -8,13 +8,10 @@ use Rattle.cut_definitions.specs.Graph.{Graph}
 use Rattle.cut_definitions.specs.Scan.{single}
 use Rattle.cut_definitions.specs.Weight.{weight}
 use Rattle.cut_definitions.proofs.Bridge.{has_low, IsCut-has}
-use Rattle.cut_definitions.proofs.Sums.{sum_by-none}
 use Rattle.cut_definitions.proofs.Values.{value_is_weight}
-use Rattle.cut_definitions.proofs.WeightLaws.{cut_term, weight-apart}
+use Rattle.cut_definitions.proofs.WeightLaws.{weight-apart}
+use Rattle.cut_definitions.proofs.Singles.{weight_none}
 use Rattle.least_cut.specs.Sweep.{HasEvenDegrees}
-
-weight_none : (g : Graph) → weight g (has []) ≡ 0
-weight_none g = sum_by-none (cut_term (has [])) (λ e. refl) g.edges
 
 pub even_more : (g : Graph) (v : ℕ) → ((u : ℕ) → 1 ≤ u → u < v → weight g (single u) % 2 ≡ 0) → weight g (single v) % 2 ≡ 0 → (u : ℕ) → 1 ≤ u → u < v + 1 → weight g (single u) % 2 ≡ 0
 even_more g v before here u one l =
@@ -24,7 +21,7 @@ even_more g v before here u one l =
     (cases_eq u v)
 
 -- a vertex before all of a list is not in it
-alone : (v n : ℕ) (vs : List ℕ) → IsAscendingWithin (v + 1) n vs → (u : ℕ) → (single v u && has vs u) ≡ false
+pub alone : (v n : ℕ) (vs : List ℕ) → IsAscendingWithin (v + 1) n vs → (u : ℕ) → (single v u && has vs u) ≡ false
 alone v n vs above u =
     ⊎_elim
     (λ (t : eqb v u ≡ true). let out : has vs u ≡ false = has_low (v + 1) n u vs above (omega (arith, eqb-true v u t)) in grind (arith, out, t))

@@ -1,5 +1,7 @@
 -- What a sweep knows of the value of a graph.
 use Rattle.std.specs.Prelude.{ℕ, ◌≡◌, ◌-◌, ◌%◌, ◌<◌, ◌≤◌, ◌^◌, List, min, slice_index}
+use Rattle.std.specs.List.{All}
+use Rattle.cut_definitions.specs.declared.edge_list.Edge.{Edge}
 use Rattle.cut_definitions.specs.Graph.{Graph}
 use Rattle.cut_definitions.specs.Weight.{VertexSet, weight, HasVertex}
 use Rattle.cut_definitions.specs.Cuts.{value}
@@ -32,3 +34,11 @@ TellsLeast g bound most (Part weight) = (min bound (value g) ≤ weight) × (wei
 -- each vertex has an even degree
 abbrev pub HasEvenDegrees : Graph → Type 0
 HasEvenDegrees g = (v : ℕ) → 1 ≤ v → v ≤ g.vertices → weight g (single v) % 2 ≡ 0
+
+-- no vertex has a lesser degree
+abbrev pub HasDegrees : Graph → ℕ → Type 0
+HasDegrees g low = (v : ℕ) → 1 ≤ v → v ≤ g.vertices → low ≤ weight g (single v)
+
+-- no edge is heavier
+abbrev pub AreLight : ℕ → List Edge → Type 0
+AreLight heavy edges = All (λ (e : Edge). e.w ≤ heavy) edges

@@ -4,7 +4,7 @@ ghost use Rattle.std.specs.Prelude.{◌≡◌, ◌≤◌, ◌<◌, ◌-◌, ◌^
 ghost use Rattle.cut_definitions.specs.Components.{IsConnected};
 ghost use Rattle.cut_definitions.specs.Cuts.{value};
 ghost use Rattle.region_flow.specs.Regions.{IsRegionFlow};
-ghost use Rattle.least_cut.specs.Sweep.{HasEvenDegrees, IsSwept, TellsLeast};
+ghost use Rattle.least_cut.specs.Sweep.{AreLight, HasDegrees, HasEvenDegrees, IsSwept, TellsLeast};
 
 use crate::front::Front;
 use cut_definitions::NoMemory;
@@ -31,7 +31,8 @@ fn busiest(graph: &Graph) -> u32
 /// The least degree of a vertex.
 fn least_degree(graph: &Graph) -> u64
     requires { 2 ≤ graph.now.vertices }
-    ensures { value graph.now ≤ result }
+    ensures cut { value graph.now ≤ result }
+    ensures least { HasDegrees graph.now result }
 {
     let n = graph.n();
     let mut least = graph.degree(1);
@@ -59,6 +60,36 @@ fn least_if_connected(graph: &Graph) -> u64
     ensures { IsConnected graph.now → result ≤ value graph.now }
 {
     if has_even_degrees(graph) { 2 } else { 1 }
+}
+
+/// The greatest weight of an edge, and 0 where there is none.
+fn heaviest_edge(graph: &Graph) -> u64
+    ensures { AreLight result graph.now.edges }
+{
+    let edges = graph.edge_list();
+    let mut heaviest = 0;
+    for edge in edges {
+        if edge.w > heaviest {
+            heaviest = edge.w;
+        }
+    }
+    heaviest
+}
+
+/// Whether the edges are so light against a weight that no degree undercuts that no cut undercuts it either: the side of a
+/// cut with k vertices, at most half of all, weighs no less than k degrees less what k (k - 1) of the heaviest edges weigh
+/// (after Chartrand, 1966). It looks at the edges only where the degrees are high against the number of vertices.
+fn is_dense(graph: &Graph, weight: u64) -> bool
+    requires enough { 2 ≤ graph.now.vertices }
+    requires degrees { HasDegrees graph.now weight }
+    ensures { IsTrue result → weight ≤ value graph.now }
+{
+    let n = u64::from(graph.n());
+    let most = weight.saturating_mul(2) / n;
+    if most == 0 {
+        return false;
+    }
+    heaviest_edge(graph) <= most
 }
 
 /// Whether no cut undercuts a weight, as far as the degrees and the components tell. It is refused only where memory is
@@ -128,7 +159,8 @@ pub enum Swept {
 /// `Part` comes only where there is a limit, a number below 2^64 - 1; what it tells lies between the lesser of the two and
 /// the bound. It takes memory O(n + m), and want of memory is its only refusal. It is one sweep with n flows, each of which
 /// looks only at what it reaches until the least weight that is known is reached. It ends early where that is 0 or, in a
-/// connected graph, 1, or 2 where all degrees are even.
+/// connected graph, 1, or 2 where all degrees are even; and it makes no flow where the vertices times the heaviest edge are
+/// at most twice the least degree, since that is the value then.
 pub fn least_weight_within(
     alloc: Global,
     graph: &Graph,
@@ -141,7 +173,7 @@ pub fn least_weight_within(
     // known by this call: the graph is an edge list
     let _n = graph.n();
     let mut best = least_degree(graph).min(bound);
-    if is_settled(alloc, graph, best)? {
+    if is_dense(graph, best) || is_settled(alloc, graph, best)? {
         return Ok(Swept::Whole(best));
     }
     let mut flow = RegionFlow::new(alloc, graph)?;

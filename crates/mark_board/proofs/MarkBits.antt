@@ -1,10 +1,10 @@
 -- Words of marks, and the ascending list of the marked edges.
 use Rattle.std.proofs.Common.{◌≡◌, ℕ, zero, suc, ◌+◌, ◌*◌, ◌/◌, ◌%◌, ◌^◌, ◌<◌, ◌≤◌, ⊎_elim, Bool, true, false, ◌||◌, eqb, List, [], length, set, get_or, replicate, bit_or, refl, sym, ◌∙◌, ap, subst, arith, length-set}
-use Rattle.std.specs.Prelude.{◌≢◌, ◌↔◌, IsTrue, slice_index}
+use Rattle.std.specs.Prelude.{◌↔◌, IsTrue, slice_index}
 use Rattle.std.specs.Int.{trailing_zeros, w64}
 use Rattle.std.proofs.lemmas.Nat.Bits.{bit_at-trailing_zeros}
 use Rattle.std.specs.List.{filter, range_with_len}
-use Rattle.std.proofs.lemmas.Bool.{cases_eq, cases_lt, ne_eqb, false≢true}
+use Rattle.std.proofs.lemmas.Bool.{cases_lt, false≢true, eqb-true}
 use Rattle.std.proofs.lemmas.List.{length-replicate}
 use mathlib.Core.Option.{some}
 use lib.ListN.{get_elem?}
@@ -54,14 +54,11 @@ or_cases : (a b : Bool) (e n v : ℕ) → (a || b) ≡ true → (a ≡ true → 
 or_cases true b e n v is left right = left refl
 or_cases false b e n v is left right = right is
 
-eqb-same : (e v : ℕ) → eqb e v ≡ true → e ≡ v
-eqb-same e v is = ⊎_elim (λ same. same) (λ (apart : e ≢ v). absurd (false≢true (sym (ne_eqb e v apart) ∙ is))) (cases_eq e v)
-
 pub mark-keeps : (n : ℕ) (words : List ℕ) (e : ℕ) → AreMarkWords n words → e < n → AreMarkWords n (with_mark words e)
 mark-keeps n words e ok lt =
     let l : e / 64 < length words = omega (arith, ok.long) in record {
       long = length-set words (e / 64) _ ∙ ok.long;
-      within = λ v is. or_cases (has_bit words v) (eqb e v) e n v (sym (has_bit-insert words e v l) ∙ is) (ok.within v) (λ same. subst (λ (x : ℕ). x < n) (eqb-same e v same) lt);
+      within = λ v is. or_cases (has_bit words v) (eqb e v) e n v (sym (has_bit-insert words e v l) ∙ is) (ok.within v) (λ same. subst (λ (x : ℕ). x < n) (eqb-true e v same) lt);
     }
 
 or_same : (a b c : Bool) → a ≡ c → (a || b) ≡ (c || b)

@@ -8,6 +8,7 @@ use Rattle.cut_definitions.specs.Graph.{Graph, IsGraph}
 use Rattle.cut_definitions.specs.Weight.{VertexSet, parts}
 use Rattle.cut_definitions.specs.Scan.{single}
 use Rattle.cut_definitions.proofs.Running.{weight-le_total}
+use Rattle.cut_definitions.proofs.Numbers.{positive_yes}
 use Rattle.max_flow.specs.declared.search.Step.{Step}
 use Rattle.max_flow.specs.Residual.{out, counted, IsResidual, IsFlow, IsLeastBetween}
 use Rattle.max_flow.specs.Closed.{IsSourceSide}
@@ -15,7 +16,7 @@ use Rattle.max_flow.specs.Tree.{mark_of, seen, IsSearched}
 use Rattle.max_flow.specs.Outcome.{IsStopReached}
 use Rattle.max_flow.proofs.Balance.{weight-parting, IsLeastBetween-from_closed, IsFlow-start}
 use Rattle.max_flow.proofs.Closed.{out_none-from_closed}
-use Rattle.max_flow.proofs.Trees.{seen_least, seen_closed, above_seen}
+use Rattle.max_flow.proofs.Trees.{seen_least, seen_closed}
 
 -- ---- the flow of nothing
 
@@ -59,7 +60,7 @@ source_side g ok toward s t marks steps count n h z =
     let first = h.tree.marking.placed 0 h.tree.some in
     let at : mark_of marks s ≡ 1 = rw (← h.first) first in
     record {
-      first = (above_seen (mark_of marks s) (omega arith), rw z refl);
+      first = (positive_yes (mark_of marks s) (omega arith), rw z refl);
       closed = seen_closed g toward marks steps count h.tree (h.done z);
       least = λ other closed has v in'. seen_least g ok toward marks steps count h.tree n other closed (rw h.first has) v in';
     }

@@ -8,6 +8,7 @@ use Rattle.cut_definitions.specs.Graph.{Graph}
 use Rattle.cut_definitions.specs.Weight.{VertexSet, parts, weight, complement}
 use Rattle.std.specs.List.{sum_by}
 use Rattle.cut_definitions.proofs.WeightLaws.{cut_of, cut_term, weight-complement}
+use Rattle.cut_definitions.proofs.Bools.{counted_in, counted_out, either_way}
 use Rattle.max_flow.specs.Residual.{leaving, out, counted, edge_of, HasFirst, IsFlow, IsLeastBetween}
 
 -- what leaves a set along an edge, where a and b say which ends it has
@@ -79,14 +80,6 @@ out-none (e ∷ es) (x ∷ xs) s n h =
 
 -- ---- what a flow says of the sets between s and t
 
--- an amount is counted where the set has the vertex
-counted_in : (b : Bool) (f : ℕ) → b ≡ true → (if b then f else 0) ≡ f
-counted_in b f h = grind arith
-
--- and is not where it has not
-counted_out : (b : Bool) (f : ℕ) → b ≡ false → (if b then f else 0) ≡ 0
-counted_out b f h = grind arith
-
 -- a set with s and without t weighs the flow, and what can still leave it
 pub weight-first : (g : Graph) (s t f : ℕ) (xs : List ℕ) → IsFlow g s t f xs → (side : VertexSet) → HasFirst s t side →
     weight g side ≡ f + out g.edges xs side
@@ -132,15 +125,11 @@ IsLeastBetween-from_closed g s t f xs h side k z =
       met = (least_from_closed g s t f xs h side k).0 z;
     }
 
--- nothing counts as nothing
-nothing : (b : Bool) (z : ℕ) → (if b then z else z) ≡ z
-nothing b z = grind arith
-
 -- the flow of nothing
 pub IsFlow-start : (g : Graph) (s t : ℕ) → ((i : ℕ) → i < length g.edges → get_or (map (λ (e : Edge). e.w) g.edges) i 0 ≤ 2 * (edge_of g.edges i).w) →
     length (map (λ (e : Edge). e.w) g.edges) ≡ length g.edges → IsFlow g s t 0 (map (λ (e : Edge). e.w) g.edges)
 IsFlow-start g s t h n =
     record {
       residual = record { each = n; bounded = h };
-      balance = λ side. (let a = nothing (side s) 0 in let b = nothing (side t) 0 in omega (arith, out-start g.edges side));
+      balance = λ side. (let a = either_way (side s) 0 in let b = either_way (side t) 0 in omega (arith, out-start g.edges side));
     }

@@ -1,12 +1,13 @@
 -- What a set has after a vertex was put in or taken out, and that it has nothing outside its range.
-use Rattle.std.proofs.Common.{◌≡◌, ℕ, ◌+◌, ◌<◌, ◌≤◌, ⊎_elim, Bool, true, false, not, ◌&&◌, ◌||◌, eqb, List, [], ◌∷◌, length, refl, sym, ◌∙◌, arith}
+use Rattle.std.proofs.Common.{◌≡◌, ℕ, ◌+◌, ◌<◌, ◌≤◌, ⊎_elim, Bool, true, false, not, ◌&&◌, ◌||◌, eqb, List, [], length, refl, sym, ◌∙◌, arith}
 use Rattle.std.specs.Prelude.{if◌then◌else◌}
-use Rattle.std.proofs.lemmas.Bool.{cases_lt, ne_eqb}
+use Rattle.std.proofs.lemmas.Bool.{cases_lt}
 use Rattle.std.proofs.lemmas.List.{get_or_past}
 use Rattle.cut_definitions.specs.Weight.{VertexSet, either, minus}
 use Rattle.cut_definitions.specs.Cuts.{has, IsAscendingWithin}
 use Rattle.cut_definitions.specs.Scan.{single}
 use Rattle.cut_definitions.proofs.Bridge.{has_within, has_low, IsAscendingWithin-filter}
+use Rattle.cut_definitions.proofs.Ascending.{has_high}
 use Rattle.vertex_set.specs.Side.{VertexList, listed}
 use Rattle.max_flow.specs.Tree.{mark_of, seen}
 
@@ -33,13 +34,6 @@ has-listed_minus n v u old side is_in out is one to_n =
 -- a listed set ascends
 pub listed_ascends : (n : ℕ) (s : VertexSet) (side : VertexList) → side ≡ listed n s → IsAscendingWithin 1 side.vertices side.members
 listed_ascends n s side is = rw is (IsAscendingWithin-filter n 1 n s (omega arith))
-
--- a set has nothing above its range
-has_high : (low high v : ℕ) (s : List ℕ) → IsAscendingWithin low high s → high < v → has s v ≡ false
-has_high low high v [] h l = refl
-has_high low high v (x ∷ xs) h l =
-    let ne : eqb x v ≡ false = ne_eqb x v (λ e. omega (arith, h.1)) in
-    rw ne (has_high (x + 1) high v xs h.2 l)
 
 -- a vertex without a mark was not seen
 not_seen : (marks : List ℕ) (v : ℕ) → mark_of marks v ≡ 0 → seen marks v ≡ false

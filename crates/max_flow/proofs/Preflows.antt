@@ -2,7 +2,7 @@
 use Rattle.std.proofs.Common.{◌≡◌, ℕ, zero, suc, ◌+◌, ◌-◌, ◌*◌, ◌^◌, ◌<◌, ◌≤◌, ◌⊎◌, inl, inr, ⊎_elim, Bool, true, false, not, eqb, ltb, List, [], ◌∷◌, map, set, length, get_or, replicate, refl, sym, ◌∙◌, ap, subst, arith}
 use Rattle.std.specs.Prelude.{if◌then◌else◌, ◌≢◌, ◌&&◌, ◌||◌}
 use Rattle.std.specs.List.{All, sum_by}
-use Rattle.std.proofs.lemmas.Bool.{cases_eq, cases_lt, cases_Bool, eq-eqb, ne_eqb, eqb-true, false≢true, lt-ltb, le-ltb}
+use Rattle.std.proofs.lemmas.Bool.{cases_eq, cases_lt, cases_Bool, eq-eqb, ne_eqb, eqb-true, false≢true, lt-ltb, le-ltb, not_from_false}
 use Rattle.std.proofs.lemmas.List.{get_or-set_same, get_or-set_other, length-set, get_or_past}
 use Rattle.std.proofs.lemmas.List.Elements.{All-get_or, All-same, All-head, All-tail}
 use Rattle.std.proofs.lemmas.List.Sums.{sum_by-cons}
@@ -12,6 +12,7 @@ use Rattle.cut_definitions.specs.Weight.{VertexSet, weight, complement, minus, e
 use Rattle.cut_definitions.specs.Scan.{single}
 use Rattle.cut_definitions.proofs.WeightLaws.{weight-complement, weight-apart}
 use Rattle.cut_definitions.proofs.Bridge.{weight-agree}
+use Rattle.cut_definitions.proofs.Bools.{in_minus, and_first, minus_second, counted_in, either_way}
 use Rattle.weighted_graph.specs.declared.graph.Arc.{Arc}
 use Rattle.weighted_graph.specs.Rows.{row_of}
 use Rattle.weighted_graph.specs.RowLaws.{IsArcAt}
@@ -33,9 +34,6 @@ held-set s [] k i j y e l = absurd (omega (arith, l))
 held-set s (x ∷ xs) k zero j y e l = let same : k ≡ j = omega (arith, e) in rw (← same) (omega arith)
 held-set s (x ∷ xs) k (suc i) j y e l = omega (arith, held-set s xs (k + 1) i j y (omega (arith, e)) (omega (arith, l)))
 
-counted_in : (b : Bool) (x : ℕ) → b ≡ true → (if b then x else 0) ≡ x
-counted_in b x h = grind arith
-
 -- a set holds at least what one of its vertices holds
 pub held-one : (s : VertexSet) (xs : List ℕ) (j : ℕ) → s j ≡ true → j < length xs → get_or xs j 0 ≤ held s xs
 held-one s xs j h l =
@@ -55,13 +53,10 @@ held-two s xs i j h k apart l m =
     let e : get_or (set xs i 0) j 0 ≡ get_or xs j 0 = get_or-set_other xs i j 0 0 (λ q. apart (sym q)) in
     omega arith
 
-nothing : (b : Bool) (z : ℕ) → (if b then z else z) ≡ z
-nothing b z = grind arith
-
 -- where no vertex holds anything, no set does
 pub held-none : (s : VertexSet) (n k : ℕ) → held_from k s (replicate n 0) ≡ 0
 held-none s zero k = refl
-held-none s (suc n) k = omega (arith, nothing (s k) 0, held-none s n (k + 1))
+held-none s (suc n) k = omega (arith, either_way (s k) 0, held-none s n (k + 1))
 
 -- ---- one step
 
@@ -95,7 +90,7 @@ fed_balance : (sa sb : Bool) (h h' o o' x d w : ℕ) → sa ≡ false → h' + (
 fed_balance sa sb h h' o o' x d w outside held out all = grind arith
 
 -- and after a step from a vertex that held the amount
-drawn_balance : (sa sb : Bool) (h h1 h' o o' xa xb d w : ℕ) → d ≤ xa → h1 + (if sa then xa else 0) ≡ h + (if sa then xa - d else 0) →
+pub drawn_balance : (sa sb : Bool) (h h1 h' o o' xa xb d w : ℕ) → d ≤ xa → h1 + (if sa then xa else 0) ≡ h + (if sa then xa - d else 0) →
     h' + (if sb then xb else 0) ≡ h1 + (if sb then xb + d else 0) →
     o' + (if not sa then d else 0) ≡ o + (if not sb then d else 0) → h + o ≡ w → h' + o' ≡ w
 drawn_balance sa sb h h1 h' o o' xa xb d w l first second out all = grind arith
@@ -254,23 +249,11 @@ holder_or_none entered excess s (a ∷ row) out all =
     (holder_or_none entered excess s row out (All-tail (EndHolds entered excess) a row all)))
     (cases_Bool (s a.to))
 
-and_first : (a b : Bool) → (a && b) ≡ true → a ≡ true
-and_first a b h = grind arith
-
-and_not : (a b : Bool) → (a && not b) ≡ true → b ≡ false
-and_not a b h = grind arith
-
 disjoint : (a b : Bool) → (b && (a && not b)) ≡ false
 disjoint a b = grind arith
 
 rejoined : (a b : Bool) → (b ≡ true → a ≡ true) → (b || (a && not b)) ≡ a
 rejoined a b h = grind arith
-
-both_true : (a b : Bool) → a ≡ true → b ≡ false → (a && not b) ≡ true
-both_true a b h k = grind arith
-
-not_false : (b : Bool) → b ≡ false → not b ≡ true
-not_false b h = grind arith
 
 not_and : (a b : Bool) → b ≡ true → not (a && not b) ≡ true
 not_and a b h = grind arith
@@ -287,7 +270,7 @@ beyond_alone g ok entered excess toward t bound h from_one to_n positive holds n
     (λ (x : IsHolder rest excess).
     let u = x.vertex in
     let in_s : s u ≡ true = and_first (s u) (not (eqb t u)) x.there in
-    let other : t ≢ u = λ q. false≢true (sym (and_not (s u) (eqb t u) x.there) ∙ eq-eqb t u q) in
+    let other : t ≢ u = λ q. false≢true (sym (minus_second (s u) (eqb t u) x.there) ∙ eq-eqb t u q) in
     let inside : u < length excess = ⊎_elim (λ (l : u < length excess). l) (λ (l : length excess ≤ u). let past = get_or_past excess u 0 l in let some = x.holds in absurd (omega arith)) (cases_lt u (length excess)) in
     let two = held-two s excess t u beyond.there in_s other (omega (arith, to_n, h.holders)) inside in
     omega (arith, two, x.holds, holds, h.balance s beyond.outside))
@@ -298,8 +281,8 @@ beyond_alone g ok entered excess toward t bound h from_one to_n positive holds n
     let whole : weight g (either (single t) rest) ≡ weight g s =
     weight-agree g ok (either (single t) rest) s (λ u a b. rejoined (s u) (eqb t u) (λ q. ap s (sym (eqb-true t u q)) ∙ beyond.there)) in
     let at_t : HasVertex g.vertices (single t) = record { vertex = t; from_one = from_one; to_n = to_n; is_in = eq-eqb t t refl } in
-    let off_t : HasVertex g.vertices (complement (single t)) = record { vertex = v; from_one = v_from; to_n = v_to; is_in = not_false (eqb t v) apart_v } in
-    let at_rest : HasVertex g.vertices rest = record { vertex = v; from_one = v_from; to_n = v_to; is_in = both_true (s v) (eqb t v) there apart_v } in
+    let off_t : HasVertex g.vertices (complement (single t)) = record { vertex = v; from_one = v_from; to_n = v_to; is_in = not_from_false (eqb t v) apart_v } in
+    let at_rest : HasVertex g.vertices rest = record { vertex = v; from_one = v_from; to_n = v_to; is_in = in_minus (s v) (eqb t v) there apart_v } in
     let off_rest : HasVertex g.vertices (complement rest) = record { vertex = t; from_one = from_one; to_n = to_n; is_in = not_and (s t) (eqb t t) (eq-eqb t t refl) } in
     let first = none_below (single t) (record { some_in = at_t; some_out = off_t }) in
     let second = none_below rest (record { some_in = at_rest; some_out = off_rest }) in

@@ -1,5 +1,5 @@
 -- The tree of a search: its root, one vertex more, and what it says of closed sets.
-use Rattle.std.proofs.Common.{◌≡◌, ℕ, zero, suc, ◌+◌, ◌-◌, ◌*◌, ◌<◌, ◌≤◌, ⊎_elim, Bool, true, eqb, ltb, List, [], ◌∷◌, set, length, get_or, refl, sym, subst, ap, arith}
+use Rattle.std.proofs.Common.{◌≡◌, ℕ, zero, suc, ◌+◌, ◌-◌, ◌*◌, ◌<◌, ◌≤◌, ⊎_elim, Bool, true, eqb, List, [], ◌∷◌, set, length, get_or, refl, sym, subst, ap, arith}
 use Rattle.std.specs.Prelude.{◌≢◌, if◌then◌else◌}
 use Rattle.std.proofs.lemmas.Bool.{cases_eq, cases_lt}
 use Rattle.std.proofs.lemmas.Bool.Decides.{nat_tests}
@@ -7,6 +7,7 @@ use Rattle.std.proofs.lemmas.List.{get_or-set_same, get_or-set_other, length-set
 use Rattle.std.proofs.lemmas.List.Sums.{sum_by-set, sum_by-cons}
 use Rattle.cut_definitions.specs.Graph.{Graph, IsGraph}
 use Rattle.cut_definitions.specs.Weight.{VertexSet}
+use Rattle.cut_definitions.proofs.Numbers.{positive_yes, positive}
 use Rattle.max_flow.specs.declared.search.Step.{Step}
 use Rattle.max_flow.specs.Residual.{out, edge_of}
 use Rattle.max_flow.specs.Closed.{IsClosed}
@@ -151,20 +152,12 @@ reached_below g toward marks steps count h n side z first (suc fuel) (suc i) l k
     rw (← p.0) (along_leaves_back (side e.u) (side e.v) (get_or toward st.edge 0) e.w st.bottleneck none r.some p.2 (rw p.1 before)))
     r.along
 
--- a vertex that was seen has a mark
-seen_above : (m : ℕ) → ltb 0 m ≡ true → 0 < m
-seen_above m h = grind (arith, nat_tests)
-
--- and the other way round
-pub above_seen : (m : ℕ) → 0 < m → ltb 0 m ≡ true
-above_seen m h = grind (arith, nat_tests)
-
 -- every closed set with the first vertex has every vertex that was seen
 pub seen_least : (g : Graph) → IsGraph g → (toward marks : List ℕ) (steps : List Step) (count : ℕ) → IsTree g toward marks steps count →
     length toward ≡ length g.edges → (side : VertexSet) → IsClosed g toward side → side (step_at steps 0).vertex ≡ true →
     (v : ℕ) → seen marks v ≡ true → side v ≡ true
 seen_least g ok toward marks steps count h n side closed first v s =
-    let p = seen_above (mark_of marks v) s in
+    let p = positive (mark_of marks v) s in
     let at = h.marking.stands v p in
     let most = h.marking.at_most v p in
     rw (← at) (reached_below g toward marks steps count h n side (out_none-from_closed g ok toward n side closed) first
@@ -174,9 +167,9 @@ seen_least g ok toward marks steps count h n side closed first v s =
 pub seen_closed : (g : Graph) (toward marks : List ℕ) (steps : List Step) (count : ℕ) → IsTree g toward marks steps count →
     ((j : ℕ) → j < count → IsExpanded g toward marks (step_at steps j).vertex) → IsClosed g toward (seen marks)
 seen_closed g toward marks steps count h done v one to_n s =
-    let p = seen_above (mark_of marks v) s in
+    let p = positive (mark_of marks v) s in
     let at = h.marking.stands v p in
     let most = h.marking.at_most v p in
     let all = done (mark_of marks v - 1) (omega arith) in
     let here : IsExpanded g toward marks v = subst (λ (u : ℕ). IsExpanded g toward marks u) at all in
-    λ k d l q. above_seen _ (here k d l q)
+    λ k d l q. positive_yes _ (here k d l q)

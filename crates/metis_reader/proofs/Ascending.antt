@@ -3,9 +3,7 @@ use Rattle.std.proofs.Common.{◌≡◌, ◌≤◌, ◌<◌, ◌-◌, ◌+◌, �
 use Rattle.std.specs.List.{AllPairs}
 use Rattle.cut_definitions.specs.declared.edge_list.Edge.{Edge}
 use Rattle.cut_definitions.specs.Graph.{IsBefore}
-
-IsBefore-trans : (c d e : Edge) → IsBefore c d → IsBefore d e → IsBefore c e
-IsBefore-trans c d e p q = grind arith
+use Rattle.cut_definitions.proofs.Ascending.{IsBefore-trans}
 
 -- each edge of these comes after the one before it
 abbrev pub AscendsBelow : List Edge → ℕ → Type 0

@@ -2,7 +2,7 @@
 use Rattle.std.proofs.Common.{◌≡◌, ◌≤◌, ◌<◌, ◌+◌, ℕ, Bool, true, false, not, List, [], ◌∷◌, map, reverse, arith, inl, inr, subst, sym, ap, refl, ◌∙◌}
 use Rattle.std.specs.Prelude.{nat_lt, ◌==◌, ◌&&◌, if◌then◌else◌}
 use Rattle.std.specs.List.{Contains, filter, list_any}
-use Rattle.std.proofs.lemmas.Bool.{cases_Bool}
+use Rattle.std.proofs.lemmas.Bool.{cases_Bool, not-true, not_from_false, not_from_true}
 use Rattle.std.proofs.lemmas.Bool.Decides.{nat_tests}
 use Rattle.std.proofs.lemmas.List.Sorted.{IsPermutation-reverse, IsPermutation-sym, Contains-permutation}
 use Rattle.cut_definitions.specs.declared.edge_list.Edge.{Edge}
@@ -176,12 +176,6 @@ entries_repeat x all (inr h) =
 
 -- Mates.
 
-not_true_false : (b : Bool) → b ≡ true → not b ≡ false
-not_true_false b h = rw h refl
-
-not_false_true : (b : Bool) → b ≡ false → not b ≡ true
-not_false_true b h = rw h refl
-
 mate_of : (e d : Entry) → d.from ≡ e.to → d.to ≡ e.from → d.weight ≡ e.weight → is_mate e d ≡ true
 mate_of e d p q r = grind (arith, nat_tests)
 
@@ -189,11 +183,11 @@ mate_from : (e d : Entry) → is_mate e d ≡ true → (d.from ≡ e.to) × (d.t
 mate_from e d h = (grind (arith, nat_tests), grind (arith, nat_tests), grind (arith, nat_tests))
 
 has_mate : (all : List Entry) (e d : Entry) → Contains all d → d.from ≡ e.to → d.to ≡ e.from → d.weight ≡ e.weight → lacks_mate all e ≡ false
-has_mate all e d has p q r = not_true_false (list_any (is_mate e) all) (any_true (is_mate e) all d has (mate_of e d p q r))
+has_mate all e d has p q r = not_from_true (list_any (is_mate e) all) (any_true (is_mate e) all d has (mate_of e d p q r))
 
 no_mate : (all : List Entry) (e : Entry) → ((d : Entry) → Contains all d → d.from ≡ e.to → d.to ≡ e.from → d.weight ≡ e.weight → ⊥) → lacks_mate all e ≡ true
 no_mate all e none =
-    not_false_true (list_any (is_mate e) all) (any_false (is_mate e) all (λ d has.
+    not_from_false (list_any (is_mate e) all) (any_false (is_mate e) all (λ d has.
     elim (cases_Bool (is_mate e d)) [ inl t ↦ let m = mate_from e d t in absurd (none d has m.0 m.1 m.2) | inr f ↦ f ]))
 
 pub up_has : (all : List Entry) (e : Entry) → Contains all e → is_upward e ≡ true → Contains (upward all) (edge_of e)
@@ -202,7 +196,7 @@ up_has all e has up = Contains-map edge_of (filter is_upward all) e (Contains-fi
 down_has : (all : List Entry) (e : Entry) → Contains all e → is_upward e ≡ false → Contains (reverse (downward all)) (mirrored e)
 down_has all e has down =
     Contains-permutation (downward all) (reverse (downward all)) (mirrored e) (IsPermutation-reverse (downward all))
-    (Contains-map mirrored (filter is_downward all) e (Contains-filter is_downward all e has (not_false_true (is_upward e) down)))
+    (Contains-map mirrored (filter is_downward all) e (Contains-filter is_downward all e has (not_from_false (is_upward e) down)))
 
 pub up_from : (all : List Entry) (f : Edge) → Contains (upward all) f → (e : Entry) × Contains all e × (is_upward e ≡ true) × (edge_of e ≡ f)
 up_from all f has =
@@ -210,16 +204,12 @@ up_from all f has =
     let k = Contains-from_filter is_upward all m.0 m.1 in
     (m.0, k.0, k.1, m.2)
 
-not_not : (b : Bool) → not b ≡ true → b ≡ false
-not_not true h = sym h
-not_not false h = refl
-
 down_from : (all : List Entry) (f : Edge) → Contains (reverse (downward all)) f → (e : Entry) × Contains all e × (is_upward e ≡ false) × (mirrored e ≡ f)
 down_from all f has =
     let has' = Contains-permutation (reverse (downward all)) (downward all) f (IsPermutation-sym (downward all) (reverse (downward all)) (IsPermutation-reverse (downward all))) has in
     let m = Contains-from_map mirrored (filter is_downward all) f has' in
     let k = Contains-from_filter is_downward all m.0 m.1 in
-    (m.0, k.0, not_not (is_upward m.0) k.1, m.2)
+    (m.0, k.0, not-true (is_upward m.0) k.1, m.2)
 
 edge_is : (f : Edge) (u v w : ℕ) → f.u ≡ u → f.v ≡ v → f.w ≡ w → record { u = u; v = v; w = w } ≡ f
 edge_is f u v w p q r = rw (← p, ← q, ← r) refl

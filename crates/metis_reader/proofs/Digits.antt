@@ -1,9 +1,9 @@
 -- Digits that lengthen a word.
-use Rattle.std.proofs.Common.{◌≡◌, ◌≤◌, ◌<◌, ◌-◌, ◌+◌, ◌*◌, ◌^◌, ℕ, suc, true, false, List, [], ◌∷◌, ◌++◌, length, take, drop, get_or, fold, min, arith, append_assoc, length-append, subst, sym, ap, refl, ◌∙◌}
+use Rattle.std.proofs.Common.{◌≡◌, ◌≤◌, ◌<◌, ◌-◌, ◌+◌, ◌*◌, ◌^◌, ℕ, suc, true, false, List, [], ◌∷◌, ◌++◌, length, get_or, fold, min, arith, append_assoc, length-append, subst, sym, ap, refl, ◌∙◌}
 use Rattle.std.specs.Prelude.{◌==◌, ◌&&◌, nat_lt}
 use Rattle.std.specs.List.{list_all}
 use Rattle.std.specs.Char.{is_ascii_digit}
-use Rattle.std.proofs.lemmas.Bool.{and_parts, and_from}
+use Rattle.std.proofs.lemmas.Bool.{and_parts, and_from, lt-ltb}
 use Rattle.std.proofs.lemmas.Bool.Decides.{nat_tests}
 use Rattle.std.proofs.lemmas.Grind.{common_steps}
 use Rattle.std.proofs.lemmas.List.{append-nil}
@@ -19,7 +19,7 @@ use Rattle.metis_reader.specs.Machine.{State}
 use Rattle.metis_reader.specs.Reading.{Reading, byte_findings, byte_findings_by, after_byte, after_byte_by, bytes_findings, reading_from}
 use Rattle.metis_reader.specs.Shown.{Shows}
 use Rattle.metis_reader.specs.Holding.{Holds}
-use Rattle.metis_reader.proofs.Runs.{run, run_next}
+use Rattle.metis_reader.proofs.Runs.{run, run_next, run_none}
 
 abbrev pub more_digit : ℕ → ℕ → ℕ
 more_digit n d = n * 10 + (d - 48)
@@ -30,9 +30,6 @@ pub record AreDigits (bytes : List ℕ) (from end start now : ℕ) : Type 0 wher
   pub high : end ≤ length bytes
   pub digits : list_all is_digit (run from end bytes) ≡ true
   pub value : now ≡ fold more_digit start (run from end bytes)
-
-no_run : (from : ℕ) (bytes : List ℕ) → run from from bytes ≡ []
-no_run from bytes = let e : from - from ≡ 0 = omega arith in ap (λ n. take n (drop from bytes)) e
 
 pub run_length : (from end : ℕ) (bytes : List ℕ) → from ≤ end → end ≤ length bytes → length (run from end bytes) ≡ end - from
 run_length from end bytes le high = grind (arith, common_steps)
@@ -47,8 +44,8 @@ pub digits_none : (bytes : List ℕ) (from start : ℕ) → from ≤ length byte
 digits_none bytes from start le = record {
   low = omega arith;
   high = le;
-  digits = ap (λ xs. list_all is_digit xs) (no_run from bytes);
-  value = sym (ap (λ xs. fold more_digit start xs) (no_run from bytes));
+  digits = ap (λ xs. list_all is_digit xs) (run_none from bytes);
+  value = sym (ap (λ xs. fold more_digit start xs) (run_none from bytes));
 }
 
 pub digits_more : (bytes : List ℕ) (from end start value : ℕ) → end < length bytes → is_digit (get_or bytes end 0) ≡ true → AreDigits bytes from end start value
@@ -64,9 +61,6 @@ digits_more bytes from end start value lt digit h =
       value = ap (λ n. n * 10 + (b - 48)) h.value ∙ sym (fold-append more_digit start (run from end bytes) (b ∷ [])) ∙ sym (ap (λ xs. fold more_digit start xs) next);
     }
 
-less_true : (a b : ℕ) → a < b → nat_lt a b ≡ true
-less_true a b lt = grind (arith, nat_tests)
-
 -- the word with them
 pub word_digits : (word longer : Word) (bytes digits : List ℕ) → word.is_number ≡ true → IsWord word bytes → list_all is_digit digits ≡ true → longer.is_number ≡ true
     → longer.value ≡ fold more_digit word.value digits → longer.value < 2 ^ 64 → longer.length ≡ min (word.length + length digits) 255 → IsWord longer (bytes ++ digits)
@@ -75,7 +69,7 @@ word_digits word longer bytes digits number is all longer_number value fits len 
     let old : word.value ≡ decimal bytes = is.value number in
     let whole : longer.value ≡ decimal (bytes ++ digits) = value ∙ ap (λ n. fold more_digit n digits) old ∙ sym (fold-append more_digit 0 bytes digits) in
     let every : list_all is_digit (bytes ++ digits) ≡ true = list_all-append is_digit bytes digits ∙ and_from (list_all is_digit bytes) (list_all is_digit digits) so_far.0 all in
-    let below : nat_lt (decimal (bytes ++ digits)) (2 ^ 64) ≡ true = subst (λ n. nat_lt n (2 ^ 64) ≡ true) whole (less_true longer.value (2 ^ 64) fits) in
+    let below : nat_lt (decimal (bytes ++ digits)) (2 ^ 64) ≡ true = subst (λ n. nat_lt n (2 ^ 64) ≡ true) whole (lt-ltb longer.value (2 ^ 64) fits) in
     let was : word.length ≡ min (length bytes) 255 = is.length in
     record {
       length = omega (arith, length-append bytes digits);

@@ -4,14 +4,15 @@ use Rattle.std.specs.Prelude.{if◌then◌else◌}
 use Rattle.std.specs.List.{AllPairs, All, Contains, filter, flat_map, range_with_len}
 use Rattle.std.specs.List.Sorted.{IsPermutation}
 use Rattle.std.proofs.lemmas.Bool.{cases_lt, cases_Bool}
-use Rattle.std.proofs.lemmas.List.Elements.{All-contains}
+use Rattle.std.proofs.lemmas.List.Elements.{All-contains, Contains-append_left, Contains-append_right, Contains-append_cases}
 use Rattle.std.proofs.lemmas.List.Sorted.{IsPermutation-sym, Contains-permutation}
 use Rattle.cut_definitions.specs.declared.edge_list.Edge.{Edge}
 use Rattle.cut_definitions.specs.Graph.{IsBefore, IsEdgeWithin}
 use Rattle.cut_definitions.proofs.Lists.{Contains-here, Contains-there, Contains-cons_cases, Contains-nil, Contains-map, Contains-filter, Contains-from_filter, Contains-from_map}
+use Rattle.cut_definitions.proofs.Ascending.{IsBefore-irreflexive}
 use Rattle.metis_reader.specs.Profile.{Entry}
 use Rattle.metis_reader.specs.File.{edge_of, edges_of, is_from}
-use Rattle.metis_reader.proofs.Rows.{contains_left, contains_right, contains_cases, is_entry, entry_times, entry_cons, is_entry_from, is_entry_of}
+use Rattle.metis_reader.proofs.Rows.{is_entry, entry_times, entry_cons, is_entry_from, is_entry_of}
 use Rattle.metis_reader.proofs.BothKinds.{upward, up_has, up_from, up_true}
 
 -- each edge comes before all behind it
@@ -29,9 +30,6 @@ climbs_from (e ∷ es) up = (
 not_both : (d e : Edge) → IsBefore d e → IsBefore e d → ⊥
 not_both d e p q = grind arith
 
-not_itself : (e : Edge) → IsBefore e e → ⊥
-not_itself e p = grind arith
-
 -- two ascending lists with the same members are equal
 pub same_list : (xs ys : List Edge) → Climbs xs → Climbs ys → ((e : Edge) → Contains xs e → Contains ys e) → ((e : Edge) → Contains ys e → Contains xs e) → xs ≡ ys
 same_list [] [] cx cy there back = refl
@@ -43,14 +41,14 @@ same_list (x ∷ xs) (y ∷ ys) cx cy there back =
     (λ in_ys. ⊎_elim (λ e. e) (λ in_xs. absurd (not_both x y (cx.0 y in_xs) (cy.0 x in_ys))) (Contains-cons_cases x xs y (back y (Contains-here y ys))))
     (Contains-cons_cases y ys x (there x (Contains-here x xs))) in
     let tails : xs ≡ ys = same_list xs ys cx.1 cy.1
-    (λ e has. ⊎_elim (λ same. absurd (not_itself e (subst (λ z. IsBefore z e) (heads ∙ same) (cx.0 e has)))) (λ t. t) (Contains-cons_cases y ys e (there e (Contains-there x xs e has))))
-    (λ e has. ⊎_elim (λ same. absurd (not_itself e (subst (λ z. IsBefore z e) (sym heads ∙ same) (cy.0 e has)))) (λ t. t) (Contains-cons_cases x xs e (back e (Contains-there y ys e has)))) in
+    (λ e has. ⊎_elim (λ same. absurd (IsBefore-irreflexive e (subst (λ z. IsBefore z e) (heads ∙ same) (cx.0 e has)))) (λ t. t) (Contains-cons_cases y ys e (there e (Contains-there x xs e has))))
+    (λ e has. ⊎_elim (λ same. absurd (IsBefore-irreflexive e (subst (λ z. IsBefore z e) (sym heads ∙ same) (cy.0 e has)))) (λ t. t) (Contains-cons_cases x xs e (back e (Contains-there y ys e has)))) in
     ap (λ z. z ∷ xs) heads ∙ ap (λ zs. y ∷ zs) tails
 
 climbs_append : (xs ys : List Edge) → Climbs xs → Climbs ys → ((d e : Edge) → Contains xs d → Contains ys e → IsBefore d e) → Climbs (xs ++ ys)
 climbs_append [] ys cx cy cross = cy
 climbs_append (x ∷ xs) ys cx cy cross = (
-  λ f has. ⊎_elim (λ l. cx.0 f l) (λ r. cross x f (Contains-here x xs) r) (contains_cases xs ys f has),
+  λ f has. ⊎_elim (λ l. cx.0 f l) (λ r. cross x f (Contains-here x xs) r) (Contains-append_cases xs ys f has),
   climbs_append xs ys cx.1 cy (λ d e has has'. cross d e (Contains-there x xs d has) has'),
 )
 
@@ -99,16 +97,16 @@ in_row all u a (suc n) f has =
     ⊎_elim
     (λ l. let c = in_cell all u a f l in let to : c.0.to ≡ a = c.3 in (c.0, c.1, c.2, omega arith, omega arith, c.4))
     (λ r. let c = in_row all u (a + 1) n f r in let low : a + 1 ≤ c.0.to = c.3 in let high : c.0.to < a + 1 + n = c.4 in (c.0, c.1, c.2, omega arith, omega arith, c.5))
-    (contains_cases (cell all u a) (row all u (a + 1) n) f has)
+    (Contains-append_cases (cell all u a) (row all u (a + 1) n) f has)
 
 to_row : (all : List Entry) (e : Entry) (a n : ℕ) → Contains all e → a ≤ e.to → e.to < a + n → Contains (row all e.from a n) (edge_of e)
 to_row all e a zero has low high = absurd (omega arith)
 to_row all e a (suc n) has low high =
     elim (cases_lt a e.to) [
-      | inl later ↦ contains_right (cell all e.from a) (row all e.from (a + 1) n) (edge_of e) (to_row all e (a + 1) n has (omega arith) (omega arith))
+      | inl later ↦ Contains-append_right (cell all e.from a) (row all e.from (a + 1) n) (edge_of e) (to_row all e (a + 1) n has (omega arith) (omega arith))
       | inr now ↦
           let same : e.to ≡ a = omega arith in
-          contains_left (cell all e.from a) (row all e.from (a + 1) n) (edge_of e) (subst (λ v. Contains (cell all e.from v) (edge_of e)) same (to_cell all e has))
+          Contains-append_left (cell all e.from a) (row all e.from (a + 1) n) (edge_of e) (subst (λ v. Contains (cell all e.from v) (edge_of e)) same (to_cell all e has))
     ]
 
 before_by : (d e : Entry) (f g : Edge) → edge_of d ≡ f → edge_of e ≡ g → (d.from < e.from) ⊎ ((d.from ≡ e.from) × (d.to < e.to)) → IsBefore f g
@@ -138,16 +136,16 @@ in_rows all n b (suc k) f has =
     ⊎_elim
     (λ l. let c = in_row all b (suc b) (n - b) f l in let from : c.0.from ≡ b = c.2 in let low : suc b ≤ c.0.to = c.3 in (c.0, c.1, omega arith, omega arith, c.5))
     (λ r. let c = in_rows all n (b + 1) k f r in let low : b + 1 ≤ c.0.from = c.2 in (c.0, c.1, omega arith, c.3, c.4))
-    (contains_cases (row all b (suc b) (n - b)) (rows all n (b + 1) k) f has)
+    (Contains-append_cases (row all b (suc b) (n - b)) (rows all n (b + 1) k) f has)
 
 to_rows : (all : List Entry) (n b k : ℕ) (e : Entry) → Contains all e → b ≤ e.from → e.from < b + k → e.from < e.to → e.to ≤ n → Contains (rows all n b k) (edge_of e)
 to_rows all n b zero e has low high up within = absurd (omega arith)
 to_rows all n b (suc k) e has low high up within =
     elim (cases_lt b e.from) [
-      | inl later ↦ contains_right (row all b (suc b) (n - b)) (rows all n (b + 1) k) (edge_of e) (to_rows all n (b + 1) k e has (omega arith) (omega arith) up within)
+      | inl later ↦ Contains-append_right (row all b (suc b) (n - b)) (rows all n (b + 1) k) (edge_of e) (to_rows all n (b + 1) k e has (omega arith) (omega arith) up within)
       | inr now ↦
           let same : e.from ≡ b = omega arith in
-          contains_left (row all b (suc b) (n - b)) (rows all n (b + 1) k) (edge_of e)
+          Contains-append_left (row all b (suc b) (n - b)) (rows all n (b + 1) k) (edge_of e)
           (subst (λ u. Contains (row all u (suc b) (n - b)) (edge_of e)) same (to_row all e (suc b) (n - b) has (omega arith) (omega arith)))
     ]
 

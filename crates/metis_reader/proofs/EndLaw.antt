@@ -2,8 +2,7 @@
 use Rattle.std.proofs.Common.{◌≡◌, ◌≤◌, ◌<◌, ◌*◌, ◌+◌, ℕ, Bool, true, false, List, [], ◌∷◌, ◌++◌, length, reverse, arith, inl, inr, ap, refl, ◌∙◌}
 use Rattle.std.specs.Prelude.{nat_lt}
 use Rattle.std.specs.List.{All, Contains}
-use Rattle.std.proofs.lemmas.Bool.{cases_Bool}
-use Rattle.std.proofs.lemmas.Bool.Decides.{nat_tests}
+use Rattle.std.proofs.lemmas.Bool.{cases_Bool, lt-ltb, le-ltb}
 use Rattle.std.proofs.lemmas.List.Elements.{All-contains}
 use Rattle.cut_definitions.specs.declared.edge_list.Edge.{Edge}
 use Rattle.cut_definitions.specs.Graph.{IsEdgeWithin}
@@ -21,12 +20,6 @@ use Rattle.metis_reader.proofs.BothKinds.{upward, downward, entries_once, entrie
 
 fault : FaultKind → ℕ → Fault
 fault kind line = record { kind = kind; line = line }
-
-lt_true : (a b : ℕ) → a < b → nat_lt a b ≡ true
-lt_true a b h = grind (arith, nat_tests)
-
-lt_false : (a b : ℕ) → b ≤ a → nat_lt a b ≡ false
-lt_false a b h = grind (arith, nat_tests)
 
 -- the four tests
 abbrev ending : Bool → Bool → List Finding → List Finding → ℕ → ℕ → List Finding
@@ -52,7 +45,7 @@ pub end_missing : (header : Header) (end count : ℕ) (vs : List VertexLine) →
 end_missing header end count vs h = (
   record { kind = MissingLines; place = end; line = count },
   found_at end count (where_true (nat_lt (length (all_entries vs)) (2 * header.edges)) TooFewEntries) ++ repeated end vs ++ unsymmetric end vs,
-  ending_is header end count vs true (nat_lt (length (all_entries vs)) (2 * header.edges)) (repeated end vs) (unsymmetric end vs) (lt_true (length vs) header.vertices h) refl refl refl,
+  ending_is header end count vs true (nat_lt (length (all_entries vs)) (2 * header.edges)) (repeated end vs) (unsymmetric end vs) (lt-ltb (length vs) header.vertices h) refl refl refl,
   refl,
 )
 
@@ -61,7 +54,7 @@ pub end_few : (header : Header) (end count : ℕ) (vs : List VertexLine) → hea
 end_few header end count vs all h = (
   record { kind = TooFewEntries; place = end; line = count },
   repeated end vs ++ unsymmetric end vs,
-  ending_is header end count vs false true (repeated end vs) (unsymmetric end vs) (lt_false (length vs) header.vertices all) (lt_true (length (all_entries vs)) (2 * header.edges) h) refl refl,
+  ending_is header end count vs false true (repeated end vs) (unsymmetric end vs) (le-ltb (length vs) header.vertices all) (lt-ltb (length (all_entries vs)) (2 * header.edges) h) refl refl,
   refl,
 )
 
@@ -78,8 +71,8 @@ end_mismatch header end count x Repeated vs lines entries rows proper one h =
     repeat_some Repeated end 1 x twice.0 vs rows one twice.1 (λ y t lt. entries_once y all (h.1 y lt) t) in (
       record { kind = Repeated; place = end; line = line_of_vertex 1 x vs },
       unsymmetric end vs,
-      ending_is header end count vs false false (told Repeated end (line_of_vertex 1 x vs)) (unsymmetric end vs) (lt_false (length vs) header.vertices lines)
-          (lt_false (length all) (2 * header.edges) entries) found refl,
+      ending_is header end count vs false false (told Repeated end (line_of_vertex 1 x vs)) (unsymmetric end vs) (le-ltb (length vs) header.vertices lines)
+          (le-ltb (length all) (2 * header.edges) entries) found refl,
       refl,
     )
 end_mismatch header end count x Unsymmetric vs lines entries rows proper one h =
@@ -91,8 +84,8 @@ end_mismatch header end count x Unsymmetric vs lines entries rows proper one h =
     (λ d has lt. entries_matched d.from all (h.1 d.from lt) d has refl) in (
       record { kind = Unsymmetric; place = end; line = line_of_vertex 1 x vs },
       [],
-      ending_is header end count vs false false [] (told Unsymmetric end (line_of_vertex 1 x vs)) (lt_false (length vs) header.vertices lines)
-          (lt_false (length all) (2 * header.edges) entries) once found,
+      ending_is header end count vs false false [] (told Unsymmetric end (line_of_vertex 1 x vs)) (le-ltb (length vs) header.vertices lines)
+          (le-ltb (length all) (2 * header.edges) entries) once found,
       refl,
     )
 end_mismatch header end count x _ vs lines entries rows proper one h = absurd h
@@ -102,7 +95,7 @@ pub end_none : (header : Header) (end count : ℕ) (vs : List VertexLine) → he
     → ((y : ℕ) → IsMatchedAt y (upward (all_entries vs)) (reverse (downward (all_entries vs)))) → end_findings header end count vs ≡ []
 end_none header end count vs lines entries rows once matched =
     let all : List Entry = all_entries vs in
-    ending_is header end count vs false false [] [] (lt_false (length vs) header.vertices lines) (lt_false (length all) (2 * header.edges) entries)
+    ending_is header end count vs false false [] [] (le-ltb (length vs) header.vertices lines) (le-ltb (length all) (2 * header.edges) entries)
     (repeat_none Repeated end 1 vs rows (λ y t. entries_once y all (once y) t))
     (any_none (lacks_mate all) Unsymmetric end vs (λ e has. entries_matched e.from all (matched e.from) e has refl))
 

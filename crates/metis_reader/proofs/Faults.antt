@@ -1,10 +1,11 @@
 -- Which fault of a neighbour is the first.
-use Rattle.std.proofs.Common.{◌≡◌, ◌≢◌, ◌<◌, ◌≤◌, ◌⊎◌, ℕ, suc, Bool, true, false, ◌||◌, List, [], ◌∷◌, ◌++◌, length, map, ◌+◌, not, refl, ap, sym, ◌∙◌, arith}
-use Rattle.std.specs.Prelude.{◌==◌, nat_lt, nat_le}
+use Rattle.std.proofs.Common.{◌≡◌, ◌≢◌, ◌<◌, ◌≤◌, ◌⊎◌, ℕ, suc, Bool, true, false, ◌||◌, List, [], ◌++◌, length, map, ◌+◌, not, refl, ap, sym, ◌∙◌, arith}
+use Rattle.std.specs.Prelude.{◌==◌, nat_lt}
 use Rattle.std.specs.List.Sorted.{IsPermutation}
 use Rattle.std.proofs.lemmas.List.Sorted.{length_permutation}
 use Rattle.std.specs.List.{filter}
 use Rattle.std.proofs.lemmas.Bool.Decides.{nat_tests}
+use Rattle.cut_definitions.proofs.ListLaws.{mapped_length}
 use Rattle.metis_reader.specs.declared.fault.FaultKind.{FaultKind}
 use Rattle.metis_reader.specs.declared.fault.FaultKind.TheVariants.{TooManyEntries, NeighbourRange, SelfLoop}
 use Rattle.metis_reader.specs.declared.body.Body.{Body}
@@ -30,33 +31,17 @@ self_loop w a b c e f g t = rw (e, f, g, t) ([], refl)
 pub no_fault : (w : List FaultKind) (a b c : Bool) → w ≡ [] → a ≡ false → b ≡ false → c ≡ false → faults_of w a b c ≡ []
 no_fault w a b c e f g h = rw (e, f, g, h) refl
 
-pub le_true : (a b : ℕ) → a ≤ b → nat_le a b ≡ true
-le_true a b h = grind (arith, nat_tests)
-
-pub le_false : (a b : ℕ) → b < a → nat_le a b ≡ false
-le_false a b h = grind (arith, nat_tests)
-
 pub outside : (v n : ℕ) → (v ≡ 0) ⊎ (n < v) → (v == 0 || nat_lt n v) ≡ true
 outside v n h = grind (arith, nat_tests)
 
 pub inside : (v n : ℕ) → v ≢ 0 → v ≤ n → (v == 0 || nat_lt n v) ≡ false
 inside v n h k = grind (arith, nat_tests)
 
-pub eq_true : (a b : ℕ) → a ≡ b → (a == b) ≡ true
-eq_true a b h = grind (arith, nat_tests)
-
-pub eq_false : (a b : ℕ) → a ≢ b → (a == b) ≡ false
-eq_false a b h = grind (arith, nat_tests)
-
 pub record Sizes (b : Body) (header : Header) (done : List VertexLine) (all : List Entry) : Type 0 where
   pub vertices : header.vertices ≡ b.header.vertices
   pub edges : header.edges ≡ b.header.edges
   pub entries : length all ≡ entry_count b
   pub vertex : vertex done ≡ vertex_of b
-
-length_map : {A B : Type 0} (f : A → B) (xs : List A) → length (map f xs) ≡ length xs
-length_map f [] = refl
-length_map f (x ∷ xs) = ap (λ n. suc n) (length_map f xs)
 
 -- the body has as many entries as were read
 kept_entries : (b : Body) (all : List Entry) → IsPermutation (map edge_of (filter is_upward all)) (greater_of b)
@@ -73,5 +58,5 @@ sizes b header done all shows = record {
   vertices = sym (ap (λ (h : Header). h.vertices) shows.same_header);
   edges = sym (ap (λ (h : Header). h.edges) shows.same_header);
   entries = kept_entries b all shows.greater shows.lesser;
-  vertex = ap (λ n. suc n) (sym (ap length shows.numbers ∙ length_map _ done));
+  vertex = ap (λ n. suc n) (sym (ap length shows.numbers ∙ mapped_length _ done));
 }

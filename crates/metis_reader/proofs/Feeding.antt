@@ -36,19 +36,16 @@ front_of bytes piece left e =
     let whole : length bytes + left ≡ 2 ^ 33 = omega arith in
     subst (λ n. take n (bytes ++ piece) ≡ bytes ++ take left piece) whole (take-append-add bytes piece left)
 
-has_header_more : (bytes more : List ℕ) → HasHeader bytes → HasHeader (bytes ++ more)
-has_header_more bytes more h = record {
+pub has_header_append : (bytes more : List ℕ) → HasHeader bytes → HasHeader (bytes ++ more)
+has_header_append bytes more h = record {
   before = h.before;
   behind = h.behind ++ more;
   parts = ap (λ bs. bs ++ more) h.parts ∙ append_assoc h.before (10 ∷ h.behind) more;
   header = h.header;
 }
 
-pub has_header_append : (bytes more : List ℕ) → HasHeader bytes → HasHeader (bytes ++ more)
-has_header_append = has_header_more
-
 header_ends_more : (bytes front rest : List ℕ) → HeaderEndsIn bytes front → HeaderEndsIn bytes (front ++ rest)
-header_ends_more bytes front rest h = (subst HasHeader (append_assoc bytes front rest) (has_header_more (bytes ++ front) rest h.0), h.1)
+header_ends_more bytes front rest h = (subst HasHeader (append_assoc bytes front rest) (has_header_append (bytes ++ front) rest h.0), h.1)
 
 -- a refusal in the part of the piece that is within the limit
 pub refused_within : (refusal : ReadRefusal) (bytes piece : List ℕ) (left : ℕ) → left + length bytes ≡ 2 ^ 33 → bytes_findings start bytes ≡ []

@@ -2,10 +2,9 @@
 use Rattle.std.proofs.Common.{◌≡◌, ◌<◌, ◌≤◌, ◌^◌, ◌-◌, ℕ, suc, ◌+◌, Bool, true, false, List, [], ◌∷◌, ◌++◌, length, take, drop, Option, None, Some, refl, ap, sym, ◌∙◌, subst, arith, append_assoc, inl, inr, length-append}
 use Rattle.std.specs.Prelude.{nat_lt, nat_le, if◌then◌else◌, Result, Ok, Err}
 use Rattle.std.specs.List.{filter}
-use Rattle.std.proofs.lemmas.Bool.{cases_Bool, cases_lt}
+use Rattle.std.proofs.lemmas.Bool.{cases_Bool, cases_lt, lt-ltb, le-ltb, le-leb, lt-leb}
 use Rattle.std.proofs.lemmas.List.{length-take, length-take-le, take_all, take-append-le, take-append-drop}
 use Rattle.std.proofs.Math.Seq.{take-append-add}
-use Rattle.std.proofs.lemmas.Bool.Decides.{nat_tests}
 use Rattle.metis_reader.specs.declared.fault.Fault.{Fault}
 use Rattle.metis_reader.specs.declared.fault.FaultKind.TheVariants.{InputTooLong}
 use Rattle.cut_definitions.specs.Graph.{Graph}
@@ -19,18 +18,6 @@ use Rattle.metis_reader.proofs.Places.{AllAt, AllFrom, from_append, from_at, fro
 
 take_drop : {X : Type 0} (n : ℕ) (xs : List X) → xs ≡ take n xs ++ drop n xs
 take_drop n xs = sym (take-append-drop n xs)
-
-lt_true : (a b : ℕ) → a < b → nat_lt a b ≡ true
-lt_true a b h = grind (arith, nat_tests)
-
-lt_false : (a b : ℕ) → b ≤ a → nat_lt a b ≡ false
-lt_false a b h = grind (arith, nat_tests)
-
-le_true : (a b : ℕ) → a ≤ b → nat_le a b ≡ true
-le_true a b h = grind (arith, nat_tests)
-
-le_false : (a b : ℕ) → b < a → nat_le a b ≡ false
-le_false a b h = grind (arith, nat_tests)
 
 -- the findings of a text, by a reading of it
 all_findings : (bytes : List ℕ) → findings bytes ≡ too_long bytes ++ (bytes_findings start bytes ++ input_end (reading_from start bytes))
@@ -117,7 +104,7 @@ fixed_is bytes o e = subst (λ o. elim (first (findings bytes)) [ Some f ↦ (if
 
 fixed_at : (bytes : List ℕ) (f : Finding) → first (findings bytes) ≡ Some f → f.place ≤ length bytes → fixed bytes ≡ Some (fault_of f)
 unfolding fixed_by
-fixed_at bytes f e le = fixed_is bytes (Some f) e ∙ (rw (le_true f.place (length bytes) le) refl)
+fixed_at bytes f e le = fixed_is bytes (Some f) e ∙ (rw (le-leb f.place (length bytes) le) refl)
 
 -- The first finding within the limit is the fixed fault.
 pub fixed_within : (bytes : List ℕ) (f : Finding) (others : List Finding) → bytes_findings start (take (2 ^ 33) bytes) ≡ f ∷ others → fixed bytes ≡ Some (fault_of f)
@@ -133,7 +120,7 @@ fixed_within bytes f others e =
 pub fixed_behind : (bytes : List ℕ) → 2 ^ 33 < length bytes → bytes_findings start (take (2 ^ 33) bytes) ≡ []
     → fixed bytes ≡ Some (too_long_at (take (2 ^ 33) bytes))
 fixed_behind bytes long e =
-    let test : nat_lt (2 ^ 33) (length bytes) ≡ true = lt_true (2 ^ 33) (length bytes) long in
+    let test : nat_lt (2 ^ 33) (length bytes) ≡ true = lt-ltb (2 ^ 33) (length bytes) long in
     fixed_at bytes (after_limit (2 ^ 33) (limit_line bytes))
     (first_of_findings bytes (Some (after_limit (2 ^ 33) (limit_line bytes)))
     (rw test (first_behind (take (2 ^ 33) bytes) (drop (2 ^ 33) bytes) (2 ^ 33) (limit_line bytes) (length-take-le (2 ^ 33) bytes (omega arith)) e)))
@@ -142,7 +129,7 @@ fixed_behind bytes long e =
 -- Within the limit, and with no finding yet, only the end of the input has faults.
 first_at_end : (bytes : List ℕ) → length bytes ≤ 2 ^ 33 → bytes_findings start bytes ≡ [] → first (findings bytes) ≡ first (input_end (reading_from start bytes))
 first_at_end bytes short e =
-    let test : nat_lt (2 ^ 33) (length bytes) ≡ false = lt_false (2 ^ 33) (length bytes) short in
+    let test : nat_lt (2 ^ 33) (length bytes) ≡ false = le-ltb (2 ^ 33) (length bytes) short in
     ap first (all_findings bytes ∙ ap (λ fs. too_long bytes ++ (fs ++ input_end (reading_from start bytes))) e)
     ∙ (rw test refl)
 
@@ -158,7 +145,7 @@ unfolding fixed_by
 none_fixed n fs None at same = refl
 none_fixed n fs (Some f) at same =
     let place : f.place ≡ suc n = at_first (suc n) fs f at same in
-    rw (le_false f.place n (omega arith)) refl
+    rw (lt-leb f.place n (omega arith)) refl
 
 pub none_within : (bytes : List ℕ) → length bytes ≤ 2 ^ 33 → bytes_findings start bytes ≡ [] → fixed bytes ≡ None
 none_within bytes short e =

@@ -1,6 +1,7 @@
 -- The state at the end of the input shows the graph of the file and the masses of its vertices.
 use Rattle.std.proofs.Common.{◌≡◌, ◌+◌, ℕ, zero, suc, Bool, true, false, List, [], ◌∷◌, ◌++◌, length, drop, refl, ap, sym, ◌∙◌, subst, append_assoc, arith}
 use Rattle.std.specs.List.{filter}
+use Rattle.cut_definitions.proofs.ListLaws.{append_none}
 use Rattle.metis_reader.specs.declared.line_part.LinePart.{LinePart}
 use Rattle.metis_reader.specs.declared.line_part.LinePart.TheVariants.{Start, Words, Comment}
 use Rattle.metis_reader.specs.Text.{Piece, Line, lines}
@@ -10,7 +11,7 @@ use Rattle.metis_reader.specs.Machine.{State, AtHeader, InLine, AtWeight, After,
 use Rattle.metis_reader.specs.Reading.{Reading, start, reading_from, input_end}
 use Rattle.metis_reader.specs.Ending.{FromVertex, RowsFrom, graph_shown, IsLineStart, shown_by, state_graph, state_masses, last_line, end_state, line_count}
 use Rattle.metis_reader.proofs.Masses.{mass_from, masses_read}
-use Rattle.metis_reader.proofs.MachineLaw.{append_none, seen_words, after_vertex_line, after_whole_line, still_after, vertex_push}
+use Rattle.metis_reader.proofs.MachineLaw.{seen_words, after_vertex_line, after_whole_line, still_after, vertex_push}
 use Rattle.metis_reader.proofs.StateLaw.{lines_state, state_law}
 
 -- Each line's entries are those of its vertex.

@@ -3,7 +3,9 @@ use Rattle.std.proofs.Common.{◌≡◌, ◌<◌, ◌≤◌, ℕ, zero, suc, ◌
 use Rattle.std.specs.Prelude.{if◌then◌else◌}
 use Rattle.std.specs.List.Sorted.{IsPermutation}
 use Rattle.std.proofs.lemmas.List.Sorted.{IsPermutation-refl}
+use Rattle.std.proofs.lemmas.Bool.{le-leb, lt-leb}
 use Rattle.cut_definitions.specs.declared.edge_list.Edge.{Edge}
+use Rattle.cut_definitions.proofs.ListLaws.{append_none}
 use Rattle.metis_reader.specs.declared.header.Header as kept
 use Rattle.metis_reader.specs.declared.body.Body.{Body}
 use Rattle.metis_reader.specs.declared.due.Due.TheVariants.{NoWord}
@@ -14,8 +16,8 @@ use Rattle.metis_reader.specs.Machine.{at_line, before, end_vertex}
 use Rattle.metis_reader.specs.Dues.{after_leading_of}
 use Rattle.metis_reader.specs.Bodies.{greater_of, lesser_of, first_due_of, header_view, leading_of, sizes_of}
 use Rattle.metis_reader.specs.Shown.{BodyShows, HeaderShows, Keeps, due_of}
-use Rattle.metis_reader.proofs.Faults.{le_true, le_false, Sizes, sizes}
-use Rattle.metis_reader.proofs.MachineLaw.{append_none, all_entries-push}
+use Rattle.metis_reader.proofs.Faults.{Sizes, sizes}
+use Rattle.metis_reader.proofs.MachineLaw.{all_entries-push}
 
 leading_is : (s t f g : Bool) (w ws : ℕ) → s ≡ t → f ≡ g → w ≡ (if f then ws else 1) → (if s then 1 else 0) + (if f then w else 0) ≡ (if t then 1 else 0) + (if g then ws else 0)
 leading_is s t true g w ws e e' h = rw (← e) (rw (← e') (ap (λ n. (if s then 1 else 0) + n) h))
@@ -34,10 +36,10 @@ header_is h seen shows =
     shows.flags.edges
 
 due_all : (b : Body) → b.header.vertices ≤ length b.numbers.items → first_due_of b ≡ NoWord
-due_all b h = rw (le_true _ _ h) refl
+due_all b h = rw (le-leb _ _ h) refl
 
 due_more : (b : Body) → length b.numbers.items < b.header.vertices → first_due_of b ≡ after_leading_of (leading_of b.header)
-due_more b h = rw (le_false _ _ h) refl
+due_more b h = rw (lt-leb _ _ h) refl
 
 pub line_starts : (h : kept.Header) (b : Body) (header : Header) (done : List VertexLine) (left : ℕ)
     → BodyShows b header done (before done []) → length done + left ≡ header.vertices → b.mass ≡ 1

@@ -2,16 +2,13 @@
 use Rattle.std.proofs.Common.{◌≡◌, ℕ, zero, suc, Bool, true, false, List, [], ◌∷◌, ◌++◌, length, drop, refl, ap, sym, ◌∙◌, append_assoc, arith, nat_lt}
 use Rattle.std.proofs.lemmas.Grind.{common_steps}
 use Rattle.std.proofs.lemmas.Bool.Decides.{nat_tests}
+use Rattle.cut_definitions.proofs.ListLaws.{append_none}
 use Rattle.metis_reader.specs.declared.fault.FaultKind.TheVariants.{HeaderWords, TooManyVertices, TooManyEdges}
 use Rattle.metis_reader.specs.Text.{Piece, Line}
 use Rattle.metis_reader.specs.Profile.{Finding, Header, Entry, found_at, where_true, value, entries, line_entries, first_weight, header_of, header_judges, format_of, count_faults, format_faults, weights_faults, has_flag, judged, vertex_findings, entry_findings, not_a_number, extra_words, extra_findings, neighbour_faults, edge_weight_faults}
 use Rattle.metis_reader.specs.File.{VertexLine, all_entries, vertex_lines, body_findings, end_findings, file_findings, from_header}
 use Rattle.metis_reader.specs.Machine.{State, AtHeader, InLine, After, vertex, before, after_neighbour, with_entry, with_mass, word_faults, line_faults, after_line, at_line, end_vertex, line_state, line_findings, lines_findings}
 use Rattle.metis_reader.proofs.Masses.{mass_from, first_mass}
-
-pub append_none : {X : Type 0} (xs : List X) → xs ++ [] ≡ xs
-append_none [] = refl
-append_none (x ∷ xs) = ap (λ ys. x ∷ ys) (append_none xs)
 
 pub all_entries-push : (done : List VertexLine) (v : VertexLine) → all_entries (done ++ v ∷ []) ≡ all_entries done ++ v.entries
 all_entries-push [] v = append_none v.entries

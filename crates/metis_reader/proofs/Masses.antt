@@ -1,7 +1,7 @@
 -- The mass that a reading keeps of a vertex line is the first of its weights.
 use Rattle.std.proofs.Common.{◌≡◌, ◌≢◌, ◌<◌, ℕ, zero, suc, ◌+◌, Bool, true, false, List, [], ◌∷◌, length, take, drop, refl, ap, sym, ◌∙◌, arith}
-use Rattle.std.specs.Prelude.{◌==◌, if◌then◌else◌, replicate}
-use Rattle.std.proofs.lemmas.Bool.Decides.{nat_tests}
+use Rattle.std.specs.Prelude.{if◌then◌else◌, replicate}
+use Rattle.std.proofs.lemmas.Bool.{eq-eqb, ne_eqb}
 use Rattle.metis_reader.specs.Text.{Piece, Line}
 use Rattle.metis_reader.specs.Profile.{Header, value, value_or, first_weight, has_flag, format_of, weights_of, size_words, header_of}
 use Rattle.metis_reader.specs.File.{vertex_lines, all_masses, mass_list, edge_list}
@@ -13,17 +13,11 @@ mass_from header zero mass words = mass
 mass_from header (suc leading) mass [] = mass
 mass_from header (suc leading) mass (word ∷ words) = mass_from header leading (with_mass header mass leading word) words
 
-same : (a b : ℕ) → a ≡ b → (a == b) ≡ true
-same a b h = grind (arith, nat_tests)
-
-other : (a b : ℕ) → a ≢ b → (a == b) ≡ false
-other a b h = grind (arith, nat_tests)
-
 at_first : (header : Header) (mass leading : ℕ) (word : Piece) → suc leading + header.sizes ≡ header.leading → with_mass header mass leading word ≡ value word
-at_first header mass leading word e = rw (same (suc leading + header.sizes) header.leading e) refl
+at_first header mass leading word e = rw (eq-eqb (suc leading + header.sizes) header.leading e) refl
 
 at_other : (header : Header) (mass leading : ℕ) (word : Piece) → suc leading + header.sizes ≢ header.leading → with_mass header mass leading word ≡ mass
-at_other header mass leading word e = rw (other (suc leading + header.sizes) header.leading e) refl
+at_other header mass leading word e = rw (ne_eqb (suc leading + header.sizes) header.leading e) refl
 
 -- behind the first weight it stays
 stays : (header : Header) (leading mass : ℕ) (words : List Piece) → leading + header.sizes < header.leading → mass_from header leading mass words ≡ mass

@@ -1,9 +1,9 @@
 -- Which entries were met, where edges or cursors come or move.
-use Rattle.std.proofs.Common.{◌≡◌, ◌≤◌, ◌<◌, ◌-◌, ◌+◌, ◌⊎◌, ℕ, suc, zero, Bool, true, false, List, [], ◌∷◌, ◌++◌, length, take, drop, get_or, set, arith, inl, inr, refl, subst, sym, ap, ◌∙◌, take-append-drop}
+use Rattle.std.proofs.Common.{◌≡◌, ◌≤◌, ◌<◌, ◌-◌, ◌+◌, ℕ, suc, zero, Bool, true, false, List, [], ◌∷◌, ◌++◌, length, take, drop, get_or, set, arith, inl, inr, refl, subst, sym, ap, ◌∙◌, take-append-drop}
 use Rattle.std.specs.Prelude.{nat_lt, if◌then◌else◌}
 use Rattle.std.specs.List.{All}
 use Rattle.std.specs.List.Sorted.{IsPermutation}
-use Rattle.std.proofs.lemmas.Bool.{cases_lt}
+use Rattle.std.proofs.lemmas.Bool.{lt-ltb, le-ltb, cases_eq}
 use Rattle.std.proofs.lemmas.Bool.Decides.{nat_tests}
 use Rattle.std.proofs.lemmas.Grind.{common_steps}
 use Rattle.std.proofs.lemmas.List.{append-nil, take_more}
@@ -11,12 +11,6 @@ use Rattle.std.proofs.lemmas.List.Elements.{All-head, All-tail, All-cons, All-we
 use Rattle.std.proofs.lemmas.List.Sorted.{IsPermutation-refl, IsPermutation-sym, IsPermutation-cons, IsPermutation-trans, IsPermutation-middle}
 use Rattle.cut_definitions.specs.declared.edge_list.Edge.{Edge}
 use Rattle.metis_reader.specs.Meeting.{is_met_at, met_from, IsOfFinished, IsOfNext}
-
-lt_true : (a b : ℕ) → a < b → nat_lt a b ≡ true
-lt_true a b h = grind (arith, nat_tests)
-
-lt_false : (a b : ℕ) → b ≤ a → nat_lt a b ≡ false
-lt_false a b h = grind (arith, nat_tests)
 
 abbrev pub kept : Bool → Edge → List Edge → List Edge
 kept b x xs = if b then x ∷ xs else xs
@@ -43,7 +37,7 @@ pub none_met : (k j : ℕ) (cursors : List ℕ) (xs : List Edge) → k ≤ j →
 none_met k j cursors [] le all = refl
 none_met k j cursors (x ∷ xs) le all =
     let low : get_or cursors (x.u - 1) 0 ≤ k = All-head (CursorAtMost cursors k) x xs all in
-    rw (lt_false j (get_or cursors (x.u - 1) 0) (omega arith)) (none_met k (suc j) cursors xs (omega arith) (All-tail (CursorAtMost cursors k) x xs all))
+    rw (le-ltb j (get_or cursors (x.u - 1) 0) (omega arith)) (none_met k (suc j) cursors xs (omega arith) (All-tail (CursorAtMost cursors k) x xs all))
 
 past : (cursors : List ℕ) (i : ℕ) → length cursors ≤ i → get_or cursors i 0 ≡ 0
 past cursors i h = grind (arith, common_steps)
@@ -115,12 +109,6 @@ set_here cursors row place lt = grind (arith, common_steps)
 set_other : (cursors : List ℕ) (row other place : ℕ) → (row ≡ other → ⊥) → get_or (set cursors row place) other 0 ≡ get_or cursors other 0
 set_other cursors row other place apart = grind (arith, common_steps)
 
-cases_eq : (a b : ℕ) → (a ≡ b) ⊎ (a ≡ b → ⊥)
-cases_eq a b = elim (cases_lt a b) [
-  | inl lt ↦ inr (λ e. omega arith)
-  | inr ge ↦ elim (cases_lt b a) [ inl lt ↦ inr (λ e. omega arith) | inr le ↦ inl (omega arith) ]
-]
-
 -- an entry at another place is met as before
 same_test : (cursors : List ℕ) (row place k : ℕ) (x : Edge) → row < length cursors → get_or cursors row 0 ≡ place → (k ≡ place → ⊥)
     → is_met_at (set cursors row (suc place)) k x ≡ is_met_at cursors k x
@@ -159,9 +147,9 @@ met_at cursors k zero e (x ∷ xs) inside is lt at =
   where
     here : get_or cursors (e.u - 1) 0 ≡ k → IsPermutation (e ∷ met_from k cursors (e ∷ xs)) (met_from k (set cursors (e.u - 1) (suc k)) (e ∷ xs))
     here place =
-        let old : is_met_at cursors k e ≡ false = lt_false k (get_or cursors (e.u - 1) 0) (omega arith) in
+        let old : is_met_at cursors k e ≡ false = le-ltb k (get_or cursors (e.u - 1) 0) (omega arith) in
         let now : get_or (set cursors (e.u - 1) (suc k)) (e.u - 1) 0 ≡ suc k = set_here cursors (e.u - 1) (suc k) inside in
-        let new : is_met_at (set cursors (e.u - 1) (suc k)) k e ≡ true = lt_true k (get_or (set cursors (e.u - 1) (suc k)) (e.u - 1) 0) (omega arith) in
+        let new : is_met_at (set cursors (e.u - 1) (suc k)) k e ≡ true = lt-ltb k (get_or (set cursors (e.u - 1) (suc k)) (e.u - 1) 0) (omega arith) in
         rw (old, new, behind_same cursors (e.u - 1) k (suc k) xs inside place (omega arith)) (IsPermutation-refl (e ∷ met_from (suc k) cursors xs))
 met_at cursors k (suc i) e (x ∷ xs) inside is lt at =
     let more : suc k + i ≡ k + suc i = omega arith in

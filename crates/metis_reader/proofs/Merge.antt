@@ -6,14 +6,9 @@ use Rattle.std.proofs.lemmas.List.{get_or_default}
 use Rattle.std.proofs.lemmas.Grind.{common_steps}
 use Rattle.cut_definitions.specs.declared.edge_list.Edge.{Edge}
 use Rattle.cut_definitions.specs.Graph.{IsBefore}
+use Rattle.cut_definitions.proofs.Ascending.{IsBefore-trans, IsBefore-irreflexive, same_edge}
 use Rattle.metis_reader.specs.Mates.{LacksAt, IsMatchedAt, IsAtMost, IsLesserOf}
 use Rattle.metis_reader.specs.Merging.{ComesFirst, AreMates}
-
-before-trans : (c d e : Edge) → IsBefore c d → IsBefore d e → IsBefore c e
-before-trans c d e p q = grind arith
-
-before-irreflexive : (e : Edge) → IsBefore e e → ⊥
-before-irreflexive e p = grind arith
 
 before_same : (c d e : Edge) → IsBefore c d → d.u ≡ e.u → d.v ≡ e.v → IsBefore c e
 before_same c d e p q r = grind arith
@@ -28,7 +23,7 @@ Ascends edges = AllPairs IsBefore edges
 pub first_of_rest : (others : List Edge) (e : Edge) (j k : ℕ) (d : Edge) → Ascends others → IsBefore e (get_or others j d) → j ≤ k → k < length others → IsBefore e (get_or others k d)
 first_of_rest others e j k d up p le lt =
     elim (cases_lt j k) [
-      | inl before ↦ before-trans e (get_or others j d) (get_or others k d) p (up j k d before lt)
+      | inl before ↦ IsBefore-trans e (get_or others j d) (get_or others k d) p (up j k d before lt)
       | inr not_before ↦ let same : j ≡ k = omega arith in subst (λ k. IsBefore e (get_or others k d)) same p
     ]
 
@@ -44,8 +39,8 @@ absent : (others : List Edge) (e : Edge) (j : ℕ) → ((k : ℕ) (d : Edge) →
     → ((k : ℕ) (d : Edge) → j ≤ k → k < length others → IsBefore e (get_or others k d)) → Contains others e → ⊥
 absent others e j low high h =
     elim (cases_lt h.0 j) [
-      | inl before ↦ before-irreflexive e (subst (λ x. IsBefore x e) h.2 (low h.0 e before h.1))
-      | inr behind ↦ before-irreflexive e (subst (λ x. IsBefore e x) h.2 (high h.0 e behind h.1))
+      | inl before ↦ IsBefore-irreflexive e (subst (λ x. IsBefore x e) h.2 (low h.0 e before h.1))
+      | inr behind ↦ IsBefore-irreflexive e (subst (λ x. IsBefore e x) h.2 (high h.0 e behind h.1))
     ]
 
 -- nor is it one where it has the ends of the edge at j and another weight
@@ -53,9 +48,9 @@ absent_weight : (others : List Edge) (e : Edge) (j : ℕ) → Ascends others →
     → (get_or others j e).w ≢ e.w → Contains others e → ⊥
 absent_weight others e j up lt su sv other h =
     elim (cases_lt h.0 j) [
-      | inl before ↦ before-irreflexive e (subst (λ x. IsBefore x e) h.2 (before_same (get_or others h.0 e) (get_or others j e) e (up h.0 j e before lt) su sv))
+      | inl before ↦ IsBefore-irreflexive e (subst (λ x. IsBefore x e) h.2 (before_same (get_or others h.0 e) (get_or others j e) e (up h.0 j e before lt) su sv))
       | inr behind ↦ elim (cases_lt j h.0) [
-        | inl after ↦ before-irreflexive e (subst (λ x. IsBefore e x) h.2 (same_before e (get_or others j e) (get_or others h.0 e) (sym su) (sym sv) (up j h.0 e after h.1)))
+        | inl after ↦ IsBefore-irreflexive e (subst (λ x. IsBefore e x) h.2 (same_before e (get_or others j e) (get_or others h.0 e) (sym su) (sym sv) (up j h.0 e after h.1)))
         | inr here ↦
             let same : h.0 ≡ j = omega arith in
             other (ap (λ (x : Edge). x.w) (subst (λ k. get_or others k e ≡ e) same h.2))
@@ -154,12 +149,6 @@ other_first greater lesser i j up a l d le lt =
 
 abbrev edge : ℕ → ℕ → ℕ → Edge
 edge u v w = record { u = u; v = v; w = w }
-
-same_edge : (d e : Edge) → d.u ≡ e.u → d.v ≡ e.v → d.w ≡ e.w → d ≡ e
-same_edge d e u v w = same_parts d.u e.u d.v e.v d.w e.w u v w
-  where
-    same_parts : (a b c d e f : ℕ) → a ≡ b → c ≡ d → e ≡ f → edge a c e ≡ edge b d f
-    same_parts a b c d e f p q r = rw (p, q, r) refl
 
 -- and they have one weight
 pub merge_same : (greater lesser : List Edge) (i j : ℕ) (found : Option ℕ) (d : Edge) → Ascends greater → Ascends lesser → IsMergedTo greater lesser i j found → AreMates greater i lesser j

@@ -2,7 +2,7 @@
 use Rattle.std.proofs.Common.{◌≡◌, ◌<◌, ◌≤◌, ℕ, suc, ◌+◌, ◌*◌, Bool, true, false, List, [], ◌∷◌, ◌++◌, length, Option, None, Some, refl, ap, sym, ◌∙◌, subst, arith, append_assoc, inl, inr}
 use Rattle.std.specs.Prelude.{◌==◌, nat_lt, if◌then◌else◌}
 use Rattle.std.specs.List.{filter, list_any}
-use Rattle.std.proofs.lemmas.Bool.{cases_Bool}
+use Rattle.std.proofs.lemmas.Bool.{cases_Bool, lt-ltb}
 use Rattle.std.proofs.lemmas.Bool.Decides.{nat_tests}
 use Rattle.metis_reader.specs.declared.fault.FaultKind.{FaultKind}
 use Rattle.metis_reader.specs.declared.line_part.LinePart.{LinePart}
@@ -180,9 +180,6 @@ input_parts r (x ∷ xs) =
 not_earlier : (p q : ℕ) → p ≤ q → nat_lt q p ≡ false
 not_earlier p q h = grind (arith, nat_tests)
 
-is_earlier : (p q : ℕ) → p < q → nat_lt p q ≡ true
-is_earlier p q h = grind (arith, nat_tests)
-
 abbrev SomeFrom : ℕ → Option Finding → Type 0
 SomeFrom p None = Unit {0}
 SomeFrom p (Some f) = p ≤ f.place
@@ -205,4 +202,4 @@ first_head f fs h = ap (λ g. Some g) (earlier_head f (first fs) (first_from f.p
 pub first_second : (g f : Finding) (fs : List Finding) → f.place < g.place → AllFrom f.place fs → first (g ∷ f ∷ fs) ≡ Some f
 first_second g f fs lt h =
     ap (λ o. Some (earlier g o)) (first_head f fs h)
-    ∙ (rw (is_earlier f.place g.place lt) refl)
+    ∙ (rw (lt-ltb f.place g.place lt) refl)

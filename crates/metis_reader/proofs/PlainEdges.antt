@@ -2,7 +2,7 @@
 use Rattle.std.proofs.Common.{◌≡◌, ◌≢◌, ◌<◌, ◌≤◌, ◌-◌, ℕ, zero, suc, ◌+◌, Bool, false, List, [], ◌∷◌, ◌++◌, length, map, get_or, refl, ap, sym, ◌∙◌, subst, arith, inl, inr, ⊎_elim}
 use Rattle.std.specs.Prelude.{◌==◌, if◌then◌else◌}
 use Rattle.std.specs.List.{filter, flat_map, range_with_len}
-use Rattle.std.proofs.lemmas.Bool.{cases_Bool, cases_lt, and_left, eqb-true}
+use Rattle.std.proofs.lemmas.Bool.{cases_Bool, cases_lt, and_left, eqb-true, ne_eqb, eq-eqb}
 use Rattle.std.proofs.lemmas.List.{append-nil}
 use Rattle.std.proofs.lemmas.List.Elements.{filter-append}
 use Rattle.cut_definitions.specs.declared.edge_list.Edge.{Edge}
@@ -10,7 +10,6 @@ use Rattle.cut_definitions.specs.Cuts.{has}
 use Rattle.metis_reader.specs.Profile.{Entry}
 use Rattle.metis_reader.specs.File.{is_from, edge_of, edges_of}
 use Rattle.metis_reader.specs.Adjacency.{row, edge_from, edges_to, graph_of_rows}
-use Rattle.metis_reader.proofs.Faults.{eq_false, eq_true}
 use Rattle.metis_reader.proofs.PlainRows.{entry, row_entries, rows_entries, Distinct, Sound}
 
 -- the entry, where the row names the vertex
@@ -22,7 +21,7 @@ entry_where named u v = if named then entry u v ∷ [] else []
 other_row : (k u v : ℕ) (vs : List ℕ) → k ≢ u → filter (is_from u v) (row_entries k vs) ≡ []
 other_row k u v [] ne = refl
 other_row k u v (w ∷ vs) ne =
-    let no : is_from u v (entry k w) ≡ false = and_left (k == u) (w == v) (eq_false k u ne) in
+    let no : is_from u v (entry k w) ≡ false = and_left (k == u) (w == v) (ne_eqb k u ne) in
     rw no (other_row k u v vs ne)
 
 later_rows : (k u v : ℕ) (rows : List (List ℕ)) → u < k → filter (is_from u v) (rows_entries k rows) ≡ []
@@ -33,7 +32,7 @@ later_rows k u v (row ∷ rows) lt =
     ∙ later_rows (suc k) u v rows (omega arith)
 
 own : (u v w : ℕ) → is_from u v (entry u w) ≡ (w == v)
-own u v w = rw (eq_true u u refl) refl
+own u v w = rw (eq-eqb u u refl) refl
 
 own_row : (u v : ℕ) (vs : List ℕ) → Distinct vs → filter (is_from u v) (row_entries u vs) ≡ entry_where (has vs v) u v
 own_row u v [] d = refl

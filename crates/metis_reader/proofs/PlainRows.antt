@@ -2,21 +2,22 @@
 use Rattle.std.proofs.Common.{◌≡◌, ◌≢◌, ◌<◌, ◌≤◌, ◌*◌, ◌-◌, ℕ, suc, ◌+◌, Bool, true, false, not, ◌||◌, List, [], ◌∷◌, ◌++◌, length, get_or, refl, ap, sym, ◌∙◌, subst, arith, ⊎_elim, length-append}
 use Rattle.std.specs.Prelude.{◌==◌, nat_le, nat_lt}
 use Rattle.std.specs.List.{All, AllPairs, Contains, list_any, sum_by}
-use Rattle.std.proofs.lemmas.Bool.{cases_lt, eqb-true, or_from, le-ltb}
+use Rattle.std.proofs.lemmas.Bool.{cases_lt, or_from, le-ltb, lt-leb, ne_eqb}
 use Rattle.std.proofs.lemmas.Bool.Decides.{nat_tests}
-use Rattle.std.proofs.lemmas.List.Elements.{All-head, All-tail, All-contains}
-use Rattle.std.proofs.lemmas.Map.Views.{Contains-from_any}
+use Rattle.std.proofs.lemmas.List.Elements.{All-head, All-tail, All-contains, Contains-append_left, Contains-append_right, Contains-append_cases}
 use Rattle.std.proofs.lemmas.List.Sums.{sum_by-cons}
 use Rattle.cut_definitions.specs.Cuts.{has}
 use Rattle.cut_definitions.proofs.Lists.{Contains-here, Contains-there, Contains-cons_cases, Contains-nil}
+use Rattle.cut_definitions.proofs.Numbers.{eqb_flip}
+use Rattle.cut_definitions.proofs.Ascending.{has_contains}
 use Rattle.metis_reader.specs.declared.fault.FaultKind.{FaultKind}
 use Rattle.metis_reader.specs.declared.fault.FaultKind.TheVariants.{Repeated, Unsymmetric}
 use Rattle.metis_reader.specs.Text.{Piece, Line, is_number}
 use Rattle.metis_reader.specs.Profile.{Header, Entry, value, entries, not_a_number, neighbour_faults, found_at, entry_findings}
 use Rattle.metis_reader.specs.File.{VertexLine, vertex_lines, all_entries, body_findings, end_findings, first_line, has_repeat, is_to, is_mate, lacks_mate}
 use Rattle.metis_reader.specs.Adjacency.{row, IsAdjacency, IsRowOf, IsNeighbour}
-use Rattle.metis_reader.proofs.Faults.{no_fault, le_false, inside, eq_false}
-use Rattle.metis_reader.proofs.Rows.{contains_left, contains_right, contains_cases, any_true, any_none, has_any}
+use Rattle.metis_reader.proofs.Faults.{no_fault, inside}
+use Rattle.metis_reader.proofs.Rows.{any_true, any_none, has_any}
 use Rattle.metis_reader.proofs.PlainText.{Writes, Reads}
 
 -- the header of a file with no weights
@@ -60,7 +61,7 @@ fits rows n u (v ∷ vs) e all =
 absent : (v : ℕ) (vs : List ℕ) → ((j : ℕ) → j < length vs → v ≢ get_or vs j v) → has vs v ≡ false
 absent v [] h = refl
 absent v (w ∷ vs) h =
-    or_from (w == v) (has vs v) (eq_false w v (λ e. h 0 (omega arith) (sym e))) (absent v vs (λ j lt. h (suc j) (omega arith)))
+    or_from (w == v) (has vs v) (ne_eqb w v (λ e. h 0 (omega arith) (sym e))) (absent v vs (λ j lt. h (suc j) (omega arith)))
 
 distinct : (vs : List ℕ) → AllPairs (λ v w. v ≢ w) vs → Distinct vs
 distinct [] h = tt
@@ -104,9 +105,9 @@ neighbour_none : (n m u : ℕ) (before : List Entry) (word : Piece) (v : ℕ) �
     → 1 ≤ v → v ≤ n → v ≢ u → neighbour_faults (plain_header n m) u before word ≡ []
 neighbour_none n m u before word v number is room low high other =
     no_fault (not_a_number word) (nat_le (2 * m) (length before)) (value word == 0 || nat_lt n (value word)) (value word == u)
-    (no_bad_number word number) (le_false (2 * m) (length before) room)
+    (no_bad_number word number) (lt-leb (2 * m) (length before) room)
     (ap (λ (x : ℕ). x == 0 || nat_lt n x) is ∙ inside v n (λ e. absurd (omega arith)) high)
-    (ap (λ (x : ℕ). x == u) is ∙ eq_false v u other)
+    (ap (λ (x : ℕ). x == u) is ∙ ne_eqb v u other)
 
 line_none : (n m u line end : ℕ) (words : List Piece) (vs : List ℕ) (before : List Entry) → Writes words vs → Fits n u vs → length before + length vs ≤ 2 * m
     → entry_findings (plain_header n m) false u before line end words ≡ []
@@ -164,12 +165,9 @@ all_lines n m k [] (row ∷ rows) h = absurd h
 all_lines n m k (line ∷ lines) [] h = absurd h
 all_lines n m k (line ∷ lines) (row ∷ rows) h = ap (λ (n : ℕ). suc n) (all_lines n m (suc k) lines rows h.1)
 
-same_test : (v w : ℕ) → (v == w) ≡ (w == v)
-same_test v w = grind (arith, nat_tests)
-
 same_any : (u v : ℕ) (vs : List ℕ) → list_any (is_to (entry u v)) (row_entries u vs) ≡ has vs v
 same_any u v [] = refl
-same_any u v (w ∷ vs) = ap (λ (b : Bool). b || list_any (is_to (entry u v)) (row_entries u vs)) (same_test v w) ∙ ap (λ (b : Bool). (w == v) || b) (same_any u v vs)
+same_any u v (w ∷ vs) = ap (λ (b : Bool). b || list_any (is_to (entry u v)) (row_entries u vs)) (eqb_flip v w) ∙ ap (λ (b : Bool). (w == v) || b) (same_any u v vs)
 
 row_once : (u : ℕ) (vs : List ℕ) → Distinct vs → has_repeat (row_entries u vs) ≡ false
 row_once u [] d = refl
@@ -186,9 +184,6 @@ none_repeated kind end n m k (line ∷ lines) (row ∷ rows) h s =
     rw here (none_repeated kind end n m (suc k) lines rows h.1 s.2)
 
 -- Each entry has its mate.
-
-has_contains : (xs : List ℕ) (v : ℕ) → has xs v ≡ true → Contains xs v
-has_contains xs v h = Contains-from_any {eq = λ v x. x == v} (λ v x h. sym (eqb-true x v h)) v xs h
 
 in_row : (u : ℕ) (vs : List ℕ) (e : Entry) → Contains (row_entries u vs) e → (v : ℕ) × Contains vs v × (entry u v ≡ e)
 in_row u [] e h = absurd (Contains-nil e h)
@@ -225,7 +220,7 @@ in_rows k (row ∷ rows) e h =
     let high : r.u < suc k + length rows = r.high in
     let next : suc (r.u - suc k) ≡ r.u - k = omega arith in
     record { u = r.u; v = r.v; low = omega arith; high = omega arith; stands = subst (λ (j : ℕ). Contains (get_or (row ∷ rows) j []) r.v) next r.stands; is = r.is })
-    (contains_cases (row_entries k row) (rows_entries (suc k) rows) e h)
+    (Contains-append_cases (row_entries k row) (rows_entries (suc k) rows) e h)
 
 to_rows : (k u v : ℕ) (rows : List (List ℕ)) → k ≤ u → u < k + length rows → Contains (get_or rows (u - k) []) v → Contains (rows_entries k rows) (entry u v)
 to_rows k u v [] low high h = absurd (omega arith)
@@ -233,12 +228,12 @@ to_rows k u v (row ∷ rows) low high h =
     ⊎_elim
     (λ (lt : k < u).
     let next : u - k ≡ suc (u - suc k) = omega arith in
-    contains_right (row_entries k row) (rows_entries (suc k) rows) (entry u v)
+    Contains-append_right (row_entries k row) (rows_entries (suc k) rows) (entry u v)
     (to_rows (suc k) u v rows (omega arith) (omega arith) (subst (λ (j : ℕ). Contains (get_or (row ∷ rows) j []) v) next h)))
     (λ (le : u ≤ k).
     let same : k ≡ u = omega arith in
     let own : u - k ≡ 0 = omega arith in
-    contains_left (row_entries k row) (rows_entries (suc k) rows) (entry u v)
+    Contains-append_left (row_entries k row) (rows_entries (suc k) rows) (entry u v)
     (subst (λ (x : ℕ). Contains (row_entries k row) (entry x v)) same (to_row k v row (subst (λ (j : ℕ). Contains (get_or (row ∷ rows) j []) v) own h))))
     (cases_lt k u)
 

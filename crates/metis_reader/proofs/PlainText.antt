@@ -13,6 +13,7 @@ use Rattle.std.proofs.lemmas.List.Sums.{sum_by-cons}
 use Rattle.metis_reader.specs.Text.{Piece, Line, is_line_feed, is_blank, fields, with_front, placed, has_bytes, line_of, numbered, lines, is_digit, decimal, is_number}
 use Rattle.metis_reader.specs.Profile.{value}
 use Rattle.metis_reader.specs.FirstForm.{number_of, onto, numbers_of, row_of, rows_of_lines, rows_of}
+use Rattle.metis_reader.proofs.Digits.{digit_from}
 
 -- Fields: what stands behind the last separator is dropped where it is empty.
 
@@ -60,9 +61,6 @@ both (Some x) (Some xs) all e = record { first = x; more = xs; is_first = refl; 
 
 -- Words.
 
-same_digit : (b : ℕ) → is_ascii_digit b ≡ true → is_digit b ≡ true
-same_digit b h = grind (arith, nat_tests)
-
 digit_range : (b : ℕ) → is_ascii_digit b ≡ true → (48 ≤ b) × (b ≤ 57)
 digit_range b h = (grind (arith, nat_tests), grind (arith, nat_tests))
 
@@ -82,7 +80,7 @@ digits_are : (word : List ℕ) → list_all is_ascii_digit word ≡ true → lis
 digits_are [] h = refl
 digits_are (b ∷ word) h =
     let parts = and_parts (is_ascii_digit b) (list_all is_ascii_digit word) h in
-    and_from (is_digit b) (list_all is_digit word) (same_digit b parts.0) (digits_are word parts.1)
+    and_from (is_digit b) (list_all is_digit word) (digit_from b parts.0) (digits_are word parts.1)
 
 decimal_after : (n : ℕ) (word : List ℕ) → list_all is_ascii_digit word ≡ true → fold (λ n d. n * 10 + (d - 48)) n word ≡ digits_value_after 10 n word
 decimal_after n [] h = refl

@@ -3,6 +3,7 @@ use Rattle.std.proofs.Common.{◌≡◌, ◌≢◌, ◌<◌, ◌≤◌, ◌+◌,
 use Rattle.std.specs.Prelude.{◌==◌}
 use Rattle.std.proofs.lemmas.Bool.Decides.{nat_tests}
 use Rattle.std.proofs.lemmas.Grind.{common_steps}
+use Rattle.cut_definitions.proofs.ListLaws.{take_next}
 use Rattle.metis_reader.specs.declared.fault.ReadRefusal.{ReadRefusal}
 use Rattle.metis_reader.specs.declared.fault.ReadRefusal.TheVariants.{NoMemory, Fault}
 use Rattle.metis_reader.specs.declared.line_part.LinePart.{LinePart}
@@ -22,9 +23,6 @@ use Rattle.metis_reader.proofs.Runs.{ReadTo}
 
 pub split_at : (xs : List ℕ) (i : ℕ) → i < length xs → xs ≡ take i xs ++ get_or xs i 0 ∷ drop (i + 1) xs
 split_at xs i h = grind (arith, common_steps)
-
-take_next : (xs : List ℕ) (i : ℕ) → i < length xs → take (i + 1) xs ≡ take i xs ++ get_or xs i 0 ∷ []
-take_next xs i h = grind (arith, common_steps)
 
 pub few_ended : (r : Reading) (xs : List ℕ) (i most : ℕ) → i < length xs → suc r.ended + length xs < most → suc (reading_from r (take i xs)).ended < most
 few_ended r xs i most h few =

@@ -1,10 +1,11 @@
 -- Vertex lines and their entries: each line's entries are those of its own vertex.
-use Rattle.std.proofs.Common.{◌≡◌, ◌≢◌, ◌≤◌, ◌<◌, ◌-◌, ◌+◌, ◌⊎◌, ℕ, suc, Bool, true, false, ◌||◌, List, [], ◌∷◌, ◌++◌, map, get_or, arith, inl, inr, ⊎_elim, subst, sym, ap, refl, ◌∙◌, sum_by}
+use Rattle.std.proofs.Common.{◌≡◌, ◌≢◌, ◌≤◌, ◌<◌, ◌-◌, ◌+◌, ℕ, suc, Bool, true, false, List, [], ◌∷◌, ◌++◌, map, get_or, arith, inl, inr, ⊎_elim, subst, sym, ap, refl, ◌∙◌, sum_by}
 use Rattle.std.specs.Prelude.{◌&&◌, ◌==◌, if◌then◌else◌}
 use Rattle.std.specs.List.{Contains, list_any}
-use Rattle.std.proofs.lemmas.Bool.{cases_lt, cases_Bool}
+use Rattle.std.proofs.lemmas.Bool.{cases_lt, cases_Bool, or_right}
 use Rattle.std.proofs.lemmas.Bool.Decides.{nat_tests}
 use Rattle.std.proofs.lemmas.List.Sums.{sum_by-cons, sum_by-append}
+use Rattle.std.proofs.lemmas.List.Elements.{Contains-append_left, Contains-append_right, Contains-append_cases}
 use Rattle.cut_definitions.proofs.Lists.{Contains-here, Contains-there, Contains-cons_cases, Contains-nil}
 use Rattle.metis_reader.specs.declared.fault.FaultKind.{FaultKind}
 use Rattle.metis_reader.specs.Profile.{Finding, Entry}
@@ -12,26 +13,6 @@ use Rattle.metis_reader.specs.File.{VertexLine, all_entries, is_to, has_repeat, 
 use Rattle.metis_reader.specs.Ending.{FromVertex, RowsFrom}
 
 -- Membership.
-
-pub contains_left : {X : Type 0} (xs ys : List X) (x : X) → Contains xs x → Contains (xs ++ ys) x
-contains_left [] ys x h = absurd (Contains-nil x h)
-contains_left (y ∷ xs) ys x h =
-    ⊎_elim
-    (λ e. subst (λ z. Contains (y ∷ (xs ++ ys)) z) e (Contains-here y (xs ++ ys)))
-    (λ t. Contains-there y (xs ++ ys) x (contains_left xs ys x t))
-    (Contains-cons_cases y xs x h)
-
-pub contains_right : {X : Type 0} (xs ys : List X) (x : X) → Contains ys x → Contains (xs ++ ys) x
-contains_right [] ys x h = h
-contains_right (y ∷ xs) ys x h = Contains-there y (xs ++ ys) x (contains_right xs ys x h)
-
-pub contains_cases : {X : Type 0} (xs ys : List X) (x : X) → Contains (xs ++ ys) x → Contains xs x ⊎ Contains ys x
-contains_cases [] ys x h = inr h
-contains_cases (y ∷ xs) ys x h =
-    ⊎_elim
-    (λ e. inl (subst (λ z. Contains (y ∷ xs) z) e (Contains-here y xs)))
-    (λ t. ⊎_elim (λ l. inl (Contains-there y xs x l)) (λ r. inr r) (contains_cases xs ys x t))
-    (Contains-cons_cases y (xs ++ ys) x h)
 
 pub from_vertex : (k : ℕ) (es : List Entry) (e : Entry) → FromVertex k es → Contains es e → e.from ≡ k
 from_vertex k [] e h has = absurd (Contains-nil e has)
@@ -43,15 +24,11 @@ from_rows k (v ∷ vs) e h has =
     ⊎_elim
     (λ l. let same : e.from ≡ k = from_vertex k v.entries e h.0 l in omega arith)
     (λ r. let more : suc k ≤ e.from = from_rows (suc k) vs e h.1 r in omega arith)
-    (contains_cases v.entries (all_entries vs) e has)
+    (Contains-append_cases v.entries (all_entries vs) e has)
 
 pub any_false : {X : Type 0} (p : X → Bool) (xs : List X) → ((x : X) → Contains xs x → p x ≡ false) → list_any p xs ≡ false
 any_false p [] h = refl
 any_false p (x ∷ xs) h = rw (h x (Contains-here x xs)) (any_false p xs (λ y has. h y (Contains-there x xs y has)))
-
-or_right : (a b : Bool) → b ≡ true → (a || b) ≡ true
-or_right true b h = refl
-or_right false b h = h
 
 pub any_true : {X : Type 0} (p : X → Bool) (xs : List X) (x : X) → Contains xs x → p x ≡ true → list_any p xs ≡ true
 any_true p [] x h e = absurd (Contains-nil x h)
@@ -215,8 +192,8 @@ has_any p v = list_any p v.entries
 pub any_none : (p : Entry → Bool) (kind : FaultKind) (end : ℕ) (vs : List VertexLine) → ((e : Entry) → Contains (all_entries vs) e → p e ≡ false) → first_line (has_any p) kind end vs ≡ []
 any_none p kind end [] h = refl
 any_none p kind end (v ∷ vs) h =
-    let here : list_any p v.entries ≡ false = any_false p v.entries (λ e has. h e (contains_left v.entries (all_entries vs) e has)) in
-    rw here (any_none p kind end vs (λ e has. h e (contains_right v.entries (all_entries vs) e has)))
+    let here : list_any p v.entries ≡ false = any_false p v.entries (λ e has. h e (Contains-append_left v.entries (all_entries vs) e has)) in
+    rw here (any_none p kind end vs (λ e has. h e (Contains-append_right v.entries (all_entries vs) e has)))
 
 pub any_some : (p : Entry → Bool) (kind : FaultKind) (end k x : ℕ) (e : Entry) (vs : List VertexLine) → RowsFrom k vs → Contains (all_entries vs) e → e.from ≡ x → p e ≡ true
     → ((d : Entry) → Contains (all_entries vs) d → d.from < x → p d ≡ false) → first_line (has_any p) kind end vs ≡ told kind end (line_of_vertex k x vs)
@@ -230,8 +207,8 @@ any_some p kind end k x e (v ∷ vs) rows has from is low =
     rw here (ap (λ (n : ℕ). told kind end (get_or (v.number ∷ map (λ (v : VertexLine). v.number) vs) n 0)) (sym line)))
     (λ r.
     let later : suc k ≤ e.from = from_rows (suc k) vs e rows.1 r in
-    let here : list_any p v.entries ≡ false = any_false p v.entries (λ d has. let own : d.from ≡ k = from_vertex k v.entries d rows.0 has in low d (contains_left v.entries (all_entries vs) d has) (omega arith)) in
+    let here : list_any p v.entries ≡ false = any_false p v.entries (λ d has. let own : d.from ≡ k = from_vertex k v.entries d rows.0 has in low d (Contains-append_left v.entries (all_entries vs) d has) (omega arith)) in
     let line : x - k ≡ suc (x - suc k) = omega arith in
-    let more = any_some p kind end (suc k) x e vs rows.1 r from is (λ d has lt. low d (contains_right v.entries (all_entries vs) d has) lt) in
+    let more = any_some p kind end (suc k) x e vs rows.1 r from is (λ d has lt. low d (Contains-append_right v.entries (all_entries vs) d has) lt) in
     rw here (more ∙ ap (λ (n : ℕ). told kind end (get_or (v.number ∷ map (λ (v : VertexLine). v.number) vs) n 0)) (sym line)))
-    (contains_cases v.entries (all_entries vs) e has)
+    (Contains-append_cases v.entries (all_entries vs) e has)

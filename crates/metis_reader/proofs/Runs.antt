@@ -1,7 +1,7 @@
 -- A reading of the bytes between two places.
 use Rattle.std.proofs.Common.{◌≡◌, ◌<◌, ◌≤◌, ◌+◌, ◌-◌, ℕ, List, [], ◌∷◌, ◌++◌, length, take, drop, get_or, ap, sym, ◌∙◌, subst, arith, length-drop}
-use Rattle.std.proofs.lemmas.Grind.{common_steps}
 use Rattle.std.proofs.Math.Seq.{take-add}
+use Rattle.cut_definitions.proofs.ListLaws.{take_next, at_drop}
 use Rattle.metis_reader.specs.declared.line_part.LinePart.{LinePart}
 use Rattle.metis_reader.specs.declared.parser.Parser.{Parser}
 use Rattle.metis_reader.specs.declared.word.Word.{Word}
@@ -11,12 +11,6 @@ use Rattle.metis_reader.proofs.Running.{findings_append, reading_append}
 
 abbrev pub run : ℕ → ℕ → List ℕ → List ℕ
 run a b xs = take (b - a) (drop a xs)
-
-take_next : (xs : List ℕ) (i : ℕ) → i < length xs → take (i + 1) xs ≡ take i xs ++ get_or xs i 0 ∷ []
-take_next xs i h = grind (arith, common_steps)
-
-at_drop : (a k : ℕ) (xs : List ℕ) → get_or (drop a xs) k 0 ≡ get_or xs (a + k) 0
-at_drop a k xs = grind (arith, common_steps)
 
 pub run_next : (a b : ℕ) (xs : List ℕ) → a ≤ b → b < length xs → run a (b + 1) xs ≡ run a b xs ++ get_or xs b 0 ∷ []
 run_next a b xs le lt =

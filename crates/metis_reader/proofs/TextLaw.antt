@@ -4,6 +4,7 @@ use Rattle.std.specs.Prelude.{◌==◌, if◌then◌else◌}
 use Rattle.std.specs.List.{filter, list_all}
 use Rattle.std.proofs.lemmas.Bool.{cases_Bool, and_parts, not-true}
 use Rattle.std.proofs.lemmas.Bool.Decides.{nat_tests}
+use Rattle.cut_definitions.proofs.ListLaws.{append_none}
 use Rattle.metis_reader.proofs.MachineLaw.{lines_law}
 use Rattle.metis_reader.specs.declared.line_part.LinePart.TheVariants.{Start, Words, Comment}
 use Rattle.metis_reader.specs.Text.{Piece, Line, is_line_feed, is_blank, fields, with_front, placed, has_bytes, words_from, numbered, lines}
@@ -11,10 +12,6 @@ use Rattle.metis_reader.specs.Profile.{Finding, found_at}
 use Rattle.metis_reader.specs.File.{is_kept, file_findings, from_header}
 use Rattle.metis_reader.specs.Machine.{State, AtHeader, line_faults, after_line, final_findings, line_state, line_findings, lines_findings}
 use Rattle.metis_reader.specs.Reading.{start, word_end, word_end_state, line_end, line_end_state, input_findings}
-
-append_none : {X : Type 0} (xs : List X) → xs ++ [] ≡ xs
-append_none [] = refl
-append_none (x ∷ xs) = ap (λ ys. x ∷ ys) (append_none xs)
 
 -- the bytes before the first separator, and the fields behind it
 abbrev pub front : (ℕ → Bool) → List ℕ → List ℕ

@@ -8,8 +8,8 @@ use crate::header::Header;
 use crate::mates::{is_strict, meet, mismatch, put_back, sort_row};
 use crate::word::Word;
 use crate::{Fault, FaultKind, MetisGraph};
-use cut_definitions::{Edge, EdgeList, VertexWeights};
-use std::alloc::{AllocError, Global};
+use cut_definitions::{Edge, EdgeList, NoMemory, VertexWeights};
+use std::alloc::Global;
 
 /// So many entries to lesser neighbours are gathered before they are looked for: in a loop of their own the reads at far
 /// places overlap.
@@ -110,7 +110,7 @@ impl Body {
 
     /// Memory for all that a file with this header may say.
     #[inline(never)]
-    pub fn new(alloc: Global, header: Header) -> Result<Body, AllocError>
+    pub fn new(alloc: Global, header: Header) -> Result<Body, NoMemory>
         ensures { IfOk result (λ b. (b.header ≡ header) × (b.numbers.items ≡ []) × (greater_of b ≡ []) × (lesser_of b ≡ []) × (b.total ≡ 0) × (b.masses.items ≡ []) × (b.mass ≡ 1)) }
     {
         let places = 2 * header.edges as usize;

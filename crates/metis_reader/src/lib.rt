@@ -27,8 +27,6 @@ mod parser;
 mod reader;
 mod word;
 
+pub use cut_definitions::NoMemory;
 pub use fault::{Fault, FaultKind, ReadRefusal};
 pub use reader::{MetisGraph, Reader};
-
-/// Memory was wanting.
-pub type NoMemory = std::alloc::AllocError;

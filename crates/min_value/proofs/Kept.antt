@@ -52,7 +52,7 @@ none_certified g marked limit certified none i l is = false≢true (sym (none i 
 -- ---- one contraction
 
 -- where minimum cuts are kept, two vertices are left
-two_left : (g small : Graph) (labels : List ℕ) → 2 ≤ g.vertices → KeepsAllMinimumCuts g small labels → 2 ≤ small.vertices
+pub two_left : (g small : Graph) (labels : List ℕ) → 2 ≤ g.vertices → KeepsAllMinimumCuts g small labels → 2 ≤ small.vertices
 two_left g small labels two kept =
     let best = value_is_weight g two in
     let part = kept.each_is_lifted best.0 (Contains-mincuts g best.0 best.1 best.2) in

@@ -3,7 +3,7 @@ use Rattle.std.proofs.Common.{◌≡◌, ℕ, zero, suc, ◌+◌, ◌-◌, ◌*�
 use Rattle.std.specs.Prelude.{◌≢◌, ◌⊎◌, if◌then◌else◌, slice_index_or}
 use Rattle.std.specs.List.{All, sum_by}
 use Rattle.std.proofs.Math.Nat.{mul-suc, mul-le-mul_left}
-use Rattle.std.proofs.lemmas.Bool.{cases_eq, eq-eqb, ne_eqb, eqb-true, false≢true}
+use Rattle.std.proofs.lemmas.Bool.{cases_eq, eq-eqb, ne_eqb, eqb-true, false≢true, or_left}
 use Rattle.std.proofs.lemmas.List.Elements.{All-head, All-tail}
 use Rattle.std.proofs.lemmas.List.Sums.{sum_by-cons}
 use Rattle.cut_definitions.specs.declared.edge_list.Edge.{Edge}
@@ -14,6 +14,7 @@ use Rattle.cut_definitions.specs.Scan.{single, weight_to}
 use Rattle.cut_definitions.proofs.ScanLaw.{insert, weight_to_insert, weight_to_none}
 use Rattle.cut_definitions.proofs.Sums.{sum_by-plus, sum_by-same_on, sum_by-none}
 use Rattle.cut_definitions.proofs.WeightLaws.{join_of, join_term}
+use Rattle.cut_definitions.proofs.Singles.{out_at}
 use Rattle.weighted_graph.specs.declared.graph.Arc.{Arc}
 use Rattle.weighted_graph.specs.Rows.{row_of, weight_in}
 use Rattle.weighted_graph.proofs.RowLaws.{weight_to_is}
@@ -44,9 +45,6 @@ edge-outside w = refl
 
 edge-all : (a b : Bool) (w : ℕ) → a ≡ true → b ≡ true → inside_of a b w ≡ w
 edge-all a b w p q = grind arith
-
-out_at : (p : VertexSet) (x v : ℕ) → p x ≡ false → eqb x v ≡ true → p v ≡ false
-out_at p x v out e = let same : x ≡ v = eqb-true x v e in rw (← same) out
 
 -- one more vertex adds its weight to the set
 inside_more : (g : Graph) → IsGraph g → (x : ℕ) (p : VertexSet) → p x ≡ false → inside g (insert x p) ≡ inside g p + weight_to g x p
@@ -108,9 +106,6 @@ missing_one a e = ap missing e
 missing_none : (a : Bool) → a ≡ true → missing a ≡ 0
 missing_none a e = ap missing e
 
-first_of : (a b : Bool) → a ≡ true → (a || b) ≡ true
-first_of a b e = grind arith
-
 not_first : (a b : Bool) → a ≡ false → (a || b) ≡ b
 not_first a b e = grind arith
 
@@ -129,7 +124,7 @@ unscanned_more s x (suc n) one le out =
     (λ (e : suc n ≡ x).
     let rest = unscanned_beyond s x n (omega arith) in
     let before : missing (s (suc n)) ≡ 1 = missing_one (s (suc n)) (ap s e ∙ out) in
-    let after : missing (insert x s (suc n)) ≡ 0 = missing_none (insert x s (suc n)) (first_of (eqb x (suc n)) (s (suc n)) (eq-eqb x (suc n) (sym e))) in
+    let after : missing (insert x s (suc n)) ≡ 0 = missing_none (insert x s (suc n)) (or_left (eqb x (suc n)) (s (suc n)) (eq-eqb x (suc n) (sym e))) in
     let r : unscanned (insert x s) (suc n) + 1 ≡ unscanned s (suc n) = omega arith in r)
     (λ (ne : suc n ≢ x).
     let rest = unscanned_more s x n one (omega arith) out in
@@ -154,7 +149,7 @@ pub record IsBelowValue (g : Graph) (s : ScanState) (value : ℕ) : Type 0 where
 pub whole_start : (g : Graph) (s : ScanState) (n value : ℕ) → IsStarted s n 1 (value + 1) → n ≡ g.vertices → IsWhole g s value
 whole_start g s n value h same = record {
   cap = h.cap_is;
-  live = λ v v1 vn. first_of (waits s v) (has s.order v) (h.waiting v v1 (omega arith));
+  live = λ v v1 vn. or_left (waits s v) (has s.order v) (h.waiting v v1 (omega arith));
   counted =
       subst (λ (order : List ℕ). unscanned (has order) g.vertices + length order ≡ g.vertices) (sym h.order)
       (let none = unscanned_none g.vertices in let r : unscanned (has []) g.vertices + 0 ≡ g.vertices = omega arith in r);
@@ -199,7 +194,7 @@ module _ (g : Graph) (old new : ScanState) (x weight : ℕ) (all : Bool) (stood 
   waited stands y held =
       let out : has (x ∷ old.order) y ≡ false = subst (λ (order : List ℕ). has order y ≡ false) next.order (stands.apart y held) in
       let parts = neither_of (eqb x y) (has old.order y) out in
-      let live : is_live old y ≡ true = sym (next.live y) ∙ first_of (waits new y) (has new.order y) held in
+      let live : is_live old y ≡ true = sym (next.live y) ∙ or_left (waits new y) (has new.order y) held in
       (parts.0, parts.1, only_first (waits old y) (has old.order y) parts.1 live)
     where
       neither_of : (a b : Bool) → (a || b) ≡ false → (a ≡ false) × (b ≡ false)

@@ -1,18 +1,19 @@
 -- What a scan leaves to be known of a value, below any bound.
-use Rattle.std.proofs.Common.{◌≡◌, ℕ, ◌<◌, ◌≤◌, ⊎_elim, Bool, true, false, ltb, List, min, refl, sym, ◌∙◌, subst, ap, arith}
+use Rattle.std.proofs.Common.{◌≡◌, ℕ, ◌<◌, ◌≤◌, ⊎_elim, Bool, true, false, List, min, refl, sym, ◌∙◌, subst, ap, arith}
 use Rattle.std.specs.Prelude.{if◌then◌else◌, Option, Some, MatchOption}
 use Rattle.std.proofs.lemmas.Bool.{cases_lt, le-ltb}
-use Rattle.std.proofs.lemmas.Bool.Decides.{nat_tests}
 use Rattle.cut_definitions.specs.Graph.{Graph, IsGraph}
 use Rattle.cut_definitions.specs.Cuts.{value}
 use Rattle.cut_definitions.specs.Safe.{IsFair}
 use Rattle.cut_definitions.specs.Contraction.{relabel, classes}
 use Rattle.cut_definitions.proofs.SafeLaws.{value-le_fair}
 use Rattle.cut_definitions.proofs.Values.{value_is_weight, Contains-mincuts}
-use Rattle.weighted_graph.specs.ContractionLaws.{IsLabelled, PartsNoClass, ClassesAreSafe}
+use Rattle.cut_definitions.proofs.Numbers.{pick}
+use Rattle.weighted_graph.specs.ContractionLaws.{IsLabelled, ClassesAreSafe}
 use Rattle.weighted_graph.specs.Marks.{MarksAreSafe}
 use Rattle.weighted_graph.proofs.Contraction.{law_of_contracted_minimum_cuts, value-le-contracted, kept_classes}
 use Rattle.weighted_graph.proofs.MarkLaws.{law_of_marked_classes}
+use Rattle.weighted_graph.proofs.SafeContraction.{parts_none}
 use Rattle.round_contract.specs.Classes.{AreClassesOfMarks}
 use Rattle.min_value.specs.Left.{IsLeft, IsShrunk}
 
@@ -20,13 +21,6 @@ use Rattle.min_value.specs.Left.{IsLeft, IsShrunk}
 pub least_lowered : (g : Graph) (bound least weight : ℕ) (all : Bool) → min bound (value g) ≤ least → (all ≡ false → IsFair g weight) → min bound (value g) ≤ (if all then least else min least weight)
 least_lowered g bound least weight true h fair = h
 least_lowered g bound least weight false h fair = omega (arith, h, value-le_fair g weight (fair refl))
-
--- below the bound no minimum cut parts a class
-parts_none : (g : Graph) (labels : List ℕ) (bound : ℕ) → ClassesAreSafe g labels bound 0 → value g < bound → PartsNoClass g labels
-parts_none g labels bound safe less k d l u v u1 un v1 vn same = safe u v u1 un v1 vn same (omega arith) k d l
-
-pick : (k bound r v : ℕ) → (k < 2 → v ≡ bound) → (2 ≤ k → v ≡ min bound r) → v ≡ (if ltb k 2 then bound else min bound r)
-pick k bound r v one more = grind (arith, nat_tests)
 
 -- classes that are safe for a bound may be contracted, whether or not the bound is the weight of a cut
 left_classes : (g : Graph) → IsGraph g → (labels : List ℕ) (bound : ℕ) → 2 ≤ g.vertices → IsLabelled g labels → ClassesAreSafe g labels bound 0 → IsLeft (min bound (value g)) bound (relabel g labels)

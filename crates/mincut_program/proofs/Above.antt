@@ -1,12 +1,13 @@
 -- The members of an ascending list above a number, one after another.
 use Rattle.std.proofs.Common.{◌≡◌, ℕ, ◌+◌, ◌<◌, ◌≤◌, ⊎_elim, true, false, List, [], ◌∷◌, ◌++◌, length, refl, sym, ◌∙◌, ap, append_assoc, append-nil, arith}
-use Rattle.std.specs.Prelude.{◌≢◌, MatchOption, Option, None, Some, Result, Err}
+use Rattle.std.specs.Prelude.{MatchOption, Option, None, Some, Result, Err}
 use Rattle.std.specs.Fmt.{decimal}
-use Rattle.std.proofs.lemmas.Bool.{cases_lt, lt-ltb, le-ltb, ne_eqb, false≢true}
+use Rattle.std.proofs.lemmas.Bool.{cases_lt, lt-ltb, le-ltb, false≢true}
 use Rattle.std.proofs.lemmas.List.{flat_map_more}
 use Rattle.std.proofs.lemmas.Grind.{flat_map-append}
 use Rattle.cut_definitions.specs.Cuts.{has, IsAscendingWithin}
 use Rattle.cut_definitions.proofs.Bridge.{has_low, has_first_of}
+use Rattle.cut_definitions.proofs.Ascending.{has_other}
 use Rattle.vertex_set.specs.Side.{VertexList, IsNextFrom}
 use Rattle.cactus_text.specs.Text.{spaced}
 use Rattle.cactus_text.specs.Puts.{IsSplit, Puts}
@@ -18,9 +19,6 @@ above_kept k x xs h = rw (lt-ltb k x h) refl
 
 above_left_out : (k x : ℕ) (xs : List ℕ) → x ≤ k → above k (x ∷ xs) ≡ above k xs
 above_left_out k x xs h = rw (le-ltb k x h) refl
-
-has_other : (x v : ℕ) (xs : List ℕ) → x ≢ v → has (x ∷ xs) v ≡ has xs v
-has_other x v xs ne = rw (ne_eqb x v ne) refl
 
 -- above what is below all of them are all
 pub above_all : (low high k : ℕ) (xs : List ℕ) → IsAscendingWithin low high xs → k < low → above k xs ≡ xs

@@ -2,7 +2,7 @@
 use Rattle.std.proofs.Common.{◌≡◌, ℕ, List, [], ◌∷◌, get_or, ◌<◌, ◌≤◌, ◌^◌, ◌∙◌, append_assoc, append-nil, arith, refl, sym, ap, subst, inr, true, Result, Ok, Err}
 use Rattle.std.proofs.lemmas.List.Elements.{All-contains, All-contains_itself, All-weaker, Contains-get_or}
 use Rattle.std.specs.Fmt.{decimal}
-use Rattle.std.specs.Prelude.{◌↔◌, codes, ◌++◌, ◌*◌, IfOk, IfErr, length}
+use Rattle.std.specs.Prelude.{◌↔◌, codes, ◌++◌, ◌*◌, IfErr, length}
 use Rattle.cut_definitions.specs.Components.{IsConnected, HasComponents}
 use Rattle.weighted_graph.proofs.OneComponent.{law_of_one_component}
 use Rattle.cut_definitions.specs.Graph.{Graph, IsEdgeList}
@@ -39,6 +39,7 @@ use Rattle.std.proofs.lemmas.List.{length-map}
 use Rattle.cut_listing.specs.declared.ask.Ask.{Ask}
 use Rattle.cut_listing.specs.declared.ask.Ask.TheVariants as ask
 use Rattle.std.specs.List.{Contains, filter}
+use Rattle.cut_definitions.proofs.ListLaws.{some_long}
 use Rattle.mincut_program.specs.declared.command.Command.{Command}
 use Rattle.mincut_program.specs.declared.command.Job.{Job}
 use Rattle.mincut_program.specs.declared.command.Job.TheVariants.{Value, Cactus, Cuts, Part, Count, Balanced, Augment, Grow, Trial}
@@ -80,15 +81,11 @@ canonical_text g c v form law of_graph least = record {
   text_is = rw least refl;
 }
 
-some_member : (side : List ℕ) → (side ≡ [] → ⊥) → 0 < length side
-some_member [] some = absurd (some refl)
-some_member (v ∷ vs) some = omega arith
-
 -- no minimum cut has an empty side
 pub none_empty : (g : Graph) (solved : Solved) → IsSolved g solved → HasNoEmptySide solved.cactus
 none_empty g solved s =
     All-weaker (Contains (sides_of solved.cactus)) (λ side. 0 < length side)
-    (λ side at. some_member side (IsSide-from_mincuts g side ((s.sides side).0 at)).0.nonempty)
+    (λ side at. some_long side (IsSide-from_mincuts g side ((s.sides side).0 at)).0.nonempty)
     (sides_of solved.cactus) (All-contains_itself (sides_of solved.cactus))
 
 -- a graph with vertices and fewer than two components has one
@@ -182,10 +179,6 @@ listed_stop command masses a g same listed inside two one (stop.BadVertex x n) r
 listed_stop command masses a g same listed inside two one stop.BadWords r = absurd r
 listed_stop command masses a g same listed inside two one (stop.Refused f) r = absurd r
 listed_stop command masses a g same listed inside two one stop.ReadFailed r = absurd r
-
-pub over_ok : {X E : Type 0} (P Q : X → Type 0) (r : Result X E) → ((x : X) → P x → Q x) → IfOk r P → IfOk r Q
-over_ok P Q (Ok x) f p = f x p
-over_ok P Q (Err e) f p = tt
 
 pub over_err : {X E : Type 0} (P Q : E → Type 0) (r : Result X E) → ((e : E) → P e → Q e) → IfErr r P → IfErr r Q
 over_err P Q (Ok x) f p = tt

@@ -6,7 +6,6 @@ use Rattle.std.proofs.lemmas.Bool.{cases_lt}
 use Rattle.std.proofs.lemmas.List.{take-append-drop, take_all}
 use Rattle.std.proofs.lemmas.List.Elements.{All-append, All-cons, All-contains, All-nil, Contains-append_right}
 use Rattle.cut_definitions.proofs.Lists.{Contains-here}
-use Rattle.cactus_growth.proofs.Below.{taken_one}
 use Rattle.cactus_tree.specs.FlatLaws.{LawOfFlatForm, LawOfFlatSides}
 use Rattle.cactus_tree.specs.Flattened.{flat_of}
 use Rattle.mincut_program.specs.Growing.{growth_text}
@@ -17,6 +16,7 @@ use Rattle.cut_definitions.specs.Components.{IsConnected, HasComponents}
 use Rattle.cut_definitions.specs.Cuts.{has, mincuts, value}
 use Rattle.cut_definitions.specs.Graph.{Graph, IsEdgeList}
 use Rattle.cut_definitions.specs.Weight.{VertexSet, parts, weight}
+use Rattle.cut_definitions.proofs.ListLaws.{taken}
 use Rattle.cactus_tree.specs.Normal.{is_normal}
 use Rattle.cactus_tree.specs.Rooted.{Rooted, sides_of}
 use Rattle.cactus_growth.specs.Insertion.{edge_between}
@@ -108,7 +108,7 @@ kept_solved g i solved kept law s is k =
 module _ {X : Type 0} (xs : List X) (i : ℕ) (x : X) (at : slice_get xs i ≡ Some x) where
   pub split_at : xs ≡ take i xs ++ x ∷ drop (i + 1) xs
   split_at =
-      sym (take-append-drop (i + 1) xs) ∙ ap (λ (l : List X). l ++ drop (i + 1) xs) (taken_one xs i x at) ∙ append_assoc (take i xs) (x ∷ []) (drop (i + 1) xs)
+      sym (take-append-drop (i + 1) xs) ∙ ap (λ (l : List X). l ++ drop (i + 1) xs) (taken xs i x at) ∙ append_assoc (take i xs) (x ∷ []) (drop (i + 1) xs)
 
   pub holds_at : (P : X → Type 0) → All P xs → P x
   holds_at P all =
@@ -116,7 +116,7 @@ module _ {X : Type 0} (xs : List X) (i : ℕ) (x : X) (at : slice_get xs i ≡ S
       (subst (λ (l : List X). Contains l x) (sym split_at) (Contains-append_right (take i xs) (x ∷ drop (i + 1) xs) x (Contains-here x (drop (i + 1) xs))))
 
   pub all_more : (P : X → Type 0) → All P (take i xs) → P x → All P (take (i + 1) xs)
-  all_more P all here = subst (All P) (sym (taken_one xs i x at)) (All-append P (take i xs) (x ∷ []) all (All-cons P x [] here (All-nil P)))
+  all_more P all here = subst (All P) (sym (taken xs i x at)) (All-append P (take i xs) (x ∷ []) all (All-cons P x [] here (All-nil P)))
 
 pub all_there : {X : Type 0} (P : X → Type 0) (xs : List X) (i : ℕ) → length xs ≤ i → All P (take i xs) → All P xs
 all_there {X} P xs i le all = subst (λ (l : List X). All P l) (take_all i xs le) all
@@ -139,7 +139,7 @@ module _ (g : Graph) (is : List Insertion) (i : ℕ) (x : Insertion) (at : slice
 
   pub grown_next : (current next : Graph) → current ≡ grown g (take i is) → next ≡ with_insertion current x → next ≡ grown g (take (i + 1) is)
   grown_next current next now e =
-      e ∙ ap (λ (h : Graph). with_insertion h x) now ∙ sym (ap (grown g) (taken_one is i x at) ∙ grown_more g (take i is) x)
+      e ∙ ap (λ (h : Graph). with_insertion h x) now ∙ sym (ap (grown g) (taken is i x at) ∙ grown_more g (take i is) x)
 
   pub within_more : (current : Graph) → current ≡ grown g (take i is) → IsEdgeList (with_insertion current x) → ((k : ℕ) → k ≤ i → IsEdgeList (grown g (take k is))) →
       (k : ℕ) → k ≤ i + 1 → IsEdgeList (grown g (take k is))
@@ -174,7 +174,7 @@ module _ (g : Graph) (is : List Insertion) (i : ℕ) (x : Insertion) (at : slice
     list = grown_next before.list after.list has.list list;
     growing = growing;
     told = more ∙ (λ j. has.told j ++ (told ∙ ap step_of (list ∙ ap (λ (h : Graph). with_insertion h x) has.list)) j ∷ [])
-        ∙ sym (ap (steps_of g) (taken_one is i x at) ∙ steps_more g (take i is) x);
+        ∙ sym (ap (steps_of g) (taken is i x at) ∙ steps_more g (take i is) x);
   }
 
 pub none_inserted : (g : Graph) (is : List Insertion) → IsEdgeList g → (k : ℕ) → k ≤ 0 → IsEdgeList (grown g (take k is))

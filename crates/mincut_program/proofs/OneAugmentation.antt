@@ -1,5 +1,5 @@
 -- Of the texts of an augmentation a graph has one: the end nodes of its canonical cactus stand in one order.
-use Rattle.std.proofs.Common.{◌≡◌, ℕ, inl, inr, true, Bool, false, List, [], ◌∷◌, map, ap, ◌∙◌, sym, subst, refl, arith}
+use Rattle.std.proofs.Common.{◌≡◌, ℕ, inl, true, List, [], ◌∷◌, map, ap, ◌∙◌, sym, subst, refl, arith}
 use Rattle.std.specs.BTreeSet.{BTreeSet}
 use Rattle.std.specs.Cmp.{IsTotalOrder}
 use Rattle.std.specs.List.{Contains, filter, concat, range_with_len}
@@ -7,7 +7,7 @@ use Rattle.std.specs.List.Sorted.{IsStrictlySortedBy}
 use Rattle.std.specs.Ordering.{nat_cmp}
 use Rattle.std.specs.Prelude.{◌↔◌}
 use Rattle.std.specs.declared.cmp.Ordering.{Ordering}
-use Rattle.std.proofs.lemmas.Cmp.{nat_cmp_total, nat_list_cmp_total, on_total, then_total}
+use Rattle.std.proofs.lemmas.Cmp.{nat_list_cmp_total}
 use Rattle.std.proofs.lemmas.List.Elements.{All-contains}
 use Rattle.std.proofs.lemmas.Map.Lookups.{CmpEqualImpliesEq, btree_set_from_contains, exact_bytes, exact_pairs, exact_unsigned}
 use Rattle.std.proofs.lemmas.Map.Views.{btree_set_contains_iff}
@@ -15,27 +15,28 @@ use Rattle.cut_definitions.specs.Graph.{Graph}
 use Rattle.cut_definitions.specs.Weight.{VertexSet}
 use Rattle.cut_definitions.specs.Cuts.{has, value}
 use Rattle.cut_definitions.proofs.Bridge.{has_within}
-use Rattle.cut_definitions.proofs.Lists.{Contains-map, Contains-from_map, Contains-here, Contains-there, Contains-cons_cases}
+use Rattle.cut_definitions.proofs.Bools.{same_tests}
+use Rattle.cut_definitions.proofs.Ascending.{has_contains}
 use Rattle.cactus_tree.specs.Sides.{part}
-use Rattle.cactus_tree.specs.Rooted.{Rooted, IsCactus, sides_of}
+use Rattle.cactus_tree.specs.Rooted.{Rooted, IsCactus}
 use Rattle.cactus_tree.specs.Different.{HaveSameSides}
 use Rattle.cactus_tree.specs.Places.{IsVertex}
 use Rattle.cactus_tree.specs.Entered.{entered, in_order}
 use Rattle.cactus_tree.specs.Trees.{nodes_in}
 use Rattle.cactus_tree.specs.declared.tree.Node.{Node}
-use Rattle.cactus_tree.proofs.Once.{all_vertices_within, each_there}
-use Rattle.cactus_tree.proofs.Groups.{has_contains}
+use Rattle.cactus_tree.proofs.Once.{all_vertices_within}
 use Rattle.cactus_tree.proofs.Sets.{IsIn, same_set}
+use Rattle.cactus_tree.proofs.Trims.{with_whole}
 use Rattle.canonical_cactus.specs.Canonical.{is_canonical}
 use Rattle.canonical_cactus.specs.Laws.{over}
 use Rattle.canonical_cactus.proofs.Arrangement.{node_covered}
 use Rattle.canonical_cactus.proofs.Fits.{IsFit, root_fit, root_solid}
-use Rattle.canonical_cactus.proofs.Sound.{node_sound}
 use Rattle.canonical_cactus.proofs.Unique.{read_alike}
-use Rattle.edge_augment.specs.Augmentations.{pair_cmp}
+use Rattle.canonical_cactus.proofs.OneTree.{root_all, cuts_over}
 use Rattle.edge_augment.specs.Ends.{block_leaves, end_sets, ends_of, leaves, leaves_of}
 use Rattle.edge_augment.specs.NewEdges.{new_edges}
 use Rattle.edge_augment.proofs.Leaves.{leaves_bridge, leaves_cycle, leaves_out}
+use Rattle.edge_augment.proofs.Sorted.{pair_total}
 use Rattle.mincut_program.specs.Augmenting.{augment_text}
 use Rattle.mincut_program.specs.Jobs.{IsAugmentText, IsCactusOf}
 use Rattle.mincut_program.specs.TextLaws.{LawOfOneAugmentText}
@@ -57,24 +58,6 @@ root_vertices : (n : ℕ) (root : Node) → IsCactus n root → AreVertices n (p
 root_vertices n root h v e =
     All-contains (IsVertex n) (concat (entered root)) v (all_vertices_within n root h)
     (has_contains (concat (entered root)) v (ap (λ (s : VertexSet). s v) (node_covered root).listed ∙ e))
-
-root_all : (n : ℕ) (root : Node) → IsCactus n root → (v : ℕ) → IsVertex n v → (part root).below v ≡ true
-root_all n root h v w = sym (ap (λ (s : VertexSet). s v) (node_covered root).listed) ∙ each_there n root h v w.0 w.1
-
-cuts_over : (n : ℕ) (c d : Node) → IsCactus n c → IsCactus n d → IsFit n c → IsFit n d →
-    ((side : List ℕ) → Contains (sides_of (over n c)) side → Contains (sides_of (over n d)) side) → (s : VertexSet) → Contains (part c).cuts s → Contains (part d).cuts s
-cuts_over n c d hc hd fc fd f s k =
-    let list : VertexSet → List ℕ = λ t. filter t (range_with_len 1 n) in
-    let r = Contains-from_map list (part d).cuts (list s) (f (list s) (Contains-map list (part c).cuts s k)) in
-    let one : AreVertices n s = λ v e. root_vertices n c hc v ((node_sound n c fc).0.within s k v e) in
-    let other : AreVertices n r.0 = λ v e. root_vertices n d hd v ((node_sound n d fd).0.within r.0 r.1 v e) in
-    subst (λ t. Contains (part d).cuts t) (listed_same n r.0 s other one r.2) r.1
-
-with_whole : (b c : VertexSet) (ks ls : List VertexSet) → b ≡ c → ((s : VertexSet) → Contains ks s → Contains ls s) → (s : VertexSet) → Contains (b ∷ ks) s → Contains (c ∷ ls) s
-with_whole b c ks ls e f s h = elim (Contains-cons_cases b ks s h) [
-  | inl k ↦ subst (λ t. Contains (c ∷ ls) t) (sym e ∙ k) (Contains-here c ls)
-  | inr k ↦ Contains-there c ls s (f s k)
-]
 
 -- ---- the end nodes
 abbrev Lists : Type 0
@@ -111,24 +94,16 @@ one_ends g c d a b =
     ends_over c.vertices d.vertices c.root d.root (a.over ∙ sym b.over) a.is_cactus b.is_cactus a.canonical b.canonical (same_sides g c d a b)
 
 -- ---- two lists in strict order with the same members are one
-both_ways : (s t : Bool) → (s ≡ true → t ≡ true) → (t ≡ true → s ≡ true) → s ≡ t
-both_ways true t f g = sym (f refl)
-both_ways false true f g = g refl
-both_ways false false f g = refl
-
 one_listed : {K : Type 0} {R : K → K → Ordering} → IsTotalOrder R → CmpEqualImpliesEq R → (xs ys : List K) → IsStrictlySortedBy R xs → IsStrictlySortedBy R ys →
     ((k : K) → Contains xs k ↔ Contains ys k) → xs ≡ ys
 one_listed {K} {R} o exact xs ys a b h =
     let s : BTreeSet K = record { keys = xs } in
     let t : BTreeSet K = record { keys = ys } in
     btree_set_from_contains o s t a b
-    (λ q. both_ways _ _
+    (λ q. same_tests _ _
     (λ e. (btree_set_contains_iff o exact t q).1 ((h q).0 ((btree_set_contains_iff o exact s q).0 e)))
     (λ e. (btree_set_contains_iff o exact s q).1 ((h q).1 ((btree_set_contains_iff o exact t q).0 e))))
     exact
-
-pair_total : IsTotalOrder pair_cmp
-pair_total = then_total (on_total (λ (p : ℕ × ℕ). p.0) nat_cmp_total) (on_total (λ (p : ℕ × ℕ). p.1) nat_cmp_total)
 
 -- ---- the text
 module _ (g : Graph) (t u : List ℕ) (a : IsAugmentText g t) (b : IsAugmentText g u) where

@@ -1,8 +1,7 @@
 -- The edges that the canonical cactus of a graph gives raise its value, and no fewer do.
-use Rattle.std.proofs.Common.{◌≡◌, ℕ, ◌≤◌, ◌&&◌, Bool, true, false, List, [], ◌∷◌, length, refl, sym, subst, arith}
+use Rattle.std.proofs.Common.{◌≡◌, ℕ, ◌≤◌, true, List, [], ◌∷◌, length, refl, sym, subst, arith}
 use Rattle.std.specs.Prelude.{◌<◌}
 use Rattle.std.specs.List.{All, Contains}
-use Rattle.std.proofs.lemmas.Bool.{false≢true}
 use Rattle.std.proofs.lemmas.List.Elements.{All-weaker}
 use Rattle.cut_definitions.specs.Graph.{Graph}
 use Rattle.cut_definitions.specs.Cuts.{has, mincuts, side_of, IsAscendingWithin}
@@ -18,15 +17,12 @@ use Rattle.edge_augment.specs.Laws as ends
 use Rattle.mincut_program.specs.Jobs.{IsAugmentText, IsCactusOf, IsCutSet, IsLeastRaise, IsMinimalCutSet, IsVertex}
 use Rattle.mincut_program.specs.Augmenting.{augment_text}
 use Rattle.cut_definitions.specs.Cuts.{value}
+use Rattle.cut_definitions.proofs.Bools.{and_first}
 use Rattle.mincut_program.proofs.Graphs.{some_block}
-
-both_true : (a b : Bool) → (a && b) ≡ true → a ≡ true
-both_true true b e = refl
-both_true false b e = absurd (false≢true e)
 
 -- a canonical cactus is normal
 pub normal_of : (root : Node) → is_canonical root ≡ true → is_normal root ≡ true
-normal_of root e = both_true (is_normal root) (arranged root).in_order e
+normal_of root e = and_first (is_normal root) (arranged root).in_order e
 
 some_length : {X : Type 0} (xs : List X) → (xs ≡ [] → ⊥) → 1 ≤ length xs
 some_length [] some = absurd (some refl)

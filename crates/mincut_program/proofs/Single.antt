@@ -1,15 +1,10 @@
 -- The cactus of one node has no side.
-use Rattle.std.proofs.Common.{◌≡◌, [], List, map, ap, ◌∙◌}
+use Rattle.std.proofs.Common.{◌≡◌, [], List, map, ap}
 use Rattle.std.specs.List.{filter, range_with_len}
 use Rattle.cut_definitions.specs.Weight.{VertexSet}
-use Rattle.cactus_tree.specs.declared.tree.Node.{Node}
 use Rattle.cactus_tree.specs.Trees.{blocks}
-use Rattle.cactus_tree.specs.Sides.{Part, together, block_part, cuts}
 use Rattle.cactus_tree.specs.Rooted.{Rooted, sides_of}
-use Rattle.cactus_tree.proofs.Parts.{part_out}
-
-no_cuts : (x : Node) → blocks x ≡ [] → cuts x ≡ []
-no_cuts x e = ap (λ (p : Part). p.cuts) (part_out x) ∙ ap (λ bs. (together (map block_part bs)).cuts) e
+use Rattle.cactus_solver.proofs.ForestFilling.{placed_cuts}
 
 pub no_sides : (c : Rooted) → blocks c.root ≡ [] → sides_of c ≡ []
-no_sides c e = ap (λ (ss : List VertexSet). map (λ s. filter s (range_with_len 1 c.vertices)) ss) (no_cuts c.root e)
+no_sides c e = ap (λ (ss : List VertexSet). map (λ s. filter s (range_with_len 1 c.vertices)) ss) (placed_cuts c.root e)

@@ -1,7 +1,6 @@
 -- Texts read as insertions, three each.
-use Rattle.std.proofs.Common.{◌≡◌, ℕ, ◌+◌, ◌<◌, ◌≤◌, suc, List, [], ◌∷◌, ◌++◌, length, map, drop, get_or, append_assoc, append-nil, refl, sym, ◌∙◌, ap, arith, Option, Some, None}
-use Rattle.std.proofs.Math.Seq.{drop-cons}
-use Rattle.std.proofs.lemmas.List.{drop_all, length-drop, length-map}
+use Rattle.std.proofs.Common.{◌≡◌, ℕ, ◌+◌, ◌<◌, ◌≤◌, List, [], ◌∷◌, ◌++◌, length, map, drop, get_or, append_assoc, append-nil, refl, sym, ◌∙◌, ap, arith, Option, Some, None}
+use Rattle.std.proofs.lemmas.List.{drop_all, length-drop, length-map, drop_more}
 use Rattle.std.specs.Borrow.{Bor}
 use Rattle.clap.specs.Words.{Text}
 use Rattle.mincut_program.specs.Insertions.{Insertion}
@@ -10,11 +9,6 @@ use Rattle.mincut_program.specs.Words.{after_all, before_all, insertion_of, inse
 
 abbrev pub texts_from : List (Bor Text) → ℕ → List Text
 texts_from values j = map (λ v. v.now) (drop j values)
-
-next_from : {X : Type 0} (xs : List X) (j : ℕ) (d : X) → j < length xs → drop j xs ≡ get_or xs j d ∷ drop (j + 1) xs
-next_from {X} xs j d lt =
-    let next : suc j ≡ j + 1 = omega arith in
-    drop-cons xs j d lt ∙ ap (λ k. get_or xs j d ∷ drop k xs) next
 
 pub three_from : (values : List (Bor Text)) (j : ℕ) (d e f : Bor Text) (r : Option Insertion) → j + 3 ≤ length values →
     r ≡ insertion_of (number_of (get_or values j d).now) (number_of (get_or values (j + 1) e).now) (number_of (get_or values (j + 2) f).now) →
@@ -25,9 +19,9 @@ three_from values j d e f r room is =
     let u = get_or values j d in
     let v = get_or values (j + 1) e in
     let w = get_or values (j + 2) f in
-    let parts : drop j values ≡ u ∷ v ∷ w ∷ drop (j + 3) values = next_from values j d (omega (arith, room))
-    ∙ ap (λ (l : List (Bor Text)). u ∷ l) (next_from values (j + 1) e (omega (arith, room)) ∙ ap (λ k. v ∷ drop k values) second
-    ∙ ap (λ (l : List (Bor Text)). v ∷ l) (next_from values (j + 2) f (omega (arith, room)) ∙ ap (λ k. w ∷ drop k values) third)) in
+    let parts : drop j values ≡ u ∷ v ∷ w ∷ drop (j + 3) values = drop_more values j d (omega (arith, room))
+    ∙ ap (λ (l : List (Bor Text)). u ∷ l) (drop_more values (j + 1) e (omega (arith, room)) ∙ ap (λ k. v ∷ drop k values) second
+    ∙ ap (λ (l : List (Bor Text)). v ∷ l) (drop_more values (j + 2) f (omega (arith, room)) ∙ ap (λ k. w ∷ drop k values) third)) in
     ap (λ (l : List (Bor Text)). insertions_of (map (λ v. v.now) l)) parts ∙ ap (λ (o : Option Insertion). before_all o (insertions_of (texts_from values (j + 3)))) (sym is)
 
 pub none_before : (o : Option (List Insertion)) → after_all [] o ≡ o

@@ -16,9 +16,9 @@ use crate::reply::Reply;
 use crate::stop::Stop;
 use balanced_cut::balance_of;
 use component_cuts::{BestRefusal, Components, laws};
-use cut_definitions::VertexWeights;
+use cut_definitions::{NoMemory, VertexWeights};
 use cut_listing::{Ask, Lister};
-use std::alloc::{AllocError, Global};
+use std::alloc::Global;
 use vertex_set::Side;
 use weighted_graph::Graph;
 
@@ -26,7 +26,7 @@ use weighted_graph::Graph;
 const LARGEST: u128 = 1_073_741_824;
 
 /// The text that tells how many components there are.
-pub fn disconnected(alloc: Global, components: u32) -> Result<Reply, AllocError>
+pub fn disconnected(alloc: Global, components: u32) -> Result<Reply, NoMemory>
     ensures text { IfOk result (λ reply. text_of reply ≡ disconnected_line components) }
     ensures printable { IfOk result IsPrintable }
 {
@@ -54,7 +54,7 @@ fn select_parting(
     v: u32,
     n: u32,
     sides: Vec<Side>,
-) -> Result<Vec<Side>, AllocError>
+) -> Result<Vec<Side>, NoMemory>
     requires over_n { All (λ s. s.vertices ≡ n) sides.items }
     requires within { IsAskWithin n (Ask.Parting u v) }
     ensures { IfOk result (λ asked. members_of asked.items ≡ filter (lets (Ask.Parting u v)) (members_of sides.items)) }
@@ -76,7 +76,7 @@ fn select_balanced(
     weights: &VertexWeights,
     n: u32,
     sides: Vec<Side>,
-) -> Result<Vec<Side>, AllocError>
+) -> Result<Vec<Side>, NoMemory>
     requires over_n { All (λ s. s.vertices ≡ n) sides.items }
     requires weighed { length weights.now ≡ n }
     ensures { IfOk result (λ asked. members_of asked.items ≡ filter (lets (Ask.Least least weights.entry)) (members_of sides.items)) }
@@ -93,7 +93,7 @@ fn select_balanced(
 }
 
 // Those of some sides that are asked for.
-fn select_asked(alloc: Global, ask: Ask, n: u32, sides: Vec<Side>) -> Result<Vec<Side>, AllocError>
+fn select_asked(alloc: Global, ask: Ask, n: u32, sides: Vec<Side>) -> Result<Vec<Side>, NoMemory>
     requires over_n { All (λ s. s.vertices ≡ n) sides.items }
     requires within { IsAskWithin n ask }
     ensures { IfOk result (λ asked. members_of asked.items ≡ filter (lets ask.entry) (members_of sides.items)) }
@@ -174,7 +174,7 @@ fn balanced_union(
 }
 
 // The components of a graph, of which there are so many.
-fn components_of(alloc: Global, graph: &Graph, count: u32) -> Result<Components, AllocError>
+fn components_of(alloc: Global, graph: &Graph, count: u32) -> Result<Components, NoMemory>
     requires enough { 2 ≤ graph.now.vertices }
     requires components { HasComponents graph.now count }
     requires several { 2 ≤ count }

@@ -19,12 +19,12 @@ use balanced_cut::balance_of;
 use cactus_solver::Solved;
 use cactus_tree::{Cactus, laws};
 use canonical_cactus::{canonical, first_best};
-use cut_definitions::VertexWeights;
+use cut_definitions::{NoMemory, VertexWeights};
 use cut_listing::laws::{count_of_minimum_cuts, minimum_cuts_in_order, number_of_minimum_cuts};
 use cut_listing::{Ask, ListRefusal, Lister};
 use edge_augment::augment;
 use edge_augment::laws::augmentation;
-use std::alloc::{AllocError, Global};
+use std::alloc::Global;
 use vertex_set::Side;
 use weighted_graph::Graph;
 
@@ -67,7 +67,7 @@ fn parting_sides(
 }
 
 /// A copy of weights.
-pub fn copied(alloc: Global, weights: &VertexWeights) -> Result<VertexWeights, AllocError>
+pub fn copied(alloc: Global, weights: &VertexWeights) -> Result<VertexWeights, NoMemory>
     ensures { IfOk result (λ copy. copy ≡ weights.now) }
 {
     // known by this call: there are few enough
@@ -142,7 +142,7 @@ fn listing_reply(alloc: Global, ask: Ask, graph: &Graph, solved: Solved) -> Resu
 }
 
 /// The number of all minimum cuts of a solved graph, from the tree of its cactus: one step for each node and block.
-pub fn count_of_cuts(alloc: Global, graph: &Graph, solved: &Solved) -> Result<u64, AllocError>
+pub fn count_of_cuts(alloc: Global, graph: &Graph, solved: &Solved) -> Result<u64, NoMemory>
     requires { IsSolved graph.now solved.now }
     ensures { IfOk result (λ count. count ≡ length (mincuts graph.now)) }
 {
@@ -153,7 +153,7 @@ pub fn count_of_cuts(alloc: Global, graph: &Graph, solved: &Solved) -> Result<u6
 }
 
 // The number of all minimum cuts.
-fn count_reply(alloc: Global, graph: &Graph, solved: &Solved) -> Result<Reply, AllocError>
+fn count_reply(alloc: Global, graph: &Graph, solved: &Solved) -> Result<Reply, NoMemory>
     requires solved { IsSolved graph.now solved.now }
     ensures text { IfOk result (λ reply. text_of reply ≡ count_text (value graph.now) (length (mincuts graph.now))) }
     ensures printable { IfOk result IsPrintable }
@@ -170,7 +170,7 @@ fn balanced_reply(
     graph: &Graph,
     weights: &VertexWeights,
     solved: Solved,
-) -> Result<Reply, AllocError>
+) -> Result<Reply, NoMemory>
     requires enough { 2 ≤ graph.now.vertices }
     requires weighed { length weights.now ≡ graph.now.vertices }
     requires solved { IsSolved graph.now solved }
@@ -227,7 +227,7 @@ pub fn cuts_reply(
 }
 
 /// The canonical cactus of a solved graph.
-pub fn canonical_of(alloc: Global, solved: Solved) -> Result<Cactus, AllocError>
+pub fn canonical_of(alloc: Global, solved: Solved) -> Result<Cactus, NoMemory>
     requires { HasNoEmptySide solved.cactus }
     ensures { (g : EdgeGraph) → IsSolved g solved → IfOk result (λ cactus. IsCactusOf g cactus) }
 {
@@ -238,7 +238,7 @@ pub fn canonical_of(alloc: Global, solved: Solved) -> Result<Cactus, AllocError>
 }
 
 // All minimum cuts.
-fn cactus_reply(alloc: Global, graph: &Graph, solved: Solved) -> Result<Reply, AllocError>
+fn cactus_reply(alloc: Global, graph: &Graph, solved: Solved) -> Result<Reply, NoMemory>
     requires enough { 2 ≤ graph.now.vertices }
     requires solved { IsSolved graph.now solved }
     ensures text { IfOk result (λ reply. IsCactusText graph.now (text_of reply)) }
@@ -254,7 +254,7 @@ fn cactus_reply(alloc: Global, graph: &Graph, solved: Solved) -> Result<Reply, A
 }
 
 // The fewest unit edges that raise the value.
-fn augment_reply(alloc: Global, graph: &Graph, solved: Solved) -> Result<Reply, AllocError>
+fn augment_reply(alloc: Global, graph: &Graph, solved: Solved) -> Result<Reply, NoMemory>
     requires enough { 2 ≤ graph.now.vertices }
     requires solved { IsSolved graph.now solved }
     ensures text { IfOk result (λ reply. IsAugmentText graph.now (text_of reply)) }

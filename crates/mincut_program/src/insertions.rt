@@ -2,7 +2,8 @@
 
 ghost use Rattle.std.specs.Prelude.{◌≡◌, ◌∷◌, ◌++◌, [], OnOk, OnErr};
 
-use std::alloc::{AllocError, Global};
+use cut_definitions::NoMemory;
+use std::alloc::Global;
 use std::marker::Model;
 
 /// Insertions of edges, in their order: two vertices and a weight each. Contracts see the list.
@@ -33,7 +34,7 @@ impl Insertions {
     }
 
     /// Appends an insertion: two vertices and a weight.
-    pub fn push(&mut self, insertion: (u64, u64, u64)) -> Result<(), AllocError>
+    pub fn push(&mut self, insertion: (u64, u64, u64)) -> Result<(), NoMemory>
         ensures { OnOk result (self.new ≡ self.old ++ insertion ∷ []) }
     {
         self.items.push(insertion)?;

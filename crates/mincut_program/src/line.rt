@@ -3,10 +3,11 @@ ghost use Rattle.std.specs.Prelude.{◌≡◌, IfOk};
 ghost use Rattle.clap.specs.Words.{app_of};
 ghost use Rattle.mincut_program.specs.Line.{mincut};
 
-use std::alloc::{AllocError, Global};
+use cut_definitions::NoMemory;
+use std::alloc::Global;
 
 /// A job, its further values and the options for the number of workers and the least balance.
-pub fn command_line<'a>(alloc: Global) -> Result<clap::Command<'a>, AllocError>
+pub fn command_line<'a>(alloc: Global) -> Result<clap::Command<'a>, NoMemory>
     ensures { IfOk result (λ command. app_of command ≡ mincut) }
 {
     let job = clap::Arg::new(alloc, "job")

@@ -2,7 +2,7 @@
 use Rattle.std.proofs.Common.{◌≡◌, ℕ, zero, suc, ◌+◌, ◌-◌, ◌*◌, ◌^◌, ◌<◌, ◌≤◌, inl, inr, ⊎_elim, Bool, true, false, ◌&&◌, ◌||◌, cond, eqb, ltb, List, [], ◌∷◌, ◌++◌, length, map, get_or, set, refl, sym, ◌∙◌, subst, ap, arith, length-append}
 use Rattle.std.specs.Prelude.{◌≢◌}
 use Rattle.std.specs.List.{filter, flat_map, range_with_len}
-use Rattle.std.proofs.lemmas.Bool.{cases_eq, cases_lt, eq-eqb, ne_eqb}
+use Rattle.std.proofs.lemmas.Bool.{cases_eq, cases_lt, eq-eqb, ne_eqb, and_left, and_right}
 use Rattle.std.proofs.lemmas.Bool.Decides.{nat_tests}
 use Rattle.std.proofs.lemmas.List.{append-nil, get_or-set_other, get_or-set_same, length-map, map-append}
 use Rattle.std.proofs.lemmas.List.Concat.{flat_map-append}
@@ -18,6 +18,7 @@ use Rattle.cut_definitions.specs.Contraction.{label, classes, class, relabel}
 use Rattle.cut_definitions.proofs.Running.{between-le_total}
 use Rattle.cut_definitions.proofs.Sums.{sum_by-plus, sum_by-none, sum_by-same, sum_by-same_on}
 use Rattle.cut_definitions.proofs.WeightLaws.{join_of, join_term}
+use Rattle.cut_definitions.proofs.Ranges.{range_push}
 use Rattle.weighted_graph.specs.ContractionLaws.{IsLabelled}
 use Rattle.weighted_graph.specs.Rows.{row_of}
 use Rattle.weighted_graph.specs.declared.graph.Arc.{Arc}
@@ -99,12 +100,6 @@ apart_members l from v x le = grind (arith, nat_tests)
 apart_class : (y c b : ℕ) (k : Bool) → c < b → ((eqb y c && k) && eqb y b) ≡ false
 apart_class y c b k l = grind (arith, nat_tests)
 
-right_false : (a b : Bool) → b ≡ false → (a && b) ≡ false
-right_false a b h = grind arith
-
-left_false : (a b : Bool) → a ≡ false → (a && b) ≡ false
-left_false a b h = grind arith
-
 module _ (g : Graph) (labels : List ℕ) (c b from v : ℕ) (l : c < b) (f : IsFirst labels c from v) where
   abbrev M : VertexSet
   M = members_before labels c from
@@ -120,8 +115,8 @@ module _ (g : Graph) (labels : List ℕ) (c b from v : ℕ) (l : c < b) (f : IsF
 
   single_apart : (x : ℕ) → (single v x && T x) ≡ false
   single_apart x = ⊎_elim
-      (λ (e : v ≡ x). right_false (eqb v x) (eqb (label labels x) b) (ne_eqb (label labels x) b (λ k. omega (arith, ap (label labels) e, f.is_in, k, l))))
-      (λ (d : v ≢ x). left_false (eqb v x) (eqb (label labels x) b) (ne_eqb v x d))
+      (λ (e : v ≡ x). and_right (eqb v x) (eqb (label labels x) b) (ne_eqb (label labels x) b (λ k. omega (arith, ap (label labels) e, f.is_in, k, l))))
+      (λ (d : v ≢ x). and_left (eqb v x) (eqb (label labels x) b) (ne_eqb v x d))
       (cases_eq v x)
 
   each_more : (e : Edge) → join_term (members_before labels c (v + 1)) T e ≡ join_term M T e + join_term (single v) T e
@@ -157,7 +152,7 @@ members_none g ok labels c b =
 all_before : (labels : List ℕ) (c from v : ℕ) → IsNone labels c from v → (x : ℕ) → x ≤ length labels → members_before labels c from x ≡ class labels c x
 all_before labels c from v h x within = ⊎_elim
     (λ (l : x < from). early (eqb (label labels x) c) x from l)
-    (λ (g : from ≤ x). left_false (eqb (label labels x) c) (ltb x from) (ne_eqb (label labels x) c (h.none x g within)) ∙ sym (ne_eqb (label labels x) c (h.none x g within)))
+    (λ (g : from ≤ x). and_left (eqb (label labels x) c) (ltb x from) (ne_eqb (label labels x) c (h.none x g within)) ∙ sym (ne_eqb (label labels x) c (h.none x g within)))
     (cases_lt x from)
   where
     early : (l : Bool) (x from : ℕ) → x < from → (l && ltb x from) ≡ l
@@ -187,12 +182,6 @@ more_weight g ok labels c b from v s row l f is e =
     omega (arith, e, ap (toward labels b) is, toward_is g ok labels b v, members_grow g labels c b from v l f)
 
 -- ---- the edges
-
-range_push : (low m : ℕ) → range_with_len low (suc m) ≡ range_with_len low m ++ (low + m) ∷ []
-range_push low zero = let e : low ≡ low + 0 = omega arith in ap (λ k. k ∷ []) e
-range_push low (suc m) =
-    let e : (low + 1) + m ≡ low + suc m = omega arith in
-    ap (λ l. low ∷ l) (range_push (low + 1) m ∙ ap (λ k. range_with_len (low + 1) m ++ k ∷ []) e)
 
 abbrev keeps : Edge → Bool
 keeps e = ltb 0 e.w

@@ -7,8 +7,8 @@ use Rattle.std.proofs.lemmas.List.Elements.{filter-append}
 use Rattle.cut_definitions.specs.Weight.{VertexSet}
 use Rattle.cut_definitions.specs.Cuts.{has, IsAscendingWithin}
 use Rattle.cut_definitions.proofs.Bridge.{has_within, IsAscendingWithin-filter}
+use Rattle.cut_definitions.proofs.Ranges.{range_push}
 use Rattle.residual_chain.specs.Chain.{ChainView}
-use Rattle.cactus_tree.proofs.Ranges.{range_push}
 use Rattle.cactus_merge.specs.declared.part.PartCactus.{PartCactus}
 use Rattle.cactus_merge.specs.Assembled.{IsPartOf, is_own}
 use Rattle.cactus_merge.proofs.Pushed.{at_front, at_seam}

@@ -51,26 +51,38 @@ fn two_vertices_with_no_edge(rt: HostRuntime) -> Result<(), Fail> {
     Ok(())
 }
 
-// The complete graph of four vertices.
+// The complete graph of four vertices, all edges of weight 1.
 const FOUR: &str = "4 6\n2 3 4\n1 3 4\n1 2 4\n1 2 3\n";
 
-// Whether a sweep is whole within many arcs, and is cut short within none.
-fn keeps_its_limit(alloc: Global, list: &EdgeList) -> Result<bool, NoMemory> {
+// The same with one heavier edge, so that the least degree is not at once known to be the value.
+const UNEVEN_FOUR: &str = "4 6 1\n2 2 3 1 4 1\n1 2 3 1 4 1\n1 1 2 1 4 1\n1 1 2 1 3 1\n";
+
+// Whether a sweep is whole within many arcs, and answers this within none.
+fn keeps_its_limit(alloc: Global, list: &EdgeList, within_none: Swept) -> Result<bool, NoMemory> {
     if list.n() < 2 {
         return Ok(false);
     }
     let graph = Graph::build(alloc, list)?;
-    let whole = least_weight_within(alloc, &graph, 9, 1000)?;
-    let part = least_weight_within(alloc, &graph, 9, 0)?;
-    Ok(whole == Swept::Whole(3) && part == Swept::Part(3))
+    let many = least_weight_within(alloc, &graph, 9, 1000)?;
+    let none = least_weight_within(alloc, &graph, 9, 0)?;
+    Ok(many == Swept::Whole(3) && none == within_none)
 }
 
 #[test]
 fn a_sweep_is_cut_short(rt: HostRuntime) -> Result<(), Fail> {
+    let Some(list) = edges_of(rt.alloc(), UNEVEN_FOUR) else {
+        return Err(Fail::from("no graph"));
+    };
+    assert!(rt; keeps_its_limit(rt.alloc(), &list, Swept::Part(3))?);
+    Ok(())
+}
+
+#[test]
+fn a_dense_graph_needs_no_sweep(rt: HostRuntime) -> Result<(), Fail> {
     let Some(list) = edges_of(rt.alloc(), FOUR) else {
         return Err(Fail::from("no graph"));
     };
-    assert!(rt; keeps_its_limit(rt.alloc(), &list)?);
+    assert!(rt; keeps_its_limit(rt.alloc(), &list, Swept::Whole(3))?);
     Ok(())
 }
 

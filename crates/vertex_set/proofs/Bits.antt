@@ -12,6 +12,7 @@ use Rattle.cut_definitions.specs.Cuts.{has}
 use Rattle.cut_definitions.specs.Scan.{single}
 use Rattle.cut_definitions.proofs.ChainLists.{filter-range}
 use Rattle.cut_definitions.proofs.Bridge.{has_within}
+use Rattle.cut_definitions.proofs.Bools.{or_false, or_true, minus_same, or_same}
 use Rattle.vertex_set.specs.Side.{VertexList, listed, has_bit, AreWords}
 
 pub filter-same : (s t : VertexSet) (m low : ℕ) → ((v : ℕ) → low ≤ v → v < low + m → s v ≡ t v) → filter s (range_with_len low m) ≡ filter t (range_with_len low m)
@@ -49,12 +50,6 @@ flip_test : (a i : ℕ) → a < 2 ^ 64 → i < 64 → eqb (bit_at (bit_not w64 a
 flip_test a i fits l =
     let x = bit_at-lt a i in
     rw (bit_at_not w64 a i fits l) (grind (arith, nat_tests))
-
-or_true : (a : Bool) → (a || true) ≡ true
-or_true a = grind arith
-
-or_false : (a : Bool) → (a || false) ≡ a
-or_false a = grind arith
 
 and_not_true : (a : Bool) → (a && not true) ≡ false
 and_not_true a = grind arith
@@ -121,12 +116,6 @@ pub has_bit-flip : (words flipped : List ℕ) → ((k : ℕ) → k < length word
 has_bit-flip words flipped h fits u l = rw (h (u / 64) l) (flip_test (get_or words (u / 64) 0) (u % 64) (fits (u / 64)) (omega arith))
 
 -- ---- sets that were changed bit by bit
-
-or_same : (a b c d : Bool) → a ≡ c → b ≡ d → (a || b) ≡ (c || d)
-or_same a b c d p q = cc
-
-minus_same : (a b c d : Bool) → a ≡ c → b ≡ d → (a && not b) ≡ (c && not d)
-minus_same a b c d p q = cc
 
 -- the view of words whose bits are those of a set
 pub listed-bits : (n : ℕ) (words : List ℕ) (s : VertexSet) → ((v : ℕ) → 1 ≤ v → v ≤ n → has_bit words v ≡ s v) → listed n (has_bit words) ≡ listed n s

@@ -11,6 +11,7 @@ use Rattle.std.proofs.lemmas.List.Sums.{length-filter, count_by-le-length}
 use Rattle.cut_definitions.specs.Weight.{VertexSet, complement}
 use Rattle.cut_definitions.specs.Cuts.{has, IsAscendingWithin}
 use Rattle.cut_definitions.proofs.Bridge.{has_below, has_first_of, IsAscendingWithin-filter}
+use Rattle.cut_definitions.proofs.Bools.{and_first, and_second}
 use Rattle.vertex_set.specs.Side.{VertexList, listed, has_bit, AreWords, IsNextBit, IsNextFrom}
 use Rattle.vertex_set.proofs.Bits.{has-listed, listed-same, has_bit-insert, has_bit-remove, has_bit-join, has_bit-clear, has_bit-zeros, has_bit-past}
 use Rattle.vertex_set.proofs.Counted.{filter-range_append}
@@ -64,12 +65,6 @@ words-fewer n words new kept long fewer = record { few = kept.few; long = long �
 or_left : (a b : Bool) → b ≡ false → (a || b) ≡ true → a ≡ true
 or_left a b e h = grind arith
 
-and_left : (a b : Bool) → (a && b) ≡ true → a ≡ true
-and_left a b h = grind arith
-
-and_right : (a b : Bool) → (a && b) ≡ true → b ≡ true
-and_right a b h = grind arith
-
 pub words-insert : (n v : ℕ) (words : List ℕ) → AreWords n words → 1 ≤ v → v ≤ n → AreWords n (set words (v / 64) (bit_or (get_or words (v / 64) 0) (1 * 2 ^ (v % 64) % 2 ^ 64)))
 words-insert n v words kept l u =
     let new = bit_or (get_or words (v / 64) 0) (1 * 2 ^ (v % 64) % 2 ^ 64) in
@@ -87,7 +82,7 @@ words-remove n v words kept u =
     let new = bit_and (get_or words (v / 64) 0) (bit_not w64 (1 * 2 ^ (v % 64) % 2 ^ 64)) in
     let at : v / 64 < length words = omega (arith, kept.long) in
     words-fewer n words (set words (v / 64) new) kept (length-set words (v / 64) new)
-    (λ k is. and_left (has_bit words k) (not (eqb v k)) (sym (has_bit-remove words v k at) ∙ is))
+    (λ k is. and_first (has_bit words k) (not (eqb v k)) (sym (has_bit-remove words v k at) ∙ is))
 
 -- a place whose bit is set is in the words
 pub place_within : (words : List ℕ) (v : ℕ) → has_bit words v ≡ true → v / 64 < length words
@@ -116,7 +111,7 @@ pub words-clear : (n : ℕ) (words others cleared : List ℕ) → AreWords n wor
 words-clear n words others cleared kept long h fits =
     words-fewer n words cleared kept long
     (λ v is. let at = place_within cleared v is in
-    and_left (has_bit words v) (not (has_bit others v)) (sym (has_bit-clear words others cleared h fits v (omega arith)) ∙ is))
+    and_first (has_bit words v) (not (has_bit others v)) (sym (has_bit-clear words others cleared h fits v (omega arith)) ∙ is))
 
 -- ---- the complement
 
@@ -127,8 +122,8 @@ words-flip n words flipped kept long h = record {
   long = long ∙ kept.long;
   within = λ v is.
       let all = sym (h v) ∙ is in
-      let below = ltb-true v (n + 1) (and_right (not (has_bit words v) && not (eqb 0 v)) (ltb v (n + 1)) all) in
-      let some = and_right (not (has_bit words v)) (not (eqb 0 v)) (and_left (not (has_bit words v) && not (eqb 0 v)) (ltb v (n + 1)) all) in
+      let below = ltb-true v (n + 1) (and_second (not (has_bit words v) && not (eqb 0 v)) (ltb v (n + 1)) all) in
+      let some = and_second (not (has_bit words v)) (not (eqb 0 v)) (and_first (not (has_bit words v) && not (eqb 0 v)) (ltb v (n + 1)) all) in
       let ne : 0 ≢ v = λ q. false≢true (sym (ap not (eq-eqb 0 v q)) ∙ some) in
       (omega arith, omega arith);
 }

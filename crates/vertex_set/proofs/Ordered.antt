@@ -5,9 +5,10 @@ use Rattle.std.specs.Ordering.{nat_cmp, ordering_then, ordering_reverse}
 use Rattle.std.specs.Cmp.Lexicographic.{slice_cmp}
 use Rattle.std.proofs.lemmas.Bool.{cases_lt, cases_Bool}
 use Rattle.cut_definitions.specs.Cuts.{has}
+use Rattle.cut_definitions.proofs.Orderings.{then_less}
 use Rattle.vertex_set.specs.Side.{VertexList, listed, has_bit, AreWords, IsFirstDifference, IsOrderAt}
 use Rattle.vertex_set.proofs.Members.{members_are_bits, ascending_members, same_vertices}
-use Rattle.vertex_set.proofs.Compared.{AreCompared, cmp_differs, compared_to_end, then_less, then_greater}
+use Rattle.vertex_set.proofs.Compared.{AreCompared, cmp_differs, compared_to_end, then_greater}
 
 other_is_out : (a b : Bool) → a ≢ b → a ≡ true → b ≡ false
 other_is_out a b ne is = ⊎_elim (λ (h : b ≡ true). absurd (ne (is ∙ sym h))) (λ (h : b ≡ false). h) (cases_Bool b)

@@ -11,7 +11,8 @@ ghost use Rattle.vertex_set.specs.Side.{listed, IsNextFrom};
 use crate::words::{
     clear_words, count_bits, first_difference, flip_within, is_set, join_words, next_bit, order_at,
 };
-use std::alloc::{AllocError, Global};
+use cut_definitions::NoMemory;
+use std::alloc::Global;
 use std::cmp::Ordering;
 use std::marker::Model;
 
@@ -36,7 +37,7 @@ impl Model for Side {
 
 impl Side {
     /// The empty set of vertices of 1 to n. It takes n/8 bytes of memory, and is refused only where these are wanting.
-    pub fn empty(alloc: Global, n: u32) -> Result<Side, AllocError>
+    pub fn empty(alloc: Global, n: u32) -> Result<Side, NoMemory>
         ensures { IfOk result (λ s. s ≡ record { vertices = n; members = [] }) }
     {
         let words = vec![in alloc; 0u64; (n as usize + 1) / 64 + 1]?;

@@ -1,9 +1,9 @@
 -- What contraction keeps.
-use Rattle.std.proofs.Common.{◌≡◌, ℕ, zero, suc, ◌+◌, ◌-◌, ◌<◌, ◌≤◌, ◌⊎◌, inl, inr, ⊎_elim, Bool, true, false, not, eqb, ltb, max, List, [], ◌∷◌, ◌++◌, map, length, get_or, refl, sym, ◌∙◌, subst, ap, arith}
+use Rattle.std.proofs.Common.{◌≡◌, ℕ, zero, suc, ◌+◌, ◌-◌, ◌<◌, ◌≤◌, ◌⊎◌, inl, inr, ⊎_elim, Bool, true, false, not, eqb, ltb, max, List, [], ◌∷◌, map, length, get_or, refl, sym, ◌∙◌, subst, ap, arith}
 use Rattle.std.specs.Prelude.{◌≢◌, if◌then◌else◌}
 use Rattle.std.specs.List.{sum_by, All, AllPairs, Contains, filter, flat_map, fold, range_with_len}
 use Rattle.std.proofs.lemmas.Bool.{cases_order, eqb-true, ltb-true}
-use Rattle.std.proofs.lemmas.List.Elements.{All-nil, All-cons, All-head, All-tail, All-append, All-map, All-filter, All-weaker, All-contains, filter_passes}
+use Rattle.std.proofs.lemmas.List.Elements.{All-nil, All-cons, All-append, All-map, All-filter, All-weaker, All-contains, filter_passes}
 use Rattle.std.proofs.lemmas.List.Kept.{AllPairs-cons, AllPairs-filter}
 use Rattle.cut_definitions.specs.declared.edge_list.Edge.{Edge}
 use Rattle.cut_definitions.specs.Graph.{Graph, IsGraph, IsEdgeWithin, IsBefore}
@@ -16,7 +16,10 @@ use Rattle.cut_definitions.proofs.Bridge.{has_low, has_none, has_first_of, has-s
 use Rattle.cut_definitions.proofs.Values.{value_is_weight, Contains-mincuts, IsSide-from_mincuts}
 use Rattle.cut_definitions.specs.Contraction.{lifted, RespectsClasses, KeepsMinimumCuts as KeepsAsTests}
 use Rattle.cut_definitions.proofs.ContractionLaws.{FitsGraph-labels, contraction, le_fold_max, vertex_of as vertex_of_class, IsCut-lifted as lifted_is_cut}
-use Rattle.cut_definitions.proofs.Contracted.{FitsGraph, weight-relabel, has-lift, weight-lift, sum_by-map, sum_by-filter, sum_by-swap, sum_by-pairs_none, sum_by-pairs_one, join_nowhere, join_here, join_there, not_positive}
+use Rattle.cut_definitions.proofs.Contracted.{FitsGraph, weight-relabel, has-lift, weight-lift, sum_by-map, sum_by-filter, sum_by-swap, sum_by-pairs_none, sum_by-pairs_one, join_nowhere, join_here, join_there}
+use Rattle.cut_definitions.proofs.Bools.{parts_from_false}
+use Rattle.cut_definitions.proofs.ListLaws.{AllPairs-append}
+use Rattle.cut_definitions.proofs.Numbers.{not_positive}
 use Rattle.weighted_graph.specs.ContractionLaws.{IsLabelled, PartsNoClass, LawOfContractedGraph, LawOfContractedWeights, LawOfLiftedSides, LawOfContractedMinimumCuts, LawOfContractedConnection}
 
 -- ---- labels
@@ -101,13 +104,6 @@ All-range zero low = All-nil (λ i. (low ≤ i) × (i < low + 0))
 All-range (suc m) low =
     All-cons (λ i. (low ≤ i) × (i < low + suc m)) low (range_with_len (low + 1) m) (omega arith, omega arith)
     (All-weaker (λ i. (low + 1 ≤ i) × (i < (low + 1) + m)) (λ i. (low ≤ i) × (i < low + suc m)) (λ i b. (omega (arith, b.0), omega (arith, b.1))) (range_with_len (low + 1) m) (All-range m (low + 1)))
-
-AllPairs-append : {X : Type 0} (R : X → X → Type 0) (xs ys : List X) → AllPairs R xs → AllPairs R ys → All (λ x. All (R x) ys) xs → AllPairs R (xs ++ ys)
-AllPairs-append R [] ys hx hy far = hy
-AllPairs-append R (x ∷ xs) ys hx hy far =
-    AllPairs-cons R x (xs ++ ys)
-    (All-append (R x) xs ys (λ k d l. hx 0 (suc k) d (omega arith) (omega arith)) (All-head (λ z. All (R z) ys) x xs far))
-    (AllPairs-append R xs ys (λ i j d l u. hx (suc i) (suc j) d (omega arith) (omega arith)) hy (All-tail (λ z. All (R z) ys) x xs far))
 
 AllPairs-map : {X Y : Type 0} (R : Y → Y → Type 0) (f : X → Y) (e : X) (xs : List X) → AllPairs (λ x y. R (f x) (f y)) xs → AllPairs R (map f xs)
 AllPairs-map R f e [] h = λ i j d l u. absurd (omega arith)
@@ -230,9 +226,6 @@ respects_classes g ok labels whole x best u v u1 un v1 vn same =
 
 kept_tests : (g : Graph) → IsGraph g → (labels : List ℕ) → IsLabelled g labels → PartsNoClass g labels → KeepsAsTests g labels
 kept_tests g ok labels h whole = contraction g labels ok h.are_labels h.long (respects_classes g ok labels whole)
-
-parts_from_false : (a b : Bool) → a ≡ false → (if a then not b else b) ≡ b
-parts_from_false a b h = rw h refl
 
 lifted_cut : (g : Graph) → IsGraph g → (labels : List ℕ) → IsLabelled g labels → PartsNoClass g labels → (side : List ℕ) → Contains (mincuts g) side →
     (small : List ℕ) × Contains (mincuts (relabel g labels)) small × (lift labels small ≡ side)

@@ -2,11 +2,13 @@
 use Rattle.std.proofs.Common.{◌≡◌, ℕ, ◌+◌, ◌<◌, ◌≤◌, ⊎_elim, Bool, true, false, not, ◌||◌, eqb, List, [], ◌∷◌, ◌++◌, length, refl, sym, ◌∙◌, subst, ap, arith}
 use Rattle.std.specs.Prelude.{◌≢◌, ◌↔◌}
 use Rattle.std.specs.List.{count_by}
-use Rattle.std.proofs.lemmas.Bool.{cases_eq, cases_Bool, eq-eqb, ne_eqb, false≢true}
+use Rattle.std.proofs.lemmas.Bool.{cases_eq, cases_Bool, eq-eqb, ne_eqb, false≢true, or_right}
 use Rattle.std.proofs.lemmas.List.{length_push}
 use Rattle.cut_definitions.specs.Graph.{Graph, IsGraph}
 use Rattle.cut_definitions.specs.Cuts.{has, IsAscendingWithin}
 use Rattle.cut_definitions.specs.Components.{AreJoined, HasComponents}
+use Rattle.cut_definitions.proofs.Bools.{or_nothing}
+use Rattle.cut_definitions.proofs.Ascending.{has_high}
 use Rattle.weighted_graph.specs.Searches.{is_seen, IsClosed}
 use Rattle.weighted_graph.proofs.Searched.{closed_weighs_nothing}
 
@@ -30,24 +32,11 @@ has-push (y ∷ ys) x v = ap (λ (b : Bool). eqb y v || b) (has-push ys x v) ∙
     regroup : (a b c : Bool) → (a || (b || c)) ≡ ((a || b) || c)
     regroup a b c = grind arith
 
-or_else : (a b : Bool) → b ≡ false → (a || b) ≡ a
-or_else a b h = grind arith
-
-or_here : (a b : Bool) → b ≡ true → (a || b) ≡ true
-or_here a b h = grind arith
-
 has-push_other : (s : List ℕ) (x v : ℕ) → x ≢ v → has (s ++ x ∷ []) v ≡ has s v
-has-push_other s x v ne = has-push s x v ∙ or_else (has s v) (eqb x v) (ne_eqb x v ne)
+has-push_other s x v ne = has-push s x v ∙ or_nothing (has s v) (eqb x v) (ne_eqb x v ne)
 
 has-push_same : (s : List ℕ) (x v : ℕ) → x ≡ v → has (s ++ x ∷ []) v ≡ true
-has-push_same s x v e = has-push s x v ∙ or_here (has s v) (eqb x v) (eq-eqb x v e)
-
-has_above : (low high v : ℕ) (s : List ℕ) → IsAscendingWithin low high s → high < v → has s v ≡ false
-has_above low high v [] a l = refl
-has_above low high v (x ∷ xs) a l =
-    let ne : x ≢ v = λ q. omega (arith, a.1) in
-    let rest = has_above (x + 1) high v xs a.2 l in
-    rw (ne_eqb x v ne) rest
+has-push_same s x v e = has-push s x v ∙ or_right (has s v) (eqb x v) (eq-eqb x v e)
 
 -- ---- the count so far
 
@@ -87,7 +76,7 @@ counted_seen g v count seen room h is = record {
   ascending = ascending-wider 1 v h.firsts h.ascending;
   counted = h.counted;
   first = λ x l u k. ⊎_elim
-      (λ (e : x ≡ v + 1). absurd (false≢true (sym (has_above 1 v x h.firsts h.ascending (omega arith)) ∙ k)))
+      (λ (e : x ≡ v + 1). absurd (false≢true (sym (has_high 1 v x h.firsts h.ascending (omega arith)) ∙ k)))
       (λ (ne : x ≢ v + 1). h.first x l (omega arith) k)
       (cases_eq x (v + 1));
   later = λ x l u k. ⊎_elim

@@ -4,7 +4,6 @@ use Rattle.std.specs.Prelude.{◌≢◌}
 use Rattle.std.specs.List.{All, Contains, fold, filter, range_with_len}
 use Rattle.std.proofs.lemmas.Bool.{cases_eq, eq-eqb, ne_eqb}
 use Rattle.std.proofs.lemmas.List.{get_or_default, get_or-map, take_more, length-map}
-use Rattle.std.proofs.lemmas.List.Sums.{length-filter, count_by-le-length}
 use Rattle.std.proofs.lemmas.List.Elements.{All-map, All-weaker}
 use Rattle.cut_definitions.specs.Cuts.{has, IsAscendingWithin}
 use Rattle.cut_definitions.specs.Weight.{either}
@@ -12,6 +11,8 @@ use Rattle.cut_definitions.specs.Scan.{single}
 use Rattle.cut_definitions.specs.Contraction.{label, classes, IsLabels, lift}
 use Rattle.cut_definitions.proofs.Lists.{Contains-nil, Contains-cons_cases, Contains-filter}
 use Rattle.cut_definitions.proofs.Bridge.{IsAscendingWithin-filter, same_ascending, has_within}
+use Rattle.cut_definitions.proofs.Bools.{or_false, or_true}
+use Rattle.cut_definitions.proofs.ListLaws.{length-filter_le}
 use Rattle.vertex_set.specs.Side.{VertexList, listed}
 use Rattle.vertex_set.proofs.Bits.{has-listed}
 use Rattle.weighted_graph.proofs.Contraction.{label_from_one, label_to_classes, vertex_of, fold_max-get_or}
@@ -66,12 +67,6 @@ pub record IsLiftedTo (labels side : List ℕ) (n v : ℕ) (s : VertexList) : Ty
   pub low : (u : ℕ) → 1 ≤ u → u ≤ v → has s.members u ≡ has side (label labels u)
   pub high : (u : ℕ) → v < u → u ≤ n → has s.members u ≡ false
 
-or_here : (a : Bool) → (a || true) ≡ true
-or_here a = grind arith
-
-or_else : (a : Bool) → (a || false) ≡ a
-or_else a = grind arith
-
 pub lift_insert : (labels side : List ℕ) (n v : ℕ) (s t : VertexList) → IsLiftedTo labels side n v s → v < n → has side (label labels (v + 1)) ≡ true →
     t ≡ listed s.vertices (either (has s.members) (single (v + 1))) → IsLiftedTo labels side n (v + 1) t
 lift_insert labels side n v s t h l is e =
@@ -79,12 +74,12 @@ lift_insert labels side n v s t h l is e =
     let n_is = h.same_n in
     let same : (u : ℕ) → 1 ≤ u → u ≤ n → has t.members u ≡ f u = λ u a b. ap (λ (x : VertexList). has x.members u) e ∙ (has-listed s.vertices f u a (omega arith)) in
     let other : (u : ℕ) → 1 ≤ u → u ≤ n → v + 1 ≢ u → has t.members u ≡ has s.members u =
-    λ u a b ne. same u a b ∙ (ap (λ (x : Bool). has s.members u || x) (ne_eqb (v + 1) u ne) ∙ or_else (has s.members u)) in
+    λ u a b ne. same u a b ∙ (ap (λ (x : Bool). has s.members u || x) (ne_eqb (v + 1) u ne) ∙ or_false (has s.members u)) in
     record {
       same_n = ap (λ (x : VertexList). x.vertices) e ∙ n_is;
       ascending = subst (λ (x : VertexList). IsAscendingWithin 1 n x.members) (sym e) (rw n_is (IsAscendingWithin-filter n 1 n f (omega arith)));
       low = λ u a b. ⊎_elim
-          (λ (q : v + 1 ≡ u). same u a (omega arith) ∙ (ap (λ (x : Bool). has s.members u || x) (eq-eqb (v + 1) u q) ∙ (or_here (has s.members u) ∙ (sym is ∙ ap (λ (x : ℕ). has side (label labels x)) q))))
+          (λ (q : v + 1 ≡ u). same u a (omega arith) ∙ (ap (λ (x : Bool). has s.members u || x) (eq-eqb (v + 1) u q) ∙ (or_true (has s.members u) ∙ (sym is ∙ ap (λ (x : ℕ). has side (label labels x)) q))))
           (λ (ne : v + 1 ≢ u). other u a (omega arith) ne ∙ h.low u a (omega arith))
           (cases_eq (v + 1) u);
       high = λ u a b. other u (omega arith) b (λ q. omega arith) ∙ h.high u (omega arith) b;
@@ -117,14 +112,11 @@ lift_end labels side n v s h le long =
 
 -- ---- no more classes than vertices
 
-length-filter-le : (p : ℕ → Bool) (xs : List ℕ) → length (filter p xs) ≤ length xs
-length-filter-le p xs = omega (arith, length-filter p xs, count_by-le-length p xs)
-
 length-filter-lt : (p : ℕ → Bool) (xs : List ℕ) (x : ℕ) → Contains xs x → p x ≡ false → length (filter p xs) < length xs
 length-filter-lt p [] x h e = absurd (Contains-nil x h)
 length-filter-lt p (y ∷ ys) x h e =
     ⊎_elim
-    (λ (s : y ≡ x). let no : p y ≡ false = ap p s ∙ e in rw no (omega (arith, length-filter-le p ys)))
+    (λ (s : y ≡ x). let no : p y ≡ false = ap p s ∙ e in rw no (omega (arith, length-filter_le p ys)))
     (λ t.
     let rest = length-filter-lt p ys x t e in
     elim (p y) as (λ b. length (cond b (y ∷ filter p ys) (filter p ys)) < suc (length ys)) [ true ↦ omega arith | false ↦ omega arith ])

@@ -1,6 +1,6 @@
 -- Safe edges compose: what marked edges join, in any number of steps, is safe together.
-use Rattle.std.proofs.Common.{◌≡◌, ℕ, ◌≤◌, ◌+◌, ⊎_elim, Bool, true, false, get_or, arith}
-use Rattle.std.specs.Prelude.{not, if◌then◌else◌, slice_index_or}
+use Rattle.std.proofs.Common.{◌≡◌, ℕ, ◌≤◌, ◌+◌, ⊎_elim, true, get_or, arith}
+use Rattle.std.specs.Prelude.{slice_index_or}
 use Rattle.std.proofs.lemmas.Bool.{cases_Bool}
 use Rattle.std.proofs.lemmas.List.Elements.{Contains-get_or}
 use Rattle.cut_definitions.specs.Graph.{Graph, IsGraph}
@@ -9,16 +9,11 @@ use Rattle.cut_definitions.specs.Weight.{VertexSet, parts, weight, IsMinimumCut}
 use Rattle.cut_definitions.specs.Safe.{IsSafe}
 use Rattle.cut_definitions.proofs.Bridge.{IsMinimumCut-from_mincuts, weight-IsMinimumCut}
 use Rattle.cut_definitions.proofs.SafeLaws.{value-le_fair}
+use Rattle.cut_definitions.proofs.Bools.{parts_from_same, same_from_parts}
 use Rattle.weighted_graph.specs.RowLaws.{edge_at}
 use Rattle.weighted_graph.specs.ContractionLaws.{PartsNoClass}
 use Rattle.weighted_graph.specs.Marks.{LawOfJoinedMarks, LawOfMarkedClasses, LawOfKeptContraction}
 use Rattle.weighted_graph.proofs.Contraction.{law_of_contracted_minimum_cuts}
-
-same_from_parts : (a b : Bool) → (if a then not b else b) ≡ false → a ≡ b
-same_from_parts a b h = grind arith
-
-parts_from_same : (a b : Bool) → a ≡ b → (if a then not b else b) ≡ false
-parts_from_same a b e = grind arith
 
 pub law_of_joined_marks : LawOfJoinedMarks
 law_of_joined_marks g marked bound slack safe u v joined less k d l =

@@ -1,10 +1,10 @@
 -- Sorted edges merged one by one, and what merged edges weigh.
-use Rattle.std.proofs.Common.{◌≡◌, ℕ, ◌+◌, ◌-◌, ◌^◌, ◌<◌, ◌≤◌, ◌⊎◌, inl, inr, ⊎_elim, ◌&&◌, eqb, List, [], ◌∷◌, ◌++◌, length, take, get_or, refl, sym, ◌∙◌, ap, arith}
+use Rattle.std.proofs.Common.{◌≡◌, ℕ, ◌+◌, ◌-◌, ◌^◌, ◌<◌, ◌≤◌, ◌⊎◌, inl, inr, ⊎_elim, ◌&&◌, eqb, List, [], length, take, get_or, refl, sym, ◌∙◌, ap, arith}
 use Rattle.std.specs.Prelude.{◌≢◌, if◌then◌else◌}
 use Rattle.std.specs.List.{sum_by, All, AllPairs}
 use Rattle.std.proofs.lemmas.List.{length_push}
 use Rattle.std.proofs.lemmas.List.Quantifiers.{all_pairs_push}
-use Rattle.std.proofs.lemmas.List.Sums.{sum_by-cons, sum_by-append, sum_by_more}
+use Rattle.std.proofs.lemmas.List.Sums.{sum_by_more, sum_by_push}
 use Rattle.std.proofs.lemmas.List.Elements.{All-push, All-weaker, All-nil}
 use Rattle.cut_definitions.specs.declared.edge_list.Edge.{Edge}
 use Rattle.cut_definitions.specs.Graph.{Graph, IsEdgeWithin, IsBefore, IsEdgeList, with_edge}
@@ -27,9 +27,6 @@ pub record IsMerged (n : ℕ) (sorted : List Edge) (count : ℕ) (merged : Graph
   pub last_u : current.u ≡ (get_or sorted (count - 1) no_edge).u
   pub last_v : current.v ≡ (get_or sorted (count - 1) no_edge).v
 
-sum_by-push : {X : Type 0} (f : X → ℕ) (xs : List X) (x : X) → sum_by f (xs ++ x ∷ []) ≡ sum_by f xs + f x
-sum_by-push f xs x = omega (arith, sum_by-append f xs (x ∷ []), sum_by-cons f x [])
-
 pub merged_edge_list : (n : ℕ) (sorted : List Edge) (count : ℕ) (merged : Graph) (current : Edge) → IsMerged n sorted count merged current →
     n ≤ 4194304 → count ≤ 16777216 → sum_by weight_of (take count sorted) ≤ 2 ^ 61 → IsEdgeList (with_edge merged current)
 merged_edge_list n sorted count merged current h few_n few_m total =
@@ -38,7 +35,7 @@ merged_edge_list n sorted count merged current h few_n few_m total =
       is_graph = record {
         in_range = rw n_is (All-push (IsEdgeWithin n) merged.edges current h.within h.current_within);
         ascending = all_pairs_push IsBefore merged.edges current h.ascending (λ k d l. h.before k d l);
-        total = omega (arith, sum_by-push weight_of merged.edges current, h.total);
+        total = omega (arith, sum_by_push weight_of merged.edges current, h.total);
       };
       few_vertices = omega arith;
       few_edges = omega (arith, length_push merged.edges current, h.few);
@@ -119,8 +116,8 @@ merged_next n sorted count merged longer current next h one l is within ascendin
       before = All-push (λ d. IsBefore d next) merged.edges current
           (All-weaker (λ d. IsBefore d current) (λ d. IsBefore d next) (λ d b. earlier d.u d.v current.u current.v next.u next.v b after) merged.edges h.before) after;
       few = omega (arith, length_push merged.edges current, h.few);
-      weights = λ a b. omega (arith, more (pair_term a b), sum_by-push (pair_term a b) merged.edges current, h.weights a b);
-      total = omega (arith, more weight_of, sum_by-push weight_of merged.edges current, h.total);
+      weights = λ a b. omega (arith, more (pair_term a b), sum_by_push (pair_term a b) merged.edges current, h.weights a b);
+      total = omega (arith, more weight_of, sum_by_push weight_of merged.edges current, h.total);
       last_u = rw here (ap (λ (e : Edge). e.u) is);
       last_v = rw here (ap (λ (e : Edge). e.v) is);
     })

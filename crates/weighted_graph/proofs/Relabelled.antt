@@ -14,7 +14,8 @@ use Rattle.cut_definitions.specs.Weight.{between}
 use Rattle.cut_definitions.specs.Contraction.{label, classes, class, pairs, relabel}
 use Rattle.cut_definitions.proofs.Sums.{sum_by-same, sum_by-le_each}
 use Rattle.cut_definitions.proofs.WeightLaws.{join_of, join_term}
-use Rattle.cut_definitions.proofs.Contracted.{sum_by-map, sum_by-filter, sum_by-flat_map, sum_by-pairs_one, not_positive}
+use Rattle.cut_definitions.proofs.Contracted.{sum_by-map, sum_by-filter, sum_by-flat_map, sum_by-pairs_one}
+use Rattle.cut_definitions.proofs.Numbers.{not_positive}
 use Rattle.weighted_graph.specs.ContractionLaws.{IsLabelled}
 use Rattle.weighted_graph.specs.Merging.{pair_term, pair_weight, between_classes}
 use Rattle.weighted_graph.proofs.Contraction.{law_of_contracted_graph}

@@ -15,15 +15,14 @@ use Rattle.cut_definitions.proofs.WeightLaws.{cut_term, join_of, join_term}
 use Rattle.cut_definitions.proofs.Sums.{sum_by-le_each}
 use Rattle.cut_definitions.proofs.Running.{cut_of-le}
 use Rattle.cut_definitions.proofs.Lists.{Contains-here}
+use Rattle.cut_definitions.proofs.Bools.{either_le}
+use Rattle.cut_definitions.proofs.ListLaws.{AllPairs-first, AllPairs-rest, sum_by-one}
 use Rattle.weighted_graph.specs.declared.graph.Arc.{Arc}
 use Rattle.weighted_graph.specs.Rows.{arcs_of, arcs_from, row_of}
 use Rattle.weighted_graph.specs.RowLaws.{no_edge, IsArcAt, LawOfRows, LawOfEdgesInRows}
 use Rattle.weighted_graph.proofs.Rows.{cut_of-single}
 
 -- ---- sums over a row
-
-sum_by-one : {X : Type 0} (h : X → ℕ) (x : X) → sum_by h (x ∷ []) ≡ h x
-sum_by-one h x = omega (arith, sum_by-cons h x [])
 
 -- one edge's arcs
 sum_by-arcs_of : (h : Arc → ℕ) (v i : ℕ) (e : Edge) →
@@ -140,12 +139,6 @@ AllPairs-arcs_of v i e rest =
     (cases_eq v e.v))
     (cases_eq v e.u)
 
-AllPairs-first : {X : Type 0} (R : X → X → Type 0) (x : X) (xs : List X) → AllPairs R (x ∷ xs) → All (R x) xs
-AllPairs-first R x xs h k d l = h 0 (suc k) d (omega arith) (omega arith)
-
-AllPairs-rest : {X : Type 0} (R : X → X → Type 0) (x : X) (xs : List X) → AllPairs R (x ∷ xs) → AllPairs R xs
-AllPairs-rest R x xs h i j d l u = h (suc i) (suc j) d (omega arith) (omega arith)
-
 arcs_ascend : (v n i : ℕ) (es : List Edge) → All (IsEdgeWithin n) es → AllPairs IsBefore es → AllPairs Lower (arcs_from v i es)
 arcs_ascend v n i [] hes before = λ j k d l u. absurd (omega arith)
 arcs_ascend v n i (e ∷ es) hes before =
@@ -195,9 +188,6 @@ law_of_edges_in_rows g ok i l =
 
 abbrev pub to_term : ℕ → Arc → ℕ
 to_term v a = if single v a.to then a.weight else 0
-
-either_le : (b : Bool) (w : ℕ) → (if b then w else 0) ≤ w
-either_le b w = grind arith
 
 pub to_term-le : (v : ℕ) (a : Arc) → to_term v a ≤ a.weight
 to_term-le v a = either_le (single v a.to) a.weight

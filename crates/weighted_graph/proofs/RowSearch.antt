@@ -75,7 +75,7 @@ searched_row row up v (Err place) in_range parted =
 
 -- ---- both rows say the same
 
-join_of-swap : (a b c d : Bool) (w : ℕ) → join_of a b c d w ≡ join_of c d a b w
+pub join_of-swap : (a b c d : Bool) (w : ℕ) → join_of a b c d w ≡ join_of c d a b w
 join_of-swap a b c d w = grind arith
 
 pub between-swap : (g : Graph) (s t : VertexSet) → between g s t ≡ between g t s

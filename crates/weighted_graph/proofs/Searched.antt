@@ -11,6 +11,7 @@ use Rattle.cut_definitions.specs.Weight.{VertexSet, weight}
 use Rattle.cut_definitions.specs.Components.{AreJoined}
 use Rattle.cut_definitions.proofs.Sums.{sum_by-same_on, sum_by-none}
 use Rattle.cut_definitions.proofs.WeightLaws.{cut_of, cut_term}
+use Rattle.cut_definitions.proofs.Bools.{same_tests}
 use Rattle.weighted_graph.specs.declared.graph.Arc.{Arc}
 use Rattle.weighted_graph.specs.Rows.{row_of, no_arc}
 use Rattle.weighted_graph.specs.RowLaws.{no_edge, edge_at, IsArcAt}
@@ -137,12 +138,7 @@ arc_joins g ok v a h s none =
 
 -- ---- closed sets
 
-same_from_both : (a b : Bool) → (a ≡ true → b ≡ true) → (b ≡ true → a ≡ true) → a ≡ b
-same_from_both true b f g = sym (f refl)
-same_from_both false true f g = g refl
-same_from_both false false f g = refl
-
-cut_same : (a b : Bool) (w : ℕ) → a ≡ b → cut_of a b w ≡ 0
+pub cut_same : (a b : Bool) (w : ℕ) → a ≡ b → cut_of a b w ≡ 0
 cut_same a b w e = grind arith
 
 -- a closed set weighs nothing
@@ -153,7 +149,7 @@ closed_weighs_nothing g ok s closed =
     (λ i l.
     let e = edge_at g i in
     let rows = law_of_edges_in_rows g ok i l in
-    cut_same (s e.u) (s e.v) e.w (same_from_both (s e.u) (s e.v)
+    cut_same (s e.u) (s e.v) e.w (same_tests (s e.u) (s e.v)
     (λ is. All-contains (λ (a : Arc). s a.to ≡ true) (row_of g e.u) (record { to = e.v; edge = i; weight = e.w }) (closed e.u is) rows.of_lesser)
     (λ is. All-contains (λ (a : Arc). s a.to ≡ true) (row_of g e.v) (record { to = e.u; edge = i; weight = e.w }) (closed e.v is) rows.of_greater))))
     ∙ sum_by-none (λ (e : Edge). 0) (λ e. refl) g.edges

@@ -1,5 +1,5 @@
 -- A graph is known by what its edges weigh between each two vertices.
-use Rattle.std.proofs.Common.{◌≡◌, ℕ, suc, ◌<◌, ◌≤◌, ◌⊎◌, inl, inr, ⊎_elim, ◌&&◌, eqb, List, [], ◌∷◌, get_or, refl, sym, ◌∙◌, ap, arith}
+use Rattle.std.proofs.Common.{◌≡◌, ℕ, ◌<◌, ◌≤◌, ◌⊎◌, inl, inr, ⊎_elim, ◌&&◌, eqb, List, [], ◌∷◌, get_or, refl, sym, ◌∙◌, ap, arith}
 use Rattle.std.specs.Prelude.{◌≢◌, if◌then◌else◌}
 use Rattle.std.specs.List.{All, AllPairs}
 use Rattle.std.proofs.lemmas.Bool.{cases_order, eq-eqb}
@@ -8,13 +8,9 @@ use Rattle.std.proofs.lemmas.List.Sums.{sum_by-cons}
 use Rattle.std.proofs.lemmas.List.Elements.{All-head, All-tail}
 use Rattle.cut_definitions.specs.declared.edge_list.Edge.{Edge}
 use Rattle.cut_definitions.specs.Graph.{IsEdgeWithin, IsBefore}
+use Rattle.cut_definitions.proofs.ListLaws.{AllPairs-first, AllPairs-rest}
+use Rattle.cut_definitions.proofs.Ascending.{same_edge}
 use Rattle.weighted_graph.specs.Merging.{pair_term, pair_weight}
-
-pub AllPairs-first : {X : Type 0} (R : X → X → Type 0) (x : X) (xs : List X) → AllPairs R (x ∷ xs) → All (R x) xs
-AllPairs-first R x xs h k d l = h 0 (suc k) d (omega arith) (omega arith)
-
-pub AllPairs-rest : {X : Type 0} (R : X → X → Type 0) (x : X) (xs : List X) → AllPairs R (x ∷ xs) → AllPairs R xs
-AllPairs-rest R x xs h i j d l u = h (suc i) (suc j) d (omega arith) (omega arith)
 
 pub pair_term-same : (a b w : ℕ) → (if eqb a a && eqb b b then w else 0) ≡ w
 pair_term-same a b w = rw (eq-eqb a a refl, eq-eqb b b refl) refl
@@ -32,12 +28,6 @@ pair_weight-after a b (e ∷ es) after =
 pair_weight-here : (e : Edge) (es : List Edge) → All (IsBefore e) es → pair_weight (e ∷ es) e.u e.v ≡ e.w
 pair_weight-here e es after =
     omega (arith, sum_by-cons (pair_term e.u e.v) e es, pair_term-same e.u e.v e.w, pair_weight-after e.u e.v es after)
-
-same_edge : (e d : Edge) → e.u ≡ d.u → e.v ≡ d.v → e.w ≡ d.w → e ≡ d
-same_edge e d p q r =
-    ap (λ (x : ℕ). let y : Edge = record { u = x; v = e.v; w = e.w } in y) p
-    ∙ (ap (λ (x : ℕ). let y : Edge = record { u = d.u; v = x; w = e.w } in y) q
-    ∙ ap (λ (x : ℕ). let y : Edge = record { u = d.u; v = d.v; w = x } in y) r)
 
 -- the first edge of a list comes before all of another, where its pair weighs nothing
 not_first : (n : ℕ) (e d : Edge) (es ds : List Edge) → IsEdgeWithin n e → AllPairs IsBefore (e ∷ es) → AllPairs IsBefore (d ∷ ds) →

@@ -17,8 +17,8 @@ use crate::components::count_components;
 use crate::labels::Labels;
 use crate::relabel::merged_edges;
 use crate::row_index::RowIndex;
-use cut_definitions::{Edge, EdgeList};
-use std::alloc::{AllocError, Global};
+use cut_definitions::{Edge, EdgeList, NoMemory};
+use std::alloc::Global;
 use std::marker::Model;
 use vertex_set::Side;
 
@@ -64,7 +64,7 @@ impl Model for Graph {
 impl Graph {
     /// The graph of a list of edges, in O(n + m). It is refused only where memory is wanting. While it is built it takes
     /// 8 bytes more a vertex, and 1.5 an edge where a large graph's edges lead far apart, before the edges are copied.
-    pub fn build(alloc: Global, list: &EdgeList) -> Result<Graph, AllocError>
+    pub fn build(alloc: Global, list: &EdgeList) -> Result<Graph, NoMemory>
         ensures { IfOk result (λ g. g ≡ list.now) }
     {
         let rows = RowIndex::build(alloc, list)?;
@@ -75,7 +75,7 @@ impl Graph {
 
     /// The graph of a list of edges, as `build` makes it, but that the list is taken over in place of a copy, which
     /// saves 16 bytes an edge. Where it is refused the list is gone.
-    pub fn from_list(alloc: Global, list: EdgeList) -> Result<Graph, AllocError>
+    pub fn from_list(alloc: Global, list: EdgeList) -> Result<Graph, NoMemory>
         ensures { IfOk result (λ g. g ≡ list) }
     {
         let rows = RowIndex::build(alloc, &list)?;
@@ -169,7 +169,7 @@ impl Graph {
 
     /// The number of components; 0 exactly where there is no vertex. Breadth-first search (Moore, 1959) from each
     /// vertex that no earlier search saw, in O(n + m). It is refused only where memory is wanting.
-    pub fn components(&self, alloc: Global) -> Result<u32, AllocError>
+    pub fn components(&self, alloc: Global) -> Result<u32, NoMemory>
         ensures counted { IfOk result (λ count. HasComponents self.now count) }
         ensures none { IfOk result (λ count. (count ≡ 0) ↔ (self.now.vertices ≡ 0)) }
     {
@@ -182,7 +182,7 @@ impl Graph {
     /// The graph on the classes of labels, one for each vertex: the weight between two classes is the sum over the
     /// edges between their vertices, and edges inside a class are gone. The edges between classes are sorted once, in
     /// O(m log m). It is refused only where memory is wanting.
-    pub fn relabel(&self, alloc: Global, labels: &Labels) -> Result<Graph, AllocError>
+    pub fn relabel(&self, alloc: Global, labels: &Labels) -> Result<Graph, NoMemory>
         requires { length labels.now ≡ self.now.vertices }
         ensures { IfOk result (λ g. g ≡ relabel self.now labels.now) }
     {

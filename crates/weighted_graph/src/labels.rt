@@ -4,7 +4,8 @@ ghost use Rattle.std.specs.Prelude.{◌≡◌, ℕ, ◌+◌, ◌≤◌, IfOk, le
 ghost use Rattle.cut_definitions.specs.Contraction.{label, classes, lift, IsLabels};
 ghost use Rattle.weighted_graph.specs.Labels.{AreKept};
 
-use std::alloc::{AllocError, Global};
+use cut_definitions::NoMemory;
+use std::alloc::Global;
 use std::marker::Model;
 use vertex_set::Side;
 
@@ -81,7 +82,7 @@ impl Labels {
 
     /// First these labels, then `next` on their classes, of which it labels each, in O(n). It is refused only where
     /// memory is wanting.
-    pub fn compose(&self, alloc: Global, next: &Labels) -> Result<Labels, AllocError>
+    pub fn compose(&self, alloc: Global, next: &Labels) -> Result<Labels, NoMemory>
         requires { length next.now ≡ classes self.now }
         ensures { IfOk result (λ l. l ≡ map (label next.now) self.now) }
     {
@@ -95,7 +96,7 @@ impl Labels {
     }
 
     /// All vertices whose class is in a set of classes, in O(n). It is refused only where memory is wanting.
-    pub fn lift(&self, alloc: Global, side: &Side) -> Result<Side, AllocError>
+    pub fn lift(&self, alloc: Global, side: &Side) -> Result<Side, NoMemory>
         requires { side.now.vertices ≡ classes self.now }
         ensures { IfOk result (λ s. s ≡ record { vertices = length self.now; members = lift self.now side.now.members }) }
     {

@@ -10,11 +10,11 @@ ghost use Rattle.weighted_graph.specs.Merging.{between_classes, pair_weight, Asc
 
 use crate::graph::Graph;
 use crate::labels::Labels;
-use cut_definitions::{Edge, EdgeList};
-use std::alloc::{AllocError, Global};
+use cut_definitions::{Edge, EdgeList, NoMemory};
+use std::alloc::Global;
 
 /// The edges between the classes of their ends, but for those within a class.
-fn class_edges(alloc: Global, edges: &[Edge], labels: &Labels) -> Result<Vec<Edge>, AllocError>
+fn class_edges(alloc: Global, edges: &[Edge], labels: &Labels) -> Result<Vec<Edge>, NoMemory>
     requires within { All (IsEdgeWithin (length labels.now)) edges.now }
     ensures { IfOk result (λ es. es.items ≡ flat_map (between_classes labels.now) edges.now) }
 {
@@ -49,7 +49,7 @@ fn have_same_ends(d: Edge, e: Edge) -> bool
 }
 
 /// The sorted edges with those of equal ends made one.
-fn merge(alloc: Global, n: u32, sorted: &[Edge]) -> Result<EdgeList, AllocError>
+fn merge(alloc: Global, n: u32, sorted: &[Edge]) -> Result<EdgeList, NoMemory>
     requires within { All (IsEdgeWithin n) sorted.now }
     requires ascending { AscendByEnds sorted.now }
     requires few_vertices { n ≤ 4194304 }
@@ -82,7 +82,7 @@ pub(crate) fn merged_edges(
     alloc: Global,
     graph: &Graph,
     labels: &Labels,
-) -> Result<EdgeList, AllocError>
+) -> Result<EdgeList, NoMemory>
     requires { length labels.now ≡ graph.now.vertices }
     ensures { IfOk result (λ l. l ≡ relabel graph.now labels.now) }
 {

@@ -8,7 +8,8 @@ ghost use Rattle.cactus_tree.specs.Entries.{joint_of, nodes_of, top_first, read_
 
 use super::{Block, Blocks, Children, Node};
 use crate::vertex_list::VertexList;
-use std::alloc::{AllocError, Global};
+use cut_definitions::NoMemory;
+use std::alloc::Global;
 
 /// A block without its nodes: a bridge, or a cycle with so many nodes below its upper one.
 #[derive(Drop)]
@@ -25,7 +26,7 @@ pub struct Entry {
 }
 
 /// Moves the nodes of a cycle onto the stack, the first on top.
-fn shed_nodes(stack: &mut Vec<Node>, nodes: Children) -> Result<(), AllocError>
+fn shed_nodes(stack: &mut Vec<Node>, nodes: Children) -> Result<(), NoMemory>
     ensures { OnOk result (top_first stack.new.items ≡ nodes_in nodes ++ top_first stack.old.items) }
 {
     let mut nodes = nodes;
@@ -36,7 +37,7 @@ fn shed_nodes(stack: &mut Vec<Node>, nodes: Children) -> Result<(), AllocError>
 }
 
 /// Moves the nodes of a block onto the stack, the first on top.
-fn shed_block(stack: &mut Vec<Node>, block: Block) -> Result<Joint, AllocError>
+fn shed_block(stack: &mut Vec<Node>, block: Block) -> Result<Joint, NoMemory>
     ensures stack { OnOk result (top_first stack.new.items ≡ nodes_of block ++ top_first stack.old.items) }
     ensures joint { IfOk result (λ j. j ≡ joint_of block) }
 {
@@ -58,7 +59,7 @@ pub fn shed_blocks(
     alloc: Global,
     stack: &mut Vec<Node>,
     blocks: Blocks,
-) -> Result<Vec<Joint>, AllocError>
+) -> Result<Vec<Joint>, NoMemory>
     ensures stack { OnOk result (top_first stack.new.items ≡ flat_map nodes_of (blocks_in blocks) ++ top_first stack.old.items) }
     ensures joints { IfOk result (λ j. top_first j.items ≡ map joint_of (blocks_in blocks)) }
 {
@@ -72,7 +73,7 @@ pub fn shed_blocks(
 }
 
 /// Takes the nodes of a cycle from the top of the stack, in order.
-fn draw_nodes(alloc: Global, stack: &mut Vec<Node>, count: usize) -> Result<Children, AllocError>
+fn draw_nodes(alloc: Global, stack: &mut Vec<Node>, count: usize) -> Result<Children, NoMemory>
     requires { count ≤ length stack.old.items }
     ensures nodes { IfOk result (λ c. nodes_in c ≡ take count (top_first stack.old.items)) }
     ensures stack { OnOk result (top_first stack.new.items ≡ drop count (top_first stack.old.items)) }
@@ -86,7 +87,7 @@ fn draw_nodes(alloc: Global, stack: &mut Vec<Node>, count: usize) -> Result<Chil
 }
 
 /// A bridge to the node on top of the stack.
-fn draw_bridge(alloc: Global, stack: &mut Vec<Node>) -> Result<Block, AllocError>
+fn draw_bridge(alloc: Global, stack: &mut Vec<Node>) -> Result<Block, NoMemory>
     requires { 0 < length stack.old.items }
     ensures block { IfOk result (λ b. (sets : List ℕ → VertexSet) → read_block sets kept b ≡ bridge_read (slice_index_or (map (read_node sets kept) (top_first stack.old.items)) 0 nothing_read)) }
     ensures stack { OnOk result (top_first stack.new.items ≡ drop 1 (top_first stack.old.items)) }
@@ -97,7 +98,7 @@ fn draw_bridge(alloc: Global, stack: &mut Vec<Node>) -> Result<Block, AllocError
 }
 
 /// A cycle through so many nodes from the top of the stack.
-fn draw_cycle(alloc: Global, stack: &mut Vec<Node>, count: usize) -> Result<Block, AllocError>
+fn draw_cycle(alloc: Global, stack: &mut Vec<Node>, count: usize) -> Result<Block, NoMemory>
     requires { count ≤ length stack.old.items }
     ensures block { IfOk result (λ b. (sets : List ℕ → VertexSet) → read_block sets kept b ≡ cycle_read (take count (map (read_node sets kept) (top_first stack.old.items)))) }
     ensures stack { OnOk result (top_first stack.new.items ≡ drop count (top_first stack.old.items)) }
@@ -107,7 +108,7 @@ fn draw_cycle(alloc: Global, stack: &mut Vec<Node>, count: usize) -> Result<Bloc
 }
 
 /// A block through the nodes on top of the stack.
-fn draw_block(alloc: Global, stack: &mut Vec<Node>, joint: Joint) -> Result<Block, AllocError>
+fn draw_block(alloc: Global, stack: &mut Vec<Node>, joint: Joint) -> Result<Block, NoMemory>
     requires { used joint ≤ length stack.old.items }
     ensures block { IfOk result (λ b. (sets : List ℕ → VertexSet) → read_block sets kept b ≡ drawn joint (map (read_node sets kept) (top_first stack.old.items))) }
     ensures stack { OnOk result (top_first stack.new.items ≡ drop (used joint) (top_first stack.old.items)) }
@@ -125,11 +126,7 @@ fn draw_block(alloc: Global, stack: &mut Vec<Node>, joint: Joint) -> Result<Bloc
 }
 
 /// Takes the nodes of several blocks from the top of the stack. The blocks are listed with the last first.
-fn draw_blocks(
-    alloc: Global,
-    stack: &mut Vec<Node>,
-    joints: Vec<Joint>,
-) -> Result<Blocks, AllocError>
+fn draw_blocks(alloc: Global, stack: &mut Vec<Node>, joints: Vec<Joint>) -> Result<Blocks, NoMemory>
     requires { wanted (top_first joints.items) ≤ length stack.old.items }
     ensures blocks { IfOk result (λ b. (sets : List ℕ → VertexSet) → map (read_block sets kept) (blocks_in b) ≡ all_drawn (top_first joints.items) (map (read_node sets kept) (top_first stack.old.items))) }
     ensures stack { OnOk result (top_first stack.new.items ≡ drop (wanted (top_first joints.items)) (top_first stack.old.items)) }
@@ -148,7 +145,7 @@ fn draw_blocks(
 /// It takes memory for each bridge and for the lists of blocks and of nodes, and moves the nodes; where memory is wanting
 /// they are dropped. One step for each node, from the last entry to the first, so that a deep tree does not run out of
 /// stack.
-pub fn put_together(alloc: Global, entries: Vec<Entry>) -> Result<Node, AllocError>
+pub fn put_together(alloc: Global, entries: Vec<Entry>) -> Result<Node, NoMemory>
     requires ready { IsReady entries.items 0 }
     requires one { left entries.items 0 ≡ 1 }
     ensures { IfOk result (λ x. (sets : List ℕ → VertexSet) → read_entries sets entries.items [] ≡ read_node sets kept x ∷ []) }

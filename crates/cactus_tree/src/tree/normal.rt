@@ -8,7 +8,8 @@ ghost use Rattle.cactus_tree.specs.Placed.{is_placed, is_set};
 
 use super::number::stack_blocks;
 use super::{Block, Blocks, Children, Node};
-use std::alloc::{AllocError, Global};
+use cut_definitions::NoMemory;
+use std::alloc::Global;
 
 /// Whether a node below a block lies in blocks enough, where it has no vertex.
 fn is_well_placed(node: &Node, above_is_cycle: bool) -> bool
@@ -111,7 +112,7 @@ fn blocks_are_placed(blocks: &Blocks) -> bool
 }
 
 /// Whether all below a node is normal, as by `blocks_are_normal`, by a loop with a stack.
-pub fn is_normal_below(alloc: Global, root: &Node) -> Result<bool, AllocError>
+pub fn is_normal_below(alloc: Global, root: &Node) -> Result<bool, NoMemory>
     ensures { IfOk result (λ b. b ≡ list_all (λ b. (block_shape b).fine) (blocks root.now)) }
 {
     let mut stack = Vec::new(alloc);

@@ -14,7 +14,8 @@ ghost use Rattle.cactus_tree.specs.Numbers.{number, total, tally, between, all_o
 use super::normal::is_cycle;
 use super::trim::is_spare;
 use super::{Block, Blocks, Children, Node};
-use std::alloc::{AllocError, Global};
+use cut_definitions::NoMemory;
+use std::alloc::Global;
 
 /// The number of the cuts of a block.
 fn cuts_of_block(block: &Block) -> u64
@@ -63,7 +64,7 @@ fn own_cuts(node: &Node) -> u64
 }
 
 /// Puts a node on the stack where it has a block below it.
-fn stack_node<'a>(stack: &mut Vec<&'a Node>, node: &'a Node) -> Result<(), AllocError>
+fn stack_node<'a>(stack: &mut Vec<&'a Node>, node: &'a Node) -> Result<(), NoMemory>
     ensures { OnOk result (seen stack.new.items ≡ seen stack.old.items ++ filter is_inner (node.now ∷ [])) }
 {
     if node.blocks.len() > 0 {
@@ -73,7 +74,7 @@ fn stack_node<'a>(stack: &mut Vec<&'a Node>, node: &'a Node) -> Result<(), Alloc
 }
 
 /// Puts the nodes of a cycle that have a block below them on the stack.
-fn stack_nodes<'a>(stack: &mut Vec<&'a Node>, nodes: &'a Children) -> Result<(), AllocError>
+fn stack_nodes<'a>(stack: &mut Vec<&'a Node>, nodes: &'a Children) -> Result<(), NoMemory>
     ensures { OnOk result (seen stack.new.items ≡ seen stack.old.items ++ filter is_inner (nodes_in nodes.now)) }
 {
     'each_node: for i in 0..nodes.len() {
@@ -83,7 +84,7 @@ fn stack_nodes<'a>(stack: &mut Vec<&'a Node>, nodes: &'a Children) -> Result<(),
 }
 
 /// Puts the nodes of a block that have a block below them on the stack.
-fn stack_block<'a>(stack: &mut Vec<&'a Node>, block: &'a Block) -> Result<(), AllocError>
+fn stack_block<'a>(stack: &mut Vec<&'a Node>, block: &'a Block) -> Result<(), NoMemory>
     ensures { OnOk result (seen stack.new.items ≡ seen stack.old.items ++ filter is_inner (nodes_of block.now)) }
 {
     match block {
@@ -98,8 +99,9 @@ fn stack_block<'a>(stack: &mut Vec<&'a Node>, block: &'a Block) -> Result<(), Al
     }
 }
 
-/// Puts the nodes of some blocks on the stack, but for those with no block below them, so that a long cycle takes no memory.
-pub fn stack_blocks<'a>(stack: &mut Vec<&'a Node>, blocks: &'a Blocks) -> Result<(), AllocError>
+/// Puts the nodes of some blocks on the stack, but for those with no block below them, so that a long cycle of such nodes takes no
+/// memory.
+pub fn stack_blocks<'a>(stack: &mut Vec<&'a Node>, blocks: &'a Blocks) -> Result<(), NoMemory>
     ensures { OnOk result (seen stack.new.items ≡ seen stack.old.items ++ filter is_inner (flat_map nodes_of (blocks_in blocks.now))) }
 {
     'each_block: for i in 0..blocks.len() {
@@ -109,7 +111,7 @@ pub fn stack_blocks<'a>(stack: &mut Vec<&'a Node>, blocks: &'a Blocks) -> Result
 }
 
 /// The number of the cuts of a tree, less one for each empty node above one block, a cycle.
-pub fn count_cuts(alloc: Global, root: &Node) -> Result<u64, AllocError>
+pub fn count_cuts(alloc: Global, root: &Node) -> Result<u64, NoMemory>
     requires { number root.now < 2 ^ 62 }
     ensures { IfOk result (λ k. k ≡ number root.now) }
 {

@@ -7,10 +7,11 @@ ghost use Rattle.cactus_tree.specs.Entered.{entered, entered_block, waiting};
 ghost use Rattle.cactus_tree.specs.Places.{places_from};
 
 use super::{Block, Blocks, Children, Node};
-use std::alloc::{AllocError, Global};
+use cut_definitions::NoMemory;
+use std::alloc::Global;
 
 /// Puts the nodes on the stack, the first on top.
-fn stack_nodes<'a>(stack: &mut Vec<&'a Node>, nodes: &'a Children) -> Result<(), AllocError>
+fn stack_nodes<'a>(stack: &mut Vec<&'a Node>, nodes: &'a Children) -> Result<(), NoMemory>
     ensures { OnOk result (waiting stack.new.items ≡ flat_map entered (nodes_in nodes.now) ++ waiting stack.old.items) }
 {
     let mut i = nodes.items.len();
@@ -22,7 +23,7 @@ fn stack_nodes<'a>(stack: &mut Vec<&'a Node>, nodes: &'a Children) -> Result<(),
 }
 
 /// Puts the nodes of the block on the stack, the first on top.
-fn stack_block<'a>(stack: &mut Vec<&'a Node>, block: &'a Block) -> Result<(), AllocError>
+fn stack_block<'a>(stack: &mut Vec<&'a Node>, block: &'a Block) -> Result<(), NoMemory>
     ensures { OnOk result (waiting stack.new.items ≡ entered_block block.now ++ waiting stack.old.items) }
 {
     match block {
@@ -38,7 +39,7 @@ fn stack_block<'a>(stack: &mut Vec<&'a Node>, block: &'a Block) -> Result<(), Al
 }
 
 /// Puts the nodes of the blocks on the stack, the first on top.
-fn stack_blocks<'a>(stack: &mut Vec<&'a Node>, blocks: &'a Blocks) -> Result<(), AllocError>
+fn stack_blocks<'a>(stack: &mut Vec<&'a Node>, blocks: &'a Blocks) -> Result<(), NoMemory>
     ensures { OnOk result (waiting stack.new.items ≡ flat_map entered_block (blocks_in blocks.now) ++ waiting stack.old.items) }
 {
     let mut i = blocks.items.len();
@@ -53,7 +54,7 @@ fn stack_blocks<'a>(stack: &mut Vec<&'a Node>, blocks: &'a Blocks) -> Result<(),
 ///
 /// One step for each vertex and node, in a loop with a stack, so that a deep tree does not run out of stack. It takes 4
 /// bytes a vertex and 8 a node, and is refused only where these are wanting.
-pub fn vertices_in_order(alloc: Global, root: &Node) -> Result<Vec<u32>, AllocError>
+pub fn vertices_in_order(alloc: Global, root: &Node) -> Result<Vec<u32>, NoMemory>
     ensures { IfOk result (λ v. v.items ≡ concat (entered root.now)) }
 {
     let mut order = Vec::new(alloc);
@@ -78,7 +79,7 @@ pub struct InOrder {
 /// The vertices of all nodes in the order of entering, with the place at which each node begins.
 ///
 /// As `vertices_in_order`, with 8 bytes more for each node.
-pub fn in_order(alloc: Global, root: &Node) -> Result<InOrder, AllocError>
+pub fn in_order(alloc: Global, root: &Node) -> Result<InOrder, NoMemory>
     ensures vertices { IfOk result (λ r. r.vertices.items ≡ concat (entered root.now)) }
     ensures places { IfOk result (λ r. r.places.items ≡ places_from 0 (entered root.now)) }
 {

@@ -8,7 +8,8 @@ ghost use Rattle.cactus_tree.specs.Outlines.{Hops, all_outlines, block_entries, 
 ghost use Rattle.cactus_tree.specs.Heads.{entries_waiting};
 
 use super::{Block, Blocks, Children, Node};
-use std::alloc::{AllocError, Global};
+use cut_definitions::NoMemory;
+use std::alloc::Global;
 
 /// A node in the order of entering.
 #[derive(Clone, Copy)]
@@ -35,7 +36,7 @@ fn head_at(place: usize, count: usize) -> usize
 }
 
 /// Puts the nodes of a cycle on the stack, the first on top.
-fn stack_nodes<'a>(stack: &mut Vec<Seen<'a>>, nodes: &'a Children) -> Result<(), AllocError>
+fn stack_nodes<'a>(stack: &mut Vec<Seen<'a>>, nodes: &'a Children) -> Result<(), NoMemory>
     ensures entries { OnOk result (entries_waiting stack.new.items ≡ block_entries (map outline (nodes_in nodes.now)) ++ entries_waiting stack.old.items) }
     ensures length { OnOk result (length stack.new.items ≡ length stack.old.items + length (nodes_in nodes.now)) }
 {
@@ -52,7 +53,7 @@ fn stack_nodes<'a>(stack: &mut Vec<Seen<'a>>, nodes: &'a Children) -> Result<(),
 }
 
 /// Puts the nodes of the block on the stack, the first on top.
-fn stack_block<'a>(stack: &mut Vec<Seen<'a>>, block: &'a Block) -> Result<(), AllocError>
+fn stack_block<'a>(stack: &mut Vec<Seen<'a>>, block: &'a Block) -> Result<(), NoMemory>
     ensures entries { OnOk result (entries_waiting stack.new.items ≡ block_entries (block_outline block.now) ++ entries_waiting stack.old.items) }
     ensures length { OnOk result (length stack.new.items ≡ length stack.old.items + length (block_outline block.now)) }
 {
@@ -69,7 +70,7 @@ fn stack_block<'a>(stack: &mut Vec<Seen<'a>>, block: &'a Block) -> Result<(), Al
 }
 
 /// Puts the nodes of the blocks on the stack, the first on top.
-fn stack_blocks<'a>(stack: &mut Vec<Seen<'a>>, blocks: &'a Blocks) -> Result<(), AllocError>
+fn stack_blocks<'a>(stack: &mut Vec<Seen<'a>>, blocks: &'a Blocks) -> Result<(), NoMemory>
     ensures entries { OnOk result (entries_waiting stack.new.items ≡ flat_map block_entries (map block_outline (blocks_in blocks.now)) ++ entries_waiting stack.old.items) }
     ensures length { OnOk result (length stack.new.items ≡ length stack.old.items + length (all_outlines (map block_outline (blocks_in blocks.now)))) }
 {
@@ -83,7 +84,7 @@ fn stack_blocks<'a>(stack: &mut Vec<Seen<'a>>, blocks: &'a Blocks) -> Result<(),
 
 /// The entries of all nodes of a tree, in the order of entering. One step for each node and block, in a loop with a
 /// stack; it takes memory in proportion to the nodes, and is refused only where that is wanting.
-pub fn outline_of(alloc: Global, root: &Node) -> Result<Vec<Entry>, AllocError>
+pub fn outline_of(alloc: Global, root: &Node) -> Result<Vec<Entry>, NoMemory>
     ensures { IfOk result (λ v. v.items ≡ outlined root.now) }
 {
     let mut entries = Vec::new(alloc);
@@ -118,10 +119,10 @@ fn end_of(sizes: &[usize], from: usize, count: usize) -> usize
 }
 
 /// The numbers of the nodes right below each node.
-fn child_counts(alloc: Global, entries: &[Entry]) -> Result<Vec<usize>, AllocError>
+fn child_counts(alloc: Global, entries: &[Entry]) -> Result<Vec<usize>, NoMemory>
     ensures { IfOk result (λ v. v.items ≡ map (λ (e : Entry). e.children) entries.now) }
 {
-    let mut counts = Vec::new(alloc);
+    let mut counts = Vec::with_capacity(alloc, entries.len())?;
     'entries: for i in 0..entries.len() {
         counts.push(entries[i].children)?;
     }
@@ -133,7 +134,7 @@ fn child_counts(alloc: Global, entries: &[Entry]) -> Result<Vec<usize>, AllocErr
 ///
 /// From the last node to the first: the subtrees right below a node are known when it is its turn. One step for each
 /// node; it takes 8 bytes a node, and is refused only where these are wanting.
-pub fn sizes_along(alloc: Global, entries: &[Entry]) -> Result<Vec<usize>, AllocError>
+pub fn sizes_along(alloc: Global, entries: &[Entry]) -> Result<Vec<usize>, NoMemory>
     requires { (x : Node) × (entries.now ≡ outlined x) }
     ensures { (x : Node) → entries.now ≡ outlined x → IfOk result (λ v. v.items ≡ sizes x) }
 {
@@ -151,7 +152,7 @@ pub fn sizes_along(alloc: Global, entries: &[Entry]) -> Result<Vec<usize>, Alloc
 ///
 /// Three loops, of one step for each node and block, so that a deep tree does not run out of stack. It takes memory in
 /// proportion to the nodes, and is refused only where that is wanting.
-pub fn subtree_sizes(alloc: Global, root: &Node) -> Result<Vec<usize>, AllocError>
+pub fn subtree_sizes(alloc: Global, root: &Node) -> Result<Vec<usize>, NoMemory>
     ensures { IfOk result (λ v. v.items ≡ sizes root.now) }
 {
     let entries = outline_of(alloc, root)?;

@@ -9,10 +9,11 @@ ghost use Rattle.cactus_tree.specs.Widths.{widths};
 
 use super::Node;
 use super::entries::{Entry, put_together, shed_blocks};
-use std::alloc::{AllocError, Global};
+use cut_definitions::NoMemory;
+use std::alloc::Global;
 
 /// The entries of a tree, with other names.
-fn renamed_entries(alloc: Global, root: Node, names: &[u32]) -> Result<Vec<Entry>, AllocError>
+fn renamed_entries(alloc: Global, root: Node, names: &[u32]) -> Result<Vec<Entry>, NoMemory>
     ensures { IfOk result (λ e. Shows (renamed names.now) root e.items []) }
 {
     let mut entries = Vec::new(alloc);
@@ -34,7 +35,7 @@ fn renamed_entries(alloc: Global, root: Node, names: &[u32]) -> Result<Vec<Entry
 /// The tree is taken over and its nodes are moved. One step for each vertex and node, in loops, so that a deep tree does
 /// not run out of stack. It takes memory in proportion to the nodes, and is refused only where that is wanting; the tree
 /// is dropped then.
-pub fn rename_node(alloc: Global, node: Node, names: &[u32]) -> Result<Node, AllocError>
+pub fn rename_node(alloc: Global, node: Node, names: &[u32]) -> Result<Node, NoMemory>
     ensures names { IfOk result (λ x. entered x ≡ map (renamed names.now) (entered node)) }
     ensures sides { IfOk result (λ x. (sets : List ℕ → VertexSet) → part_by sets x ≡ part_by (λ l. sets (renamed names.now l)) node) }
     ensures widths { IfOk result (λ x. widths x ≡ widths node) }

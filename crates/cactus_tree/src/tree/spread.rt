@@ -13,10 +13,11 @@ ghost use Rattle.cactus_tree.specs.Widths.{widths};
 use super::Node;
 use super::entries::{Entry, put_together, shed_blocks};
 use crate::vertex_list::VertexList;
-use std::alloc::{AllocError, Global};
+use cut_definitions::NoMemory;
+use std::alloc::Global;
 
 /// Puts a vertex at the end of its class.
-fn put(groups: &mut [Vec<u32>], class: usize, vertex: u32) -> Result<(), AllocError>
+fn put(groups: &mut [Vec<u32>], class: usize, vertex: u32) -> Result<(), NoMemory>
     requires { class < length groups.old }
     ensures grown { OnOk result (group_at groups.new class ≡ group_at groups.old class ++ vertex ∷ []) }
     ensures others { OnOk result ((c : ℕ) → c ≢ class → group_at groups.new c ≡ group_at groups.old c) }
@@ -27,7 +28,7 @@ fn put(groups: &mut [Vec<u32>], class: usize, vertex: u32) -> Result<(), AllocEr
 }
 
 /// Lists without an element, one for each class from 0 to `last`.
-fn no_groups(alloc: Global, last: u32) -> Result<Vec<Vec<u32>>, AllocError>
+fn no_groups(alloc: Global, last: u32) -> Result<Vec<Vec<u32>>, NoMemory>
     ensures len { IfOk result (λ g. length g.items ≡ last + 1) }
     ensures empty { IfOk result (λ g. (c : ℕ) → group_at g.items c ≡ []) }
 {
@@ -40,7 +41,7 @@ fn no_groups(alloc: Global, last: u32) -> Result<Vec<Vec<u32>>, AllocError>
 }
 
 /// The vertices of each class, ascending.
-pub fn gather(alloc: Global, classes: &[u32], last: u32) -> Result<Vec<Vec<u32>>, AllocError>
+pub fn gather(alloc: Global, classes: &[u32], last: u32) -> Result<Vec<Vec<u32>>, NoMemory>
     requires few { length classes.now < 2 ^ 32 }
     requires in_range { All (λ c. c ≤ last) classes.now }
     ensures { IfOk result (λ g. AreGathered classes.now g.items) }
@@ -54,7 +55,7 @@ pub fn gather(alloc: Global, classes: &[u32], last: u32) -> Result<Vec<Vec<u32>>
 }
 
 /// Appends the vertices of a class.
-fn add_class(out: &mut Vec<u32>, groups: &[Vec<u32>], class: u32) -> Result<(), AllocError>
+fn add_class(out: &mut Vec<u32>, groups: &[Vec<u32>], class: u32) -> Result<(), NoMemory>
     ensures { OnOk result (out.new.items ≡ out.old.items ++ group_at groups.now class) }
 {
     match groups.get(class as usize) {
@@ -67,7 +68,7 @@ fn add_class(out: &mut Vec<u32>, groups: &[Vec<u32>], class: u32) -> Result<(), 
 }
 
 /// The vertices of several classes, one class after another.
-fn add_classes(alloc: Global, groups: &[Vec<u32>], classes: &[u32]) -> Result<Vec<u32>, AllocError>
+fn add_classes(alloc: Global, groups: &[Vec<u32>], classes: &[u32]) -> Result<Vec<u32>, NoMemory>
     ensures { IfOk result (λ v. v.items ≡ flat_map (group_at groups.now) classes.now) }
 {
     let mut out = Vec::new(alloc);
@@ -82,7 +83,7 @@ fn spread_list(
     alloc: Global,
     list: &VertexList,
     groups: &[Vec<u32>],
-) -> Result<VertexList, AllocError>
+) -> Result<VertexList, NoMemory>
     ensures { IfOk result (λ l. (classes : List ℕ) → AreGathered classes groups.now → l ≡ lift classes list.now) }
 {
     let mut vertices = add_classes(alloc, groups, list.as_slice())?;
@@ -92,7 +93,7 @@ fn spread_list(
 }
 
 /// The entries of a tree, with the vertices of each class in place of the class.
-fn spread_entries(alloc: Global, root: Node, groups: &[Vec<u32>]) -> Result<Vec<Entry>, AllocError>
+fn spread_entries(alloc: Global, root: Node, groups: &[Vec<u32>]) -> Result<Vec<Entry>, NoMemory>
     ensures { IfOk result (λ e. (classes : List ℕ) → AreGathered classes groups.now → Shows (lift classes) root e.items []) }
 {
     let mut entries = Vec::new(alloc);
@@ -108,12 +109,7 @@ fn spread_entries(alloc: Global, root: Node, groups: &[Vec<u32>]) -> Result<Vec<
 }
 
 /// The tree with the vertices of each class, ascending, in place of the class. The classes are 1 to `last`.
-pub fn spread_node(
-    alloc: Global,
-    node: Node,
-    classes: &[u32],
-    last: u32,
-) -> Result<Node, AllocError>
+pub fn spread_node(alloc: Global, node: Node, classes: &[u32], last: u32) -> Result<Node, NoMemory>
     requires few { length classes.now < 2 ^ 32 }
     requires in_range { All (λ c. c ≤ last) classes.now }
     ensures lists { IfOk result (λ x. entered x ≡ map (lift classes.now) (entered node)) }

@@ -12,10 +12,11 @@ ghost use Rattle.cactus_tree.specs.Trims.{is_spare, is_above_bridge, IsNodeOf, I
 use super::entries::{Entry, Joint, shed_blocks};
 use super::normal::is_cycle;
 use super::{Block, Blocks, Children, Node};
-use std::alloc::{AllocError, Global};
+use cut_definitions::NoMemory;
+use std::alloc::Global;
 
 /// The entries of a tree, in the order in which it is entered.
-pub fn entries_of(alloc: Global, root: Node) -> Result<Vec<Entry>, AllocError>
+pub fn entries_of(alloc: Global, root: Node) -> Result<Vec<Entry>, NoMemory>
     ensures { IfOk result (λ e. Shows kept root e.items []) }
 {
     let mut entries = Vec::new(alloc);
@@ -64,7 +65,7 @@ fn below_bridge(block: Block) -> Node
 }
 
 /// A bridge to the node, or the node's one block where it has no vertex and no other block.
-fn hung(alloc: Global, node: Node) -> Result<Block, AllocError>
+fn hung(alloc: Global, node: Node) -> Result<Block, NoMemory>
     ensures { IfOk result (λ b. (r : Read) → IsNodeOf r node → IsBlockOf (bridge_read r) b) }
 {
     if is_spare(&node) {
@@ -86,7 +87,7 @@ fn trimmed(node: Node) -> Node
 }
 
 /// Takes the nodes of a cycle from the top of the stack, in order.
-fn draw_nodes(alloc: Global, stack: &mut Vec<Node>, count: usize) -> Result<Children, AllocError>
+fn draw_nodes(alloc: Global, stack: &mut Vec<Node>, count: usize) -> Result<Children, NoMemory>
     requires { count ≤ length stack.old.items }
     ensures nodes { IfOk result (λ c. (rs : List Read) → AreNodesOf rs (top_first stack.old.items) → AreChildrenOf (take count rs) (nodes_in c)) }
     ensures stack { OnOk result (top_first stack.new.items ≡ drop count (top_first stack.old.items)) }
@@ -100,7 +101,7 @@ fn draw_nodes(alloc: Global, stack: &mut Vec<Node>, count: usize) -> Result<Chil
 }
 
 /// The block that stands for a bridge to the node on top of the stack.
-fn draw_bridge(alloc: Global, stack: &mut Vec<Node>) -> Result<Block, AllocError>
+fn draw_bridge(alloc: Global, stack: &mut Vec<Node>) -> Result<Block, NoMemory>
     requires { 0 < length stack.old.items }
     ensures block { IfOk result (λ b. (rs : List Read) → AreNodesOf rs (top_first stack.old.items) → IsBlockOf (bridge_read (slice_index_or rs 0 nothing_read)) b) }
     ensures stack { OnOk result (top_first stack.new.items ≡ drop 1 (top_first stack.old.items)) }
@@ -111,7 +112,7 @@ fn draw_bridge(alloc: Global, stack: &mut Vec<Node>) -> Result<Block, AllocError
 }
 
 /// A cycle through so many nodes from the top of the stack.
-fn draw_cycle(alloc: Global, stack: &mut Vec<Node>, count: usize) -> Result<Block, AllocError>
+fn draw_cycle(alloc: Global, stack: &mut Vec<Node>, count: usize) -> Result<Block, NoMemory>
     requires { count ≤ length stack.old.items }
     ensures block { IfOk result (λ b. (rs : List Read) → AreNodesOf rs (top_first stack.old.items) → IsBlockOf (cycle_read (take count rs)) b) }
     ensures stack { OnOk result (top_first stack.new.items ≡ drop count (top_first stack.old.items)) }
@@ -121,7 +122,7 @@ fn draw_cycle(alloc: Global, stack: &mut Vec<Node>, count: usize) -> Result<Bloc
 }
 
 /// A block through the nodes on top of the stack.
-fn draw_block(alloc: Global, stack: &mut Vec<Node>, joint: Joint) -> Result<Block, AllocError>
+fn draw_block(alloc: Global, stack: &mut Vec<Node>, joint: Joint) -> Result<Block, NoMemory>
     requires { used joint ≤ length stack.old.items }
     ensures block { IfOk result (λ b. (rs : List Read) → AreNodesOf rs (top_first stack.old.items) → IsBlockOf (drawn joint rs) b) }
     ensures stack { OnOk result (top_first stack.new.items ≡ drop (used joint) (top_first stack.old.items)) }
@@ -139,11 +140,7 @@ fn draw_block(alloc: Global, stack: &mut Vec<Node>, joint: Joint) -> Result<Bloc
 }
 
 /// Takes the nodes of several blocks from the top of the stack. The blocks are listed with the last first.
-fn draw_blocks(
-    alloc: Global,
-    stack: &mut Vec<Node>,
-    joints: Vec<Joint>,
-) -> Result<Blocks, AllocError>
+fn draw_blocks(alloc: Global, stack: &mut Vec<Node>, joints: Vec<Joint>) -> Result<Blocks, NoMemory>
     requires { wanted (top_first joints.items) ≤ length stack.old.items }
     ensures blocks { IfOk result (λ b. (rs : List Read) → AreNodesOf rs (top_first stack.old.items) → AreBlocksOf (all_drawn (top_first joints.items) rs) (blocks_in b)) }
     ensures stack { OnOk result (top_first stack.new.items ≡ drop (wanted (top_first joints.items)) (top_first stack.old.items)) }
@@ -160,7 +157,7 @@ fn draw_blocks(
 /// A tree that shows what the entries of another show, without the nodes and bridges that can be spared.
 ///
 /// From the last entry to the first: a node whose blocks stand is looked at when its own block is made.
-pub fn put_trimmed(alloc: Global, entries: Vec<Entry>) -> Result<Node, AllocError>
+pub fn put_trimmed(alloc: Global, entries: Vec<Entry>) -> Result<Node, NoMemory>
     requires ready { IsReady entries.items 0 }
     requires one { left entries.items 0 ≡ 1 }
     ensures { IfOk result (λ x. (r : Read) → read_entries has entries.items [] ≡ r ∷ [] → IsNodeOf r x) }

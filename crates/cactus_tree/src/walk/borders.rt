@@ -5,7 +5,8 @@ ghost use Rattle.cactus_tree.specs.Outlines.{Hops};
 ghost use Rattle.cactus_tree.specs.Borders.{AllHop, all_borders, border_at, borders_along, placed, ranges_between};
 
 use crate::tree::Entry;
-use std::alloc::{AllocError, Global};
+use cut_definitions::NoMemory;
+use std::alloc::Global;
 
 /// A border of a block: each cut of the block has the vertices from one border to a later one.
 #[derive(Clone, Copy)]
@@ -23,7 +24,7 @@ fn add_block(
     sizes: &[usize],
     first: usize,
     count: usize,
-) -> Result<(), AllocError>
+) -> Result<(), NoMemory>
     requires places { length sizes.now < length places.now }
     requires hops { (to : ℕ) × (to ≤ length sizes.now) × Hops sizes.now count first to }
     ensures { OnOk result (borders.new.items ≡ borders.old.items ++ map (placed places.now) (borders_along sizes.now count first)) }
@@ -53,7 +54,7 @@ pub fn borders_of(
     entries: &[Entry],
     sizes: &[usize],
     places: &[usize],
-) -> Result<Vec<Border>, AllocError>
+) -> Result<Vec<Border>, NoMemory>
     requires sizes { length entries.now ≡ length sizes.now }
     requires places { length sizes.now < length places.now }
     requires hops { AllHop sizes.now 0 entries.now }

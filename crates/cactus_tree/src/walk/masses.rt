@@ -5,8 +5,8 @@ ghost use Rattle.std.specs.List.{All};
 ghost use Rattle.cactus_tree.specs.Places.{IsVertex};
 ghost use Rattle.cactus_tree.specs.RangeMasses.{mass_before};
 
-use cut_definitions::VertexWeights;
-use std::alloc::{AllocError, Global};
+use cut_definitions::{NoMemory, VertexWeights};
+use std::alloc::Global;
 
 /// For each place of a list of vertices, and last for its end, the mass of the vertices before it.
 ///
@@ -15,7 +15,7 @@ pub fn masses_before(
     alloc: Global,
     order: &[u32],
     weights: &VertexWeights,
-) -> Result<Vec<u128>, AllocError>
+) -> Result<Vec<u128>, NoMemory>
     requires vertices { All (IsVertex (length weights.now)) order.now }
     requires few { length order.now ≤ 4194304 }
     ensures long { IfOk result (λ v. length v.items ≡ length order.now + 1) }

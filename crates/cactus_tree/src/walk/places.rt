@@ -16,7 +16,8 @@ use super::borders::{Border, borders_of};
 use super::repeats::repeats_of;
 use crate::cactus::Cactus;
 use crate::tree::{Entry, InOrder, in_order, outline_of, sizes_along};
-use std::alloc::{AllocError, Global};
+use cut_definitions::NoMemory;
+use std::alloc::Global;
 
 /// The vertices of a cactus in an order in which the side of each cut is one range, and the places at which these ranges
 /// begin and end.
@@ -47,7 +48,7 @@ struct Laid {
     sizes: Vec<usize>,
 }
 
-fn lay_out(alloc: Global, cactus: &Cactus) -> Result<Laid, AllocError>
+fn lay_out(alloc: Global, cactus: &Cactus) -> Result<Laid, NoMemory>
     ensures cactus { IfOk result (λ l. IsCactus cactus.now.vertices cactus.now.root) }
     ensures vertices { IfOk result (λ l. l.listing.vertices.items ≡ concat (entered cactus.now.root)) }
     ensures places { IfOk result (λ l. l.listing.places.items ≡ places_from 0 (entered cactus.now.root)) }
@@ -74,7 +75,7 @@ fn lay_out(alloc: Global, cactus: &Cactus) -> Result<Laid, AllocError>
 ///
 /// One step for each node and vertex, in loops, so that a deep tree does not run out of stack. It takes memory in
 /// proportion to the nodes and to n, and is refused only where that is wanting.
-pub fn cut_places(alloc: Global, cactus: &Cactus) -> Result<CutPlaces, AllocError>
+pub fn cut_places(alloc: Global, cactus: &Cactus) -> Result<CutPlaces, NoMemory>
     ensures order { IfOk result (λ p. p.order.items ≡ concat (entered cactus.now.root)) }
     ensures long { IfOk result (λ p. length p.order.items ≡ cactus.now.vertices) }
     ensures vertices { IfOk result (λ p. All (IsVertex cactus.now.vertices) p.order.items) }
@@ -94,7 +95,7 @@ pub fn cut_places(alloc: Global, cactus: &Cactus) -> Result<CutPlaces, AllocErro
 /// The places of the cuts that a walk gives: each side of the cactus, and where it is normal each once.
 ///
 /// As `cut_places`, with one step and one byte more for each border.
-pub fn kept_places(alloc: Global, cactus: &Cactus) -> Result<KeptPlaces, AllocError>
+pub fn kept_places(alloc: Global, cactus: &Cactus) -> Result<KeptPlaces, NoMemory>
     ensures order { IfOk result (λ p. p.order.items ≡ concat (entered cactus.now.root)) }
     ensures long { IfOk result (λ p. length p.order.items ≡ cactus.now.vertices) }
     ensures vertices { IfOk result (λ p. All (IsVertex cactus.now.vertices) p.order.items) }

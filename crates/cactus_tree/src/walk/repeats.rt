@@ -10,7 +10,8 @@ ghost use Rattle.cactus_tree.specs.Repeats.{all_marks, is_between, mark_at, mark
 
 use super::borders::Border;
 use crate::tree::Entry;
-use std::alloc::{AllocError, Global};
+use cut_definitions::NoMemory;
+use std::alloc::Global;
 
 /// Whether a node has no vertex and one block below it, a cycle.
 fn is_between(entries: &[Entry], places: &[usize], number: usize) -> bool
@@ -33,7 +34,7 @@ fn add_marks(
     places: &[usize],
     first: usize,
     count: usize,
-) -> Result<(), AllocError>
+) -> Result<(), NoMemory>
     requires sizes { length entries.now ≡ length sizes.now }
     requires places { length sizes.now < length places.now }
     requires hops { (to : ℕ) × (to ≤ length sizes.now) × Hops sizes.now count first to }
@@ -58,7 +59,7 @@ pub fn repeats_of(
     entries: &[Entry],
     sizes: &[usize],
     places: &[usize],
-) -> Result<Vec<bool>, AllocError>
+) -> Result<Vec<bool>, NoMemory>
     requires sizes { length entries.now ≡ length sizes.now }
     requires places { length sizes.now < length places.now }
     requires hops { AllHop sizes.now 0 entries.now }

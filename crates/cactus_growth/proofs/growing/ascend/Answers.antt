@@ -1,4 +1,4 @@
-use Rattle.cactus_tree.proofs.Orders.{popped_is}
+use Rattle.cut_definitions.proofs.ListLaws.{popped_is}
 use Rattle.cactus_growth.proofs.Stepped.{level_up}
 use Rattle.cactus_growth.proofs.growing.ascend.Goals as goal
 

@@ -1,7 +1,8 @@
 use Rattle.std.proofs.Common.{◌≡◌, take, drop, ◌∙◌, ap, sym, subst}
 use Rattle.std.specs.Prelude.{slice_get}
+use Rattle.std.proofs.lemmas.List.{take_rest}
 use Rattle.cactus_growth.specs.Ways.{IsWay}
-use Rattle.cactus_growth.proofs.Stepped.{leads_split, leads_rest, leads_slice, leads_inside, rest_slice, slice_drop}
+use Rattle.cactus_growth.proofs.Stepped.{leads_split, leads_rest, leads_slice, leads_inside, slice_drop}
 use Rattle.cactus_growth.proofs.growing.grow_node.Goals as goal
 
 pub descend-requires-clause-way : goal.descend-requires-clause-way
@@ -28,8 +29,8 @@ pub join-requires-clause-apart : goal.join-requires-clause-apart
 join-requires-clause-apart c = λ s t e f.
     let k = c.shared_steps-shared.result in
     c.shared_steps-shared.ensures.apart s t
-    (slice_drop c.deref.result.now k s (ap (λ l. slice_get l 0) (ap (drop k) (c.deref.ensures.value ∙ sym c.deref-4.ensures.value) ∙ sym (rest_slice c.deref-4.result.now k)) ∙ e))
-    (slice_drop c.deref-2.result.now k t (ap (λ l. slice_get l 0) (ap (drop k) (c.deref-2.ensures.value ∙ sym c.deref-5.ensures.value) ∙ sym (rest_slice c.deref-5.result.now k)) ∙ f))
+    (slice_drop c.deref.result.now k s (ap (λ l. slice_get l 0) (ap (drop k) (c.deref.ensures.value ∙ sym c.deref-4.ensures.value) ∙ sym (take_rest c.deref-4.result.now k)) ∙ e))
+    (slice_drop c.deref-2.result.now k t (ap (λ l. slice_get l 0) (ap (drop k) (c.deref-2.ensures.value ∙ sym c.deref-5.ensures.value) ∙ sym (take_rest c.deref-5.result.now k)) ∙ f))
 
 pub returns : goal.returns
 returns c =

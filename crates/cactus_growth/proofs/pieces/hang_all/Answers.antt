@@ -1,8 +1,9 @@
 use Rattle.std.proofs.Common.{◌≡◌, ◌++◌, ◌∷◌, [], ◌∙◌, ap, sym, subst}
 use Rattle.cactus_tree.specs.Trees.{blocks_in}
 use Rattle.cactus_growth.specs.Growth.{AreHung}
-use Rattle.cactus_growth.proofs.Pulled.{popped, none_left, more_done, hung_step}
+use Rattle.cactus_growth.proofs.Pulled.{none_left, more_done, hung_step}
 use Rattle.std.proofs.lemmas.Bool.{false≢true}
+use Rattle.cut_definitions.proofs.ListLaws.{popped_is}
 use Rattle.cactus_growth.proofs.pieces.hang_all.Goals as goal
 
 pub each_block-preserved : goal.each_block-preserved
@@ -10,7 +11,7 @@ each_block-preserved c =
     let b = c.in-Some.block in
     let inv = c.each_block.invariant in (
       b ∷ inv.0,
-      more_done (blocks_in c.args.blocks) (blocks_in c.each_block.blocks) (blocks_in c.pop.new.self) inv.0 b inv.1 (popped (blocks_in c.each_block.blocks) (blocks_in c.pop.new.self) c.pop.result b c.pop.ensures.items c.in-Some.is),
+      more_done (blocks_in c.args.blocks) (blocks_in c.each_block.blocks) (blocks_in c.pop.new.self) inv.0 b inv.1 (popped_is (blocks_in c.each_block.blocks) (blocks_in c.pop.new.self) c.pop.result b c.pop.ensures.items c.in-Some.is),
       hung_step c.args.node c.each_block.node c.in_ok-node.node b inv.0 c.in_ok-node.ensures.part c.in_ok-node.ensures.entered c.in_ok-node.ensures.widths c.in_ok-node.ensures.vertices inv.2,
     )
 

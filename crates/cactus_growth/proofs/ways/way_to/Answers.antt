@@ -1,6 +1,6 @@
 use Rattle.std.proofs.Common.{refl, sym, ◌∙◌, subst}
+use Rattle.cut_definitions.proofs.ListLaws.{popped_is}
 use Rattle.cactus_growth.specs.Ways.{IsWay}
-use Rattle.cactus_tree.proofs.Orders.{popped_is}
 use Rattle.cactus_growth.proofs.Visits.{IsSearched, some_says, none_says, search_starts, found_at_once, found_below, search_goes_on, fewer_visits}
 use Rattle.cactus_growth.proofs.ways.way_to.Goals as goal
 

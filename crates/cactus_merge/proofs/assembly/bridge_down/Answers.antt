@@ -3,10 +3,11 @@ use Rattle.cactus_tree.specs.Trees.{nodes_in}
 use Rattle.cactus_tree.specs.Sides.{Part, part, block_part, with_below, bridge_of}
 use Rattle.cactus_tree.specs.declared.tree.Node.{Node}
 use Rattle.cactus_merge.specs.Joined.{bridges}
-use Rattle.cactus_merge.proofs.Fronts.{popped_is, front_popped}
+use Rattle.cactus_merge.proofs.Fronts.{front_popped}
 use Rattle.cactus_merge.proofs.Held.{more_held}
 use Rattle.cactus_merge.specs.Joined.{IsWide, IsWideBlock}
 use Rattle.std.specs.List.{All}
+use Rattle.cut_definitions.proofs.ListLaws.{popped_is}
 use Rattle.cactus_merge.proofs.Wide.{popped_wide}
 use Rattle.cactus_merge.proofs.assembly.bridge_down.Goals as goal
 

@@ -4,13 +4,14 @@ use Rattle.std.proofs.Math.Seq.{take-length, drop-cons}
 use Rattle.cactus_tree.specs.Trees.{nodes_in, vertices}
 use Rattle.cactus_tree.specs.declared.tree.Node.{Node}
 use Rattle.cactus_tree.specs.Sides.{part, block_part}
-use Rattle.cactus_merge.proofs.Fronts.{popped_is, front_popped, front_cut}
+use Rattle.cactus_merge.proofs.Fronts.{front_popped, front_cut}
 use Rattle.cactus_merge.proofs.Steps.{bridged, drawn, started, ended}
 use Rattle.std.specs.List.{All, flat_map}
 use Rattle.cactus_merge.specs.Joined.{held, block_held, IsWide}
 use Rattle.cactus_merge.proofs.Held.{last_held, taken_held}
 use Rattle.cactus_merge.proofs.Tails.{IsTail}
 use Rattle.std.proofs.lemmas.List.Elements.{All-take}
+use Rattle.cut_definitions.proofs.ListLaws.{popped_is}
 use Rattle.cactus_merge.proofs.Wide.{popped_wide}
 use Rattle.cactus_merge.proofs.assembly.join.Invariants.{no_run}
 use Rattle.cactus_merge.proofs.assembly.join.Goals as goal

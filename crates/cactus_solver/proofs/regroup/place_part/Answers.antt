@@ -2,8 +2,9 @@
 use Rattle.std.proofs.Common.{◌≡◌, ◌<◌, ◌≤◌, ⊎_elim, length, get_or, sym, ◌∙◌, arith}
 use Rattle.std.specs.Prelude.{◌≢◌}
 use Rattle.std.proofs.lemmas.Bool.{eq-eqb, false≢true}
+use Rattle.cut_definitions.proofs.ListLaws.{labelled_to_n}
 use Rattle.cactus_solver.specs.Listed.{IsPartList}
-use Rattle.cactus_solver.proofs.Regrouping.{listed_at, listed_to_n, may_be_cut_off, place_entered, place_fresh}
+use Rattle.cactus_solver.proofs.Regrouping.{listed_at, may_be_cut_off, place_entered, place_fresh}
 use Rattle.cactus_solver.proofs.regroup.place_part.Goals as goal
 
 pub enter-requires : goal.enter-requires
@@ -12,7 +13,7 @@ enter-requires c =
     let list = c.part-list.result.now in
     let part : IsPartList numbers c.args.i list = rw c.part-list.ensures c.requires.list in
     let at = listed_at numbers list c.args.i 0 0 part (omega (arith, c.if-list-eq1.true)) in
-    omega (arith, listed_to_n numbers c.args.graph.now.vertices (get_or list 0 0) c.requires.numbers (omega (arith, at, c.requires.from_one)), c.requires.entered)
+    omega (arith, labelled_to_n numbers c.args.graph.now.vertices (get_or list 0 0) c.requires.numbers (omega (arith, at, c.requires.from_one)), c.requires.entered)
 
 pub returns-then-i-ne-FIRST_PART-clause-placed : goal.returns-then-i-ne-FIRST_PART-clause-placed
 returns-then-i-ne-FIRST_PART-clause-placed c =
@@ -21,7 +22,7 @@ returns-then-i-ne-FIRST_PART-clause-placed c =
     let part : IsPartList numbers c.args.i list = rw c.part-list.ensures c.requires.list in
     let at = listed_at numbers list c.args.i 0 0 part (omega (arith, c.if-list-eq1.true)) in
     let room : get_or list 0 0 < length c.args.homes.now.entered =
-    omega (arith, listed_to_n numbers c.args.graph.now.vertices (get_or list 0 0) c.requires.numbers (omega (arith, at, c.requires.from_one)), c.requires.entered) in
+    omega (arith, labelled_to_n numbers c.args.graph.now.vertices (get_or list 0 0) c.requires.numbers (omega (arith, at, c.requires.from_one)), c.requires.entered) in
     rw c.enter.ensures (place_entered numbers c.args.flow.now.labels c.cut_off.new.self.labels list c.args.homes.now c.args.i c.args.node c.args.fresh part c.cut_off.ensures.labels
     c.if-list-eq1.true (omega (arith, c.requires.from_one, c.if-i-ne-FIRST_PART.true)) room)
 

@@ -1,8 +1,9 @@
 -- The smaller graph is connected too, and its minimum cuts are those of the graph.
 use Rattle.std.proofs.Common.{arith}
+use Rattle.cut_definitions.proofs.Results.{if_both}
 use Rattle.cactus_solver.specs.Finished.{IsFinished}
 use Rattle.cactus_solver.proofs.Lifting.{classes_within, lifted_finished}
-use Rattle.cactus_solver.proofs.Members.{if_ok_both, still_connected}
+use Rattle.cactus_solver.proofs.Members.{still_connected}
 use Rattle.cactus_solver.proofs.solver.tree_by_kernel.Goals as goal
 
 pub tree_of-requires-clause-connected : goal.tree_of-requires-clause-connected
@@ -20,6 +21,6 @@ pub returns : goal.returns
 returns c =
     let g = c.args.graph.now in
     let k = c.args.kernel in
-    if_ok_both c.spread.result _ _ (IsFinished g)
+    if_both c.spread.result _ _ (IsFinished g)
     (λ u tree homes. lifted_finished g k.graph k.value k.labels c.in_ok-tree.tree u c.n-n.ensures.edge_list.is_graph c.n-small.ensures.edge_list.is_graph (omega (arith, c.requires.enough)) c.requires.kept c.in_ok-tree.ensures tree homes)
     c.spread.ensures.tree (rw c.as_slice.ensures.value at c.spread.ensures.homes)

@@ -3,11 +3,12 @@ use Rattle.std.proofs.Common.{◌≡◌, ◌+◌, ⊎_elim, get_or, refl, ◌∙
 use Rattle.std.specs.Prelude.{◌≢◌}
 use Rattle.std.proofs.lemmas.Bool.{cases_eq, eq-eqb}
 use Rattle.std.proofs.lemmas.List.Elements.{All-contains}
-use Rattle.cactus_tree.proofs.Groups.{has_contains}
+use Rattle.cut_definitions.proofs.Ascending.{has_contains}
+use Rattle.cut_definitions.proofs.ListLaws.{labelled_to_n}
 use Rattle.cactus_solver.specs.Fronts.{HasEnds}
 use Rattle.cactus_solver.specs.Listed.{IsPartList}
 use Rattle.cactus_solver.proofs.FrontLists.{ends_kept}
-use Rattle.cactus_solver.proofs.Regrouping.{listed_at, listed_to_n}
+use Rattle.cactus_solver.proofs.Regrouping.{listed_at}
 use Rattle.cactus_solver.proofs.sweep.put_listed.Goals as goal
 
 pub loop-before-init : goal.loop-before-init
@@ -23,7 +24,7 @@ put_all_ends-requires-clause-to_n c =
     let list = c.part.result.now in
     let i = c.loop-before.before + 1 in
     let part : IsPartList numbers i list = rw c.part.ensures (c.requires.lists i (omega arith) (omega (arith, c.loop-before-test.true, c.count-before-end.ensures))) in
-    λ j d l. listed_to_n numbers c.args.graph.now.vertices (get_or list j d) c.requires.numbers (omega (arith, listed_at numbers list i j d part l))
+    λ j d l. labelled_to_n numbers c.args.graph.now.vertices (get_or list j d) c.requires.numbers (omega (arith, listed_at numbers list i j d part l))
 
 pub loop-before-preserved : goal.loop-before-preserved
 loop-before-preserved c =

@@ -1,6 +1,6 @@
 use Rattle.std.proofs.Common.{◌∙◌, ◌++◌, ◌∷◌, [], ℕ, List, ap, sym, ◌+◌, ◌≡◌, arith, suc}
 use Rattle.std.specs.List.{range_with_len}
-use Rattle.cactus_tree.proofs.Ranges.{range_push}
+use Rattle.cut_definitions.proofs.Ranges.{range_push}
 use Rattle.cactus_tree.proofs.cactus.all_vertices.Goals as goal
 
 pub vertices-preserved : goal.vertices-preserved

@@ -1,7 +1,7 @@
 use Rattle.std.proofs.Common.{◌∙◌, drop, length, ap}
 use Rattle.std.specs.List.{flat_map}
+use Rattle.cut_definitions.proofs.ListLaws.{popped_is}
 use Rattle.cactus_tree.specs.Tasks.{pending, pendings, pending_sizes}
-use Rattle.cactus_tree.proofs.Orders.{popped_is}
 use Rattle.cactus_tree.proofs.Tasked.{pendings_push, entered_task}
 use Rattle.cactus_tree.proofs.flattening.flatten.Goals as goal
 

@@ -1,16 +1,16 @@
 use Rattle.std.proofs.Common.{List, ◌∙◌, ap, sym, subst, refl}
+use Rattle.cut_definitions.proofs.ListLaws.{popped_is}
 use Rattle.cactus_tree.specs.Trees.{vertices}
 use Rattle.cactus_tree.specs.Entries.{top_first}
 use Rattle.cactus_tree.specs.declared.tree.Node.{Node}
 use Rattle.canonical_cactus.specs.Taken.{Shows}
 use Rattle.canonical_cactus.specs.declared.entries.Entry.{Entry}
-use Rattle.cactus_tree.proofs.Orders.{popped_is}
 use Rattle.cactus_tree.proofs.Entries.{fewer_left, none_popped, top_push}
 use Rattle.canonical_cactus.proofs.Taken.{entered_one, first_entered}
 use Rattle.canonical_cactus.proofs.entries.entries_of.Goals as goal
 
 pub walk-init : goal.walk-init
-walk-init c = first_entered c.args.root c.new-entries.result.items c.new-stack.result.items c.push.new.self.items c.new-entries.ensures.items c.new-stack.ensures.items c.in_ok-push.ensures.items
+walk-init c = first_entered c.args.root c.in_ok-entries.entries.items c.in_ok-stack.stack.items c.push.new.self.items c.in_ok-entries.ensures.items c.in_ok-stack.ensures.items c.in_ok-push.ensures.items
 
 pub walk-smaller : goal.walk-smaller
 walk-smaller c =

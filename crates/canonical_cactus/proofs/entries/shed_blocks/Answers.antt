@@ -1,17 +1,17 @@
 use Rattle.std.proofs.Common.{[], ◌∷◌, ◌++◌, List, length, map, ◌∙◌, ap, sym, refl, arith}
 use Rattle.std.specs.List.{flat_map}
 use Rattle.std.proofs.lemmas.List.{append-nil, length-append}
+use Rattle.cut_definitions.proofs.ListLaws.{popped_is}
 use Rattle.cactus_tree.specs.Trees.{blocks_in}
 use Rattle.cactus_tree.specs.Entries.{top_first, nodes_of, joint_of}
 use Rattle.canonical_cactus.specs.declared.entries.Joint.{Joint}
 use Rattle.cactus_tree.specs.declared.tree.Block.{Block}
-use Rattle.cactus_tree.proofs.Orders.{popped_is}
 use Rattle.cactus_tree.proofs.Entries.{moved_list, moved_map, top_push, none_popped}
 use Rattle.canonical_cactus.specs.Taken.{as_joint}
 use Rattle.canonical_cactus.proofs.entries.shed_blocks.Goals as goal
 
 pub back-init : goal.back-init
-back-init c = record { stack = refl; joints = ap (λ (l : List Joint). map joint_of (blocks_in c.args.blocks) ++ map as_joint (top_first l)) c.new-joints.ensures.items ∙ append-nil (map joint_of (blocks_in c.args.blocks)) }
+back-init c = record { stack = refl; joints = ap (λ (l : List Joint). map joint_of (blocks_in c.args.blocks) ++ map as_joint (top_first l)) c.in_ok-joints.ensures.items ∙ append-nil (map joint_of (blocks_in c.args.blocks)) }
 
 pub back-smaller : goal.back-smaller
 back-smaller c =

@@ -1,7 +1,7 @@
 use Rattle.std.proofs.Common.{◌≡◌, [], ◌∷◌, List, length, map, drop, ◌∙◌, ap, sym, refl, arith}
 use Rattle.std.proofs.lemmas.List.{length-append, length-drop}
+use Rattle.cut_definitions.proofs.ListLaws.{popped_is}
 use Rattle.cactus_tree.specs.Entries.{top_first, used, wanted, all_drawn}
-use Rattle.cactus_tree.proofs.Orders.{popped_is}
 use Rattle.cactus_tree.proofs.Entries.{dropped_more, top_push, top_length, none_popped}
 use Rattle.canonical_cactus.specs.Taken.{as_joint}
 use Rattle.canonical_cactus.specs.declared.entries.Joint.{Joint}
@@ -11,7 +11,7 @@ use Rattle.canonical_cactus.proofs.put.draw_blocks.Goals as goal
 pub draw-init : goal.draw-init
 draw-init c = record {
   enough = c.requires;
-  blocks = λ rs a. blocks_none rs (map as_joint (top_first c.args.joints.items)) c.new-blocks.result.items (top_first c.args.stack.now.items) c.new-blocks.ensures.items a;
+  blocks = λ rs a. blocks_none rs (map as_joint (top_first c.args.joints.items)) c.in_ok-blocks.blocks.items (top_first c.args.stack.now.items) c.in_ok-blocks.ensures.items a;
   stack = refl;
 }
 

@@ -1,6 +1,6 @@
 use Rattle.std.proofs.Common.{◌∙◌, ap, sym, drop}
+use Rattle.cut_definitions.proofs.ListLaws.{popped_is}
 use Rattle.cactus_tree.specs.Entries.{top_first}
-use Rattle.cactus_tree.proofs.Orders.{popped_is}
 use Rattle.cactus_tree.proofs.Entries.{top_push}
 use Rattle.canonical_cactus.proofs.Draws.{bridge_drawn}
 use Rattle.canonical_cactus.proofs.put.draw_bridge.Goals as goal

@@ -1,7 +1,7 @@
 use Rattle.std.proofs.Common.{[], ◌∷◌, ◌≡◌, ◌+◌, length, drop, ◌∙◌, ap, sym, arith}
 use Rattle.std.proofs.lemmas.List.{length-append}
+use Rattle.cut_definitions.proofs.ListLaws.{popped_is}
 use Rattle.cactus_tree.specs.Entries.{top_first}
-use Rattle.cactus_tree.proofs.Orders.{popped_is}
 use Rattle.cactus_tree.proofs.Entries.{top_push}
 use Rattle.cactus_tree.proofs.Makes.{dropped_one}
 use Rattle.canonical_cactus.proofs.Draws.{draws_none, draws_one, draws_all}
@@ -9,12 +9,12 @@ use Rattle.canonical_cactus.proofs.put.draw_nodes.Goals as goal
 
 pub draw-init : goal.draw-init
 draw-init c =
-    let none : length c.new-nodes.result.items ≡ 0 = ap length c.new-nodes.ensures.items in
+    let none : length c.in_ok-nodes.nodes.items ≡ 0 = ap length c.in_ok-nodes.ensures.items in
     record {
       few = omega (arith, none);
       rest = omega (arith, none);
       stack = sym (ap (λ k. drop k (top_first c.args.stack.now.items)) none);
-      draws = λ rs a. draws_none rs c.new-nodes.result.items (top_first c.args.stack.now.items) c.new-nodes.ensures.items a;
+      draws = λ rs a. draws_none rs c.in_ok-nodes.nodes.items (top_first c.args.stack.now.items) c.in_ok-nodes.ensures.items a;
     }
 
 pub draw-preserved : goal.draw-preserved

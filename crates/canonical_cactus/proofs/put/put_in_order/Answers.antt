@@ -1,7 +1,7 @@
 use Rattle.std.proofs.Common.{◌≡◌, [], ◌∷◌, List, length, ◌∙◌, ap, sym, subst, arith}
 use Rattle.std.proofs.lemmas.List.{length-append}
+use Rattle.cut_definitions.proofs.ListLaws.{popped_is}
 use Rattle.cactus_tree.specs.Entries.{top_first, all_drawn}
-use Rattle.cactus_tree.proofs.Orders.{popped_is}
 use Rattle.cactus_tree.proofs.Entries.{top_push, top_length, none_popped, alone}
 use Rattle.canonical_cactus.specs.Taken.{left, joints_of}
 use Rattle.canonical_cactus.specs.declared.entries.Entry.{Entry}
@@ -11,7 +11,7 @@ use Rattle.canonical_cactus.proofs.put.put_in_order.Goals as goal
 
 pub up-init : goal.up-init
 up-init c =
-    subst (λ (l : List Placed). Puts c.args.entries.items c.args.entries.items (top_first l)) (sym c.new-finished.ensures.items)
+    subst (λ (l : List Placed). Puts c.args.entries.items c.args.entries.items (top_first l)) (sym c.in_ok-finished.ensures.items)
     (puts_none c.args.entries.items c.requires.ready c.requires.one)
 
 pub draw_blocks-requires : goal.draw_blocks-requires

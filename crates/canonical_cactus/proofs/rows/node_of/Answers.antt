@@ -1,8 +1,8 @@
 use Rattle.std.proofs.Common.{[], ◌∷◌, ◌++◌, length, map, ◌∙◌, ap, refl, arith}
 use Rattle.std.proofs.lemmas.List.{length-append}
+use Rattle.cut_definitions.proofs.ListLaws.{popped_is}
 use Rattle.cactus_tree.specs.Entries.{top_first}
 use Rattle.cactus_tree.specs.Trees.{blocks_in}
-use Rattle.cactus_tree.proofs.Orders.{popped_is}
 use Rattle.cactus_tree.proofs.Entries.{top_push, none_popped}
 use Rattle.canonical_cactus.specs.declared.parts.Hung.{Hung}
 use Rattle.canonical_cactus.proofs.Ordered.{block_in, lessers, filled_one, filled_all, lessers_one, lessers_all, node_finished}
@@ -10,7 +10,7 @@ use Rattle.canonical_cactus.proofs.rows.node_of.Goals as goal
 
 pub fill-init : goal.fill-init
 fill-init c = record {
-  blocks = ap (λ bs. bs ++ map block_in (top_first c.sort_down.new.row.items)) c.new-blocks.ensures;
+  blocks = ap (λ bs. bs ++ map block_in (top_first c.sort_down.new.row.items)) c.in_ok-blocks.ensures;
   least = ap (λ o. lessers o (map (λ (h : Hung). h.least) (top_first c.sort_down.new.row.items))) c.least_vertex-least.ensures;
 }
 

@@ -1,12 +1,13 @@
 use Rattle.std.proofs.Common.{◌∙◌, length, ap, sym, subst}
 use Rattle.cut_definitions.specs.Cuts.{mincuts}
+use Rattle.cut_definitions.proofs.Results.{if_ok_more}
 use Rattle.cut_listing.specs.declared.ask.Ask.{Ask}
 use Rattle.cut_listing.specs.declared.ask.Ask.TheVariants.{Parting}
 use Rattle.mincut_program.specs.Apart.{IsCountStop, IsTableStop, IsUnionBalance, IsUnionCount, IsUnionList, IsUnionStop}
 use Rattle.mincut_program.specs.Jobs.{GoesByCactus, IsAnswerOf, IsListed, IsStopFor, IsTextOf, KeepsLimit, asked_cuts, asked_of}
 use Rattle.mincut_program.specs.Replies.{text_of}
 use Rattle.mincut_program.specs.declared.command.Job.{Job}
-use Rattle.mincut_program.proofs.Graphs.{over_err, over_ok}
+use Rattle.mincut_program.proofs.Graphs.{over_err}
 use Rattle.mincut_program.proofs.Unions.{count_stop, list_answer, table_stop, union_stop, union_text}
 use Rattle.mincut_program.proofs.apart.apart_reply.Goals as goal
 
@@ -17,7 +18,7 @@ returns-in-Cuts-clause-text c =
     let g = c.args.graph.now in
     let p = c.in_ok-parts.parts in
     let ask : Ask = c.ask_of.result in
-    over_ok (λ reply. IsUnionList ask g (length p.parts) (text_of reply)) (λ reply. IsAnswerOf command masses g (text_of reply)) c.union_listing.result
+    if_ok_more (λ reply. IsUnionList ask g (length p.parts) (text_of reply)) (λ reply. IsAnswerOf command masses g (text_of reply)) c.union_listing.result
     (λ reply r. list_answer command masses g p ask c.components.ensures c.one_number.ensures c.in_ok-parts.ensures
     (c.ask_of.ensures.cuts g ∙ ap (λ (j : Job). asked_of j command.least masses (mincuts g)) (sym c.in-Cuts.is))
     (subst IsListed (sym c.in-Cuts.is) tt) (λ by. subst GoesByCactus c.in-Cuts.is by) c.requires.in_range
@@ -37,7 +38,7 @@ returns-in-Part-clause-text c =
     let g = c.args.graph.now in
     let p = c.in_ok-parts.parts in
     let ask : Ask = Parting c.in-Part.u c.in-Part.v in
-    over_ok (λ reply. IsUnionList ask g (length p.parts) (text_of reply)) (λ reply. IsAnswerOf command masses g (text_of reply)) c.union_listing-in-Part.result
+    if_ok_more (λ reply. IsUnionList ask g (length p.parts) (text_of reply)) (λ reply. IsAnswerOf command masses g (text_of reply)) c.union_listing-in-Part.result
     (λ reply r. list_answer command masses g p ask c.components.ensures c.one_number.ensures c.in_ok-parts.ensures
     (ap (λ (j : Job). asked_of j command.least masses (mincuts g)) (sym c.in-Part.is))
     (subst IsListed (sym c.in-Part.is) tt) (λ by. subst GoesByCactus c.in-Part.is by) c.requires.in_range
@@ -56,7 +57,7 @@ returns-in-Count-clause-text c =
     let masses = c.args.weights.now in
     let g = c.args.graph.now in
     let p = c.in_ok-parts.parts in
-    over_ok (λ reply. IsUnionCount g (length p.parts) (text_of reply)) (λ reply. IsAnswerOf command masses g (text_of reply)) c.union_count.result
+    if_ok_more (λ reply. IsUnionCount g (length p.parts) (text_of reply)) (λ reply. IsAnswerOf command masses g (text_of reply)) c.union_count.result
     (λ reply r. union_text command masses g p c.components.ensures c.one_number.ensures c.in_ok-parts.ensures (λ by. subst GoesByCactus c.in-Count.is by) c.requires.in_range
     (subst (λ (j : Job). KeepsLimit j (asked_cuts command masses g) masses g (length p.parts)) (sym c.in-Count.is) r.few) (text_of reply)
     (subst (λ (j : Job). IsTextOf j (asked_cuts command masses g) masses g (text_of reply)) (sym c.in-Count.is) r.text_is))
@@ -74,7 +75,7 @@ returns-in-Balanced-clause-text c =
     let masses = c.args.weights.now in
     let g = c.args.graph.now in
     let p = c.in_ok-parts.parts in
-    over_ok (λ reply. IsUnionBalance g masses (length p.parts) (text_of reply)) (λ reply. IsAnswerOf command masses g (text_of reply)) c.balanced_union.result
+    if_ok_more (λ reply. IsUnionBalance g masses (length p.parts) (text_of reply)) (λ reply. IsAnswerOf command masses g (text_of reply)) c.balanced_union.result
     (λ reply r. union_text command masses g p c.components.ensures c.one_number.ensures c.in_ok-parts.ensures (λ by. subst GoesByCactus c.in-Balanced.is by) c.requires.in_range
     (subst (λ (j : Job). KeepsLimit j (asked_cuts command masses g) masses g (length p.parts)) (sym c.in-Balanced.is) (λ _. r.few)) (text_of reply)
     (subst (λ (j : Job). IsTextOf j (asked_cuts command masses g) masses g (text_of reply)) (sym c.in-Balanced.is) r.text_is))

@@ -3,10 +3,11 @@ use Rattle.cut_listing.specs.declared.ask.Ask.{Ask}
 use Rattle.cut_listing.specs.declared.ask.Ask.TheVariants.{Parting}
 use Rattle.mincut_program.specs.declared.command.Job.{Job}
 use Rattle.cut_definitions.specs.Cuts.{mincuts}
+use Rattle.cut_definitions.proofs.Results.{if_ok_more}
 use Rattle.mincut_program.specs.Jobs.{IsAnswerOf, IsListed, IsStopFor, IsTextOf, asked_cuts, asked_of}
 use Rattle.mincut_program.specs.Solving.{IsListReply, IsListStop}
 use Rattle.mincut_program.specs.Replies.{text_of}
-use Rattle.mincut_program.proofs.Graphs.{over_ok, over_err, listed_answer, listed_stop, whole_answer}
+use Rattle.mincut_program.proofs.Graphs.{over_err, listed_answer, listed_stop, whole_answer}
 use Rattle.mincut_program.proofs.cuts.cuts_reply.Goals as goal
 
 pub returns-in-Cuts-clause-text : goal.returns-in-Cuts-clause-text
@@ -14,7 +15,7 @@ returns-in-Cuts-clause-text c =
     let command = c.args.command in
     let masses = c.args.weights.now in
     let g = c.args.graph.now in
-    over_ok (λ reply. IsListReply c.ask_of.result g (text_of reply)) (λ reply. IsAnswerOf command masses g (text_of reply)) c.listing_reply.result
+    if_ok_more (λ reply. IsListReply c.ask_of.result g (text_of reply)) (λ reply. IsAnswerOf command masses g (text_of reply)) c.listing_reply.result
     (λ reply r. listed_answer command masses c.ask_of.result g (c.ask_of.ensures.cuts g ∙ ap (λ (j : Job). asked_of j command.least masses (mincuts g)) (sym c.in-Cuts.is))
     (subst IsListed (sym c.in-Cuts.is) tt) c.requires.in_range c.requires.enough c.requires.one
     (λ text is. subst (λ (j : Job). IsTextOf j (asked_cuts command masses g) masses g text) (sym c.in-Cuts.is) is) (text_of reply) r)
@@ -36,7 +37,7 @@ returns-in-Part-clause-text c =
     let masses = c.args.weights.now in
     let g = c.args.graph.now in
     let ask : Ask = Parting c.in-Part.u c.in-Part.v in
-    over_ok (λ reply. IsListReply ask g (text_of reply)) (λ reply. IsAnswerOf command masses g (text_of reply)) c.listing_reply-in-Part.result
+    if_ok_more (λ reply. IsListReply ask g (text_of reply)) (λ reply. IsAnswerOf command masses g (text_of reply)) c.listing_reply-in-Part.result
     (λ reply r. listed_answer command masses ask g (ap (λ (j : Job). asked_of j command.least masses (mincuts g)) (sym c.in-Part.is))
     (subst IsListed (sym c.in-Part.is) tt) c.requires.in_range c.requires.enough c.requires.one
     (λ text is. subst (λ (j : Job). IsTextOf j (asked_cuts command masses g) masses g text) (sym c.in-Part.is) is) (text_of reply) r)

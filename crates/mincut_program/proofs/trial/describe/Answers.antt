@@ -1,7 +1,8 @@
 use Rattle.std.proofs.Common.{◌≡◌, ◌∙◌, ap, length, string_bytes, sym}
 use Rattle.std.proofs.lemmas.List.{length-replicate}
+use Rattle.cut_definitions.proofs.Results.{if_ok_more}
 use Rattle.mincut_program.specs.Trials.{trial_text, IsFactsText}
-use Rattle.mincut_program.proofs.Graphs.{facts_known, has_block, over_ok}
+use Rattle.mincut_program.proofs.Graphs.{facts_known, has_block}
 use Rattle.mincut_program.proofs.trial.describe.Goals as goal
 
 pub best-requires-clause-some : goal.best-requires-clause-some
@@ -15,7 +16,7 @@ balance_of-balance-requires c = ap length c.in_ok-weights.ensures ∙ length-rep
 
 pub returns : goal.returns
 returns c =
-    over_ok (λ text. string_bytes text ≡ trial_text c.n.result c.edges.result c.args.solved.now.value c.in_ok-count.count c.balance_of-balance.result)
+    if_ok_more (λ text. string_bytes text ≡ trial_text c.n.result c.edges.result c.args.solved.now.value c.in_ok-count.count c.balance_of-balance.result)
     (λ text. IsFactsText c.args.graph.now (string_bytes text)) c.facts_text.result
     (λ text is. facts_known c.args.graph.now c.args.solved.now c.in_ok-weights.weights c.in_ok-side.side.members c.n.result c.edges.result c.in_ok-count.count c.balance_of-balance.result c.requires.solved
     c.in_ok-weights.ensures c.in_ok-side.ensures.best c.n.ensures.value c.edges.ensures c.in_ok-count.ensures c.balance_of-balance.ensures (string_bytes text) is)

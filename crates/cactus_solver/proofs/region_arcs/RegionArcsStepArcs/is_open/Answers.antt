@@ -1,8 +1,9 @@
 -- An arc of a row has its edge, and no arc is heavy.
 use Rattle.std.proofs.Common.{arith}
 use Rattle.weighted_graph.proofs.Searched.{arc_within}
-use Rattle.cactus_solver.proofs.RegionSteps.{arc_light, arc_of_row}
+use Rattle.cactus_solver.proofs.RegionSteps.{arc_of_row}
 use Rattle.cactus_solver.proofs.region_arcs.RegionArcsStepArcs.is_open.Goals as goal
+use Rattle.residual_chain.proofs.Shown.{arc_light}
 
 pub label-requires : goal.label-requires
 label-requires c =

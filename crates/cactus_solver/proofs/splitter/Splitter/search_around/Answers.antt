@@ -5,7 +5,8 @@ use Rattle.cactus_solver.specs.Between.{IsOuterSettled}
 use Rattle.cactus_solver.specs.Regional.{IsNoneBetween}
 use Rattle.cactus_solver.specs.Split.{IsBetween, IsFurther, IsHub, StaysListed, inner_set, outer_set}
 use Rattle.std.specs.Prelude.{slice_index}
-use Rattle.cactus_solver.proofs.BetweenLemmas.{counts_kept, further_on, if_both, if_five, inner_settled, none_left, stays_more}
+use Rattle.cut_definitions.proofs.Results.{if_both}
+use Rattle.cactus_solver.proofs.BetweenLemmas.{counts_kept, further_on, if_five, inner_settled, none_left, stays_more}
 use Rattle.cactus_solver.proofs.splitter.Splitter.search_around.Goals as goal
 
 pub returns-clause-stays : goal.returns-clause-stays

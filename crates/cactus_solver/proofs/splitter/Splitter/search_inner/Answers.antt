@@ -3,9 +3,10 @@ use Rattle.std.proofs.Common.{◌≡◌, length, get_or, refl, sym, ◌∙◌, s
 use Rattle.cactus_solver.specs.declared.hub.HubSearch.{HubSearch}
 use Rattle.cactus_solver.specs.declared.side.Side.TheVariants.{Inner, Outer}
 use Rattle.cactus_solver.specs.Listing.{ListingState}
-use Rattle.cactus_solver.proofs.BetweenLemmas.{front_kept, hub_further, hub_later, may_take_outer, outer_further, restarted, searching, settled_for, stays_from, stays_more, stays_same}
+use Rattle.cactus_solver.proofs.BetweenLemmas.{hub_further, hub_later, may_take_outer, outer_further, restarted, searching, settled_for, stays_from, stays_more, stays_same}
 use Rattle.cactus_solver.proofs.Passing.{all_same, all_settling, all_with, more_taken}
 use Rattle.cactus_solver.proofs.splitter.Splitter.search_inner.Goals as goal
+use Rattle.cactus_solver.proofs.RacesAround.{front_on}
 
 pub forget-requires-clause-within : goal.forget-requires-clause-within
 forget-requires-clause-within c = λ v at. let le = c.requires.between.touched_within v at in omega (arith, le, c.requires.between.good_length)
@@ -47,13 +48,13 @@ returns-then-is_hub_listed-clause-further c = λ no.
     hub_further c.args.region.graph.now c.args.region.flow.now c.args.region.t c.args.self.now c.settle_border.new.self c.args.hub c.requires.hub (c.is_hub_listed.ensures.listed c.if-is_hub_listed.true)
 
 pub returns-then-done-clause-front : goal.returns-then-done-clause-front
-returns-then-done-clause-front c = front_kept c.args.region.graph.now c.args.region.flow.now c.args.region.t c.start.new.self.hub c.args.fronts.now c.settle_border.new.fronts c.requires.front c.settle_border.ensures.fronts
+returns-then-done-clause-front c = front_on c.args.region.graph.now c.args.region.flow.now c.args.region.t c.start.new.self.hub c.args.fronts.now c.settle_border.new.fronts c.requires.front c.settle_border.ensures.fronts
 
 pub returns-in_err-take_hub-clause-front : goal.returns-in_err-take_hub-clause-front
-returns-in_err-take_hub-clause-front c = front_kept c.args.region.graph.now c.args.region.flow.now c.args.region.t c.start.new.self.hub c.args.fronts.now c.settle_border.new.fronts c.requires.front c.settle_border.ensures.fronts
+returns-in_err-take_hub-clause-front c = front_on c.args.region.graph.now c.args.region.flow.now c.args.region.t c.start.new.self.hub c.args.fronts.now c.settle_border.new.fronts c.requires.front c.settle_border.ensures.fronts
 
 pub returns-clause-front : goal.returns-clause-front
-returns-clause-front c = front_kept c.args.region.graph.now c.args.region.flow.now c.args.region.t c.start.new.self.hub c.args.fronts.now c.settle_border.new.fronts c.requires.front c.settle_border.ensures.fronts
+returns-clause-front c = front_on c.args.region.graph.now c.args.region.flow.now c.args.region.t c.start.new.self.hub c.args.fronts.now c.settle_border.new.fronts c.requires.front c.settle_border.ensures.fronts
 
 pub returns-then-done-clause-stays : goal.returns-then-done-clause-stays
 returns-then-done-clause-stays c =
@@ -74,7 +75,7 @@ returns-then-done-clause-settled c = λ yes some v at.
 pub take_hub-requires-clause-may : goal.take_hub-requires-clause-may
 take_hub-requires-clause-may c = may_take_outer c.args.region.graph.now c.args.region.flow.now c.args.region.t c.args.self.now c.settle_border.new.self c.args.hub c.settle_border.new.fronts c.in_ok-done.ensures.searching c.requires.hub
     (c.in_ok-done.ensures.goes_on.hub ∙ c.start.ensures.hub) (c.in_ok-done.ensures.goes_on.other ∙ c.forget.ensures.outer)
-    (front_kept c.args.region.graph.now c.args.region.flow.now c.args.region.t c.start.new.self.hub c.args.fronts.now c.settle_border.new.fronts c.requires.front c.settle_border.ensures.fronts) c.in_ok-done.ensures.begun
+    (front_on c.args.region.graph.now c.args.region.flow.now c.args.region.t c.start.new.self.hub c.args.fronts.now c.settle_border.new.fronts c.requires.front c.settle_border.ensures.fronts) c.in_ok-done.ensures.begun
     (c.in_ok-done.ensures.ended c.if-done.false) (c.is_hub_listed.ensures.free c.if-is_hub_listed.false) (λ h e. c.in_ok-done.ensures.goes_on.seen h (c.start.ensures.begun h e))
 
 pub returns-clause-stays : goal.returns-clause-stays

@@ -2,18 +2,19 @@
 use Rattle.std.proofs.Common.{ℕ, ◌≡◌, true, arith}
 use Rattle.std.proofs.lemmas.Result.{on_ok_weaker}
 use Rattle.std.specs.List.{Contains}
+use Rattle.cut_definitions.proofs.Results.{if_both}
 use Rattle.cactus_solver.specs.declared.side.Side.TheVariants.{Outer}
 use Rattle.cactus_solver.specs.Between.{IsOuterSettled}
 use Rattle.cactus_solver.specs.Passed.{ArePassed}
 use Rattle.cactus_solver.specs.Split.{GoesOnSettling, IsSearching, IsSettledIn}
-use Rattle.cactus_solver.proofs.BetweenLemmas.{if_both, settling_more, outer_settled}
+use Rattle.cactus_solver.proofs.BetweenLemmas.{outer_settled}
 use Rattle.cactus_solver.proofs.Passing.{all_on, all_settling, more_settling, passed_on}
-use Rattle.cactus_solver.proofs.RacesAround.{hub_inside, on_ok_both}
+use Rattle.cactus_solver.proofs.RacesAround.{hub_inside, on_ok_both, goes_on_more}
 use Rattle.cactus_solver.proofs.splitter.Splitter.settle_outer.Goals as goal
 
 pub returns-clause-goes_on : goal.returns-clause-goes_on
 returns-clause-goes_on c =
-    on_ok_weaker c.settle_border.result (settling_more Outer c.args.self.now c.settle_front.new.self c.settle_border.new.self c.in_ok-settle_front.ensures.goes_on) c.settle_border.ensures.goes_on
+    on_ok_weaker c.settle_border.result (goes_on_more Outer c.args.self.now c.settle_front.new.self c.settle_border.new.self c.in_ok-settle_front.ensures.goes_on) c.settle_border.ensures.goes_on
 
 pub returns-clause-settled : goal.returns-clause-settled
 returns-clause-settled c =

@@ -1,8 +1,8 @@
 use Rattle.std.proofs.Common.{[], ◌∷◌, length, ◌∙◌, ap, arith}
 use Rattle.std.proofs.lemmas.List.{length-append}
+use Rattle.cut_definitions.proofs.ListLaws.{popped_is}
 use Rattle.cactus_tree.specs.Trees.{nodes_in}
 use Rattle.cactus_tree.specs.Entries.{top_first}
-use Rattle.cactus_tree.proofs.Orders.{popped_is}
 use Rattle.cactus_tree.proofs.Entries.{drawn_one, drawn_front, drawn_rest, top_push}
 use Rattle.cactus_tree.proofs.tree.entries.draw_nodes.Goals as goal
 

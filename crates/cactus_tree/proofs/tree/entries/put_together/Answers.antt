@@ -1,9 +1,9 @@
 use Rattle.std.proofs.Common.{◌≡◌, [], ◌∷◌, List, length, map, ◌∙◌, ap, sym, subst, refl, arith}
 use Rattle.std.proofs.lemmas.List.{length-append}
+use Rattle.cut_definitions.proofs.ListLaws.{popped_is}
 use Rattle.cactus_tree.specs.Entries.{top_first, read_node, read_entries, kept, left}
 use Rattle.cactus_tree.specs.declared.tree.Node.{Node, roll-Node}
 use Rattle.cactus_tree.specs.declared.tree.entries.Entry.{Entry}
-use Rattle.cactus_tree.proofs.Orders.{popped_is}
 use Rattle.cactus_tree.proofs.Entries.{Builds, none_built, enough_built, built_one, top_push, top_length, none_popped, alone}
 use Rattle.cactus_tree.proofs.tree.entries.put_together.Goals as goal
 

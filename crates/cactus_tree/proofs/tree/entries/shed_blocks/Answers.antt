@@ -1,11 +1,11 @@
 use Rattle.std.proofs.Common.{[], ◌∷◌, ◌++◌, List, length, map, ◌∙◌, ap, sym, refl, arith}
 use Rattle.std.specs.List.{flat_map}
 use Rattle.std.proofs.lemmas.List.{append-nil, length-append}
+use Rattle.cut_definitions.proofs.ListLaws.{popped_is}
 use Rattle.cactus_tree.specs.Trees.{blocks_in}
 use Rattle.cactus_tree.specs.Entries.{top_first, nodes_of, joint_of}
 use Rattle.cactus_tree.specs.declared.tree.entries.Joint.{Joint}
 use Rattle.cactus_tree.specs.declared.tree.Block.{Block}
-use Rattle.cactus_tree.proofs.Orders.{popped_is}
 use Rattle.cactus_tree.proofs.Entries.{moved_list, moved_map, top_push, none_popped}
 use Rattle.cactus_tree.proofs.tree.entries.shed_blocks.Goals as goal
 

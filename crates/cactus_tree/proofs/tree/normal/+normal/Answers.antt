@@ -1,6 +1,6 @@
 use Rattle.std.proofs.Common.{◌&&◌, ◌∙◌, ◌≡◌, length, ap, sym, arith}
 use Rattle.std.specs.List.{list_all}
-use Rattle.cut_definitions.proofs.ChainLaws.{leb_no}
+use Rattle.std.proofs.lemmas.Bool.{lt-leb}
 use Rattle.cactus_tree.specs.Trees.{blocks, nodes_in}
 use Rattle.cactus_tree.specs.Normal.{block_shape}
 use Rattle.cactus_tree.proofs.Shapes.{bridge_shape, wide_fine, narrow_fine, child_parts}
@@ -17,7 +17,7 @@ block_is_normal-returns-then-len-ge2 t c =
 pub block_is_normal-returns-else-len-ge2 : goal.block_is_normal-returns-else-len-ge2
 block_is_normal-returns-else-len-ge2 t c =
     let count : c.len.result ≡ length (nodes_in c.in-Cycle.nodes) = c.len.ensures in
-    rw c.in-Cycle.is (leb_no 2 c.len.result (omega arith) ∙ sym (narrow_fine c.in-Cycle.nodes (omega (arith, count, c.if-len-ge2.false))))
+    rw c.in-Cycle.is (lt-leb 2 c.len.result (omega arith) ∙ sym (narrow_fine c.in-Cycle.nodes (omega (arith, count, c.if-len-ge2.false))))
 
 pub child_is_normal-returns-then-is_well_placed : goal.child_is_normal-returns-then-is_well_placed
 child_is_normal-returns-then-is_well_placed t c =

@@ -1,6 +1,6 @@
 use Rattle.std.proofs.Common.{◌&&◌, ◌∙◌, ◌≡◌, true, length, ap, sym, arith}
 use Rattle.std.specs.List.{list_all}
-use Rattle.cut_definitions.proofs.ChainLaws.{leb_yes, leb_no}
+use Rattle.std.proofs.lemmas.Bool.{le-leb, lt-leb}
 use Rattle.cactus_tree.specs.Trees.{nodes_in}
 use Rattle.cactus_tree.specs.Placed.{is_set}
 use Rattle.cactus_tree.proofs.AllFine.{placed_bridge, placed_cycle}
@@ -12,9 +12,9 @@ returns-in-Bridge c = rw (c.in-Bridge.is, placed_bridge, ← c.deref.ensures) c.
 pub returns-then-len-ge2 : goal.returns-then-len-ge2
 returns-then-len-ge2 c =
     let count : c.len.result ≡ length (nodes_in c.in-Cycle.nodes) = c.len.ensures in
-    rw c.in-Cycle.is (c.nodes_are_placed.ensures ∙ sym (placed_cycle c.in-Cycle.nodes ∙ ap (λ b. b && list_all (is_set true) (nodes_in c.in-Cycle.nodes)) (leb_yes 2 (length (nodes_in c.in-Cycle.nodes)) (omega (arith, count, c.if-len-ge2.true)))))
+    rw c.in-Cycle.is (c.nodes_are_placed.ensures ∙ sym (placed_cycle c.in-Cycle.nodes ∙ ap (λ b. b && list_all (is_set true) (nodes_in c.in-Cycle.nodes)) (le-leb 2 (length (nodes_in c.in-Cycle.nodes)) (omega (arith, count, c.if-len-ge2.true)))))
 
 pub returns-else-len-ge2 : goal.returns-else-len-ge2
 returns-else-len-ge2 c =
     let count : c.len.result ≡ length (nodes_in c.in-Cycle.nodes) = c.len.ensures in
-    rw c.in-Cycle.is (leb_no 2 c.len.result (omega arith) ∙ sym (placed_cycle c.in-Cycle.nodes ∙ ap (λ b. b && list_all (is_set true) (nodes_in c.in-Cycle.nodes)) (leb_no 2 (length (nodes_in c.in-Cycle.nodes)) (omega (arith, count, c.if-len-ge2.false)))))
+    rw c.in-Cycle.is (lt-leb 2 c.len.result (omega arith) ∙ sym (placed_cycle c.in-Cycle.nodes ∙ ap (λ b. b && list_all (is_set true) (nodes_in c.in-Cycle.nodes)) (lt-leb 2 (length (nodes_in c.in-Cycle.nodes)) (omega (arith, count, c.if-len-ge2.false)))))

@@ -1,5 +1,5 @@
 use Rattle.std.proofs.Common.{◌∙◌, ◌++◌, ◌∷◌, [], ap, sym}
-use Rattle.cactus_tree.proofs.Orders.{popped_is}
+use Rattle.cut_definitions.proofs.ListLaws.{popped_is}
 use Rattle.cactus_tree.specs.Numbers.{seen}
 use Rattle.cactus_tree.proofs.Tallies.{seen_push, fewer_inner}
 use Rattle.cactus_tree.proofs.AllFine.{all_fine, begun_fine, taken_fine, not_fine}

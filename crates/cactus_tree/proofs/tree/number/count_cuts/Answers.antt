@@ -1,5 +1,5 @@
 use Rattle.std.proofs.Common.{◌∙◌, ap, arith}
-use Rattle.cactus_tree.proofs.Orders.{popped_is}
+use Rattle.cut_definitions.proofs.ListLaws.{popped_is}
 use Rattle.cactus_tree.specs.Numbers.{seen}
 use Rattle.cactus_tree.proofs.Tallies.{seen_push, fewer_inner, numbers_step, top_own}
 use Rattle.cactus_tree.proofs.tree.number.count_cuts.Goals as goal

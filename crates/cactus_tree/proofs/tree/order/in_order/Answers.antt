@@ -1,6 +1,7 @@
 use Rattle.std.proofs.Common.{ℕ, ◌≡◌, ◌∷◌, [], ◌∙◌, ap, List, ◌++◌, length, arith}
+use Rattle.cut_definitions.proofs.ListLaws.{popped_is}
 use Rattle.cactus_tree.specs.Entered.{waiting}
-use Rattle.cactus_tree.proofs.Orders.{waiting_push, popped_is, walked}
+use Rattle.cactus_tree.proofs.Orders.{waiting_push, walked}
 use Rattle.cactus_tree.proofs.PlaceLaws.{placed_one}
 use Rattle.cactus_tree.proofs.tree.order.in_order.Goals as goal
 

@@ -1,8 +1,8 @@
 use Rattle.std.proofs.Common.{◌≡◌, ◌-◌, ◌∙◌, ap, arith, length, map}
+use Rattle.cut_definitions.proofs.ListLaws.{popped_is}
 use Rattle.cactus_tree.specs.Trees.{blocks}
 use Rattle.cactus_tree.specs.Outlines.{all_outlines, block_outline}
 use Rattle.cactus_tree.specs.Heads.{entries_waiting}
-use Rattle.cactus_tree.proofs.Orders.{popped_is}
 use Rattle.cactus_tree.proofs.Stacked.{waiting_push, entered_one}
 use Rattle.cactus_tree.proofs.tree.outline.outline_of.Goals as goal
 

@@ -1,9 +1,9 @@
 use Rattle.std.proofs.Common.{List, ◌∙◌, ap, sym, subst}
 use Rattle.cut_definitions.specs.Contraction.{lift}
+use Rattle.cut_definitions.proofs.ListLaws.{popped_is}
 use Rattle.cactus_tree.specs.Entries.{top_first, Shows}
 use Rattle.cactus_tree.specs.declared.tree.Node.{Node}
 use Rattle.cactus_tree.specs.declared.tree.entries.Entry.{Entry}
-use Rattle.cactus_tree.proofs.Orders.{popped_is}
 use Rattle.cactus_tree.proofs.Entries.{entered_one, fewer_left, first_entered, none_popped, top_push}
 use Rattle.cactus_tree.proofs.tree.spread.spread_entries.Goals as goal
 

@@ -1,9 +1,9 @@
 use Rattle.std.proofs.Common.{◌≡◌, [], ◌∷◌, List, length, drop, ◌∙◌, ap, sym, refl, arith}
 use Rattle.std.proofs.lemmas.List.{length-append, length-drop}
+use Rattle.cut_definitions.proofs.ListLaws.{popped_is}
 use Rattle.cactus_tree.specs.Trees.{blocks_in}
 use Rattle.cactus_tree.specs.Entries.{top_first, used, wanted, all_drawn}
 use Rattle.cactus_tree.specs.declared.tree.entries.Joint.{Joint}
-use Rattle.cactus_tree.proofs.Orders.{popped_is}
 use Rattle.cactus_tree.proofs.Entries.{dropped_more, top_push, top_length, none_popped}
 use Rattle.cactus_tree.proofs.Makes.{blocks_none, blocks_one, blocks_all}
 use Rattle.cactus_tree.proofs.tree.trim.draw_blocks.Goals as goal

@@ -1,8 +1,8 @@
 use Rattle.std.proofs.Common.{[], ◌∷◌, ◌≡◌, ◌+◌, length, drop, ◌∙◌, ap, sym, arith}
 use Rattle.std.proofs.lemmas.List.{length-append}
+use Rattle.cut_definitions.proofs.ListLaws.{popped_is}
 use Rattle.cactus_tree.specs.Trees.{nodes_in}
 use Rattle.cactus_tree.specs.Entries.{top_first}
-use Rattle.cactus_tree.proofs.Orders.{popped_is}
 use Rattle.cactus_tree.proofs.Entries.{top_push}
 use Rattle.cactus_tree.proofs.Makes.{dropped_one, draws_none, draws_one, draws_all}
 use Rattle.cactus_tree.proofs.tree.trim.draw_nodes.Goals as goal

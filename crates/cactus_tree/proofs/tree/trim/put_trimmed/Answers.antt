@@ -1,9 +1,9 @@
 use Rattle.std.proofs.Common.{◌≡◌, [], ◌∷◌, List, length, ◌∙◌, ap, sym, subst, refl, arith}
 use Rattle.std.proofs.lemmas.List.{length-append}
+use Rattle.cut_definitions.proofs.ListLaws.{popped_is}
 use Rattle.cactus_tree.specs.Entries.{top_first, left}
 use Rattle.cactus_tree.specs.declared.tree.Node.{Node, roll-Node}
 use Rattle.cactus_tree.specs.declared.tree.entries.Entry.{Entry}
-use Rattle.cactus_tree.proofs.Orders.{popped_is}
 use Rattle.cactus_tree.proofs.Entries.{top_push, top_length, none_popped, alone}
 use Rattle.cactus_tree.proofs.Makes.{Puts, puts_none, puts_enough, puts_one, puts_all}
 use Rattle.cactus_tree.proofs.tree.trim.put_trimmed.Goals as goal

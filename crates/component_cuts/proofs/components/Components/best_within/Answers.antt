@@ -1,12 +1,13 @@
 use Rattle.std.proofs.Common.{◌≡◌, ◌+◌, ◌-◌, ◌*◌, ◌^◌, ◌≤◌, ℕ, List, Bool, true, false, length, get_or, min, refl, sym, ◌∙◌, ap, subst, arith}
 use Rattle.cut_definitions.specs.Balance.{mass, IsBest}
+use Rattle.cut_definitions.proofs.Results.{if_ok_more}
 use Rattle.vertex_set.specs.Side.{VertexList, listed}
 use Rattle.component_cuts.specs.Parts.{Parts, part_at, divided, unions}
 use Rattle.component_cuts.specs.Doubling.{chosen_vertices}
 use Rattle.component_cuts.specs.Sums.{has_sum, mass_of_number, sum_of_rows, AreRows}
 use Rattle.component_cuts.proofs.Divided.{length_divided}
 use Rattle.component_cuts.proofs.Rows.{sums_made, sum_none}
-use Rattle.component_cuts.proofs.Best.{AreSums, best_second, best_chosen, if_ok_more}
+use Rattle.component_cuts.proofs.Best.{AreSums, best_second, best_chosen}
 use Rattle.component_cuts.proofs.components.Components.best_within.Goals as goal
 
 pub fill_rows-requires-clause-count : goal.fill_rows-requires-clause-count

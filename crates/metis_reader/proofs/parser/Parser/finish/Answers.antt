@@ -1,6 +1,7 @@
 -- At the start of a line the body shows the lines that are read.
 use Rattle.std.proofs.Common.{◌≡◌, ℕ, List, [], ◌∷◌, refl, sym, ◌∙◌, subst}
 use Rattle.std.specs.Prelude.{Result, MatchResult}
+use Rattle.cut_definitions.proofs.ListLaws.{append_none}
 use Rattle.metis_reader.specs.declared.reader.MetisGraph.{MetisGraph}
 use Rattle.metis_reader.specs.declared.fault.Fault.{Fault}
 use Rattle.metis_reader.specs.declared.fault.FaultKind.TheVariants.{NoHeader}
@@ -13,7 +14,6 @@ use Rattle.metis_reader.specs.File.{VertexLine, all_entries, all_masses, end_fin
 use Rattle.metis_reader.specs.Machine.{State, AtHeader, InLine, AtWeight, After, before, final_findings}
 use Rattle.metis_reader.specs.Shown.{Shows, BodyShows}
 use Rattle.metis_reader.specs.Ending.{IsLineStart, RowsFrom, TellsFirst, graph_shown, state_graph, state_masses}
-use Rattle.metis_reader.proofs.MachineLaw.{append_none}
 use Rattle.metis_reader.proofs.Dues.{at_Vertices}
 use Rattle.metis_reader.proofs.parser.Parser.finish.Goals as goal
 

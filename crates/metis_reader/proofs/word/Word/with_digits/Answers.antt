@@ -1,5 +1,5 @@
 use Rattle.std.proofs.Common.{◌≡◌, ◌+◌, ◌-◌, ◌*◌, ℕ, length, get_or, refl, sym, subst, ◌∙◌, arith}
-use Rattle.metis_reader.proofs.Formats.{true_from_not}
+use Rattle.std.proofs.lemmas.Bool.{not-false}
 use Rattle.metis_reader.proofs.Runs.{run}
 use Rattle.metis_reader.proofs.Digits.{AreDigits, digits_more, word_digits, digit_from, run_length}
 use Rattle.metis_reader.proofs.word.Word.with_digits.Goals as goal
@@ -16,4 +16,4 @@ pub returns-clause-longer : goal.returns-clause-longer
 returns-clause-longer c = λ word is.
     let h : AreDigits c.args.bytes.now c.args.from c.loop-end.end c.args.self.value c.loop-end.value = c.loop-end.invariant in
     let count : length (run c.args.from c.loop-end.end c.args.bytes.now) ≡ c.loop-end.end - c.args.from = run_length c.args.from c.loop-end.end c.args.bytes.now h.low h.high in
-    word_digits c.args.self _ word (run c.args.from c.loop-end.end c.args.bytes.now) (true_from_not c.args.self.is_number c.if-not-self.false) is h.digits refl h.value (omega arith) (omega arith)
+    word_digits c.args.self _ word (run c.args.from c.loop-end.end c.args.bytes.now) (not-false c.args.self.is_number c.if-not-self.false) is h.digits refl h.value (omega arith) (omega arith)
