@@ -9,13 +9,14 @@ ghost use Rattle.region_flow.specs.CutOff.{MayBeCutOff, relabelled};
 
 use crate::cutting::cut_off;
 use crate::searching::search;
-use crate::tree::{Link, clear};
+use crate::task::Task;
+use crate::tree::{SearchTree, clear};
 use cut_definitions::NoMemory;
 use max_flow::Outcome;
 use max_flow::residual::start;
 use std::alloc::Global;
 use std::marker::Model;
-use weighted_graph::{Arc, Graph};
+use weighted_graph::Graph;
 
 /// A flow from a source that grows, with the vertices outside in regions, and the memory for searches.
 ///
@@ -26,20 +27,17 @@ pub struct RegionFlow {
     feed: Vec<u64>,
     toward: Vec<u64>,
 
-    // the vertices that the last search found are the first `count` of the order; no vertex is marked between two
-    order: Vec<u32>,
-    count: u32,
-    links: Vec<Link>,
-    marks: Vec<u32>,
+    // that of the last search; no vertex is marked between two
+    tree: SearchTree,
 
     // the lengths of all rows that searches went along, added up
     looked: usize,
 }
 
 impl Model for RegionFlow {
-    ghost use Rattle.std.specs.Prelude.{take};
+    ghost use Rattle.std.specs.Prelude.{length};
     ghost use Rattle.region_flow.specs.Regions.{RegionState};
-    ghost use Rattle.region_flow.specs.Tree.{IsLaidOut};
+    ghost use Rattle.region_flow.specs.Tree.{IsReady};
 
     ghost Value = { RegionState };
 
@@ -47,10 +45,10 @@ impl Model for RegionFlow {
       labels = f.labels.items;
       feed = f.feed.items;
       toward = f.toward.items;
-      found = take f.count f.order.items;
+      found = f.tree.order.items;
     } };
 
-    ghost invariant = { λ f. IsLaidOut f.labels.items f.marks.items f.order.items f.links.items f.count };
+    ghost invariant = { λ f. IsReady (length f.labels.items) f.tree };
 }
 
 impl RegionFlow {
@@ -63,31 +61,17 @@ impl RegionFlow {
         ensures dry { IfOk result (λ f. (v : ℕ) → slice_index f.feed v ≡ 0) }
     {
         let size = graph.n() as usize + 1;
-        let none = Arc {
-            to: 0,
-            edge: 0,
-            weight: 0,
-        };
-        let first = Link {
-            parent: 0,
-            arc: none,
-        };
         let mut toward = vec![in alloc; 0u64; graph.edges()]?;
         start(graph, toward.as_mut_slice());
         let mut labels = vec![in alloc; 1u32; size]?;
         labels[0] = 0;
         let feed = vec![in alloc; 0u64; size]?;
-        let order = vec![in alloc; 0u32; size]?;
-        let links = vec![in alloc; first; size]?;
-        let marks = vec![in alloc; 0u32; size]?;
+        let tree = SearchTree::new(alloc, size)?;
         Ok(RegionFlow {
             labels,
             feed,
             toward,
-            order,
-            count: 0,
-            links,
-            marks,
+            tree,
             looked: 0,
         })
     }
@@ -121,7 +105,7 @@ impl RegionFlow {
     pub fn found(&self) -> &[u32]
         ensures { result.now ≡ self.now.found }
     {
-        &self.order[..self.count as usize]
+        self.tree.order.as_slice()
     }
 
     /// Lets a vertex outside the source enter it: its neighbours in its region are fed what it can send them, and no other
@@ -176,21 +160,17 @@ impl RegionFlow {
         ensures shows { slice_index self.new.feed t ≡ slice_index self.old.feed t → ShowsLeast graph.now t (slice_index self.new.feed t) self.new }
     {
         let _n = graph.n();
-        let marks = self.marks.as_mut_slice();
-        let order = self.order.as_mut_slice();
-        self.count = search(
+        let task = Task {
             graph,
-            self.labels.as_slice(),
-            self.feed.as_mut_slice(),
-            self.toward.as_mut_slice(),
-            marks,
-            order,
-            self.links.as_mut_slice(),
-            t,
+            labels: self.labels.as_slice(),
             stop,
-            &mut self.looked,
-        );
-        clear(marks, order, self.count);
+        };
+        let feed = self.feed.as_mut_slice();
+        let toward = self.toward.as_mut_slice();
+        let tree = &mut self.tree;
+        let looked = search(task, feed, toward, tree, t);
+        clear(tree.marks.as_mut_slice(), tree.order.as_slice());
+        self.looked = self.looked.saturating_add(looked);
     }
 
     /// The same as `flow`, but None where all searches of this flow so far went along rows of more arcs than `most`, which

@@ -4,47 +4,43 @@ ghost use Rattle.std.specs.Prelude.{◌≡◌, ◌≢◌, ◌↔◌, ◌+◌, �
 ghost use Rattle.cut_definitions.specs.Graph.{IsEdgeList};
 ghost use Rattle.weighted_graph.specs.RowLaws.{IsArcAt};
 ghost use Rattle.region_flow.specs.Regions.{IsFlowIn};
-ghost use Rattle.region_flow.specs.Tree.{IsTree, IsReady, IsCalm, IsFollowed, Extends, StaysCalm, IsExpandedCalmly, IsSearchedCalmly};
+ghost use Rattle.region_flow.specs.Tree.{IsTreeIn, IsReady, IsCalmIn, IsFollowed, ExtendsTree, StaysCalm, IsExpandedCalmly, IsSearchedCalmly};
 
 use crate::pulling::{is_used_up, pull};
-use crate::tree::{Link, leads_on, put};
-use weighted_graph::{Arc, Graph};
+use crate::task::Task;
+use crate::tree::{Link, SearchTree, leads_on};
+use weighted_graph::Arc;
 
 /// Follows one arc of the row of the vertex at a place: puts its other end into the tree where that can send something,
 /// and pulls what it is fed.
 fn visit(
-    graph: &Graph,
-    labels: &[u32],
+    task: Task<'_>,
     feed: &mut [u64],
     toward: &mut [u64],
-    marks: &mut [u32],
-    order: &mut [u32],
-    links: &mut [Link],
-    count: u32,
+    tree: &mut SearchTree,
     place: u32,
     arc: &Arc,
-    stop: u64,
-) -> u32
-    requires edge_list { IsEdgeList graph.now }
-    requires flow { IsFlowIn graph.now labels.now feed.old toward.old }
-    requires outside { 1 ≤ slice_index labels.now (slice_index order.old 0) }
-    requires tree { IsTree graph.now labels.now marks.old order.old links.old count }
-    requires place { place < count }
-    requires arc { IsArcAt graph.now (slice_index order.old place) arc.now }
-    requires wanting { slice_index feed.old (slice_index order.old 0) < stop }
-    ensures flow { IsFlowIn graph.now labels.now feed.new toward.new }
-    ensures tree { IsTree graph.now labels.now marks.new order.new links.new result }
-    ensures extends { Extends marks.old order.old count marks.new order.new result }
-    ensures grown { slice_index feed.old (slice_index order.old 0) ≤ slice_index feed.new (slice_index order.old 0) }
-    ensures others { (v : ℕ) → v ≢ slice_index order.old 0 → slice_index feed.new v ≤ slice_index feed.old v }
-    ensures calm { IsCalm feed.old toward.old order.old links.old count →
-        slice_index feed.new (slice_index order.old 0) ≡ slice_index feed.old (slice_index order.old 0) →
-        StaysCalm feed.new toward.old toward.new order.new links.new result }
-    ensures followed { IsFollowed labels.now toward.old marks.new (slice_index order.old place) arc.now }
+)
+    requires edge_list { IsEdgeList task.graph.now }
+    requires flow { IsFlowIn task.graph.now task.labels.now feed.old toward.old }
+    requires outside { 1 ≤ slice_index task.labels.now (slice_index tree.old.order.items 0) }
+    requires tree { IsTreeIn task.graph.now task.labels.now tree.old }
+    requires place { place < length tree.old.order.items }
+    requires arc { IsArcAt task.graph.now (slice_index tree.old.order.items place) arc.now }
+    requires wanting { slice_index feed.old (slice_index tree.old.order.items 0) < task.stop }
+    ensures flow { IsFlowIn task.entry.graph.now task.entry.labels.now feed.new toward.new }
+    ensures tree { IsTreeIn task.entry.graph.now task.entry.labels.now tree.new }
+    ensures extends { ExtendsTree tree.old tree.new }
+    ensures grown { slice_index feed.old (slice_index tree.old.order.items 0) ≤ slice_index feed.new (slice_index tree.old.order.items 0) }
+    ensures others { (v : ℕ) → v ≢ slice_index tree.old.order.items 0 → slice_index feed.new v ≤ slice_index feed.old v }
+    ensures calm { IsCalmIn feed.old toward.old tree.old →
+        slice_index feed.new (slice_index tree.old.order.items 0) ≡ slice_index feed.old (slice_index tree.old.order.items 0) →
+        StaysCalm feed.new toward.old toward.new tree.new }
+    ensures followed { IsFollowed task.entry.labels.now toward.old tree.new.marks.items (slice_index tree.old.order.items place) arc.now }
 {
-    let v = order[place as usize];
-    if !leads_on(graph, labels, toward, marks, labels[v as usize], v, arc) {
-        return count;
+    let v = tree.places().order[place as usize];
+    if !leads_on(task, toward, tree.marks.as_slice(), v, arc) {
+        return;
     }
     let back = Arc {
         to: v,
@@ -55,121 +51,91 @@ fn visit(
         parent: place,
         arc: back,
     };
-    let after = put(marks, order, links, count, arc.to, link);
+    let at = tree.put(arc.to, link);
     if feed[arc.to as usize] > 0 {
-        pull(graph, labels, feed, toward, order, links, count, stop);
+        pull(task, feed, toward, tree.places(), at);
     }
-    after
 }
 
 /// Follows the arcs of the row of the vertex at a place, until the root has what it wants or the vertex can send it
 /// nothing more.
-fn expand(
-    graph: &Graph,
-    labels: &[u32],
-    feed: &mut [u64],
-    toward: &mut [u64],
-    marks: &mut [u32],
-    order: &mut [u32],
-    links: &mut [Link],
-    count: u32,
-    place: u32,
-    stop: u64,
-) -> u32
-    requires flow { IsFlowIn graph.now labels.now feed.old toward.old }
-    requires outside { 1 ≤ slice_index labels.now (slice_index order.old 0) }
-    requires tree { IsTree graph.now labels.now marks.old order.old links.old count }
-    requires place { place < count }
-    requires wanting { slice_index feed.old (slice_index order.old 0) < stop }
-    ensures flow { IsFlowIn graph.now labels.now feed.new toward.new }
-    ensures tree { IsTree graph.now labels.now marks.new order.new links.new result }
-    ensures extends { Extends marks.old order.old count marks.new order.new result }
-    ensures grown { slice_index feed.old (slice_index order.old 0) ≤ slice_index feed.new (slice_index order.old 0) }
-    ensures others { (v : ℕ) → v ≢ slice_index order.old 0 → slice_index feed.new v ≤ slice_index feed.old v }
-    ensures calm { IsCalm feed.old toward.old order.old links.old count →
-        slice_index feed.new (slice_index order.old 0) ≡ slice_index feed.old (slice_index order.old 0) →
-        IsExpandedCalmly graph.now labels.now feed.new toward.old toward.new marks.new order.new links.new result (slice_index order.old place) }
+fn expand(task: Task<'_>, feed: &mut [u64], toward: &mut [u64], tree: &mut SearchTree, place: u32)
+    requires flow { IsFlowIn task.graph.now task.labels.now feed.old toward.old }
+    requires outside { 1 ≤ slice_index task.labels.now (slice_index tree.old.order.items 0) }
+    requires tree { IsTreeIn task.graph.now task.labels.now tree.old }
+    requires place { place < length tree.old.order.items }
+    requires wanting { slice_index feed.old (slice_index tree.old.order.items 0) < task.stop }
+    ensures flow { IsFlowIn task.entry.graph.now task.entry.labels.now feed.new toward.new }
+    ensures tree { IsTreeIn task.entry.graph.now task.entry.labels.now tree.new }
+    ensures extends { ExtendsTree tree.old tree.new }
+    ensures grown { slice_index feed.old (slice_index tree.old.order.items 0) ≤ slice_index feed.new (slice_index tree.old.order.items 0) }
+    ensures others { (v : ℕ) → v ≢ slice_index tree.old.order.items 0 → slice_index feed.new v ≤ slice_index feed.old v }
+    ensures calm { IsCalmIn feed.old toward.old tree.old →
+        slice_index feed.new (slice_index tree.old.order.items 0) ≡ slice_index feed.old (slice_index tree.old.order.items 0) →
+        IsExpandedCalmly task.entry.graph.now task.entry.labels.now feed.new toward.old toward.new tree.new (slice_index tree.old.order.items place) }
 {
+    let order = tree.places().order;
     let root = order[0] as usize;
     let v = order[place as usize];
-    let row = graph.row(v);
-    let mut count = count;
+    let row = task.graph.row(v);
     for arc in row {
-        if feed[root] >= stop || is_used_up(graph, labels, toward, order, links, place) {
-            return count;
+        if feed[root] >= task.stop || is_used_up(task, toward, tree.places(), place) {
+            return;
         }
-        count = visit(
-            graph, labels, feed, toward, marks, order, links, count, place, arc, stop,
-        );
+        visit(task, feed, toward, tree, place, arc);
     }
-    count
 }
 
-/// Whether a search goes on: a vertex is left, the root wants more, and either it has got nothing in this search or this
-/// did not look at too many arcs since it did.
-fn goes_on(
-    place: u32,
-    count: u32,
-    fed: u64,
-    before: u64,
-    stop: u64,
-    work: usize,
-    limit: usize,
-) -> bool
-    ensures { IsTrue result ↔ ((place < count) × (fed < stop) × ((fed ≡ before) ⊎ (work ≤ limit))) }
+/// Whether the root wants more, and either has got nothing in this search or this did not look at too many arcs since it
+/// did.
+fn is_wanting(fed: u64, before: u64, stop: u64, work: usize, limit: usize) -> bool
+    ensures { IsTrue result ↔ ((fed < stop) × ((fed ≡ before) ⊎ (work ≤ limit))) }
 {
-    place < count && fed < stop && (fed == before || work <= limit)
+    fed < stop && (fed == before || work <= limit)
 }
 
 /// Searches from `t` against the arcs inside its region, the vertices of fewest arcs first, and pulls to `t` what each
-/// vertex that is found is fed, until `t` is fed the stop.
+/// vertex that is found is fed, until `t` is fed the stop. Gives the lengths of all rows that it went along, added up.
 ///
 /// The tree does not grow anew after it brought something, so it may still have arcs that are used up. A search that
 /// brought something ends when it has gone four times as far as it had then.
 pub fn search(
-    graph: &Graph,
-    labels: &[u32],
+    task: Task<'_>,
     feed: &mut [u64],
     toward: &mut [u64],
-    marks: &mut [u32],
-    order: &mut [u32],
-    links: &mut [Link],
+    tree: &mut SearchTree,
     t: u32,
-    stop: u64,
-    looked: &mut usize,
-) -> u32
-    requires flow { IsFlowIn graph.now labels.now feed.old toward.old }
-    requires ready { IsReady graph.now.vertices marks.old order.old links.old }
-    requires to_n { t ≤ graph.now.vertices }
-    requires outside { 1 ≤ slice_index labels.now t }
-    requires wanting { slice_index feed.old t < stop }
-    ensures flow { IsFlowIn graph.now labels.now feed.new toward.new }
-    ensures tree { IsTree graph.now labels.now marks.new order.new links.new result }
-    ensures first { slice_index order.new 0 ≡ t }
+) -> usize
+    requires flow { IsFlowIn task.graph.now task.labels.now feed.old toward.old }
+    requires ready { IsReady (task.graph.now.vertices + 1) tree.old }
+    requires to_n { t ≤ task.graph.now.vertices }
+    requires outside { 1 ≤ slice_index task.labels.now t }
+    requires wanting { slice_index feed.old t < task.stop }
+    ensures flow { IsFlowIn task.entry.graph.now task.entry.labels.now feed.new toward.new }
+    ensures tree { IsTreeIn task.entry.graph.now task.entry.labels.now tree.new }
+    ensures first { slice_index tree.new.order.items 0 ≡ t }
     ensures grown { slice_index feed.old t ≤ slice_index feed.new t }
     ensures others { (v : ℕ) → v ≢ t → slice_index feed.new v ≤ slice_index feed.old v }
     ensures calm { slice_index feed.new t ≡ slice_index feed.old t →
-        IsSearchedCalmly graph.now labels.now feed.new toward.new marks.new order.new links.new result }
+        IsSearchedCalmly task.entry.graph.now task.entry.labels.now feed.new toward.new tree.new }
 {
-    order[0] = t;
-    marks[t as usize] = 1;
+    tree.plant(t);
     let before = feed[t as usize];
     let mut fed = before;
     let mut work = 0usize;
     let mut limit = 0usize;
-    let mut count = 1;
     let mut place = 0;
-    'places: while goes_on(place, count, feed[t as usize], before, stop, work, limit) {
-        work = work.saturating_add(graph.row(order[place as usize]).len());
-        count = expand(
-            graph, labels, feed, toward, marks, order, links, count, place, stop,
-        );
+    'places: while (place as usize) < tree.order.len()
+        && is_wanting(feed[t as usize], before, task.stop, work, limit)
+    {
+        let v = tree.places().order[place as usize];
+        work = work.saturating_add(task.graph.row(v).len());
+        expand(task, feed, toward, tree, place);
         if feed[t as usize] > fed {
             fed = feed[t as usize];
             limit = work.saturating_mul(4).saturating_add(32);
         }
         place += 1;
     }
-    *looked = looked.saturating_add(work);
-    count
+    work
 }

@@ -16,12 +16,12 @@ loop-at-preserved c =
       at_most = omega (arith, least, inv.at_most);
       some = λ is_open most. (let here = is_open at one (omega (arith, inv.inside)) in omega (arith, inv.some is_open most, here, left, least));
       fits = λ a few rest. inv.fits a (omega (arith, few, least))
-          (wide_more c.args.toward.now c.args.order.now c.args.links.now a at one (omega (arith, few, least, left)) rest);
+          (wide_more c.args.toward.now c.args.places.order.now c.args.places.links.now a at one (omega (arith, few, least, left)) rest);
     }
 
 pub returns-after-loop-at-clause-fits : goal.returns-after-loop-at-clause-fits
 returns-after-loop-at-clause-fits c = λ some.
     let z : 0 ≡ c.loop-at.at = omega (arith, c.loop-at-test.false) in
-    let root = wide_root c.args.toward.now c.args.order.now c.args.links.now c.loop-at.amount in
+    let root = wide_root c.args.toward.now c.args.places.order.now c.args.places.links.now c.loop-at.amount in
     c.loop-at.invariant.fits c.loop-at.amount (omega arith)
-    (subst (λ (j : ℕ). IsWide c.args.toward.now c.args.order.now c.args.links.now c.loop-at.amount j) z root)
+    (subst (λ (j : ℕ). IsWide c.args.toward.now c.args.places.order.now c.args.places.links.now c.loop-at.amount j) z root)

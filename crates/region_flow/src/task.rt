@@ -1,0 +1,11 @@
+//! What a search is to do.
+
+use weighted_graph::Graph;
+
+/// What a search is to do: in which graph, inside which regions, and how much its root is to be fed.
+#[derive(Clone, Copy)]
+pub struct Task<'a> {
+    pub graph: &'a Graph,
+    pub labels: &'a [u32],
+    pub stop: u64,
+}
