@@ -5,7 +5,7 @@ ghost use Rattle.residual_chain.specs.Search.{mark_of};
 ghost use Rattle.residual_chain.specs.Split.{IsToSplit, IsSplitOff};
 
 use crate::look::look;
-use crate::path::{number, push};
+use crate::path::{begin_set, number, put};
 use crate::path_memory::PathMemory;
 use crate::step_arcs::StepArcs;
 
@@ -40,46 +40,12 @@ pub fn walk<A: StepArcs>(
     ensures start_marked { mark_of marks.new start ≢ 0 }
     ensures memory { memory.new ≡ memory.old }
 {
-    walk_with(
-        arcs,
-        start,
-        parts,
-        part_of,
-        marks,
-        memory.stack.as_mut_slice(),
-        memory.back.as_mut_slice(),
-        memory.next.as_mut_slice(),
-        memory.borders.as_mut_slice(),
-    )
-}
-
-/// The same with the lists of the memory, which have a place for each vertex.
-fn walk_with<A: StepArcs>(
-    arcs: &A,
-    start: u32,
-    parts: u32,
-    part_of: &mut [u32],
-    marks: &mut [u32],
-    stack: &mut [u32],
-    back: &mut [u32],
-    next: &mut [usize],
-    borders: &mut [u32],
-) -> u32
-    requires can { A.can_search arcs.now }
-    requires start_one { 1 ≤ start }
-    requires start_n { start ≤ A.vertices arcs.now }
-    requires start_unmarked { mark_of marks.old start ≡ 0 }
-    requires part_of { length part_of.old ≡ A.vertices arcs.now }
-    requires marks { length marks.old ≡ A.vertices arcs.now }
-    requires stack { A.vertices arcs.now ≤ length stack.old }
-    requires back { A.vertices arcs.now ≤ length back.old }
-    requires next { A.vertices arcs.now ≤ length next.old }
-    requires borders { A.vertices arcs.now ≤ length borders.old }
-    requires split { IsToSplit (A.vertices arcs.now) (A.goes arcs.now) parts part_of.old marks.old }
-    ensures split_off { IsSplitOff (A.vertices arcs.now) (A.goes arcs.now) parts result part_of.old marks.old part_of.new marks.new }
-    ensures start_marked { mark_of marks.new start ≢ 0 }
-{
-    push(start, 0, 0, 0, marks, stack, back, next, borders);
+    let stack = memory.stack.as_mut_slice();
+    let back = memory.back.as_mut_slice();
+    let next = memory.next.as_mut_slice();
+    let borders = memory.borders.as_mut_slice();
+    put(start, 0, marks, stack);
+    begin_set(0, 0, 0, back, next, borders);
     let mut parts = parts;
     let mut height = 1;
     let mut depth = 1;
@@ -92,7 +58,8 @@ fn walk_with<A: StepArcs>(
         let row = arcs.row(v);
         if seen.place < row.len() {
             let w = row[seen.place].to;
-            push(w, height, depth, current, marks, stack, back, next, borders);
+            put(w, height, marks, stack);
+            begin_set(height, depth, current, back, next, borders);
             current = height;
             height += 1;
             depth += 1;

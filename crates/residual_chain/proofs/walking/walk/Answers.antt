@@ -10,26 +10,25 @@ use Rattle.residual_chain.specs.Paths.{arcs_in_rows}
 use Rattle.residual_chain.proofs.Marking.{unmarked-set}
 use Rattle.residual_chain.proofs.Pushed.{IsPushable}
 use Rattle.residual_chain.proofs.Passing.{IsPassing-push, IsPassing-begin, IsPassing-back, IsPassing-off, IsPassing-end, height_fits, depth_fits, seen_at, new_arc, fewer_unmarked, same_unmarked}
-use Rattle.residual_chain.proofs.walking.walk_with.Goals as goal
+use Rattle.residual_chain.proofs.walking.walk.Goals as goal
 
 pub loop-height-init : goal.loop-height-init
 loop-height-init g c =
     let has = g.met.A.StepArcs.has_arcs c.args.arcs.now c.requires.can in
-    rw (c.push.ensures.marks, c.push.ensures.stack, c.push.ensures.back, c.push.ensures.next, c.push.ensures.borders)
-    (IsPassing-begin (g.A.StepArcs.vertices c.args.arcs.now) c.args.parts (arcs_in_rows (g.A.StepArcs.rows c.args.arcs.now) (g.A.StepArcs.open_at c.args.arcs.now)) (g.A.StepArcs.goes c.args.arcs.now) c.args.part_of.now c.args.marks.now c.args.stack.now c.args.back.now c.args.next.now c.args.borders.now c.args.start
+    rw (c.put.ensures.marks, c.put.ensures.stack, c.begin_set.ensures.back, c.begin_set.ensures.next, c.begin_set.ensures.borders)
+    (IsPassing-begin (g.A.StepArcs.vertices c.args.arcs.now) c.args.parts (arcs_in_rows (g.A.StepArcs.rows c.args.arcs.now) (g.A.StepArcs.open_at c.args.arcs.now)) (g.A.StepArcs.goes c.args.arcs.now) c.args.part_of.now c.args.marks.now c.as_mut_slice-stack.result.now c.as_mut_slice-back.result.now c.as_mut_slice-next.result.now c.as_mut_slice-borders.result.now c.args.start
     has c.requires.part_of c.requires.marks c.requires.split c.requires.start_one c.requires.start_n c.requires.start_unmarked
-    (omega (arith, c.requires.stack, c.requires.start_one, c.requires.start_n)) (omega (arith, c.requires.back, c.requires.start_one, c.requires.start_n))
-    (omega (arith, c.requires.next, c.requires.start_one, c.requires.start_n)) (omega (arith, c.requires.borders, c.requires.start_one, c.requires.start_n)))
+    (omega (arith, c.requires.memory, c.memory.view_is, c.as_mut_slice-stack.ensures.len, c.memory.inside.stack.ok.0, c.requires.start_one, c.requires.start_n)) (omega (arith, c.requires.memory, c.memory.view_is, c.as_mut_slice-back.ensures.len, c.memory.inside.back.ok.0, c.memory.invariant.for_back, c.requires.start_one, c.requires.start_n))
+    (omega (arith, c.requires.memory, c.memory.view_is, c.as_mut_slice-next.ensures.len, c.memory.inside.next.ok.0, c.memory.invariant.for_next, c.requires.start_one, c.requires.start_n)) (omega (arith, c.requires.memory, c.memory.view_is, c.as_mut_slice-borders.ensures.len, c.memory.inside.borders.ok.0, c.memory.invariant.for_borders, c.requires.start_one, c.requires.start_n)))
 
-pub returns : goal.returns
-returns g c =
-    let has = g.met.A.StepArcs.has_arcs c.args.arcs.now c.requires.can in
+pub returns-clause-split_off : goal.returns-clause-split_off
+returns-clause-split_off g c =
     let l = c.loop-height in
-    record {
-      split_off = IsPassing-end (g.A.StepArcs.vertices c.args.arcs.now) c.args.parts (arcs_in_rows (g.A.StepArcs.rows c.args.arcs.now) (g.A.StepArcs.open_at c.args.arcs.now)) (g.A.StepArcs.goes c.args.arcs.now) c.args.part_of.now c.args.marks.now c.args.start
-          l.parts l.part_of l.marks l.stack l.back l.next l.borders l.height l.depth l.current l.invariant c.loop-height-test.false;
-      start_marked = l.invariant.start_marked;
-    }
+    IsPassing-end (g.A.StepArcs.vertices c.args.arcs.now) c.args.parts (arcs_in_rows (g.A.StepArcs.rows c.args.arcs.now) (g.A.StepArcs.open_at c.args.arcs.now)) (g.A.StepArcs.goes c.args.arcs.now) c.args.part_of.now c.args.marks.now c.args.start
+    l.parts l.part_of l.marks l.stack l.back l.next l.borders l.height l.depth l.current l.invariant c.loop-height-test.false
+
+pub returns-clause-start_marked : goal.returns-clause-start_marked
+returns-clause-start_marked g c = c.loop-height.invariant.start_marked
 
 pub look-seen-requires-clause-within : goal.look-seen-requires-clause-within
 look-seen-requires-clause-within g c =
@@ -39,61 +38,61 @@ look-seen-requires-clause-within g c =
     c.loop-height.stack c.loop-height.back c.loop-height.next c.loop-height.borders c.loop-height.height c.loop-height.depth c.loop-height.current h c.requires.marks in
     let deep = depth_fits (g.A.StepArcs.vertices c.args.arcs.now) (arcs_in_rows (g.A.StepArcs.rows c.args.arcs.now) (g.A.StepArcs.open_at c.args.arcs.now)) (g.A.StepArcs.goes c.args.arcs.now) c.args.marks.now c.loop-height.part_of c.loop-height.marks
     c.loop-height.stack c.loop-height.back c.loop-height.next c.loop-height.borders c.loop-height.height c.loop-height.depth c.loop-height.current h.path c.loop-height-test.true in
-    omega (arith, fits, deep, c.requires.borders)
+    omega (arith, fits, deep, c.requires.memory, c.memory.view_is, c.as_mut_slice-borders.ensures.len, c.memory.inside.borders.ok.0, c.memory.invariant.for_borders)
 
-pub push-requires-then-seen-row-clause-from_one : goal.push-requires-then-seen-row-clause-from_one
-push-requires-then-seen-row-clause-from_one g c =
+pub put-requires-then-seen-row-clause-from_one : goal.put-requires-then-seen-row-clause-from_one
+put-requires-then-seen-row-clause-from_one g c =
     let has = g.met.A.StepArcs.has_arcs c.args.arcs.now c.requires.can in
-    let seen = seen_at has c.requires.split c.requires.marks (omega (arith, c.requires.next)) c.loop-height.invariant c.loop-height-test.true c.look-seen.ensures in
+    let seen = seen_at has c.requires.split c.requires.marks (omega (arith, c.requires.memory, c.memory.view_is, c.as_mut_slice-next.ensures.len, c.memory.inside.next.ok.0, c.memory.invariant.for_next)) c.loop-height.invariant c.loop-height-test.true c.look-seen.ensures in
     let arc = new_arc (g.A.StepArcs.rows c.args.arcs.now) (g.A.StepArcs.open_at c.args.arcs.now) has seen c.look-seen.ensures c.row-row.result.now c.row-row.ensures c.if-seen-row.true in
     arc.from_one
 
-pub push-requires-then-seen-row-clause-to_n : goal.push-requires-then-seen-row-clause-to_n
-push-requires-then-seen-row-clause-to_n g c =
+pub put-requires-then-seen-row-clause-to_n : goal.put-requires-then-seen-row-clause-to_n
+put-requires-then-seen-row-clause-to_n g c =
     let has = g.met.A.StepArcs.has_arcs c.args.arcs.now c.requires.can in
-    let seen = seen_at has c.requires.split c.requires.marks (omega (arith, c.requires.next)) c.loop-height.invariant c.loop-height-test.true c.look-seen.ensures in
+    let seen = seen_at has c.requires.split c.requires.marks (omega (arith, c.requires.memory, c.memory.view_is, c.as_mut_slice-next.ensures.len, c.memory.inside.next.ok.0, c.memory.invariant.for_next)) c.loop-height.invariant c.loop-height-test.true c.look-seen.ensures in
     let arc = new_arc (g.A.StepArcs.rows c.args.arcs.now) (g.A.StepArcs.open_at c.args.arcs.now) has seen c.look-seen.ensures c.row-row.result.now c.row-row.ensures c.if-seen-row.true in
     omega (arith, arc.to_n, seen.passing.path.long)
 
-pub push-requires-then-seen-row-clause-stack : goal.push-requires-then-seen-row-clause-stack
-push-requires-then-seen-row-clause-stack g c =
+pub put-requires-then-seen-row-clause-stack : goal.put-requires-then-seen-row-clause-stack
+put-requires-then-seen-row-clause-stack g c =
     let has = g.met.A.StepArcs.has_arcs c.args.arcs.now c.requires.can in
-    let seen = seen_at has c.requires.split c.requires.marks (omega (arith, c.requires.next)) c.loop-height.invariant c.loop-height-test.true c.look-seen.ensures in
+    let seen = seen_at has c.requires.split c.requires.marks (omega (arith, c.requires.memory, c.memory.view_is, c.as_mut_slice-next.ensures.len, c.memory.inside.next.ok.0, c.memory.invariant.for_next)) c.loop-height.invariant c.loop-height-test.true c.look-seen.ensures in
     let arc = new_arc (g.A.StepArcs.rows c.args.arcs.now) (g.A.StepArcs.open_at c.args.arcs.now) has seen c.look-seen.ensures c.row-row.result.now c.row-row.ensures c.if-seen-row.true in
-    omega (arith, arc.room, c.requires.stack)
+    omega (arith, arc.room, c.requires.memory, c.memory.view_is, c.as_mut_slice-stack.ensures.len, c.memory.inside.stack.ok.0)
 
-pub push-requires-then-seen-row-clause-back : goal.push-requires-then-seen-row-clause-back
-push-requires-then-seen-row-clause-back g c =
+pub begin_set-requires-then-seen-row-clause-back : goal.begin_set-requires-then-seen-row-clause-back
+begin_set-requires-then-seen-row-clause-back g c =
     let has = g.met.A.StepArcs.has_arcs c.args.arcs.now c.requires.can in
-    let seen = seen_at has c.requires.split c.requires.marks (omega (arith, c.requires.next)) c.loop-height.invariant c.loop-height-test.true c.look-seen.ensures in
+    let seen = seen_at has c.requires.split c.requires.marks (omega (arith, c.requires.memory, c.memory.view_is, c.as_mut_slice-next.ensures.len, c.memory.inside.next.ok.0, c.memory.invariant.for_next)) c.loop-height.invariant c.loop-height-test.true c.look-seen.ensures in
     let arc = new_arc (g.A.StepArcs.rows c.args.arcs.now) (g.A.StepArcs.open_at c.args.arcs.now) has seen c.look-seen.ensures c.row-row.result.now c.row-row.ensures c.if-seen-row.true in
-    omega (arith, arc.room, c.requires.back)
+    omega (arith, arc.room, c.requires.memory, c.memory.view_is, c.as_mut_slice-back.ensures.len, c.memory.inside.back.ok.0, c.memory.invariant.for_back)
 
-pub push-requires-then-seen-row-clause-next : goal.push-requires-then-seen-row-clause-next
-push-requires-then-seen-row-clause-next g c =
+pub begin_set-requires-then-seen-row-clause-next : goal.begin_set-requires-then-seen-row-clause-next
+begin_set-requires-then-seen-row-clause-next g c =
     let has = g.met.A.StepArcs.has_arcs c.args.arcs.now c.requires.can in
-    let seen = seen_at has c.requires.split c.requires.marks (omega (arith, c.requires.next)) c.loop-height.invariant c.loop-height-test.true c.look-seen.ensures in
+    let seen = seen_at has c.requires.split c.requires.marks (omega (arith, c.requires.memory, c.memory.view_is, c.as_mut_slice-next.ensures.len, c.memory.inside.next.ok.0, c.memory.invariant.for_next)) c.loop-height.invariant c.loop-height-test.true c.look-seen.ensures in
     let arc = new_arc (g.A.StepArcs.rows c.args.arcs.now) (g.A.StepArcs.open_at c.args.arcs.now) has seen c.look-seen.ensures c.row-row.result.now c.row-row.ensures c.if-seen-row.true in
-    omega (arith, arc.room, c.requires.next, length-set c.loop-height.next c.loop-height.current c.look-seen.result.place)
+    omega (arith, arc.room, c.requires.memory, c.memory.view_is, c.as_mut_slice-next.ensures.len, c.memory.inside.next.ok.0, c.memory.invariant.for_next, length-set c.loop-height.next c.loop-height.current c.look-seen.result.place)
 
-pub push-requires-then-seen-row-clause-borders : goal.push-requires-then-seen-row-clause-borders
-push-requires-then-seen-row-clause-borders g c =
+pub begin_set-requires-then-seen-row-clause-borders : goal.begin_set-requires-then-seen-row-clause-borders
+begin_set-requires-then-seen-row-clause-borders g c =
     let has = g.met.A.StepArcs.has_arcs c.args.arcs.now c.requires.can in
-    let seen = seen_at has c.requires.split c.requires.marks (omega (arith, c.requires.next)) c.loop-height.invariant c.loop-height-test.true c.look-seen.ensures in
+    let seen = seen_at has c.requires.split c.requires.marks (omega (arith, c.requires.memory, c.memory.view_is, c.as_mut_slice-next.ensures.len, c.memory.inside.next.ok.0, c.memory.invariant.for_next)) c.loop-height.invariant c.loop-height-test.true c.look-seen.ensures in
     let arc = new_arc (g.A.StepArcs.rows c.args.arcs.now) (g.A.StepArcs.open_at c.args.arcs.now) has seen c.look-seen.ensures c.row-row.result.now c.row-row.ensures c.if-seen-row.true in
-    omega (arith, arc.room, seen.to_height, c.requires.borders)
+    omega (arith, arc.room, seen.to_height, c.requires.memory, c.memory.view_is, c.as_mut_slice-borders.ensures.len, c.memory.inside.borders.ok.0, c.memory.invariant.for_borders)
 
 pub overflow_add-depth : goal.overflow_add-depth
 overflow_add-depth g c =
     let has = g.met.A.StepArcs.has_arcs c.args.arcs.now c.requires.can in
-    let seen = seen_at has c.requires.split c.requires.marks (omega (arith, c.requires.next)) c.loop-height.invariant c.loop-height-test.true c.look-seen.ensures in
+    let seen = seen_at has c.requires.split c.requires.marks (omega (arith, c.requires.memory, c.memory.view_is, c.as_mut_slice-next.ensures.len, c.memory.inside.next.ok.0, c.memory.invariant.for_next)) c.loop-height.invariant c.loop-height-test.true c.look-seen.ensures in
     let arc = new_arc (g.A.StepArcs.rows c.args.arcs.now) (g.A.StepArcs.open_at c.args.arcs.now) has seen c.look-seen.ensures c.row-row.result.now c.row-row.ensures c.if-seen-row.true in
     omega (arith, arc.room, seen.to_height)
 
 pub loop-height-preserved-then-seen-row : goal.loop-height-preserved-then-seen-row
 loop-height-preserved-then-seen-row g c =
     let has = g.met.A.StepArcs.has_arcs c.args.arcs.now c.requires.can in
-    let seen = seen_at has c.requires.split c.requires.marks (omega (arith, c.requires.next)) c.loop-height.invariant c.loop-height-test.true c.look-seen.ensures in
+    let seen = seen_at has c.requires.split c.requires.marks (omega (arith, c.requires.memory, c.memory.view_is, c.as_mut_slice-next.ensures.len, c.memory.inside.next.ok.0, c.memory.invariant.for_next)) c.loop-height.invariant c.loop-height-test.true c.look-seen.ensures in
     let arc = new_arc (g.A.StepArcs.rows c.args.arcs.now) (g.A.StepArcs.open_at c.args.arcs.now) has seen c.look-seen.ensures c.row-row.result.now c.row-row.ensures c.if-seen-row.true in
     let n = g.A.StepArcs.vertices c.args.arcs.now in
     let arcs = arcs_in_rows (g.A.StepArcs.rows c.args.arcs.now) (g.A.StepArcs.open_at c.args.arcs.now) in
@@ -116,44 +115,44 @@ loop-height-preserved-then-seen-row g c =
       no_mark = arc.no_mark;
       no_part = arc.no_part;
       step = λ l. arc.step;
-      stack_room = omega (arith, arc.room, c.requires.stack);
-      back_room = omega (arith, arc.room, c.requires.back);
-      next_room = omega (arith, arc.room, c.requires.next, length-set c.loop-height.next current c.look-seen.result.place);
-      border_room = omega (arith, arc.room, seen.to_height, c.requires.borders);
+      stack_room = omega (arith, arc.room, c.requires.memory, c.memory.view_is, c.as_mut_slice-stack.ensures.len, c.memory.inside.stack.ok.0);
+      back_room = omega (arith, arc.room, c.requires.memory, c.memory.view_is, c.as_mut_slice-back.ensures.len, c.memory.inside.back.ok.0, c.memory.invariant.for_back);
+      next_room = omega (arith, arc.room, c.requires.memory, c.memory.view_is, c.as_mut_slice-next.ensures.len, c.memory.inside.next.ok.0, c.memory.invariant.for_next, length-set c.loop-height.next current c.look-seen.result.place);
+      border_room = omega (arith, arc.room, seen.to_height, c.requires.memory, c.memory.view_is, c.as_mut_slice-borders.ensures.len, c.memory.inside.borders.ok.0, c.memory.invariant.for_borders);
       bottom = λ e. absurd (omega (arith, seen.in_height));
       bottom_first = λ e. absurd (omega (arith, seen.in_height));
     } in
-    rw (c.push-then-seen-row.ensures.marks, c.push-then-seen-row.ensures.stack, c.push-then-seen-row.ensures.back, c.push-then-seen-row.ensures.next, c.push-then-seen-row.ensures.borders)
+    rw (c.put-then-seen-row.ensures.marks, c.put-then-seen-row.ensures.stack, c.begin_set-then-seen-row.ensures.back, c.begin_set-then-seen-row.ensures.next, c.begin_set-then-seen-row.ensures.borders)
     (IsPassing-push n c.args.parts arcs goes c.args.part_of.now outside c.args.start parts part_of marks stack back next borders height left current w has seen.passing pushable)
 
 pub loop-height-smaller-then-seen-row : goal.loop-height-smaller-then-seen-row
 loop-height-smaller-then-seen-row g c =
     let has = g.met.A.StepArcs.has_arcs c.args.arcs.now c.requires.can in
-    let seen = seen_at has c.requires.split c.requires.marks (omega (arith, c.requires.next)) c.loop-height.invariant c.loop-height-test.true c.look-seen.ensures in
+    let seen = seen_at has c.requires.split c.requires.marks (omega (arith, c.requires.memory, c.memory.view_is, c.as_mut_slice-next.ensures.len, c.memory.inside.next.ok.0, c.memory.invariant.for_next)) c.loop-height.invariant c.loop-height-test.true c.look-seen.ensures in
     let arc = new_arc (g.A.StepArcs.rows c.args.arcs.now) (g.A.StepArcs.open_at c.args.arcs.now) has seen c.look-seen.ensures c.row-row.result.now c.row-row.ensures c.if-seen-row.true in
     let marks = c.loop-height.marks in
     let height = c.loop-height.height in
     let w = (arc_at c.row-row.result.now c.look-seen.result.place).to in
-    rw c.push-then-seen-row.ensures.marks
+    rw c.put-then-seen-row.ensures.marks
     (fewer_unmarked (g.A.StepArcs.vertices c.args.arcs.now) (unmarked marks) (unmarked (set marks (w - 1) (height + 1))) height c.loop-height.current
     (unmarked-set marks w (height + 1) arc.from_one (omega (arith, arc.to_n, seen.passing.path.long)) arc.no_mark (λ (z : height + 1 ≡ 0). absurd (omega arith))) seen.fits)
 
 pub offset_bounds-borders-depth : goal.offset_bounds-borders-depth
 offset_bounds-borders-depth g c =
     let has = g.met.A.StepArcs.has_arcs c.args.arcs.now c.requires.can in
-    let seen = seen_at has c.requires.split c.requires.marks (omega (arith, c.requires.next)) c.loop-height.invariant c.loop-height-test.true c.look-seen.ensures in
-    omega (arith, seen.fits, seen.to_height, c.requires.borders)
+    let seen = seen_at has c.requires.split c.requires.marks (omega (arith, c.requires.memory, c.memory.view_is, c.as_mut_slice-next.ensures.len, c.memory.inside.next.ok.0, c.memory.invariant.for_next)) c.loop-height.invariant c.loop-height-test.true c.look-seen.ensures in
+    omega (arith, seen.fits, seen.to_height, c.requires.memory, c.memory.view_is, c.as_mut_slice-borders.ensures.len, c.memory.inside.borders.ok.0, c.memory.invariant.for_borders)
 
 pub bounds-borders-depth : goal.bounds-borders-depth
 bounds-borders-depth g c =
     let has = g.met.A.StepArcs.has_arcs c.args.arcs.now c.requires.can in
-    let seen = seen_at has c.requires.split c.requires.marks (omega (arith, c.requires.next)) c.loop-height.invariant c.loop-height-test.true c.look-seen.ensures in
-    omega (arith, seen.fits, seen.some_left, seen.to_height, c.requires.borders)
+    let seen = seen_at has c.requires.split c.requires.marks (omega (arith, c.requires.memory, c.memory.view_is, c.as_mut_slice-next.ensures.len, c.memory.inside.next.ok.0, c.memory.invariant.for_next)) c.loop-height.invariant c.loop-height-test.true c.look-seen.ensures in
+    omega (arith, seen.fits, seen.some_left, seen.to_height, c.requires.memory, c.memory.view_is, c.as_mut_slice-borders.ensures.len, c.memory.inside.borders.ok.0, c.memory.invariant.for_borders)
 
 pub loop-height-preserved-then-borders-depth : goal.loop-height-preserved-then-borders-depth
 loop-height-preserved-then-borders-depth g c =
     let has = g.met.A.StepArcs.has_arcs c.args.arcs.now c.requires.can in
-    let seen = seen_at has c.requires.split c.requires.marks (omega (arith, c.requires.next)) c.loop-height.invariant c.loop-height-test.true c.look-seen.ensures in
+    let seen = seen_at has c.requires.split c.requires.marks (omega (arith, c.requires.memory, c.memory.view_is, c.as_mut_slice-next.ensures.len, c.memory.inside.next.ok.0, c.memory.invariant.for_next)) c.loop-height.invariant c.loop-height-test.true c.look-seen.ensures in
     let n = g.A.StepArcs.vertices c.args.arcs.now in
     let arcs = arcs_in_rows (g.A.StepArcs.rows c.args.arcs.now) (g.A.StepArcs.open_at c.args.arcs.now) in
     let goes = g.A.StepArcs.goes c.args.arcs.now in
@@ -176,7 +175,7 @@ loop-height-preserved-then-borders-depth g c =
 pub loop-height-preserved : goal.loop-height-preserved
 loop-height-preserved g c =
     let has = g.met.A.StepArcs.has_arcs c.args.arcs.now c.requires.can in
-    let seen = seen_at has c.requires.split c.requires.marks (omega (arith, c.requires.next)) c.loop-height.invariant c.loop-height-test.true c.look-seen.ensures in
+    let seen = seen_at has c.requires.split c.requires.marks (omega (arith, c.requires.memory, c.memory.view_is, c.as_mut_slice-next.ensures.len, c.memory.inside.next.ok.0, c.memory.invariant.for_next)) c.loop-height.invariant c.loop-height-test.true c.look-seen.ensures in
     let n = g.A.StepArcs.vertices c.args.arcs.now in
     let arcs = arcs_in_rows (g.A.StepArcs.rows c.args.arcs.now) (g.A.StepArcs.open_at c.args.arcs.now) in
     let goes = g.A.StepArcs.goes c.args.arcs.now in
@@ -199,7 +198,7 @@ loop-height-preserved g c =
 pub loop-height-smaller-then-borders-depth : goal.loop-height-smaller-then-borders-depth
 loop-height-smaller-then-borders-depth g c =
     let has = g.met.A.StepArcs.has_arcs c.args.arcs.now c.requires.can in
-    let seen = seen_at has c.requires.split c.requires.marks (omega (arith, c.requires.next)) c.loop-height.invariant c.loop-height-test.true c.look-seen.ensures in
+    let seen = seen_at has c.requires.split c.requires.marks (omega (arith, c.requires.memory, c.memory.view_is, c.as_mut_slice-next.ensures.len, c.memory.inside.next.ok.0, c.memory.invariant.for_next)) c.loop-height.invariant c.loop-height-test.true c.look-seen.ensures in
     let back = c.loop-height.back in
     let current = c.loop-height.current in
     let below : current + slice_index back current < c.loop-height.height + current = ⊎_elim
@@ -213,7 +212,7 @@ loop-height-smaller-then-borders-depth g c =
 pub loop-height-smaller : goal.loop-height-smaller
 loop-height-smaller g c =
     let has = g.met.A.StepArcs.has_arcs c.args.arcs.now c.requires.can in
-    let seen = seen_at has c.requires.split c.requires.marks (omega (arith, c.requires.next)) c.loop-height.invariant c.loop-height-test.true c.look-seen.ensures in
+    let seen = seen_at has c.requires.split c.requires.marks (omega (arith, c.requires.memory, c.memory.view_is, c.as_mut_slice-next.ensures.len, c.memory.inside.next.ok.0, c.memory.invariant.for_next)) c.loop-height.invariant c.loop-height-test.true c.look-seen.ensures in
     let current = c.loop-height.current in
     same_unmarked (2 * (g.A.StepArcs.vertices c.args.arcs.now) + 3) (unmarked c.loop-height.marks) c.loop-height.height c.loop-height.height current (slice_index c.loop-height.back current)
     (omega (arith, seen.passing.path.back_below current (omega (arith, seen.border_in, c.if-borders-depth.false)) seen.in_height))

@@ -2,7 +2,7 @@ use Rattle.std.proofs.Common.{◌+◌, ◌*◌}
 use Rattle.residual_chain.specs.Search.{unmarked}
 use Rattle.residual_chain.specs.Paths.{arcs_in_rows}
 use Rattle.residual_chain.proofs.Passing.{IsPassing}
-use Rattle.residual_chain.proofs.walking.walk_with.Given as goal
+use Rattle.residual_chain.proofs.walking.walk.Given as goal
 
 abbrev pub invariant-loop-height : goal.invariant-loop-height
 invariant-loop-height g l =
