@@ -12,7 +12,7 @@ use Rattle.cut_definitions.proofs.Numbers.{positive_yes}
 use Rattle.max_flow.specs.declared.search.Step.{Step}
 use Rattle.max_flow.specs.Residual.{out, counted, IsResidual, IsFlow, IsLeastBetween}
 use Rattle.max_flow.specs.Closed.{IsSourceSide}
-use Rattle.max_flow.specs.Tree.{mark_of, seen, IsSearched}
+use Rattle.max_flow.specs.Tree.{order_mark, seen, IsSearched}
 use Rattle.max_flow.specs.Outcome.{IsStopReached}
 use Rattle.max_flow.proofs.Balance.{weight-parting, IsLeastBetween-from_closed, IsFlow-start}
 use Rattle.max_flow.proofs.Closed.{out_none-from_closed}
@@ -54,13 +54,13 @@ flow_small g ok s t total toward apart h =
 
 -- where t was not reached, the vertices that were seen are the source side
 pub source_side : (g : Graph) → IsGraph g → (toward : List ℕ) (s t : ℕ) (marks : List ℕ) (steps : List Step) (count : ℕ) →
-    length toward ≡ length g.edges → IsSearched g toward s t marks steps count → mark_of marks t ≡ 0 →
+    length toward ≡ length g.edges → IsSearched g toward s t marks steps count → order_mark marks t ≡ 0 →
     IsSourceSide g toward s t (seen marks)
 source_side g ok toward s t marks steps count n h z =
     let first = h.tree.marking.placed 0 h.tree.some in
-    let at : mark_of marks s ≡ 1 = rw (← h.first) first in
+    let at : order_mark marks s ≡ 1 = rw (← h.first) first in
     record {
-      first = (positive_yes (mark_of marks s) (omega arith), rw z refl);
+      first = (positive_yes (order_mark marks s) (omega arith), rw z refl);
       closed = seen_closed g toward marks steps count h.tree (h.done z);
       least = λ other closed has v in'. seen_least g ok toward marks steps count h.tree n other closed (rw h.first has) v in';
     }

@@ -1,5 +1,5 @@
 -- What a set has after a vertex was put in or taken out, and that it has nothing outside its range.
-use Rattle.std.proofs.Common.{◌≡◌, ℕ, ◌+◌, ◌<◌, ◌≤◌, ⊎_elim, Bool, true, false, not, ◌&&◌, ◌||◌, eqb, List, [], length, refl, sym, ◌∙◌, arith}
+use Rattle.std.proofs.Common.{◌≡◌, ℕ, ◌+◌, ◌<◌, ◌≤◌, ⊎_elim, Bool, true, false, not, ◌&&◌, ◌||◌, eqb, List, length, refl, sym, ◌∙◌, arith}
 use Rattle.std.specs.Prelude.{if◌then◌else◌}
 use Rattle.std.proofs.lemmas.Bool.{cases_lt}
 use Rattle.std.proofs.lemmas.List.{get_or_past}
@@ -9,7 +9,7 @@ use Rattle.cut_definitions.specs.Scan.{single}
 use Rattle.cut_definitions.proofs.Bridge.{has_within, has_low, IsAscendingWithin-filter}
 use Rattle.cut_definitions.proofs.Ascending.{has_high}
 use Rattle.vertex_set.specs.Side.{VertexList, listed}
-use Rattle.max_flow.specs.Tree.{mark_of, seen}
+use Rattle.max_flow.specs.Tree.{order_mark, seen}
 
 -- a vertex that is put in
 put_in : (a b c : Bool) → c ≡ true → (a || b) ≡ (if b then c else a)
@@ -36,12 +36,12 @@ pub listed_ascends : (n : ℕ) (s : VertexSet) (side : VertexList) → side ≡ 
 listed_ascends n s side is = rw is (IsAscendingWithin-filter n 1 n s (omega arith))
 
 -- a vertex without a mark was not seen
-not_seen : (marks : List ℕ) (v : ℕ) → mark_of marks v ≡ 0 → seen marks v ≡ false
+not_seen : (marks : List ℕ) (v : ℕ) → order_mark marks v ≡ 0 → seen marks v ≡ false
 not_seen marks v h = rw h refl
 
 -- a set that has the marked vertices of 1 to n has nothing else
 pub members_are_seen : (n : ℕ) (side : VertexList) (marks : List ℕ) → side.vertices ≡ n → IsAscendingWithin 1 side.vertices side.members →
-    length marks ≡ n + 1 → mark_of marks 0 ≡ 0 → ((u : ℕ) → 1 ≤ u → u ≤ n → has side.members u ≡ seen marks u) → (v : ℕ) → has side.members v ≡ seen marks v
+    length marks ≡ n + 1 → order_mark marks 0 ≡ 0 → ((u : ℕ) → 1 ≤ u → u ≤ n → has side.members u ≡ seen marks u) → (v : ℕ) → has side.members v ≡ seen marks v
 members_are_seen n side marks is ascends long none same v =
     ⊎_elim
     (λ (l : v < 1). let z : v ≡ 0 = omega arith in

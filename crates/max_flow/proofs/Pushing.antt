@@ -8,7 +8,7 @@ use Rattle.cut_definitions.specs.Graph.{Graph, IsGraph}
 use Rattle.cut_definitions.specs.Weight.{VertexSet}
 use Rattle.max_flow.specs.declared.search.Step.{Step}
 use Rattle.max_flow.specs.Residual.{out, counted, edge_of, IsResidual}
-use Rattle.max_flow.specs.Tree.{step_at, mark_of, IsMarking, IsListed, IsAlong, IsTree, IsPath}
+use Rattle.max_flow.specs.Tree.{step_at, order_mark, IsMarking, IsListed, IsAlong, IsTree, IsPath}
 use Rattle.max_flow.proofs.Balance.{out-push_up, out-push_down}
 use Rattle.max_flow.proofs.Closed.{edge_within}
 
@@ -32,7 +32,7 @@ pub IsPath-from_tree : (g : Graph) (toward marks : List ℕ) (steps : List Step)
 IsPath-from_tree g toward marks steps count place h l = record {
   inside = omega (arith, h.marking.steps_length, h.marking.rest);
   reached = λ j a b. h.reached j a (omega arith);
-  distinct = λ i j a b e. (let p = h.marking.placed i (omega arith) in let q = h.marking.placed j (omega arith) in let f = ap (mark_of marks) e in omega arith);
+  distinct = λ i j a b e. (let p = h.marking.placed i (omega arith) in let q = h.marking.placed j (omega arith) in let f = ap (order_mark marks) e in omega arith);
 }
 
 -- ---- one arc

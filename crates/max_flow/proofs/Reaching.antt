@@ -12,7 +12,7 @@ use Rattle.weighted_graph.specs.Rows.{row_of}
 use Rattle.max_flow.specs.declared.search.Step.{Step}
 use Rattle.max_flow.specs.Residual.{edge_of}
 use Rattle.max_flow.specs.Closed.{residual_on}
-use Rattle.max_flow.specs.Tree.{step_at, mark_of, IsAlong, IsTree, Reaches, Extends}
+use Rattle.max_flow.specs.Tree.{step_at, order_mark, IsAlong, IsTree, Reaches, Extends}
 use Rattle.max_flow.proofs.Closed.{IsArcFrom, All-row}
 use Rattle.max_flow.proofs.Trees.{room_left, one_more}
 
@@ -51,8 +51,8 @@ narrower e toward v a b bottleneck residual h is along =
 -- the tree after an arc: it goes on from the one before, and has the arc's other end where anything can be carried there
 pub record Follows (g : Graph) (toward marks0 : List ℕ) (steps0 : List Step) (count0 : ℕ) (marks marks' : List ℕ) (steps' : List Step) (count' to bottleneck : ℕ) : Type 0 where
   pub extends : Extends g toward marks0 steps0 count0 marks' steps' count'
-  pub kept : (v : ℕ) → 0 < mark_of marks v → 0 < mark_of marks' v
-  pub marked : 1 ≤ bottleneck → 0 < mark_of marks' to
+  pub kept : (v : ℕ) → 0 < order_mark marks v → 0 < order_mark marks' v
+  pub marked : 1 ≤ bottleneck → 0 < order_mark marks' to
 
 -- what one arc does to the tree
 pub follows : (g : Graph) (toward marks0 : List ℕ) (steps0 : List Step) (count0 : ℕ) (marks : List ℕ) (steps : List Step) (count : ℕ)
@@ -66,17 +66,17 @@ follows g toward marks0 steps0 count0 marks steps count marks' steps' count' pla
     let tree = ext.tree in
     let m = tree.marking in
     ⊎_elim
-    (λ (new : (1 ≤ bottleneck) × (mark_of marks a.to ≡ 0) × (marks' ≡ set marks a.to (count + 1)) × (steps' ≡ set steps count st) × (count' ≡ count + 1)).
+    (λ (new : (1 ≤ bottleneck) × (order_mark marks a.to ≡ 0) × (marks' ≡ set marks a.to (count + 1)) × (steps' ≡ set steps count st) × (count' ≡ count + 1)).
     let from = ext.steps_kept place early in
     let free = room_left g.vertices marks steps count a.to m arc.to_n new.1 in
     let wide : a.to < length marks = omega (arith, m.marks_length, arc.to_n) in
     let low : bottleneck ≤ (step_at steps place).bottleneck = rw from narrows in
     let path : IsAlong (edge_of g.edges a.edge) (get_or toward a.edge 0) (step_at steps place).vertex a.to bottleneck = rw from (narrower _ _ v (step_at steps0 place).vertex a.to bottleneck (residual_on v toward a) residual is arc.along) in
     let grown = one_more g toward marks steps count st tree arc.from_one arc.to_n new.1 (omega (arith, ext.more)) new.0 low arc.edge path in
-    let other = λ (w : ℕ) (ne : w ≢ a.to). (let e : mark_of (set marks a.to (count + 1)) w ≡ mark_of marks w = get_or-set_other marks a.to w (count + 1) 0 ne in e) in
-    let mark : mark_of (set marks a.to (count + 1)) a.to ≡ count + 1 = get_or-set_same marks a.to (count + 1) 0 wide in
-    let kept = λ (w : ℕ) (p : 0 < mark_of marks w). ⊎_elim
-    (λ (e : w ≡ a.to). let f : 0 < mark_of (set marks a.to (count + 1)) w = rw (e, mark) (omega arith) in f)
+    let other = λ (w : ℕ) (ne : w ≢ a.to). (let e : order_mark (set marks a.to (count + 1)) w ≡ order_mark marks w = get_or-set_other marks a.to w (count + 1) 0 ne in e) in
+    let mark : order_mark (set marks a.to (count + 1)) a.to ≡ count + 1 = get_or-set_same marks a.to (count + 1) 0 wide in
+    let kept = λ (w : ℕ) (p : 0 < order_mark marks w). ⊎_elim
+    (λ (e : w ≡ a.to). let f : 0 < order_mark (set marks a.to (count + 1)) w = rw (e, mark) (omega arith) in f)
     (λ (ne : w ≢ a.to). rw (other w ne) p) (cases_eq w a.to) in
     rw (new.2, new.3, new.4) (record {
       extends = record {

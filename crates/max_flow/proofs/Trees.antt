@@ -11,7 +11,7 @@ use Rattle.cut_definitions.proofs.Numbers.{positive_yes, positive}
 use Rattle.max_flow.specs.declared.search.Step.{Step}
 use Rattle.max_flow.specs.Residual.{out, edge_of}
 use Rattle.max_flow.specs.Closed.{IsClosed}
-use Rattle.max_flow.specs.Tree.{step_at, mark_of, unmarked, IsAllUnmarked, seen, IsMarking, IsAlong, IsTree, IsExpanded}
+use Rattle.max_flow.specs.Tree.{step_at, order_mark, unmarked, IsAllUnmarked, seen, IsMarking, IsAlong, IsTree, IsExpanded}
 use Rattle.max_flow.proofs.Balance.{leaving-none}
 use Rattle.max_flow.proofs.Closed.{out_none-from_closed}
 
@@ -37,11 +37,11 @@ unmarked-all (m ∷ ms) h =
     omega (arith, sum_by-cons none_of m ms, none_at m first, unmarked-all ms (λ v. h (suc v)))
 
 -- a vertex that is marked counts no more
-pub unmarked-set : (marks : List ℕ) (v y : ℕ) → v < length marks → mark_of marks v ≡ 0 → 0 < y → unmarked (set marks v y) + 1 ≡ unmarked marks
-unmarked-set marks v y l z p = omega (arith, sum_by-set none_of marks v y 0 l, none_at (mark_of marks v) z, none_above y p)
+pub unmarked-set : (marks : List ℕ) (v y : ℕ) → v < length marks → order_mark marks v ≡ 0 → 0 < y → unmarked (set marks v y) + 1 ≡ unmarked marks
+unmarked-set marks v y l z p = omega (arith, sum_by-set none_of marks v y 0 l, none_at (order_mark marks v) z, none_above y p)
 
 -- while some vertex is not marked, there is room for it
-pub room_left : (n : ℕ) (marks : List ℕ) (steps : List Step) (count v : ℕ) → IsMarking n marks steps count → v ≤ n → mark_of marks v ≡ 0 → count < length steps
+pub room_left : (n : ℕ) (marks : List ℕ) (steps : List Step) (count v : ℕ) → IsMarking n marks steps count → v ≤ n → order_mark marks v ≡ 0 → count < length steps
 room_left n marks steps count v h l z =
     omega (arith, h.marks_length, h.steps_length, h.rest, unmarked-set marks v 1 (omega (arith, h.marks_length)) z (omega arith))
 
@@ -53,12 +53,12 @@ pub root : (g : Graph) (toward marks : List ℕ) (steps : List Step) (st : Step)
     IsTree g toward (set marks st.vertex 1) (set steps 0 st) 1
 root g toward marks steps st none ml sl one to_n wide =
     let here : step_at (set steps 0 st) 0 ≡ st = get_or-set_same steps 0 st _ (omega arith) in
-    let mark : mark_of (set marks st.vertex 1) st.vertex ≡ 1 = get_or-set_same marks st.vertex 1 0 (omega arith) in
+    let mark : order_mark (set marks st.vertex 1) st.vertex ≡ 1 = get_or-set_same marks st.vertex 1 0 (omega arith) in
     let at_root = λ (j : ℕ) (l : j < 1). (let z : j ≡ 0 = omega arith in
     let e : step_at (set steps 0 st) j ≡ st = subst (λ (k : ℕ). step_at (set steps 0 st) k ≡ st) (sym z) here in e) in
-    let only = λ (v : ℕ) (p : 0 < mark_of (set marks st.vertex 1) v). ⊎_elim
+    let only = λ (v : ℕ) (p : 0 < order_mark (set marks st.vertex 1) v). ⊎_elim
     (λ (e : v ≡ st.vertex). e)
-    (λ (ne : v ≢ st.vertex). (let a : mark_of (set marks st.vertex 1) v ≡ mark_of marks v = get_or-set_other marks st.vertex v 1 0 ne in
+    (λ (ne : v ≢ st.vertex). (let a : order_mark (set marks st.vertex 1) v ≡ order_mark marks v = get_or-set_other marks st.vertex v 1 0 ne in
     let b = none v in absurd (omega arith)))
     (cases_eq v st.vertex) in
     record {
@@ -69,8 +69,8 @@ root g toward marks steps st none ml sl one to_n wide =
         from_one = λ j l. rw (at_root j l) one;
         to_n = λ j l. rw (at_root j l) to_n;
         placed = λ j l. rw (at_root j l) (omega arith);
-        at_most = λ v p. (let e = only v p in let m = ap (mark_of (set marks st.vertex 1)) e in omega arith);
-        stands = λ v p. (let e = only v p in let m = ap (mark_of (set marks st.vertex 1)) e in let k : mark_of (set marks st.vertex 1) v - 1 ≡ 0 = omega arith in rw k (rw here (sym e)));
+        at_most = λ v p. (let e = only v p in let m = ap (order_mark (set marks st.vertex 1)) e in omega arith);
+        stands = λ v p. (let e = only v p in let m = ap (order_mark (set marks st.vertex 1)) e in let k : order_mark (set marks st.vertex 1) v - 1 ≡ 0 = omega arith in rw k (rw here (sym e)));
       };
       some = omega arith;
       wide = rw here wide;
@@ -81,7 +81,7 @@ root g toward marks steps st none ml sl one to_n wide =
 
 -- a tree with one vertex more
 pub one_more : (g : Graph) (toward marks : List ℕ) (steps : List Step) (count : ℕ) (st : Step) → IsTree g toward marks steps count →
-    1 ≤ st.vertex → st.vertex ≤ g.vertices → mark_of marks st.vertex ≡ 0 → st.parent < count → 1 ≤ st.bottleneck →
+    1 ≤ st.vertex → st.vertex ≤ g.vertices → order_mark marks st.vertex ≡ 0 → st.parent < count → 1 ≤ st.bottleneck →
     st.bottleneck ≤ (step_at steps st.parent).bottleneck → st.edge < length g.edges →
     IsAlong (edge_of g.edges st.edge) (get_or toward st.edge 0) (step_at steps st.parent).vertex st.vertex st.bottleneck →
     IsTree g toward (set marks st.vertex (count + 1)) (set steps count st) (count + 1)
@@ -92,10 +92,10 @@ one_more g toward marks steps count st h one to_n z early some narrows inside al
     let free : count < length steps = room_left g.vertices marks steps count st.vertex m to_n z in
     let wide : st.vertex < length marks = omega (arith, m.marks_length) in
     let here : step_at new_steps count ≡ st = get_or-set_same steps count st _ free in
-    let mark : mark_of new_marks st.vertex ≡ count + 1 = get_or-set_same marks st.vertex (count + 1) 0 wide in
+    let mark : order_mark new_marks st.vertex ≡ count + 1 = get_or-set_same marks st.vertex (count + 1) 0 wide in
     let kept = λ (j : ℕ) (l : j < count). (let e : step_at new_steps j ≡ step_at steps j = get_or-set_other steps count j st _ (λ q. omega arith) in e) in
-    let other = λ (v : ℕ) (ne : v ≢ st.vertex). (let e : mark_of new_marks v ≡ mark_of marks v = get_or-set_other marks st.vertex v (count + 1) 0 ne in e) in
-    let not_here = λ (j : ℕ) (l : j < count). (let f : (step_at steps j).vertex ≢ st.vertex = λ e. (let p = m.placed j l in let q = ap (mark_of marks) e in absurd (omega arith)) in f) in
+    let other = λ (v : ℕ) (ne : v ≢ st.vertex). (let e : order_mark new_marks v ≡ order_mark marks v = get_or-set_other marks st.vertex v (count + 1) 0 ne in e) in
+    let not_here = λ (j : ℕ) (l : j < count). (let f : (step_at steps j).vertex ≢ st.vertex = λ e. (let p = m.placed j l in let q = ap (order_mark marks) e in absurd (omega arith)) in f) in
     record {
       marking = record {
         marks_length = omega (arith, m.marks_length, length-set marks st.vertex (count + 1));
@@ -106,9 +106,9 @@ one_more g toward marks steps count st h one to_n z early some narrows inside al
         placed = λ j l. ⊎_elim (λ (b : j < count). rw (kept j b, other (step_at steps j).vertex (not_here j b)) (m.placed j b)) (λ (b : count ≤ j). let e : j ≡ count = omega arith in rw (e, here) mark) (cases_lt j count);
         at_most = λ v p. ⊎_elim (λ (e : v ≡ st.vertex). rw (e, mark) (omega arith)) (λ (ne : v ≢ st.vertex). let e = other v ne in let b = m.at_most v (omega arith) in omega arith) (cases_eq v st.vertex);
         stands = λ v p. ⊎_elim
-            (λ (e : v ≡ st.vertex). let k : mark_of new_marks v - 1 ≡ count = (let f = ap (mark_of new_marks) e in omega arith) in rw (k, here) (sym e))
-            (λ (ne : v ≢ st.vertex). let e = other v ne in let b = m.at_most v (omega arith) in let k : mark_of new_marks v - 1 ≡ mark_of marks v - 1 = omega arith in
-            rw (k, kept (mark_of marks v - 1) (omega arith)) (m.stands v (omega arith)))
+            (λ (e : v ≡ st.vertex). let k : order_mark new_marks v - 1 ≡ count = (let f = ap (order_mark new_marks) e in omega arith) in rw (k, here) (sym e))
+            (λ (ne : v ≢ st.vertex). let e = other v ne in let b = m.at_most v (omega arith) in let k : order_mark new_marks v - 1 ≡ order_mark marks v - 1 = omega arith in
+            rw (k, kept (order_mark marks v - 1) (omega arith)) (m.stands v (omega arith)))
             (cases_eq v st.vertex);
       };
       some = omega arith;
@@ -157,19 +157,19 @@ pub seen_least : (g : Graph) → IsGraph g → (toward marks : List ℕ) (steps 
     length toward ≡ length g.edges → (side : VertexSet) → IsClosed g toward side → side (step_at steps 0).vertex ≡ true →
     (v : ℕ) → seen marks v ≡ true → side v ≡ true
 seen_least g ok toward marks steps count h n side closed first v s =
-    let p = positive (mark_of marks v) s in
+    let p = positive (order_mark marks v) s in
     let at = h.marking.stands v p in
     let most = h.marking.at_most v p in
     rw (← at) (reached_below g toward marks steps count h n side (out_none-from_closed g ok toward n side closed) first
-    (mark_of marks v) (mark_of marks v - 1) (omega arith) (omega arith))
+    (order_mark marks v) (order_mark marks v - 1) (omega arith) (omega arith))
 
 -- where every vertex was expanded, the vertices that were seen are closed
 pub seen_closed : (g : Graph) (toward marks : List ℕ) (steps : List Step) (count : ℕ) → IsTree g toward marks steps count →
     ((j : ℕ) → j < count → IsExpanded g toward marks (step_at steps j).vertex) → IsClosed g toward (seen marks)
 seen_closed g toward marks steps count h done v one to_n s =
-    let p = positive (mark_of marks v) s in
+    let p = positive (order_mark marks v) s in
     let at = h.marking.stands v p in
     let most = h.marking.at_most v p in
-    let all = done (mark_of marks v - 1) (omega arith) in
+    let all = done (order_mark marks v - 1) (omega arith) in
     let here : IsExpanded g toward marks v = subst (λ (u : ℕ). IsExpanded g toward marks u) at all in
     λ k d l q. positive_yes _ (here k d l q)

@@ -15,8 +15,8 @@ abbrev pub step_at : List Step → ℕ → Step
 step_at steps j = slice_index_or steps j (record { vertex = 0; parent = 0; edge = 0; bottleneck = 0 })
 
 -- the mark of a vertex is 0, or one more than its place in the order
-abbrev pub mark_of : List ℕ → ℕ → ℕ
-mark_of marks v = slice_index marks v
+abbrev pub order_mark : List ℕ → ℕ → ℕ
+order_mark marks v = slice_index marks v
 
 -- the number of places without a mark
 abbrev pub unmarked : List ℕ → ℕ
@@ -24,7 +24,7 @@ unmarked marks = sum_by (λ (m : ℕ). if m == 0 then 1 else 0) marks
 
 -- no vertex is marked
 abbrev pub IsAllUnmarked : List ℕ → Type 0
-IsAllUnmarked marks = (v : ℕ) → mark_of marks v ≡ 0
+IsAllUnmarked marks = (v : ℕ) → order_mark marks v ≡ 0
 
 -- the work arrays as each search finds them
 pub record IsReady (n : ℕ) (marks : List ℕ) (steps : List Step) : Type 0 where
@@ -40,7 +40,7 @@ pub record AreWithin (n : ℕ) (ends : Ends) : Type 0 where
 
 -- the vertices that have a mark
 abbrev pub seen : List ℕ → VertexSet
-seen marks v = nat_lt 0 (mark_of marks v)
+seen marks v = nat_lt 0 (order_mark marks v)
 
 -- the marks of the vertices are those of an order
 pub record IsMarking (n : ℕ) (marks : List ℕ) (steps : List Step) (count : ℕ) : Type 0 where
@@ -49,9 +49,9 @@ pub record IsMarking (n : ℕ) (marks : List ℕ) (steps : List Step) (count : �
   pub rest : unmarked marks + count ≡ n + 1
   pub from_one : (j : ℕ) → j < count → 1 ≤ (step_at steps j).vertex
   pub to_n : (j : ℕ) → j < count → (step_at steps j).vertex ≤ n
-  pub placed : (j : ℕ) → j < count → mark_of marks (step_at steps j).vertex ≡ j + 1
-  pub at_most : (v : ℕ) → 0 < mark_of marks v → mark_of marks v ≤ count
-  pub stands : (v : ℕ) → 0 < mark_of marks v → (step_at steps (mark_of marks v - 1)).vertex ≡ v
+  pub placed : (j : ℕ) → j < count → order_mark marks (step_at steps j).vertex ≡ j + 1
+  pub at_most : (v : ℕ) → 0 < order_mark marks v → order_mark marks v ≤ count
+  pub stands : (v : ℕ) → 0 < order_mark marks v → (step_at steps (order_mark marks v - 1)).vertex ≡ v
 
 -- along an edge at least `bottleneck` can be carried from a to b
 abbrev pub IsAlong : Edge → ℕ → ℕ → ℕ → ℕ → Type 0
@@ -76,12 +76,12 @@ pub record IsTree (g : Graph) (toward marks : List ℕ) (steps : List Step) (cou
 
 -- every vertex to which an arc of the row of v can carry more is marked
 abbrev pub IsExpanded : Graph → List ℕ → List ℕ → ℕ → Type 0
-IsExpanded g toward marks v = All (λ a. 0 < residual_on v toward a → 0 < mark_of marks a.to) (row_of g v)
+IsExpanded g toward marks v = All (λ a. 0 < residual_on v toward a → 0 < order_mark marks a.to) (row_of g v)
 
 -- a step is put at the end of the order, unless nothing can be carried there
 abbrev pub Reaches : List ℕ → List Step → ℕ → Step → List ℕ → List Step → ℕ → Type 0
 Reaches marks steps count step marks' steps' count' =
-    ((1 ≤ step.bottleneck) × (mark_of marks step.vertex ≡ 0)
+    ((1 ≤ step.bottleneck) × (order_mark marks step.vertex ≡ 0)
     × (marks' ≡ slice_set marks step.vertex (count + 1)) × (steps' ≡ slice_set steps count step) × (count' ≡ count + 1))
     ⊎ ((step.bottleneck ≡ 0) × (marks' ≡ marks) × (steps' ≡ steps) × (count' ≡ count))
 
@@ -90,20 +90,20 @@ pub record Extends (g : Graph) (toward marks : List ℕ) (steps : List Step) (co
   pub tree : IsTree g toward marks' steps' count'
   pub more : count ≤ count'
   pub steps_kept : (j : ℕ) → j < count → step_at steps' j ≡ step_at steps j
-  pub marks_kept : (v : ℕ) → 0 < mark_of marks v → 0 < mark_of marks' v
+  pub marks_kept : (v : ℕ) → 0 < order_mark marks v → 0 < order_mark marks' v
 
 -- the tree has its first vertex, and every arc is followed where t is not reached
 pub record IsSearched (g : Graph) (toward : List ℕ) (s t : ℕ) (marks : List ℕ) (steps : List Step) (count : ℕ) : Type 0 where
   pub tree : IsTree g toward marks steps count
   pub first : (step_at steps 0).vertex ≡ s
-  pub done : mark_of marks t ≡ 0 → (j : ℕ) → j < count → IsExpanded g toward marks (step_at steps j).vertex
+  pub done : order_mark marks t ≡ 0 → (j : ℕ) → j < count → IsExpanded g toward marks (step_at steps j).vertex
 
 -- all marks are those of the steps
 pub record IsListed (marks : List ℕ) (steps : List Step) (count : ℕ) : Type 0 where
   pub few : count ≤ length steps
   pub within : (j : ℕ) → j < count → (step_at steps j).vertex < length marks
-  pub at_most : (v : ℕ) → 0 < mark_of marks v → mark_of marks v ≤ count
-  pub stands : (v : ℕ) → 0 < mark_of marks v → (step_at steps (mark_of marks v - 1)).vertex ≡ v
+  pub at_most : (v : ℕ) → 0 < order_mark marks v → order_mark marks v ≤ count
+  pub stands : (v : ℕ) → 0 < order_mark marks v → (step_at steps (order_mark marks v - 1)).vertex ≡ v
 
 -- the steps up to a place lead back to the first
 pub record IsPath (g : Graph) (toward : List ℕ) (steps : List Step) (place : ℕ) : Type 0 where

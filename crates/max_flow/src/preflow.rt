@@ -54,6 +54,27 @@ impl Model for Preflow {
     ghost view = { λ f. record { entered = f.entered.items; excess = f.excess.items; toward = f.toward.items } };
 }
 
+/// The source of a preflow in its graph: for each vertex whether it has entered.
+#[derive(Clone, Copy)]
+struct Source<'a> {
+    graph: &'a Graph,
+    entered: &'a [bool],
+}
+
+/// A vertex that is to hold more, and how much is enough.
+#[derive(Clone, Copy)]
+struct Need {
+    vertex: u32,
+    enough: u64,
+}
+
+/// Which arcs of a row are looked at: from which place on and round, and how many at most.
+#[derive(Clone, Copy)]
+struct Look {
+    from: usize,
+    most: usize,
+}
+
 /// Carries an amount along an arc of the row of a vertex to the arc's other end, which holds it.
 fn send(toward: &mut [u64], excess: &mut [u64], from: u32, arc: &Arc, amount: u64)
     requires edge { arc.now.edge < length toward.old }
@@ -70,57 +91,49 @@ fn send(toward: &mut [u64], excess: &mut [u64], from: u32, arc: &Arc, amount: u6
 }
 
 /// Sends from a vertex of the source along an arc of its row what this can carry, unless it ends in the source.
-fn feed(graph: &Graph, entered: &[bool], excess: &mut [u64], toward: &mut [u64], v: u32, arc: &Arc)
-    requires edge_list { IsEdgeList graph.now }
-    requires arc { IsArcAt graph.now v arc.now }
-    requires source { marked entered.now v ≡ true }
-    requires preflow { IsPreflow graph.now (record { entered = entered.now; excess = excess.old; toward = toward.old }) }
-    ensures preflow { IsPreflow graph.now (record { entered = entered.now; excess = excess.new; toward = toward.new }) }
+fn feed(source: Source<'_>, excess: &mut [u64], toward: &mut [u64], v: u32, arc: &Arc)
+    requires edge_list { IsEdgeList source.graph.now }
+    requires arc { IsArcAt source.graph.now v arc.now }
+    requires source { marked source.entered.now v ≡ true }
+    requires preflow { IsPreflow source.graph.now (record { entered = source.entered.now; excess = excess.old; toward = toward.old }) }
+    ensures preflow { IsPreflow source.entry.graph.now (record { entered = source.entry.entered.now; excess = excess.new; toward = toward.new }) }
 {
-    if !entered[arc.to as usize] {
+    if !source.entered[arc.to as usize] {
         let amount = residual_on(arc, v, toward);
         send(toward, excess, v, arc, amount);
     }
 }
 
 /// Sends from a vertex of the source along all arcs of its row.
-fn feed_all(graph: &Graph, entered: &[bool], excess: &mut [u64], toward: &mut [u64], v: u32)
-    requires to_n { v ≤ graph.now.vertices }
-    requires source { marked entered.now v ≡ true }
-    requires preflow { IsPreflow graph.now (record { entered = entered.now; excess = excess.old; toward = toward.old }) }
-    ensures preflow { IsPreflow graph.now (record { entered = entered.now; excess = excess.new; toward = toward.new }) }
+fn feed_all(source: Source<'_>, excess: &mut [u64], toward: &mut [u64], v: u32)
+    requires to_n { v ≤ source.graph.now.vertices }
+    requires source { marked source.entered.now v ≡ true }
+    requires preflow { IsPreflow source.graph.now (record { entered = source.entered.now; excess = excess.old; toward = toward.old }) }
+    ensures preflow { IsPreflow source.entry.graph.now (record { entered = source.entry.entered.now; excess = excess.new; toward = toward.new }) }
 {
-    'arcs: for arc in graph.row(v) {
-        feed(graph, entered, excess, toward, v, arc);
+    'arcs: for arc in source.graph.row(v) {
+        feed(source, excess, toward, v, arc);
     }
 }
 
 /// Moves to a vertex, along the arc that comes back on one of its row, what the other end holds, until it holds enough.
-fn draw(
-    graph: &Graph,
-    entered: &[bool],
-    excess: &mut [u64],
-    toward: &mut [u64],
-    t: u32,
-    arc: &Arc,
-    enough: u64,
-)
-    requires edge_list { IsEdgeList graph.now }
-    requires arc { IsArcAt graph.now t arc.now }
-    requires outside { marked entered.now t ≡ false }
-    requires preflow { IsPreflow graph.now (record { entered = entered.now; excess = excess.old; toward = toward.old }) }
-    ensures preflow { IsPreflow graph.now (record { entered = entered.now; excess = excess.new; toward = toward.new }) }
+fn draw(source: Source<'_>, excess: &mut [u64], toward: &mut [u64], need: Need, arc: &Arc)
+    requires edge_list { IsEdgeList source.graph.now }
+    requires arc { IsArcAt source.graph.now need.vertex arc.now }
+    requires outside { marked source.entered.now need.vertex ≡ false }
+    requires preflow { IsPreflow source.graph.now (record { entered = source.entered.now; excess = excess.old; toward = toward.old }) }
+    ensures preflow { IsPreflow source.entry.graph.now (record { entered = source.entry.entered.now; excess = excess.new; toward = toward.new }) }
 {
     let u = arc.to;
-    if entered[u as usize] {
+    if source.entered[u as usize] {
         return;
     }
     let back = Arc {
-        to: t,
+        to: need.vertex,
         edge: arc.edge,
         weight: arc.weight,
     };
-    let wanted = enough.saturating_sub(excess[t as usize]);
+    let wanted = need.enough.saturating_sub(excess[need.vertex as usize]);
     let amount = excess[u as usize]
         .min(residual_on(&back, u, toward))
         .min(wanted);
@@ -130,28 +143,24 @@ fn draw(
     }
 }
 
-/// Moves to a vertex what its neighbours hold, but for one of them, until it holds enough. It looks at so many arcs of its
-/// row at most, from a place on and round.
+/// Moves to a vertex what its neighbours hold, but for one of them, until it holds enough.
 fn draw_near(
-    graph: &Graph,
-    entered: &[bool],
+    source: Source<'_>,
     excess: &mut [u64],
     toward: &mut [u64],
-    v: u32,
+    need: Need,
     except: u32,
-    enough: u64,
-    from: usize,
-    most: usize,
+    look: Look,
 )
-    requires to_n { v ≤ graph.now.vertices }
-    requires outside { marked entered.now v ≡ false }
-    requires preflow { IsPreflow graph.now (record { entered = entered.now; excess = excess.old; toward = toward.old }) }
-    ensures preflow { IsPreflow graph.now (record { entered = entered.now; excess = excess.new; toward = toward.new }) }
+    requires to_n { need.vertex ≤ source.graph.now.vertices }
+    requires outside { marked source.entered.now need.vertex ≡ false }
+    requires preflow { IsPreflow source.graph.now (record { entered = source.entered.now; excess = excess.old; toward = toward.old }) }
+    ensures preflow { IsPreflow source.entry.graph.now (record { entered = source.entry.entered.now; excess = excess.new; toward = toward.new }) }
 {
-    let row = graph.row(v);
-    let mut place = from;
-    'arcs: for _ in 0..row.len().min(most) {
-        if excess[v as usize] >= enough {
+    let row = source.graph.row(need.vertex);
+    let mut place = look.from;
+    'arcs: for _ in 0..row.len().min(look.most) {
+        if excess[need.vertex as usize] >= need.enough {
             return;
         }
         if place >= row.len() {
@@ -159,31 +168,31 @@ fn draw_near(
         }
         let arc = &row[place];
         if arc.to != except {
-            draw(graph, entered, excess, toward, v, arc, enough);
+            draw(source, excess, toward, need, arc);
         }
         place += 1;
     }
 }
 
-/// Moves to a vertex, by way of one neighbour, what the neighbours of that hold, until it holds enough.
+/// Moves to a vertex, by way of one neighbour, what the neighbours of that hold, until it holds enough. The look at these
+/// begins at a place of their row.
 fn draw_by(
-    graph: &Graph,
-    entered: &[bool],
+    source: Source<'_>,
     excess: &mut [u64],
     toward: &mut [u64],
-    t: u32,
+    need: Need,
     arc: &Arc,
-    enough: u64,
     from: usize,
 )
-    requires edge_list { IsEdgeList graph.now }
-    requires arc { IsArcAt graph.now t arc.now }
-    requires outside { marked entered.now t ≡ false }
-    requires preflow { IsPreflow graph.now (record { entered = entered.now; excess = excess.old; toward = toward.old }) }
-    ensures preflow { IsPreflow graph.now (record { entered = entered.now; excess = excess.new; toward = toward.new }) }
+    requires edge_list { IsEdgeList source.graph.now }
+    requires arc { IsArcAt source.graph.now need.vertex arc.now }
+    requires outside { marked source.entered.now need.vertex ≡ false }
+    requires preflow { IsPreflow source.graph.now (record { entered = source.entered.now; excess = excess.old; toward = toward.old }) }
+    ensures preflow { IsPreflow source.entry.graph.now (record { entered = source.entry.entered.now; excess = excess.new; toward = toward.new }) }
 {
+    let t = need.vertex;
     let u = arc.to;
-    if entered[u as usize] {
+    if source.entered[u as usize] {
         return;
     }
     let back = Arc {
@@ -191,52 +200,34 @@ fn draw_by(
         edge: arc.edge,
         weight: arc.weight,
     };
-    let wanted = enough.saturating_sub(excess[t as usize]);
+    let wanted = need.enough.saturating_sub(excess[t as usize]);
     let room = residual_on(&back, u, toward).min(wanted);
-    draw_near(
-        graph,
-        entered,
-        excess,
-        toward,
-        u,
-        t,
-        room,
+    let on_the_way = Need {
+        vertex: u,
+        enough: room,
+    };
+    let look = Look {
         from,
-        ARCS_OF_NEIGHBOUR,
-    );
-    draw(graph, entered, excess, toward, t, arc, enough);
+        most: ARCS_OF_NEIGHBOUR,
+    };
+    draw_near(source, excess, toward, on_the_way, t, look);
+    draw(source, excess, toward, need, arc);
 }
 
 /// Moves to a vertex, by way of its neighbours, what the neighbours of these hold, until it holds enough. The look at each
 /// row begins at another place, so that not all look at the same vertices.
-fn draw_far(
-    graph: &Graph,
-    entered: &[bool],
-    excess: &mut [u64],
-    toward: &mut [u64],
-    t: u32,
-    enough: u64,
-)
-    requires to_n { t ≤ graph.now.vertices }
-    requires outside { marked entered.now t ≡ false }
-    requires preflow { IsPreflow graph.now (record { entered = entered.now; excess = excess.old; toward = toward.old }) }
-    ensures preflow { IsPreflow graph.now (record { entered = entered.now; excess = excess.new; toward = toward.new }) }
+fn draw_far(source: Source<'_>, excess: &mut [u64], toward: &mut [u64], need: Need)
+    requires to_n { need.vertex ≤ source.graph.now.vertices }
+    requires outside { marked source.entered.now need.vertex ≡ false }
+    requires preflow { IsPreflow source.graph.now (record { entered = source.entered.now; excess = excess.old; toward = toward.old }) }
+    ensures preflow { IsPreflow source.entry.graph.now (record { entered = source.entry.entered.now; excess = excess.new; toward = toward.new }) }
 {
-    let row = graph.row(t);
+    let row = source.graph.row(need.vertex);
     'arcs: for place in 0..row.len() {
-        if excess[t as usize] >= enough {
+        if excess[need.vertex as usize] >= need.enough {
             return;
         }
-        draw_by(
-            graph,
-            entered,
-            excess,
-            toward,
-            t,
-            &row[place],
-            enough,
-            place,
-        );
+        draw_by(source, excess, toward, need, &row[place], place);
     }
 }
 
@@ -290,9 +281,12 @@ impl Preflow {
         ensures entered { (u : ℕ) → source_of self.new u ≡ (v == u || source_of self.old u) }
     {
         self.entered[v as usize] = true;
-        feed_all(
+        let source = Source {
             graph,
-            self.entered.as_slice(),
+            entered: self.entered.as_slice(),
+        };
+        feed_all(
+            source,
             self.excess.as_mut_slice(),
             self.toward.as_mut_slice(),
             v,
@@ -322,8 +316,17 @@ impl Preflow {
         let excess = self.excess.as_mut_slice();
         let toward = self.toward.as_mut_slice();
         let arcs = graph.row(t).len();
-        draw_near(graph, entered, excess, toward, t, t, bound + 1, 0, arcs);
-        draw_far(graph, entered, excess, toward, t, bound + 1);
+        let source = Source { graph, entered };
+        let need = Need {
+            vertex: t,
+            enough: bound + 1,
+        };
+        let whole = Look {
+            from: 0,
+            most: arcs,
+        };
+        draw_near(source, excess, toward, need, t, whole);
+        draw_far(source, excess, toward, need);
         let held = excess[t as usize];
         if held > bound {
             return Beyond::Heavy;

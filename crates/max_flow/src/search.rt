@@ -7,7 +7,7 @@ ghost use Rattle.std.specs.Prelude.{◌≡◌, ℕ, ◌+◌, ◌*◌, ◌<◌, �
 ghost use Rattle.cut_definitions.specs.Graph.{IsEdgeList};
 ghost use Rattle.max_flow.specs.Residual.{IsResidual};
 ghost use Rattle.max_flow.specs.Closed.{residual_on};
-ghost use Rattle.max_flow.specs.Tree.{step_at, mark_of, IsAllUnmarked, IsReady, AreWithin, IsTree, IsExpanded, Reaches, Extends, IsSearched, IsListed};
+ghost use Rattle.max_flow.specs.Tree.{step_at, order_mark, IsAllUnmarked, IsReady, AreWithin, IsTree, IsExpanded, Reaches, Extends, IsSearched, IsListed};
 
 use crate::residual::residual_on;
 use weighted_graph::{Arc, Graph};
@@ -34,8 +34,8 @@ fn bottleneck_along(arc: &Arc, from: Step, toward: &[u64], marks: &[u32]) -> u64
     requires bounded { slice_index toward.now arc.now.edge ≤ 2 * arc.now.weight }
     requires small { arc.now.weight ≤ 2 ^ 61 }
     requires vertex { arc.now.to < length marks.now }
-    ensures reached { 0 < mark_of marks.now arc.now.to → result ≡ 0 }
-    ensures new { mark_of marks.now arc.now.to ≡ 0 → result ≡ min (residual_on from.vertex toward.now arc.now) from.bottleneck }
+    ensures reached { 0 < order_mark marks.now arc.now.to → result ≡ 0 }
+    ensures new { order_mark marks.now arc.now.to ≡ 0 → result ≡ min (residual_on from.vertex toward.now arc.now) from.bottleneck }
 {
     // most arcs lead to vertices that were reached before, and need no look at their edge
     if marks[arc.to as usize] != 0 {
@@ -47,7 +47,7 @@ fn bottleneck_along(arc: &Arc, from: Step, toward: &[u64], marks: &[u32]) -> u64
 /// Puts the step at the end of the order, unless nothing can be carried there.
 fn reach(marks: &mut [u32], steps: &mut [Step], count: u32, step: Step) -> u32
     requires vertex { step.vertex < length marks.old }
-    requires new { 1 ≤ step.bottleneck → mark_of marks.old step.vertex ≡ 0 }
+    requires new { 1 ≤ step.bottleneck → order_mark marks.old step.vertex ≡ 0 }
     requires free { 1 ≤ step.bottleneck → count < length steps.old }
     requires fits { length steps.old < 2 ^ 32 }
     ensures { Reaches marks.old steps.old count step marks.new steps.new result }

@@ -2,7 +2,7 @@
 
 ghost use Rattle.std.specs.Prelude.{◌≡◌, ℕ, ◌==◌, ◌+◌, ◌≤◌, if◌then◌else◌, length};
 ghost use Rattle.cut_definitions.specs.Cuts.{has, IsAscendingWithin};
-ghost use Rattle.max_flow.specs.Tree.{mark_of, seen};
+ghost use Rattle.max_flow.specs.Tree.{order_mark, seen};
 
 use vertex_set::Side;
 
@@ -25,7 +25,7 @@ fn set(side: &mut Side, v: u32, is_in: bool)
 /// Makes a set that of the vertices that are marked.
 pub fn assign(side: &mut Side, marks: &[u32])
     requires length { length marks.now ≡ side.old.vertices + 1 }
-    requires none { mark_of marks.now 0 ≡ 0 }
+    requires none { order_mark marks.now 0 ≡ 0 }
     ensures vertices { side.new.vertices ≡ side.old.vertices }
     ensures members { (v : ℕ) → has side.new.members v ≡ seen marks.now v }
 {

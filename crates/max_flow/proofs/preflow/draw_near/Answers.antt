@@ -13,4 +13,4 @@ draw-requires-clause-arc c =
       | then-place-row w ↦ omega (arith, w.place-is)
       | else-place-row w ↦ omega (arith, w.place-is)
     ] in
-    row_arc c.args.graph.now row c.args.v c.if-place-row.place c.row-row.ensures.value inside
+    row_arc c.args.source.graph.now row c.args.need.vertex c.if-place-row.place c.row-row.ensures.value inside

@@ -3,4 +3,4 @@ use Rattle.max_flow.proofs.Preflows.{row_arc}
 use Rattle.max_flow.proofs.preflow.feed_all.Goals as goal
 
 pub feed-requires-clause-arc : goal.feed-requires-clause-arc
-feed-requires-clause-arc c = row_arc c.args.graph.now c.row-arc-items.result.now c.args.v c.arcs.arc-index c.row-arc-items.ensures.value c.arcs-test.true
+feed-requires-clause-arc c = row_arc c.args.source.graph.now c.row-arc-items.result.now c.args.v c.arcs.arc-index c.row-arc-items.ensures.value c.arcs-test.true

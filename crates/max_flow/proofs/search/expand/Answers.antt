@@ -6,7 +6,7 @@ use Rattle.std.proofs.lemmas.List.Elements.{All-more, All-weaker, All-same}
 use Rattle.weighted_graph.specs.declared.graph.Arc.{Arc}
 use Rattle.weighted_graph.specs.Rows.{row_of}
 use Rattle.max_flow.specs.Closed.{residual_on}
-use Rattle.max_flow.specs.Tree.{step_at, mark_of}
+use Rattle.max_flow.specs.Tree.{step_at, order_mark}
 use Rattle.max_flow.proofs.Trees.{room_left}
 use Rattle.max_flow.proofs.Reaching.{no_arc, arc_facts, edge_weight_small, bottleneck_some, follows, bottleneck_at_most, bottleneck_is_some, bottleneck_unmarked}
 use Rattle.max_flow.proofs.search.expand.Goals as goal
@@ -57,26 +57,26 @@ loop-arc-preserved c =
     let a = arc_facts g c.row-row.ensures.edge_list.is_graph toward row from.vertex k c.row-row.ensures.value c.loop-arc-test.true in
     let inv = c.loop-arc.invariant in
     let bottleneck = c.bottleneck_along.ensures in
-    let most = bottleneck_at_most (mark_of c.loop-arc.marks arc.to) (residual_on from.vertex toward arc) from.bottleneck c.bottleneck_along.result bottleneck.reached bottleneck.new in
+    let most = bottleneck_at_most (order_mark c.loop-arc.marks arc.to) (residual_on from.vertex toward arc) from.bottleneck c.bottleneck_along.result bottleneck.reached bottleneck.new in
     let wide = bottleneck_some g toward c.args.marks.now c.args.steps.now c.args.count c.args.place c.requires.tree c.requires.place in
     let f = follows g toward c.args.marks.now c.args.steps.now c.args.count c.loop-arc.marks c.loop-arc.steps c.loop-arc.count
     c.reach-count.new.marks c.reach-count.new.steps c.reach-count.result c.args.place from.vertex c.bottleneck_along.result arc
     inv.extends c.requires.place refl a most.0 most.1 c.reach-count.ensures in
     record {
       extends = f.extends;
-      expanded = All-more (λ b. 0 < residual_on from.vertex toward b → 0 < mark_of c.reach-count.new.marks b.to) row k no_arc c.loop-arc-test.true
-          (All-weaker (λ b. 0 < residual_on from.vertex toward b → 0 < mark_of c.loop-arc.marks b.to) (λ b. 0 < residual_on from.vertex toward b → 0 < mark_of c.reach-count.new.marks b.to)
+      expanded = All-more (λ b. 0 < residual_on from.vertex toward b → 0 < order_mark c.reach-count.new.marks b.to) row k no_arc c.loop-arc-test.true
+          (All-weaker (λ b. 0 < residual_on from.vertex toward b → 0 < order_mark c.loop-arc.marks b.to) (λ b. 0 < residual_on from.vertex toward b → 0 < order_mark c.reach-count.new.marks b.to)
           (λ b h p. f.kept b.to (h p)) (take k row) inv.expanded)
           (λ p. ⊎_elim
-          (λ (q : 0 < mark_of c.loop-arc.marks arc.to). f.kept arc.to q)
-          (λ (q : mark_of c.loop-arc.marks arc.to ≤ 0).
-          f.marked (bottleneck_is_some (mark_of c.loop-arc.marks arc.to) (residual_on from.vertex toward arc) from.bottleneck c.bottleneck_along.result bottleneck.new wide p (omega arith)))
-          (cases_lt 0 (mark_of c.loop-arc.marks arc.to)));
+          (λ (q : 0 < order_mark c.loop-arc.marks arc.to). f.kept arc.to q)
+          (λ (q : order_mark c.loop-arc.marks arc.to ≤ 0).
+          f.marked (bottleneck_is_some (order_mark c.loop-arc.marks arc.to) (residual_on from.vertex toward arc) from.bottleneck c.bottleneck_along.result bottleneck.new wide p (omega arith)))
+          (cases_lt 0 (order_mark c.loop-arc.marks arc.to)));
     }
 
 pub returns-clause-expanded : goal.returns-clause-expanded
 returns-clause-expanded c =
     let row = c.row-row.result.now in
     let from = step_at c.args.steps.now c.args.place in
-    let P = λ (b : Arc). 0 < residual_on from.vertex c.args.toward.now b → 0 < mark_of c.loop-arc.marks b.to in
+    let P = λ (b : Arc). 0 < residual_on from.vertex c.args.toward.now b → 0 < order_mark c.loop-arc.marks b.to in
     All-same P (row_of c.args.graph.now from.vertex) (take c.loop-arc.arc-index row) (sym c.row-row.ensures.value ∙ sym (take_all c.loop-arc.arc-index row c.loop-arc-test.false)) c.loop-arc.invariant.expanded
