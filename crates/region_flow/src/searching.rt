@@ -1,18 +1,18 @@
 //! Searches against the arcs, from a vertex that is to be fed, and pulls what is found.
 
-ghost use Rattle.std.specs.Prelude.{◌≡◌, ◌≢◌, ◌↔◌, ◌+◌, ◌<◌, ◌≤◌, ◌^◌, ◌⊎◌, ℕ, IsTrue, length, slice_index};
+ghost use Rattle.std.specs.Prelude.{◌≡◌, ◌≢◌, ◌↔◌, ◌+◌, ◌<◌, ◌≤◌, ◌^◌, ◌⊎◌, ℕ, IsTrue, IsFalse, length, slice_index};
 ghost use Rattle.cut_definitions.specs.Graph.{IsEdgeList};
 ghost use Rattle.weighted_graph.specs.RowLaws.{IsArcAt};
 ghost use Rattle.region_flow.specs.Regions.{IsFlowIn};
-ghost use Rattle.region_flow.specs.Tree.{IsTreeIn, IsReady, IsCalmIn, IsFollowed, ExtendsTree, StaysCalm, IsExpandedCalmly, IsSearchedCalmly};
+ghost use Rattle.region_flow.specs.Tree.{IsTreeIn, IsReady, IsCalmIn, IsFollowed, IsPath, IsUsedUp, ExtendsTree, StaysCalm, IsExpandedCalmly, IsSearchedCalmly};
 
 use crate::pulling::{is_used_up, pull};
 use crate::task::Task;
-use crate::tree::{Link, SearchTree, leads_on};
+use crate::tree::{Link, Places, SearchTree, leads_on};
 use weighted_graph::Arc;
 
 /// Follows one arc of the row of the vertex at a place: puts its other end into the tree where that can send something,
-/// and pulls what it is fed.
+/// and pulls what it is fed. Answers whether it pulled anything.
 fn visit(
     task: Task<'_>,
     feed: &mut [u64],
@@ -20,7 +20,7 @@ fn visit(
     tree: &mut SearchTree,
     place: u32,
     arc: &Arc,
-)
+) -> bool
     requires edge_list { IsEdgeList task.graph.now }
     requires flow { IsFlowIn task.graph.now task.labels.now feed.old toward.old }
     requires outside { 1 ≤ slice_index task.labels.now (slice_index tree.old.order.items 0) }
@@ -36,11 +36,12 @@ fn visit(
     ensures calm { IsCalmIn feed.old toward.old tree.old →
         slice_index feed.new (slice_index tree.old.order.items 0) ≡ slice_index feed.old (slice_index tree.old.order.items 0) →
         StaysCalm feed.new toward.old toward.new tree.new }
+    ensures still { IsFalse result → feed.new ≡ feed.old }
     ensures followed { IsFollowed task.entry.labels.now toward.old tree.new.marks.items (slice_index tree.old.order.items place) arc.now }
 {
     let v = tree.places().order[place as usize];
     if !leads_on(task, toward, tree.marks.as_slice(), v, arc) {
-        return;
+        return false;
     }
     let back = Arc {
         to: v,
@@ -52,9 +53,23 @@ fn visit(
         arc: back,
     };
     let at = tree.put(arc.to, link);
-    if feed[arc.to as usize] > 0 {
-        pull(task, feed, toward, tree.places(), at);
+    if feed[arc.to as usize] == 0 {
+        return false;
     }
+    pull(task, feed, toward, tree.places(), at);
+    true
+}
+
+/// Whether the root has what it wants, or the vertex at a place can send it nothing more.
+fn is_done(task: Task<'_>, feed: &[u64], toward: &[u64], places: Places<'_>, place: u32) -> bool
+    requires edge_list { IsEdgeList task.graph.now }
+    requires flow { IsFlowIn task.graph.now task.labels.now feed.now toward.now }
+    requires path { IsPath task.graph.now task.labels.now places.order.now places.links.now place }
+    ensures done { IsTrue result → (task.entry.stop ≤ slice_index feed.now (slice_index places.entry.order.now 0))
+        ⊎ IsUsedUp toward.now places.entry.order.now places.entry.links.now place }
+    ensures wanting { IsFalse result → slice_index feed.now (slice_index places.entry.order.now 0) < task.entry.stop }
+{
+    feed[places.order[0] as usize] >= task.stop || is_used_up(task, toward, places, place)
 }
 
 /// Follows the arcs of the row of the vertex at a place, until the root has what it wants or the vertex can send it
@@ -74,15 +89,18 @@ fn expand(task: Task<'_>, feed: &mut [u64], toward: &mut [u64], tree: &mut Searc
         slice_index feed.new (slice_index tree.old.order.items 0) ≡ slice_index feed.old (slice_index tree.old.order.items 0) →
         IsExpandedCalmly task.entry.graph.now task.entry.labels.now feed.new toward.old toward.new tree.new (slice_index tree.old.order.items place) }
 {
-    let order = tree.places().order;
-    let root = order[0] as usize;
-    let v = order[place as usize];
+    let v = tree.places().order[place as usize];
     let row = task.graph.row(v);
+    if is_used_up(task, toward, tree.places(), place) {
+        return;
+    }
     for arc in row {
-        if feed[root] >= task.stop || is_used_up(task, toward, tree.places(), place) {
+        // only what is pulled feeds the root, or uses an arc up
+        if visit(task, feed, toward, tree, place, arc)
+            && is_done(task, feed, toward, tree.places(), place)
+        {
             return;
         }
-        visit(task, feed, toward, tree, place, arc);
     }
 }
 
