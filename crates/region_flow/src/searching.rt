@@ -12,7 +12,7 @@ use crate::tree::{Link, Places, SearchTree, leads_on};
 use weighted_graph::Arc;
 
 /// Follows one arc of the row of the vertex at a place: puts its other end into the tree where that can send something,
-/// and pulls what it is fed. Answers whether it pulled anything.
+/// and pulls what it is fed. Where the answer is false nothing was pulled.
 fn visit(
     task: Task<'_>,
     feed: &mut [u64],
