@@ -102,17 +102,18 @@ lowered_set labels t v = ⊎_elim
     (λ ne. inl (get_or-set_other labels t v 0 0 ne))
     (cases_eq v t)
 
--- a vertex that enters leaves all owners as they are
+-- vertices that enter leave all owners as they are
+pub lowered_numbered : (n : ℕ) (labels labels' : List ℕ) (fresh : ℕ) → IsLowered labels labels' → AreNumbered n labels fresh → AreNumbered n labels' fresh
+lowered_numbered n labels labels' fresh low h = record {
+  below = lowered_below labels labels' fresh low h.below;
+  owner = h.owner;
+  to_n = h.to_n;
+  owns = λ q l. lowered_owns labels labels' q (h.owner q) low (h.owns q l);
+  apart = h.apart;
+}
+
 pub enter_alone : LawOfEnteringAlone
-enter_alone n labels t fresh h =
-    let low = lowered_set labels t in
-    record {
-      below = lowered_below labels (set labels t 0) fresh low h.below;
-      owner = h.owner;
-      to_n = h.to_n;
-      owns = λ q l. lowered_owns labels (set labels t 0) q (h.owner q) low (h.owns q l);
-      apart = h.apart;
-    }
+enter_alone n labels t fresh h = lowered_numbered n labels (set labels t 0) fresh (lowered_set labels t) h
 
 -- ---- while a region is split
 

@@ -54,3 +54,6 @@ pub mod BetweenLemmas
 pub mod FirstRaces
 pub mod PartNumbers
 pub mod SplitRegions
+pub mod ShareLaws
+pub mod Grafts
+pub mod Grafting

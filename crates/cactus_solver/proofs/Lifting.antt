@@ -24,7 +24,7 @@ use Rattle.cactus_solver.proofs.Hanging.{under_one, under_after}
 use Rattle.cactus_solver.proofs.Members.{filtered, side_lacks_one}
 
 -- a set of what is under several nodes
-some_set : (n : ℕ) (under : ℕ → VertexSet) (first more : ℕ) → (x : VertexSet) × IsUnder n under first (first + more) x
+pub some_set : (n : ℕ) (under : ℕ → VertexSet) (first more : ℕ) → (x : VertexSet) × IsUnder n under first (first + more) x
 some_set n under first zero =
     let e : first ≡ first + 0 = omega arith in
     (under first, subst (λ (k : ℕ). IsUnder n under first k (under first)) e (under_one n under first (under first) (λ v a b. refl)))

@@ -42,13 +42,13 @@ enough u size down (suc b) x f f' k le lt lf lf' =
     up_once u f x k (omega arith) ∙ ap (λ (r : Bool). eqb x k || (ltb k x && r)) rest ∙ sym (up_once u f' x k (omega arith)))
     (cases_eq x 0)
 
-below_step : (u : List ℕ) (size : ℕ) → Descend u size → (x k : ℕ) → 1 ≤ x → x < size → is_below u k x ≡ (eqb x k || (ltb k x && is_below u k (get_or u x 0)))
+pub below_step : (u : List ℕ) (size : ℕ) → Descend u size → (x k : ℕ) → 1 ≤ x → x < size → is_below u k x ≡ (eqb x k || (ltb k x && is_below u k (get_or u x 0)))
 below_step u size down x k one lt =
     let low = down x one lt in
     up_once u x x k one ∙ ap (λ (r : Bool). eqb x k || (ltb k x && r)) (enough u size down (get_or u x 0) (get_or u x 0) (x - 1) (get_or u x 0) k (omega arith) (omega arith) (omega arith) (omega arith))
 
 -- lists that agree on the old nodes
-kept_above : (u u' : List ℕ) (size : ℕ) → Descend u size → ((i : ℕ) → i < size → get_or u' i 0 ≡ get_or u i 0) → (f x k : ℕ) → x < size → is_above u' f k x ≡ is_above u f k x
+pub kept_above : (u u' : List ℕ) (size : ℕ) → Descend u size → ((i : ℕ) → i < size → get_or u' i 0 ≡ get_or u i 0) → (f x k : ℕ) → x < size → is_above u' f k x ≡ is_above u f k x
 kept_above u u' size down same zero x k lt = refl
 kept_above u u' size down same (suc f) x k lt =
     ⊎_elim
@@ -72,7 +72,7 @@ eqb_low : (x k : ℕ) → x < k → eqb x k ≡ false
 eqb_low x k h = grind (arith, nat_tests)
 
 -- a node with a lesser number is not below
-not_below : (u : List ℕ) (size : ℕ) → Descend u size → (x k : ℕ) → x < size → x < k → is_below u k x ≡ false
+pub not_below : (u : List ℕ) (size : ℕ) → Descend u size → (x k : ℕ) → x < size → x < k → is_below u k x ≡ false
 not_below u size down x k lt low = ⊎_elim
     (λ (e : x ≡ 0). subst (λ (y : ℕ). is_below u k y ≡ false) (sym e) (at_root u 0 k ∙ eqb_low 0 k (omega arith)))
     (λ ne. below_step u size down x k (omega arith) lt ∙ step_low x k (is_below u k (get_or u x 0)) low)
@@ -111,7 +111,7 @@ none_below u size down k free (suc b) x le ne lt = ⊎_elim
     (cases_lt x k)
 
 -- new nodes, which all hang from one node or each other, are below the old nodes that this one is below
-through : (u : List ℕ) (size old node : ℕ) → Descend u size → ((x : ℕ) → old ≤ x → x < size → (get_or u x 0 ≡ node) ⊎ (old ≤ get_or u x 0)) → 1 ≤ old →
+pub through : (u : List ℕ) (size old node : ℕ) → Descend u size → ((x : ℕ) → old ≤ x → x < size → (get_or u x 0 ≡ node) ⊎ (old ≤ get_or u x 0)) → 1 ≤ old →
     (k : ℕ) → k < old → (b x : ℕ) → x ≤ b → old ≤ x → x < size → is_below u k x ≡ is_below u k node
 through u size old node down from one k lk zero x le ge lt = absurd (omega arith)
 through u size old node down from one k lk (suc b) x le ge lt =

@@ -40,7 +40,7 @@ part_weight g region t count part ok ch i two lt =
     let whole = weight-agree g ok (either (one_part part i) (later_parts part (i + 1))) (later_parts part i) (λ v a b. whole_later (part v) i) in
     omega (arith, apart, whole, later_weight g ok part i (omega arith), later_weight g ok part (i + 1) (omega arith), low, high)
 
-weight_small : (g : Graph) → IsGraph g → (s : VertexSet) → weight g s ≤ 2 ^ 61
+pub weight_small : (g : Graph) → IsGraph g → (s : VertexSet) → weight g s ≤ 2 ^ 61
 weight_small g ok s = omega (arith, sum_by-le_each (cut_term s) (λ (e : Edge). e.w) (λ e. cut_of-le (s e.u) (s e.v) e.w) g.edges, ok.total)
 
 between_small : (g : Graph) → IsGraph g → (s t : VertexSet) → between g s t ≤ 2 ^ 61

@@ -23,7 +23,7 @@ use Rattle.cactus_solver.proofs.Hanging.{hanging}
 
 -- ---- the old sides
 
-old_side : (n : ℕ) (tree tree' : TreeSets) → IsGrown n tree tree' → (x : VertexSet) → IsTreeSide n tree x → IsTreeSide n tree' x
+pub old_side : (n : ℕ) (tree tree' : TreeSets) → IsGrown n tree tree' → (x : VertexSet) → IsTreeSide n tree x → IsTreeSide n tree' x
 old_side n tree tree' grown x s = record {
   first = s.first;
   last = s.last;
@@ -37,7 +37,7 @@ old_side n tree tree' grown x s = record {
   };
 }
 
-side_of_old : (n : ℕ) (tree tree' : TreeSets) → IsGrown n tree tree' → (x : VertexSet) → (s : IsTreeSide n tree' x) → s.last < tree.count → IsTreeSide n tree x
+pub side_of_old : (n : ℕ) (tree tree' : TreeSets) → IsGrown n tree tree' → (x : VertexSet) → (s : IsTreeSide n tree' x) → s.last < tree.count → IsTreeSide n tree x
 side_of_old n tree tree' grown x s below = record {
   first = s.first;
   last = s.last;

@@ -37,3 +37,5 @@ pub mod Between
 pub mod Finished
 pub mod Settling
 pub mod Surplus
+pub mod Grafted
+pub mod Shares

@@ -1,6 +1,6 @@
 //! A finished tree, and the node that each vertex is in.
 
-ghost use Rattle.std.specs.Prelude.{◌≡◌, ◌∷◌, ◌<◌, ℕ, IfOk, length, map, slice_index};
+ghost use Rattle.std.specs.Prelude.{◌≡◌, ◌∷◌, ◌+◌, ◌<◌, [], ℕ, false, IfOk, length, map, replicate, slice_index};
 ghost use Rattle.std.specs.List.{All};
 
 use crate::tree::FlatTree;
@@ -15,6 +15,16 @@ pub struct HomedTree {
 }
 
 impl HomedTree {
+    /// The tree of the root alone, for vertices 1 to n.
+    pub fn of_root(alloc: Global, n: u32) -> Result<HomedTree, NoMemory>
+        ensures tree { IfOk result (λ t. t.tree ≡ record { uppers = 0 ∷ []; follows = false ∷ [] }) }
+        ensures homes { IfOk result (λ t. t.homes.items ≡ replicate (n + 1) 0) }
+    {
+        let tree = FlatTree::new(alloc)?;
+        let homes = vec![in alloc; 0usize; n as usize + 1]?;
+        Ok(HomedTree { tree, homes })
+    }
+
     /// The tree with the vertices of each class in place of the class: the list has the class of each vertex from 1 on. It
     /// takes eight bytes for each vertex.
     pub fn spread(self, alloc: Global, classes: &[u32]) -> Result<HomedTree, NoMemory>

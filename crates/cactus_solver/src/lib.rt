@@ -5,7 +5,9 @@
 //! its region is the next to enter. Before it does, the sets around it inside its region that weigh the value are found:
 //! they are nested, and part the region. The parts are listed from both sides, all but one; each gets a node of its own in
 //! the tree, over a bridge or in a cycle, and a region of its own, and the part that is not listed keeps the region. At the
-//! end all vertices have entered, and the sides of the tree are the minimum cuts. No graph of a part is ever built.
+//! end all vertices have entered, and the sides of the tree are the minimum cuts. The graph of a part is built only where
+//! several workers are to share the work: of two or more large parts that are listed at once each is then made a graph in
+//! which one vertex stands for all else, these are solved side by side, and their trees are grafted on the tree.
 //!
 //! The parts are the chain across an edge of Karzanov and Timofeev (1986) and of Nagamochi, Nakao and Ibaraki (2000), as
 //! closed sets of a flow (Picard and Queyranne, 1980); the source that grows is that of Hao and Orlin (1994).
@@ -29,6 +31,8 @@ mod region_arcs;
 mod regroup;
 mod search;
 mod settling;
+mod shares;
+mod sharing;
 mod side;
 mod side_listing;
 mod solver;

@@ -11,7 +11,7 @@ ghost use Rattle.cactus_solver.specs.Solved.{SameMembers};
 
 use crate::homed_tree::HomedTree;
 use crate::into_cactus::{cactus_of_tree, normal_form};
-use crate::sweep::tree_of;
+use crate::sweep::tree_by_workers;
 use cactus_tree::Cactus;
 use cut_definitions::NoMemory;
 use min_value::{Kernel, reduce, value as least_weight};
@@ -28,7 +28,14 @@ pub struct Solved {
 }
 
 /// The tree of the minimum cuts of a graph, by that of a smaller graph, which is given back.
-fn tree_by_kernel(alloc: Global, graph: &Graph, kernel: Kernel) -> Result<HomedTree, NoMemory>
+fn tree_by_kernel<R: Threads + Sync>(
+    rt: &R,
+    alloc: Global,
+    graph: &Graph,
+    kernel: Kernel,
+    workers: u32,
+) -> Result<HomedTree, NoMemory>
+    requires workers { 1 ≤ workers }
     requires connected { IsConnected graph.now }
     requires enough { 2 ≤ graph.now.vertices }
     requires kept { IsKept graph.now kernel.value kernel.graph kernel.labels }
@@ -42,7 +49,7 @@ fn tree_by_kernel(alloc: Global, graph: &Graph, kernel: Kernel) -> Result<HomedT
     // known by these calls: the graphs are edge lists
     let _n = graph.n();
     let _small = small.n();
-    let tree = tree_of(alloc, &small, value)?;
+    let tree = tree_by_workers(rt, alloc, &small, value, workers)?;
     tree.spread(alloc, labels.as_slice())
 }
 
@@ -62,8 +69,8 @@ fn tree_at_value<R: Threads + Sync, G: Gate>(
     ensures { IfOk result (IsFinished graph.now) }
 {
     match reduce(rt, alloc, graph, value, workers, gate)? {
-        Some(kernel) => tree_by_kernel(alloc, graph, kernel),
-        None => tree_of(alloc, graph, value),
+        Some(kernel) => tree_by_kernel(rt, alloc, graph, kernel, workers),
+        None => tree_by_workers(rt, alloc, graph, value, workers),
     }
 }
 
@@ -73,7 +80,8 @@ fn tree_at_value<R: Threads + Sync, G: Gate>(
 /// cut, where there are some, and the sweep over regions makes the tree of what is left. Each vertex of the graph is put into
 /// the node of its class, and the cactus is made of that, once all else is given back, and made normal where a node has no
 /// vertex. Memory is in proportion to n + m. The runtime, the workers and the gate are handed to the search for the value and
-/// to the rounds. It is refused only where memory is wanting.
+/// to the rounds; and the workers share the large regions, where the sweep lists two or more of them at once. It is refused
+/// only where memory is wanting.
 pub fn solve<R: Threads + Sync, G: Gate>(
     rt: &R,
     alloc: Global,

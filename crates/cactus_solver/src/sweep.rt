@@ -1,6 +1,6 @@
 //! The sweep over regions.
 
-ghost use Rattle.std.specs.Prelude.{◌≡◌, ◌+◌, ◌≤◌, ℕ, true, false, IfOk, OnOk, length, slice_index, slice_set};
+ghost use Rattle.std.specs.Prelude.{◌≡◌, ◌+◌, ◌≤◌, ℕ, None, true, false, IfOk, IfSome, OnOk, length, slice_index, slice_set};
 ghost use Rattle.cut_definitions.specs.Components.{IsConnected};
 ghost use Rattle.cut_definitions.specs.Cuts.{value as least_value};
 ghost use Rattle.region_flow.specs.Inflow.{IsStopReached};
@@ -24,6 +24,7 @@ use crate::weights::weigh_parts;
 use cut_definitions::NoMemory;
 use region_flow::RegionFlow;
 use std::alloc::Global;
+use std::thread::Threads;
 use weighted_graph::Graph;
 
 /// The vertex from which the sweep starts.
@@ -32,12 +33,12 @@ const ROOT: u32 = 1;
 /// Regions that are left, the tree of the minimum cuts that lie in none of them, and memory for the steps.
 #[derive(Drop)]
 pub struct Sweep {
-    flow: RegionFlow,
-    fronts: Fronts,
+    pub(crate) flow: RegionFlow,
+    pub(crate) fronts: Fronts,
     splitter: Splitter,
-    parts: Parts,
-    tree: FlatTree,
-    homes: Homes,
+    pub(crate) parts: Parts,
+    pub(crate) tree: FlatTree,
+    pub(crate) homes: Homes,
 
     // for each part its node, and what lies between it and all later parts, and the next
     nodes: Vec<usize>,
@@ -196,8 +197,20 @@ impl Sweep {
         Ok(())
     }
 
-    /// Lets `t` enter, and before that splits its region where a minimum cut inside it has `t`.
-    fn step(&mut self, graph: &Graph, t: u32, value: u64) -> Result<(), NoMemory>
+    /// The next vertex that is to enter; none where all have.
+    pub(crate) fn next(&mut self, graph: &Graph) -> Option<u32>
+        requires under_way { IsUnderWay graph.now self.old }
+        requires connected { IsConnected graph.now }
+        ensures under_way { IsUnderWay graph.now self.new }
+        ensures labels { self.new.flow.labels ≡ self.old.flow.labels }
+        ensures some { IfSome result (IsOpenAt graph.now self.old.flow.labels) }
+        ensures none { result ≡ None → (v : ℕ) → slice_index self.old.flow.labels v ≡ 0 }
+    {
+        self.fronts.next(graph, &self.flow)
+    }
+
+    /// Lets `t` enter, and before that splits its region where a minimum cut inside it has `t`. It answers whether there was one.
+    pub(crate) fn step(&mut self, graph: &Graph, t: u32, value: u64) -> Result<bool, NoMemory>
         requires under_way { IsUnderWay graph.now self.old }
         requires connected { IsConnected graph.now }
         requires least { IsLeastWeight graph.now value }
@@ -207,10 +220,12 @@ impl Sweep {
         ensures stay { OnOk result ((v : ℕ) → slice_index self.old.flow.labels v ≡ 0 → slice_index self.new.flow.labels v ≡ 0) }
     {
         if self.find_parts(graph, t, value)? {
-            return self.split_region(graph, t, value);
+            self.split_region(graph, t, value)?;
+            return Ok(true);
         }
         self.feed_more(graph, t, value);
-        self.enter_alone(graph, t)
+        self.enter_alone(graph, t)?;
+        Ok(false)
     }
 
     /// Goes on until all vertices have entered.
@@ -221,7 +236,7 @@ impl Sweep {
         ensures under_way { OnOk result (IsUnderWay graph.now self.new) }
         ensures all { OnOk result ((v : ℕ) → slice_index self.new.flow.labels v ≡ 0) }
     {
-        'steps: while let Some(t) = self.fronts.next(graph, &self.flow) {
+        'steps: while let Some(t) = self.next(graph) {
             self.step(graph, t, value)?;
         }
         Ok(())
@@ -256,5 +271,29 @@ pub fn tree_of(alloc: Global, graph: &Graph, value: u64) -> Result<HomedTree, No
     let _n = graph.n();
     let mut sweep = Sweep::new(alloc, graph)?;
     sweep.run(graph, value)?;
+    Ok(sweep.into_tree(graph))
+}
+
+/// The same tree, by so many workers, of whom each takes some of the large regions, where a split leaves two or more of them.
+pub fn tree_by_workers<R: Threads + Sync>(
+    rt: &R,
+    alloc: Global,
+    graph: &Graph,
+    value: u64,
+    workers: u32,
+) -> Result<HomedTree, NoMemory>
+    requires connected { IsConnected graph.now }
+    requires enough { 2 ≤ graph.now.vertices }
+    requires value { value ≡ least_value graph.now }
+    requires workers { 1 ≤ workers }
+    ensures { IfOk result (IsFinished graph.now) }
+{
+    if workers == 1 {
+        return tree_of(alloc, graph, value);
+    }
+    // known by this call: the graph is an edge list
+    let _n = graph.n();
+    let mut sweep = Sweep::new(alloc, graph)?;
+    sweep.run_shared(rt, alloc, graph, value, workers)?;
     Ok(sweep.into_tree(graph))
 }

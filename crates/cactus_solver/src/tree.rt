@@ -1,7 +1,8 @@
 //! The tree of nodes, in arrays.
 
-ghost use Rattle.std.specs.Prelude.{◌≡◌, ◌+◌, ◌-◌, ◌<◌, ◌≤◌, ◌++◌, ◌∷◌, [], ℕ, true, false, IfOk, length, slice_index};
+ghost use Rattle.std.specs.Prelude.{◌≡◌, ◌+◌, ◌-◌, ◌^◌, ◌<◌, ◌≤◌, ◌++◌, ◌∷◌, [], ℕ, true, false, IfOk, OnOk, length, slice_index};
 ghost use Rattle.cactus_solver.specs.Flat.{AddsAfter, AddsBelow, AddsBeyond, AddsNode, is_follower};
+ghost use Rattle.cactus_solver.specs.Grafted.{grafted_at, IsGrafted};
 
 use cut_definitions::NoMemory;
 use std::alloc::Global;
@@ -35,6 +36,15 @@ impl Model for FlatTree {
     ghost view = { λ t. record { uppers = t.uppers.items; follows = t.follows.items } };
 
     ghost invariant = { λ t. AreLaid t.uppers.items t.follows.items };
+}
+
+/// Where a node of another tree stands that was grafted on a node of a tree of so many nodes.
+pub(crate) fn grafted_at(node: usize, count: usize, i: usize) -> usize
+    requires from_one { 1 ≤ count }
+    requires fits { count - 1 + i < 2 ^ 64 }
+    ensures { result ≡ grafted_at node count i }
+{
+    if i == 0 { node } else { count - 1 + i }
 }
 
 impl FlatTree {
@@ -75,8 +85,15 @@ impl FlatTree {
     pub fn hang(&mut self, upper: usize) -> Result<usize, NoMemory>
         ensures { IfOk result (λ node. AddsNode self.old self.new node upper false) }
     {
+        self.add(upper, false)
+    }
+
+    /// A new node, with no vertex.
+    fn add(&mut self, upper: usize, follower: bool) -> Result<usize, NoMemory>
+        ensures { IfOk result (λ node. AddsNode self.old self.new node upper follower) }
+    {
         let node = self.uppers.len();
-        self.follows.push(false)?;
+        self.follows.push(follower)?;
         if let Err(error) = self.uppers.push(upper) {
             let _last = self.follows.pop();
             return Err(error.into());
@@ -84,19 +101,31 @@ impl FlatTree {
         Ok(node)
     }
 
+    /// Puts the nodes of another tree but its root behind those of this one. What hangs from that root then hangs from a node
+    /// of this tree. One step for each node; where memory is wanting, some were put.
+    pub fn graft(&mut self, node: usize, other: &FlatTree) -> Result<(), NoMemory>
+        requires old { 1 ≤ length self.old.uppers }
+        requires some { 1 ≤ length other.now.uppers }
+        requires upper { (i : ℕ) → 1 ≤ i → i < length other.now.uppers → slice_index other.now.uppers i < i }
+        ensures { OnOk result (IsGrafted node self.old other.now self.new) }
+    {
+        let count = self.len();
+        for i in 1..other.len() {
+            // known by this call: the numbers of the nodes fit
+            let _nodes = self.len();
+            let upper = grafted_at(node, count, other.upper(i));
+            self.add(upper, other.is_follower(i))?;
+        }
+        Ok(())
+    }
+
     /// A new node that follows the last one in a cycle, with no vertex.
     fn follow(&mut self) -> Result<usize, NoMemory>
         requires { 1 ≤ length self.old.uppers }
         ensures { IfOk result (λ node. AddsNode self.old self.new node (slice_index self.old.uppers (length self.old.uppers - 1)) true) }
     {
-        let node = self.uppers.len();
-        let upper = self.uppers[node - 1];
-        self.follows.push(true)?;
-        if let Err(error) = self.uppers.push(upper) {
-            let _last = self.follows.pop();
-            return Err(error.into());
-        }
-        Ok(node)
+        let upper = self.uppers[self.uppers.len() - 1];
+        self.add(upper, true)
     }
 
     /// The node of the part after that of the last node, as it hangs from it.

@@ -1,19 +1,16 @@
 -- The region was split, or the vertex entered alone.
 use Rattle.std.proofs.Common.{ℕ, List, get_or, ◌+◌, sym, ◌∙◌, ap, subst}
-use Rattle.std.proofs.lemmas.Result.{on_ok_weaker}
 use Rattle.region_flow.specs.Inflow.{IsStopReached}
-use Rattle.cactus_solver.proofs.Leaving.{Stays, entering_stays}
+use Rattle.cactus_solver.proofs.Leaving.{entering_stays}
 use Rattle.cactus_solver.proofs.sweep.Sweep.step.Goals as goal
 
 pub returns-then-branch-clause-stay : goal.returns-then-branch-clause-stay
-returns-then-branch-clause-stay c =
-    on_ok_weaker c.split_region.result (λ (stay : Stays c.find_parts.new.self.flow.labels c.split_region.new.self.flow.labels). λ v e. stay v (ap (λ (l : List ℕ). get_or l v 0) c.find_parts.ensures.labels ∙ e)) c.split_region.ensures.stay
+returns-then-branch-clause-stay c = λ v e. c.in_ok-split_region.ensures.stay v (ap (λ (l : List ℕ). get_or l v 0) c.find_parts.ensures.labels ∙ e)
 
 pub returns-clause-stay : goal.returns-clause-stay
-returns-clause-stay c =
-    let same = c.enter_alone.ensures.labels in
+returns-clause-stay c = λ v e.
     let before = c.feed_more.ensures.labels ∙ c.find_parts.ensures.labels in
-    on_ok_weaker c.enter_alone.result (λ u. λ v e. entering_stays c.feed_more.new.self.flow.labels c.enter_alone.new.self.flow.labels c.args.t same v (ap (λ (l : List ℕ). get_or l v 0) before ∙ e)) c.enter_alone.ensures.under_way
+    entering_stays c.feed_more.new.self.flow.labels c.enter_alone.new.self.flow.labels c.args.t c.enter_alone.ensures.labels v (ap (λ (l : List ℕ). get_or l v 0) before ∙ e)
 
 pub enter_alone-requires-clause-heavy : goal.enter_alone-requires-clause-heavy
 enter_alone-requires-clause-heavy c =

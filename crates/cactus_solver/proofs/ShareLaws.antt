@@ -1,0 +1,354 @@
+-- The vertices and classes of a region, and what a share is while others enter.
+use Rattle.std.proofs.Common.{◌≡◌, ℕ, zero, suc, ◌+◌, ◌-◌, ◌<◌, ◌≤◌, ⊎_elim, Bool, true, false, eqb, List, [], ◌∷◌, ◌++◌, length, map, max, get_or, refl, sym, ◌∙◌, ap, subst, arith}
+use Rattle.std.specs.Prelude.{◌⊎◌, ◌≢◌}
+use Rattle.std.specs.List.{All, AllPairs, fold}
+use Rattle.std.specs.Global.{Vec}
+use Rattle.std.proofs.lemmas.Bool.{cases_eq, cases_lt, cases_Bool, eq-eqb, eqb-true, ne_eqb}
+use Rattle.std.proofs.lemmas.List.Elements.{All-push}
+use Rattle.std.proofs.lemmas.List.Quantifiers.{all_pairs_push}
+use Rattle.std.proofs.lemmas.List.{get_or-map, get_or_append_left, get_or_push, get_or_default, length-append, length-map}
+use Rattle.cut_definitions.specs.Graph.{Graph}
+use Rattle.cut_definitions.specs.Contraction.{label, classes, relabel, IsLabels}
+use Rattle.cut_definitions.proofs.ListLaws.{All-back, All-front, label_at}
+use Rattle.weighted_graph.specs.ContractionLaws.{IsLabelled}
+use Rattle.cactus_solver.specs.declared.shares.Share.{Share}
+use Rattle.cactus_solver.specs.Flat.{AddsNode, TreeLinks, is_follower}
+use Rattle.cactus_solver.specs.Grafted.{IsGrafted, IsRegionGraph, grafted_at}
+use Rattle.cactus_solver.specs.Shares.{AddsClass, AreClasses, IsLeftOrEntered, IsOwnAt, IsShare, IsSolvedFrom, IsSolvedShare}
+
+-- ---- the classes, one after another
+
+pub classes_start : (labels : List ℕ) (region : ℕ) → AreClasses labels region 0 [] []
+classes_start labels region = record {
+  long = refl;
+  few = omega arith;
+  inside = λ v from to e. absurd (omega (arith, from, to));
+  outside = λ v from to e. absurd (omega (arith, from, to));
+  each = λ place l. absurd (omega (arith, l));
+}
+
+-- the class of a vertex that had one, and that of the next one
+class_kept : (classes : List ℕ) (c v : ℕ) → 1 ≤ v → v ≤ length classes → label (classes ++ c ∷ []) v ≡ label classes v
+class_kept classes c v from to = get_or_append_left classes (c ∷ []) 0 (v - 1) (omega (arith, from, to))
+
+class_next : (classes : List ℕ) (c v : ℕ) → length classes ≡ v → label (classes ++ c ∷ []) (v + 1) ≡ c
+class_next classes c v long = label_at (classes ++ c ∷ []) v ∙ get_or_push classes c 0 v long
+
+one_longer : (xs : List ℕ) (x : ℕ) → length (xs ++ x ∷ []) ≡ length xs + 1
+one_longer xs x = length-append xs (x ∷ [])
+
+module _ (labels : List ℕ) (region upto : ℕ) (own classes : List ℕ) (h : AreClasses labels region upto own classes) where
+  -- the next vertex is outside the region
+  without : ¬ (get_or labels (upto + 1) 0 ≡ region) → AreClasses labels region (upto + 1) own (classes ++ 1 ∷ [])
+  without out =
+      let kept = λ (v : ℕ) (from : 1 ≤ v) (to : v ≤ upto). class_kept classes 1 v from (omega (arith, to, h.long)) in
+      let next = class_next classes 1 upto h.long in
+      record {
+        long = omega (arith, one_longer classes 1, h.long);
+        few = omega (arith, h.few);
+        inside = λ v from to e. ⊎_elim
+            (λ (is : v ≡ upto + 1). absurd (out (sym (ap (λ (k : ℕ). get_or labels k 0) is) ∙ e)))
+            (λ (ne : v ≢ upto + 1).
+            let low : v ≤ upto = omega (arith, to, ne) in
+            let b = h.inside v from low e in
+            let k = kept v from low in
+            (omega (arith, b.0, k), omega (arith, b.1, k), ap (λ (c : ℕ). get_or own (c - 2) 0) k ∙ b.2))
+            (cases_eq v (upto + 1));
+        outside = λ v from to e. ⊎_elim
+            (λ (is : v ≡ upto + 1). ap (λ (k : ℕ). label (classes ++ 1 ∷ []) k) is ∙ next)
+            (λ (ne : v ≢ upto + 1). let low : v ≤ upto = omega (arith, to, ne) in kept v from low ∙ h.outside v from low e)
+            (cases_eq v (upto + 1));
+        each = λ place l.
+            let b = h.each place l in
+            record { from_one = b.from_one; to_upto = omega (arith, b.to_upto); in_region = b.in_region; class = kept (get_or own place 0) b.from_one b.to_upto ∙ b.class };
+      }
+
+  -- the next vertex is in the region
+  within : get_or labels (upto + 1) 0 ≡ region → AreClasses labels region (upto + 1) (own ++ (upto + 1) ∷ []) (classes ++ (length own + 2) ∷ [])
+  within is_in =
+      let c = length own + 2 in
+      let own' = own ++ (upto + 1) ∷ [] in
+      let classes' = classes ++ c ∷ [] in
+      let kept = λ (v : ℕ) (from : 1 ≤ v) (to : v ≤ upto). class_kept classes c v from (omega (arith, to, h.long)) in
+      let next : label classes' (upto + 1) ≡ c = class_next classes c upto h.long in
+      let longer = one_longer own (upto + 1) in
+      let at_end : get_or own' (length own) 0 ≡ upto + 1 = get_or_push own (upto + 1) 0 (length own) refl in
+      record {
+        long = omega (arith, one_longer classes c, h.long);
+        few = omega (arith, h.few, longer);
+        inside = λ v from to e. ⊎_elim
+            (λ (is : v ≡ upto + 1).
+            let k : label classes' v ≡ c = ap (λ (w : ℕ). label classes' w) is ∙ next in
+            let place : label classes' v - 2 ≡ length own = omega (arith, k) in
+            (omega (arith, k), omega (arith, k, longer), ap (λ (w : ℕ). get_or own' w 0) place ∙ (at_end ∙ sym is)))
+            (λ (ne : v ≢ upto + 1).
+            let low : v ≤ upto = omega (arith, to, ne) in
+            let b = h.inside v from low e in
+            let k = kept v from low in
+            let inner : label classes v - 2 < length own = omega (arith, b.0, b.1) in
+            (omega (arith, b.0, k), omega (arith, b.1, k, longer), ap (λ (w : ℕ). get_or own' (w - 2) 0) k ∙ (get_or_append_left own ((upto + 1) ∷ []) 0 (label classes v - 2) inner ∙ b.2)))
+            (cases_eq v (upto + 1));
+        outside = λ v from to e. ⊎_elim
+            (λ (is : v ≡ upto + 1). absurd (e (ap (λ (k : ℕ). get_or labels k 0) is ∙ is_in)))
+            (λ (ne : v ≢ upto + 1). let low : v ≤ upto = omega (arith, to, ne) in kept v from low ∙ h.outside v from low e)
+            (cases_eq v (upto + 1));
+        each = λ place l. ⊎_elim
+            (λ (inner : place < length own).
+            let b = h.each place inner in
+            let same : get_or own' place 0 ≡ get_or own place 0 = get_or_append_left own ((upto + 1) ∷ []) 0 place inner in
+            record {
+              from_one = omega (arith, b.from_one, same);
+              to_upto = omega (arith, b.to_upto, same);
+              in_region = ap (λ (w : ℕ). get_or labels w 0) same ∙ b.in_region;
+              class = ap (λ (w : ℕ). label classes' w) same ∙ (kept (get_or own place 0) b.from_one b.to_upto ∙ b.class);
+            })
+            (λ (last : length own ≤ place).
+            let is : place ≡ length own = omega (arith, l, last, longer) in
+            let at : get_or own' place 0 ≡ upto + 1 = ap (λ (k : ℕ). get_or own' k 0) is ∙ at_end in
+            record {
+              from_one = omega (arith, at);
+              to_upto = omega (arith, at);
+              in_region = ap (λ (w : ℕ). get_or labels w 0) at ∙ is_in;
+              class = ap (λ (w : ℕ). label classes' w) at ∙ (next ∙ ap (λ (k : ℕ). k + 2) (sym is));
+            })
+            (cases_lt place (length own));
+      }
+
+-- one vertex more
+pub classes_step : (labels : List ℕ) (region upto : ℕ) (own own' classes classes' : List ℕ) (is_own : Bool) → AreClasses labels region upto own classes →
+    is_own ≡ eqb (get_or labels (upto + 1) 0) region → AddsClass (upto + 1) is_own own own' classes classes' → AreClasses labels region (upto + 1) own' classes'
+classes_step labels region upto own own' classes classes' is_own h test adds = ⊎_elim
+    (λ (e : is_own ≡ true).
+    let a = adds.inside e in
+    subst (λ (o : List ℕ). AreClasses labels region (upto + 1) o classes') (sym a.0)
+    (subst (AreClasses labels region (upto + 1) (own ++ (upto + 1) ∷ [])) (sym a.1) (within labels region upto own classes h (eqb-true (get_or labels (upto + 1) 0) region (sym test ∙ e)))))
+    (λ (e : is_own ≡ false).
+    let a = adds.outside e in
+    subst (λ (o : List ℕ). AreClasses labels region (upto + 1) o classes') (sym a.0)
+    (subst (AreClasses labels region (upto + 1) own) (sym a.1)
+    (without labels region upto own classes h (λ is. let t : true ≡ false = sym (eq-eqb (get_or labels (upto + 1) 0) region is) ∙ (sym test ∙ e) in cc))))
+    (cases_Bool is_own)
+
+-- ---- the labels
+
+fold_max_upto : (xs : List ℕ) (a m : ℕ) → a ≤ m → ((i : ℕ) → i < length xs → get_or xs i 0 ≤ m) → fold max a xs ≤ m
+fold_max_upto [] a m le all = le
+fold_max_upto (x ∷ xs) a m le all =
+    let first : x ≤ m = all 0 (omega arith) in
+    fold_max_upto xs (max a x) m (omega arith) (λ i l. all (suc i) (omega arith))
+
+module _ (labels : List ℕ) (region n : ℕ) (own list : List ℕ) (h : AreClasses labels region n own list) where
+  -- a class is one of 1 to one more than there are vertices in the region
+  class_between : (v : ℕ) → 1 ≤ v → v ≤ n → (1 ≤ label list v) × (label list v ≤ length own + 1)
+  class_between v from to = ⊎_elim
+      (λ (e : get_or labels v 0 ≡ region). let b = h.inside v from to e in (omega (arith, b.0), omega (arith, b.1)))
+      (λ (ne : get_or labels v 0 ≢ region). let b = h.outside v from to ne in (omega (arith, b), omega (arith, b)))
+      (cases_eq (get_or labels v 0) region)
+
+  pub are_labels : 1 ≤ n → ¬ (get_or labels 1 0 ≡ region) → IsLabels list
+  are_labels one root =
+      let first : label list 1 ≡ 1 = h.outside 1 (omega arith) one root in
+      let entry = λ (i : ℕ) (l : i < length list). class_between (i + 1) (omega arith) (omega (arith, l, h.long)) in
+      record {
+        from_one = λ i d l. omega (arith, (entry i l).0, label_at list i, get_or_default list i d 0 l);
+        used = λ c from to.
+            let most : classes list ≤ length own + 1 = fold_max_upto list 0 (length own + 1) (omega arith) (λ i l. omega (arith, (entry i l).1, label_at list i)) in
+            ⊎_elim
+            (λ (e : c ≡ 1).
+            let l : 0 < length list = omega (arith, one, h.long) in
+            (0, l, get_or_default list 0 c 0 l ∙ (first ∙ sym e)))
+            (λ (ne : c ≢ 1).
+            let inner : c - 2 < length own = omega (arith, from, ne, to, most) in
+            let b = h.each (c - 2) inner in
+            let v = get_or own (c - 2) 0 in
+            let l : v - 1 < length list = omega (arith, b.from_one, b.to_upto, h.long) in
+            let e : c - 2 + 2 ≡ c = omega (arith, from, ne) in
+            (v - 1, l, get_or_default list (v - 1) c 0 l ∙ (b.class ∙ e)))
+            (cases_eq c 1);
+        first = λ l. first;
+      }
+
+-- the graph of a share is that of its region
+pub region_graph : (g : Graph) (labels : List ℕ) (s : Share) → IsShare g labels s → IsRegionGraph g labels s.region s.classes (relabel g s.classes)
+region_graph g labels s h = record {
+  labelled = h.labelled;
+  is = refl;
+  inside = λ v from to e. (h.classes.inside v from to e).0;
+  outside = h.classes.outside;
+  apart = λ u v u1 un v1 vn eu ev same. sym (h.classes.inside u u1 un eu).2 ∙ (ap (λ (c : ℕ). get_or s.own.items (c - 2) 0) same ∙ (h.classes.inside v v1 vn ev).2);
+}
+
+-- ---- shares while others enter
+
+-- a vertex has the label of a region that did not enter just where it had it
+label_left : (labels labels' : List ℕ) (region other v : ℕ) → IsLeftOrEntered labels region labels' → other ≢ region → 1 ≤ other →
+    ((get_or labels' v 0 ≡ other → get_or labels v 0 ≡ other) × (get_or labels v 0 ≡ other → get_or labels' v 0 ≡ other))
+label_left labels labels' region other v left ne one = ⊎_elim
+    (λ (same : get_or labels' v 0 ≡ get_or labels v 0). (λ e. sym same ∙ e, λ e. same ∙ e))
+    (λ moved. (λ e. absurd (omega (arith, moved.1, e, one)), λ e. absurd (ne (sym e ∙ moved.0))))
+    (left v)
+
+pub still_share : (g : Graph) (labels labels' : List ℕ) (region : ℕ) (s : Share) → IsLeftOrEntered labels region labels' → s.region ≢ region → IsSolvedShare g labels s → IsSolvedShare g labels' s
+still_share g labels labels' region s left ne h =
+    let c = h.share.classes in
+    let at = λ (v : ℕ). label_left labels labels' region s.region v left ne h.share.outside in
+    record {
+      share = record {
+        outside = h.share.outside;
+        labelled = h.share.labelled;
+        classes = record {
+          long = c.long;
+          few = c.few;
+          inside = λ v from to e. c.inside v from to ((at v).0 e);
+          outside = λ v from to e. c.outside v from to (λ is. e ((at v).1 is));
+          each = λ place l.
+              let b = c.each place l in
+              record { from_one = b.from_one; to_upto = b.to_upto; in_region = (at (get_or s.own.items place 0)).1 b.in_region; class = b.class };
+        };
+      };
+      tree = h.tree;
+    }
+
+-- ---- a tree that is grafted node by node
+
+-- the first nodes of a tree but its root were added behind those of another
+pub record IsGraftedTo (node : ℕ) (old added new : TreeLinks) (upto : ℕ) : Type 0 where
+  pub long : length new.uppers + 1 ≡ length old.uppers + upto
+  pub laid : length new.follows ≡ length new.uppers
+  pub uppers_kept : (i : ℕ) → i < length old.uppers → get_or new.uppers i 0 ≡ get_or old.uppers i 0
+  pub follows_kept : (i : ℕ) → i < length old.uppers → is_follower new.follows i ≡ is_follower old.follows i
+  pub uppers : (i : ℕ) → 1 ≤ i → i < upto → get_or new.uppers (length old.uppers + i - 1) 0 ≡ grafted_at node (length old.uppers) (get_or added.uppers i 0)
+  pub follows : (i : ℕ) → 1 ≤ i → i < upto → is_follower new.follows (length old.uppers + i - 1) ≡ is_follower added.follows i
+
+pub graft_start : (node : ℕ) (old added : TreeLinks) → length old.follows ≡ length old.uppers → IsGraftedTo node old added old 1
+graft_start node old added laid = record {
+  long = refl;
+  laid = laid;
+  uppers_kept = λ i l. refl;
+  follows_kept = λ i l. refl;
+  uppers = λ i from to. absurd (omega (arith, from, to));
+  follows = λ i from to. absurd (omega (arith, from, to));
+}
+
+pub graft_step : (node : ℕ) (old added new next : TreeLinks) (place upto upper : ℕ) (follower : Bool) → 1 ≤ length old.uppers → 1 ≤ upto → IsGraftedTo node old added new upto →
+    AddsNode new next place upper follower → upper ≡ grafted_at node (length old.uppers) (get_or added.uppers upto 0) → follower ≡ is_follower added.follows upto →
+    IsGraftedTo node old added next (upto + 1)
+graft_step node old added new next place upto upper follower some one h adds upper_is follower_is =
+    let count = length old.uppers in
+    let kept_upper = λ (i : ℕ) (l : i < length new.uppers). (let r : get_or next.uppers i 0 ≡ get_or new.uppers i 0 = ap (λ (u : List ℕ). get_or u i 0) adds.uppers ∙ get_or_append_left new.uppers (upper ∷ []) 0 i l in r) in
+    let kept_follows = λ (i : ℕ) (l : i < length new.uppers). (let r : is_follower next.follows i ≡ is_follower new.follows i = ap (λ (f : List Bool). is_follower f i) adds.follows ∙ get_or_append_left new.follows (follower ∷ []) false i (omega (arith, l, h.laid)) in r) in
+    let last : count + upto - 1 ≡ length new.uppers = omega (arith, some, one, h.long) in
+    let one_more : length next.uppers ≡ length new.uppers + 1 = ap length adds.uppers ∙ one_longer new.uppers upper in
+    record {
+      long = omega (arith, one_more, h.long);
+      laid = ap length adds.follows ∙ (length-append new.follows (follower ∷ []) ∙ (ap (λ (k : ℕ). k + 1) h.laid ∙ sym one_more));
+      uppers_kept = λ i l. kept_upper i (omega (arith, l, h.long, one)) ∙ h.uppers_kept i l;
+      follows_kept = λ i l. kept_follows i (omega (arith, l, h.long, one)) ∙ h.follows_kept i l;
+      uppers = λ i from to. ⊎_elim
+          (λ (e : i ≡ upto).
+          ap (λ (k : ℕ). get_or next.uppers (count + k - 1) 0) e
+          ∙ (ap (λ (k : ℕ). get_or next.uppers k 0) last
+          ∙ (ap (λ (u : List ℕ). get_or u (length new.uppers) 0) adds.uppers
+          ∙ (get_or_push new.uppers upper 0 (length new.uppers) refl
+          ∙ (upper_is ∙ ap (λ (k : ℕ). grafted_at node count (get_or added.uppers k 0)) (sym e))))))
+          (λ (ne : i ≢ upto). kept_upper (count + i - 1) (omega (arith, from, to, ne, some, h.long)) ∙ h.uppers i from (omega (arith, to, ne)))
+          (cases_eq i upto);
+      follows = λ i from to. ⊎_elim
+          (λ (e : i ≡ upto).
+          ap (λ (k : ℕ). is_follower next.follows (count + k - 1)) e
+          ∙ (ap (λ (k : ℕ). is_follower next.follows k) (last ∙ sym h.laid)
+          ∙ (ap (λ (f : List Bool). is_follower f (length new.follows)) adds.follows
+          ∙ (get_or_push new.follows follower false (length new.follows) refl
+          ∙ (follower_is ∙ ap (λ (k : ℕ). is_follower added.follows k) (sym e))))))
+          (λ (ne : i ≢ upto). kept_follows (count + i - 1) (omega (arith, from, to, ne, some, h.long)) ∙ h.follows i from (omega (arith, to, ne)))
+          (cases_eq i upto);
+    }
+
+pub graft_whole : (node : ℕ) (old added new : TreeLinks) (upto : ℕ) → upto ≡ length added.uppers → IsGraftedTo node old added new upto → IsGrafted node old added new
+graft_whole node old added new upto e h = record {
+  long = omega (arith, h.long, e);
+  uppers_kept = h.uppers_kept;
+  follows_kept = h.follows_kept;
+  uppers = λ i from to. h.uppers i from (omega (arith, to, e));
+  follows = λ i from to. h.follows i from (omega (arith, to, e));
+}
+
+-- ---- shares of several regions
+
+-- shares of regions that ascend are of different ones
+pub shares_apart : (shares : List Share) (regions : List ℕ) → map (λ (s : Share). s.region) shares ≡ regions → AllPairs (λ p q. p < q) regions → AllPairs (λ (p q : Share). p.region ≢ q.region) shares
+shares_apart shares regions is up i j d l u e =
+    let f = λ (s : Share). s.region in
+    let long : length regions ≡ length shares = sym (ap length is) ∙ length-map shares f in
+    let at = λ (k : ℕ) (b : k < length shares). (let r : get_or regions k 0 ≡ f (get_or shares k d) = sym (ap (λ (xs : List ℕ). get_or xs k 0) is) ∙ get_or-map f shares k d 0 b in r) in
+    let less = up i j 0 l (omega (arith, u, long)) in
+    omega (arith, less, at i (omega (arith, l, u)), at j u, e)
+
+-- a share, where its labels are those of a list
+pub share_is : (g : Graph) (labels list : List ℕ) (s : Share) (upto : ℕ) → s.classes ≡ list → upto ≡ g.vertices → 1 ≤ g.vertices → get_or labels 1 0 ≡ 0 → 1 ≤ s.region →
+    AreClasses labels s.region upto s.own.items list → IsShare g labels s
+share_is g labels list s upto is all one root outside h =
+    let h' : AreClasses labels s.region g.vertices s.own.items s.classes =
+    subst (λ (l : List ℕ). AreClasses labels s.region g.vertices s.own.items l) (sym is) (subst (λ (k : ℕ). AreClasses labels s.region k s.own.items list) all h) in
+    record {
+      outside = outside;
+      labelled = record { are_labels = are_labels labels s.region g.vertices s.own.items s.classes h' one (λ e. omega (arith, e, root, outside)); long = h'.long };
+      classes = h';
+    }
+
+-- shares that were solved
+pub solved_share : (g : Graph) (labels : List ℕ) (old new : Share) → IsShare g labels old → IsSolvedFrom g old new → IsSolvedShare g labels new
+solved_share g labels old new h is = record {
+  share = record {
+    outside = omega (arith, h.outside, is.region);
+    labelled = subst (IsLabelled g) (sym is.classes) h.labelled;
+    classes = subst (λ (l : List ℕ). AreClasses labels new.region g.vertices new.own.items l) (sym is.classes)
+        (subst (λ (o : Vec ℕ). AreClasses labels new.region g.vertices o.items old.classes) (sym is.own)
+        (subst (λ (r : ℕ). AreClasses labels r g.vertices old.own.items old.classes) (sym is.region) h.classes));
+  };
+  tree = is.tree;
+}
+
+pub solved_shares : (g : Graph) (labels : List ℕ) (olds news : List Share) → All (IsShare g labels) olds → length news ≡ length olds →
+    ((i : ℕ) (d : Share) → i < length olds → IsSolvedFrom g (get_or olds i d) (get_or news i d)) → All (IsSolvedShare g labels) news
+solved_shares g labels olds news h long is i d l =
+    let b : i < length olds = omega (arith, l, long) in
+    solved_share g labels (get_or olds i d) (get_or news i d) (h i d b) (is i d b)
+
+pub solved_apart : (g : Graph) (olds news : List Share) → AllPairs (λ (p q : Share). p.region ≢ q.region) olds → length news ≡ length olds →
+    ((i : ℕ) (d : Share) → i < length olds → IsSolvedFrom g (get_or olds i d) (get_or news i d)) → AllPairs (λ (p q : Share). p.region ≢ q.region) news
+solved_apart g olds news h long is i j d l u e =
+    let b : j < length olds = omega (arith, u, long) in
+    let a : i < length olds = omega (arith, b, l) in
+    h i j d l b (sym (is i d a).region ∙ (e ∙ (is j d b).region))
+
+-- ---- shares one after another, from the last one on
+
+pub last_share : (g : Graph) (labels : List ℕ) (xs rest : List Share) (share : Share) → xs ≡ rest ++ share ∷ [] → All (IsSolvedShare g labels) xs → IsSolvedShare g labels share
+last_share g labels xs rest share is all = All-back (IsSolvedShare g labels) rest (share ∷ []) (subst (All (IsSolvedShare g labels)) is all) 0 share (omega arith)
+
+-- those that are left are of other regions than the one that entered
+pub shares_left : (g : Graph) (labels labels' : List ℕ) (xs rest : List Share) (share : Share) → xs ≡ rest ++ share ∷ [] → All (IsSolvedShare g labels) xs →
+    AllPairs (λ (p q : Share). p.region ≢ q.region) xs → IsLeftOrEntered labels share.region labels' →
+    All (IsSolvedShare g labels') rest × AllPairs (λ (p q : Share). p.region ≢ q.region) rest
+shares_left g labels labels' xs rest share is all apart left =
+    let last = share ∷ [] in
+    let front = All-front (IsSolvedShare g labels) rest last (subst (All (IsSolvedShare g labels)) is all) in
+    let pairs = subst (AllPairs (λ (p q : Share). p.region ≢ q.region)) is apart in
+    let long : length (rest ++ last) ≡ length rest + 1 = length-append rest last in
+    let at = λ (i : ℕ) (d : Share) (l : i < length rest). get_or_append_left rest last d i l in
+    (λ k d l. still_share g labels labels' share.region (get_or rest k d) left
+      (λ e. pairs k (length rest) d l (omega (arith, long)) (ap (λ (s : Share). s.region) (at k d l) ∙ (e ∙ sym (ap (λ (s : Share). s.region) (get_or_push rest share d (length rest) refl)))))
+      (front k d l),
+      λ i j d l u e. pairs i j d l (omega (arith, u, long)) (ap (λ (s : Share). s.region) (at i d (omega (arith, l, u))) ∙ (e ∙ sym (ap (λ (s : Share). s.region) (at j d u)))))
+
+-- ---- regions that ascend
+
+abbrev pub AscendTo : ℕ → List ℕ → Type 0
+AscendTo last xs = All (λ r. 1 ≤ r) xs × (All (λ r. r ≤ last) xs × AllPairs (λ p q. p < q) xs)
+
+pub ascends_more : (xs : List ℕ) (last r : ℕ) → last < r → AscendTo last xs → AscendTo r (xs ++ r ∷ [])
+ascends_more xs last r more h =
+    (All-push (λ k. 1 ≤ k) xs r h.0 (omega (arith, more)),
+      (All-push (λ k. k ≤ r) xs r (λ k d l. omega (arith, more, h.1.0 k d l)) (omega arith),
+        all_pairs_push (λ p q. p < q) xs r h.1.1 (λ k d l. omega (arith, more, h.1.0 k d l))))

@@ -1,0 +1,32 @@
+-- One share after another.
+use Rattle.std.proofs.Common.{◌≡◌, ◌∷◌, ◌++◌, [], length, ap, ⊎_elim, ◌∙◌, arith}
+use Rattle.std.proofs.lemmas.List.{length-append}
+use Rattle.cut_definitions.proofs.ListLaws.{popped_is}
+use Rattle.cactus_solver.proofs.ShareLaws.{last_share, shares_left}
+use Rattle.cactus_solver.proofs.sweep.Sweep.graft_all.Goals as goal
+
+pub graft-requires-clause-share : goal.graft-requires-clause-share
+graft-requires-clause-share c =
+    let xs = c.shares.shares.items in
+    let rest = c.pop.new.self.items in
+    last_share c.args.graph.now c.shares.self.flow.labels xs rest c.in-Some.share (popped_is xs rest c.pop.result c.in-Some.share c.pop.ensures.items c.in-Some.is) c.shares.invariant.each
+
+pub shares-preserved : goal.shares-preserved
+shares-preserved c =
+    let xs = c.shares.shares.items in
+    let rest = c.pop.new.self.items in
+    let left = c.in_ok-graft.ensures.labels in
+    let next = shares_left c.args.graph.now c.shares.self.flow.labels c.graft.new.self.flow.labels xs rest c.in-Some.share
+    (popped_is xs rest c.pop.result c.in-Some.share c.pop.ensures.items c.in-Some.is) c.shares.invariant.each c.shares.invariant.apart left in
+    record {
+      under_way = c.in_ok-graft.ensures.under_way;
+      each = next.0;
+      apart = next.1;
+      stay = λ v e. ⊎_elim (λ same. same ∙ c.shares.invariant.stay v e) (λ moved. moved.1) (left v);
+    }
+
+pub shares-smaller : goal.shares-smaller
+shares-smaller c =
+    let xs = c.shares.shares.items in
+    let rest = c.pop.new.self.items in
+    omega (arith, ap length (popped_is xs rest c.pop.result c.in-Some.share c.pop.ensures.items c.in-Some.is), length-append rest (c.in-Some.share ∷ []))
