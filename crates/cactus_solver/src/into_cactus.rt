@@ -52,12 +52,9 @@ fn empty_node(alloc: Global, members: u32, children: u32) -> Result<Node, NoMemo
     ensures vertices { IfOk result (λ x. vertices x ≡ []) }
     ensures blocks { IfOk result (λ x. blocks x ≡ []) }
 {
-    let vertices = Vec::with_capacity(alloc, members as usize)?;
+    let vertices = VertexList::with_capacity(alloc, members as usize)?;
     let blocks = Blocks::with_capacity(alloc, children as usize)?;
-    Ok(Node {
-        vertices: VertexList::from_vec(vertices),
-        blocks,
-    })
+    Ok(Node { vertices, blocks })
 }
 
 /// Nodes without vertices and blocks, each with room for so many of them.

@@ -1,6 +1,6 @@
 //! A page between a text and a sink.
 
-ghost use Rattle.std.specs.Prelude.{◌≡◌, ◌≤◌, [], ◌∷◌, ◌++◌, IfOk, OnOk, length};
+ghost use Rattle.std.specs.Prelude.{◌≡◌, ◌≤◌, ◌+◌, [], ◌∷◌, ◌++◌, IfOk, OnOk, length};
 ghost use Rattle.std.specs.List.{flat_map};
 ghost use Rattle.cactus_text.specs.Puts.{Puts};
 
@@ -50,14 +50,24 @@ impl Page {
         Ok(())
     }
 
+    /// Sees that so many more bytes have room: where the page would get too full, what it holds is written out.
+    fn make_room<K: Sink>(&mut self, sink: &mut K, count: usize) -> Result<(), SinkFailed>
+        requires { count ≤ 41 }
+        ensures puts { Puts self.old (K.taken sink.old) (K.taken sink.new) (K.faults sink.old) (K.faults sink.new) self.new result }
+        ensures room { OnOk result (length self.new + count ≤ 32768) }
+    {
+        if count > PAGE_SIZE - self.bytes.len() {
+            self.flush(sink)?;
+        }
+        Ok(())
+    }
+
     /// Puts a short piece behind what is held, which is written out before where the page would get too full.
     pub fn put<K: Sink>(&mut self, sink: &mut K, piece: &[u8]) -> Result<(), SinkFailed>
         requires { length piece.now ≤ 40 }
         ensures { Puts (self.old ++ piece.now) (K.taken sink.old) (K.taken sink.new) (K.faults sink.old) (K.faults sink.new) self.new result }
     {
-        if piece.len() > PAGE_SIZE - self.bytes.len() {
-            self.flush(sink)?;
-        }
+        self.make_room(sink, piece.len())?;
         self.bytes.extend_from_slice(piece).unwrap();
         Ok(())
     }
@@ -70,9 +80,12 @@ impl Page {
     ) -> Result<(), SinkFailed>
         ensures { Puts (self.old ++ (32 ∷ I.text number)) (K.taken sink.old) (K.taken sink.new) (K.faults sink.old) (K.faults sink.new) self.new result }
     {
-        self.put(sink, b" ")?;
         let mut buffer = Buffer::new();
-        self.put(sink, buffer.format(number).as_bytes())
+        let digits = buffer.format(number).as_bytes();
+        self.make_room(sink, digits.len() + 1)?;
+        self.bytes.push(b' ').unwrap();
+        self.bytes.extend_from_slice(digits).unwrap();
+        Ok(())
     }
 
     /// Puts numbers in decimal, each with a space before it.

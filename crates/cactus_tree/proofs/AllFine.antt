@@ -1,5 +1,5 @@
 -- Whether a tree is normal, node by node.
-use Rattle.std.proofs.Common.{◌≡◌, ℕ, suc, ◌+◌, inl, inr, Bool, true, false, ◌&&◌, ◌==◌, ◌∷◌, List, [], ◌++◌, Some, length, map, take, get_or, ap, ◌∙◌, sym, refl}
+use Rattle.std.proofs.Common.{◌≡◌, ℕ, suc, ◌+◌, inl, inr, Bool, true, false, ◌&&◌, ◌∷◌, List, [], ◌++◌, Some, length, map, take, get_or, ap, ◌∙◌, sym, refl}
 use Rattle.std.specs.Prelude.{nat_le, slice_get, cond}
 use Rattle.std.specs.List.{filter, list_all, flat_map}
 use Rattle.std.proofs.lemmas.List.Folds.{list_all_more, list_all_at, list_all-append}
@@ -9,14 +9,14 @@ use Rattle.std.specs.declared.alloc.Global.{Global}
 use Rattle.cut_definitions.proofs.Bools.{and_true}
 use Rattle.cactus_tree.specs.Normal.{shape, block_shape, child_fine}
 use Rattle.cactus_tree.specs.Placed.{is_placed, is_set, placed_step}
-use Rattle.cactus_tree.specs.Trees.{vertices, blocks, nodes_in}
+use Rattle.cactus_tree.specs.Trees.{blocks, nodes_in}
 use Rattle.cactus_tree.specs.Entries.{nodes_of}
 use Rattle.cactus_tree.specs.declared.tree.Node.{Node}
 use Rattle.cactus_tree.specs.declared.tree.Block.{Block}
 use Rattle.cactus_tree.specs.declared.tree.Children.{Children}
 use Rattle.cactus_tree.specs.declared.tree.Block.TheVariants.{Bridge, Cycle, outs-Bridge, outs-Cycle}
 use Rattle.cactus_tree.proofs.Entries.{nodes_bridge, nodes_cycle}
-use Rattle.cactus_tree.proofs.Shapes.{bridge_shape, cycle_shape, cycle_fine, node_fine, child_parts}
+use Rattle.cactus_tree.proofs.Shapes.{bridge_shape, cycle_fine, node_fine, child_parts}
 use Rattle.cactus_tree.specs.Numbers.{is_inner}
 use Rattle.cactus_tree.proofs.Tallies.{no_blocks}
 use Rattle.cactus_tree.proofs.Views.{view}

@@ -7,7 +7,7 @@ use Rattle.cactus_tree.specs.Outlines.{Hops, outlined, sizes}
 use Rattle.cactus_tree.specs.Borders.{AllHop, hops_end, hops_more, all_borders, border_at, borders_along, borders_at, placed}
 use Rattle.cactus_tree.specs.Places.{places_from}
 use Rattle.cactus_tree.specs.Walking.{AreChained}
-use Rattle.cactus_tree.specs.declared.tree.outline.Entry.{Entry}
+use Rattle.cactus_tree.specs.declared.tree.outline.NodeOutline.{NodeOutline}
 use Rattle.cactus_tree.specs.declared.walk.borders.Border.{Border}
 use Rattle.cactus_tree.specs.declared.tree.Node.{Node}
 use Rattle.cactus_tree.proofs.Outlined.{all_hop}
@@ -59,7 +59,7 @@ at_chained places s zero k to rest up hops within r = r
 at_chained places s (suc m) k to rest up hops within r = along_chained places s (suc m) k to rest up hops within r
 
 -- the borders of all blocks
-all_chained : (places s : List ℕ) (k : ℕ) (es : List Entry) → Ascend places s → AllHop s k es → AreChained (map (placed places) (all_borders s k es))
+all_chained : (places s : List ℕ) (k : ℕ) (es : List NodeOutline) → Ascend places s → AllHop s k es → AreChained (map (placed places) (all_borders s k es))
 all_chained places s k es up (hops_end t l) = tt
 all_chained places s k es up (hops_more t l e rest at more) =
     subst AreChained (sym (map-append (placed places) (borders_at t e.head l) (all_borders t (l + 1) rest)))

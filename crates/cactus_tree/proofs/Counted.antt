@@ -18,7 +18,7 @@ use Rattle.cactus_tree.specs.declared.tree.Node.{Node}
 use Rattle.cactus_tree.specs.declared.tree.Block.{Block}
 use Rattle.cactus_tree.specs.declared.tree.Children.{Children}
 use Rattle.cactus_tree.specs.declared.tree.Block.TheVariants.{Bridge, Cycle}
-use Rattle.cactus_tree.specs.declared.tree.outline.Entry.{Entry}
+use Rattle.cactus_tree.specs.declared.tree.outline.NodeOutline.{NodeOutline}
 use Rattle.cactus_tree.proofs.Hops.{among, head_among, tail_among}
 use Rattle.cactus_tree.proofs.Kept.{all_to, along, ends, of_nodes, range}
 use Rattle.cactus_tree.proofs.Orders.{entered_bridge, entered_cycle, entered_out}
@@ -37,16 +37,16 @@ abbrev Lists : Type 0
 Lists = List (List ℕ)
 
 -- ---- a test that is true of each node without a vertex above one block of two or more nodes, as entries and lists show it
-abbrev pub Finds : (ℕ → Bool) → ℕ → List Entry → Lists → Type 0
+abbrev pub Finds : (ℕ → Bool) → ℕ → List NodeOutline → Lists → Type 0
 Finds f k [] ls = ⊤
 Finds f k (e ∷ es) [] = ⊤
 Finds f k (e ∷ es) (l ∷ ls) = (l ≡ [] → 2 ≤ e.children → (entry_at es 0).head ≡ e.children → f k ≡ true) × Finds f (k + 1) es ls
 
-early : (es fs : List Entry) (c : ℕ) → 2 ≤ c → (entry_at es 0).head ≡ c → (entry_at (es ++ fs) 0).head ≡ c
+early : (es fs : List NodeOutline) (c : ℕ) → 2 ≤ c → (entry_at es 0).head ≡ c → (entry_at (es ++ fs) 0).head ≡ c
 early [] fs c two h = absurd (omega (arith, two, h))
 early (e ∷ es) fs c two h = h
 
-finds_both : (f : ℕ → Bool) (k : ℕ) (es fs : List Entry) (ls ms : Lists) → length es ≡ length ls → Finds f k (es ++ fs) (ls ++ ms) → Finds f k es ls × Finds f (k + length es) fs ms
+finds_both : (f : ℕ → Bool) (k : ℕ) (es fs : List NodeOutline) (ls ms : Lists) → length es ≡ length ls → Finds f k (es ++ fs) (ls ++ ms) → Finds f k es ls × Finds f (k + length es) fs ms
 finds_both f k [] fs [] ms same h = let e : k ≡ k + 0 = omega arith in (tt, subst (λ j. Finds f j fs ms) e h)
 finds_both f k [] fs (l ∷ ls) ms same h = absurd (omega (arith, same))
 finds_both f k (e ∷ es) fs [] ms same h = absurd (omega (arith, same))
@@ -59,7 +59,7 @@ all_three : (c h p q : ℕ) → 2 ≤ c → h ≡ c → p ≡ q → (nat_le 2 c 
 all_three c h p q two e f = grind (arith, two, e, f)
 
 -- the test of a walk is one
-found_from : (places : Numbers) (es : List Entry) (k p : ℕ) (fs : List Entry) (ls : Lists) → ((j : ℕ) → entry_at es (k + j) ≡ entry_at fs j) → ((j : ℕ) → slice_index places (k + j) ≡ slice_index (places_from p ls) j) →
+found_from : (places : Numbers) (es : List NodeOutline) (k p : ℕ) (fs : List NodeOutline) (ls : Lists) → ((j : ℕ) → entry_at es (k + j) ≡ entry_at fs j) → ((j : ℕ) → slice_index places (k + j) ≡ slice_index (places_from p ls) j) →
     Finds (is_between places es) k fs ls
 found_from places es k p [] ls e f = tt
 found_from places es k p (x ∷ fs) [] e f = tt
@@ -71,8 +71,8 @@ found_from places es k p (x ∷ fs) (l ∷ ls) e f =
     let place : slice_index places k ≡ p = ap (slice_index places) (sym here) ∙ f 0 in
     let behind : slice_index places (k + 1) ≡ p + length l = f 1 ∙ first (p + length l) ls in (
       (λ none two head.
-          let children : (entry_at es k).children ≡ x.children = ap (λ (y : Entry). y.children) own in
-          let block : (entry_at es (k + 1)).head ≡ (entry_at fs 0).head = ap (λ (y : Entry). y.head) next in
+          let children : (entry_at es k).children ≡ x.children = ap (λ (y : NodeOutline). y.children) own in
+          let block : (entry_at es (k + 1)).head ≡ (entry_at fs 0).head = ap (λ (y : NodeOutline). y.head) next in
           let long : length l ≡ 0 = ap length none in
           all_three (entry_at es k).children (entry_at es (k + 1)).head (slice_index places k) (slice_index places (k + 1)) (omega (arith, two, children)) (omega (arith, block, head, children)) (omega (arith, place, behind, long))),
       found_from places es (k + 1) (p + length l) fs ls
@@ -85,7 +85,7 @@ found_from places es k p (x ∷ fs) (l ∷ ls) e f =
     start m (n ∷ ms) = refl
 
 -- ---- lengths
-abbrev rest_entries : List Node → List Entry
+abbrev rest_entries : List Node → List NodeOutline
 rest_entries xs = flat_map (entries_with 0) (map outline xs)
 
 one_length : (x : Node) → length (outline x).inner + 1 ≡ length (entered x)
@@ -103,7 +103,7 @@ first_length : (b : Bool) (from to : ℕ) (later : Numbers) → length (all_to f
 first_length false from to later = omega (arith, length-map (to ∷ later) (range from))
 first_length true from to later = omega (arith, length-map later (range from))
 
-nodes_both : (f : ℕ → Bool) (s : Numbers) (k : ℕ) (es fs : List Entry) → of_nodes f s k (es ++ fs) ≡ of_nodes f s k es ++ of_nodes f s (k + length es) fs
+nodes_both : (f : ℕ → Bool) (s : Numbers) (k : ℕ) (es fs : List NodeOutline) → of_nodes f s k (es ++ fs) ≡ of_nodes f s k es ++ of_nodes f s (k + length es) fs
 nodes_both f s k [] fs = let e : k ≡ k + 0 = omega arith in ap (λ j. of_nodes f s j fs) e
 nodes_both f s k (e ∷ es) fs =
     let j : (k + 1) + length es ≡ k + length (e ∷ es) = omega arith in
@@ -216,7 +216,7 @@ cycle_case nodes h =
     (omega (arith, ap (λ (t : Tally). t.own) (tally_cycle nodes), ap (λ (t : Tally). t.under) (tally_cycle nodes), ap triangle (length-map xs number)))
 
 -- ---- several blocks
-abbrev of_blocks : List Block → List Entry
+abbrev of_blocks : List Block → List NodeOutline
 of_blocks bs = flat_map block_entries (map block_outline bs)
 
 rest_of_block : (xs : List Node) → length (block_entries (map outline xs)) ≡ length (rest_entries xs)

@@ -20,7 +20,7 @@ use Rattle.cactus_tree.specs.declared.tree.Block.TheOpen.{Block-F}
 use Rattle.cactus_tree.specs.declared.tree.Block.TheViews.{roll-Block, roll-out-Block}
 use Rattle.cactus_tree.specs.declared.tree.entries.Joint.{Joint}
 use Rattle.cactus_tree.specs.declared.tree.entries.Joint.TheVariants as Joints
-use Rattle.cactus_tree.specs.declared.tree.entries.Entry.{Entry}
+use Rattle.cactus_tree.specs.declared.tree.entries.ShedNode.{ShedNode}
 use Rattle.cactus_tree.specs.Trees.{vertices, blocks, nodes_in}
 use Rattle.cactus_tree.specs.Entered.{entered, entered_block}
 use Rattle.cactus_tree.specs.Widths.{widths, joined}
@@ -135,26 +135,26 @@ wanted_is [] = refl
 wanted_is (b ∷ bs) = omega (arith, length-append (nodes_of b) (flat_map nodes_of bs), used_case (out-Block b), wanted_is bs)
 
 -- ---- one more entry at the end
-pub read_push : (sets : List ℕ → VertexSet) (es : List Entry) (e : Entry) (rs : List Read) → read_entries sets (es ++ e ∷ []) rs ≡ read_entries sets es (read_entry sets e rs)
+pub read_push : (sets : List ℕ → VertexSet) (es : List ShedNode) (e : ShedNode) (rs : List Read) → read_entries sets (es ++ e ∷ []) rs ≡ read_entries sets es (read_entry sets e rs)
 read_push sets [] e rs = refl
 read_push sets (x ∷ xs) e rs = ap (read_entry sets x) (read_push sets xs e rs)
 
-pub left_push : (es : List Entry) (e : Entry) (k : ℕ) → left (es ++ e ∷ []) k ≡ left es (k - wanted (joints_of e) + 1)
+pub left_push : (es : List ShedNode) (e : ShedNode) (k : ℕ) → left (es ++ e ∷ []) k ≡ left es (k - wanted (joints_of e) + 1)
 left_push [] e k = refl
 left_push (x ∷ xs) e k = ap (λ m. m - wanted (joints_of x) + 1) (left_push xs e k)
 
-ready_push : (es : List Entry) (e : Entry) (k : ℕ) → wanted (joints_of e) ≤ k → IsReady es (k - wanted (joints_of e) + 1) → IsReady (es ++ e ∷ []) k
+ready_push : (es : List ShedNode) (e : ShedNode) (k : ℕ) → wanted (joints_of e) ≤ k → IsReady es (k - wanted (joints_of e) + 1) → IsReady (es ++ e ∷ []) k
 ready_push [] e k w h = (w, tt)
 ready_push (x ∷ xs) e k w h = (subst (λ m. wanted (joints_of x) ≤ m) (sym (left_push xs e k)) h.0, ready_push xs e k w h.1)
 
-pub ready_pop : (es : List Entry) (e : Entry) (k : ℕ) → IsReady (es ++ e ∷ []) k → (wanted (joints_of e) ≤ k) × IsReady es (k - wanted (joints_of e) + 1)
+pub ready_pop : (es : List ShedNode) (e : ShedNode) (k : ℕ) → IsReady (es ++ e ∷ []) k → (wanted (joints_of e) ≤ k) × IsReady es (k - wanted (joints_of e) + 1)
 ready_pop [] e k h = (h.0, tt)
 ready_pop (x ∷ xs) e k h =
     let rest = ready_pop xs e k h.1 in
     (rest.0, (subst (λ m. wanted (joints_of x) ≤ m) (left_push xs e k) h.0, rest.1))
 
 -- ---- a node is taken off the stack, and entered
-pub entered_one : (names : List ℕ → List ℕ) (root x : Node) (es : List Entry) (e : Entry) (rest before after : List Node) → Shows names root es before → before ≡ x ∷ rest → e.vertices ≡ names (vertices x) → joints_of e ≡ map joint_of (blocks x) → after ≡ flat_map nodes_of (blocks x) ++ rest → Shows names root (es ++ e ∷ []) after
+pub entered_one : (names : List ℕ → List ℕ) (root x : Node) (es : List ShedNode) (e : ShedNode) (rest before after : List Node) → Shows names root es before → before ≡ x ∷ rest → e.vertices ≡ names (vertices x) → joints_of e ≡ map joint_of (blocks x) → after ≡ flat_map nodes_of (blocks x) ++ rest → Shows names root (es ++ e ∷ []) after
 entered_one names root x es e rest before after h b v j a =
     let wants : wanted (joints_of e) ≡ length (flat_map nodes_of (blocks x)) = ap wanted j ∙ wanted_is (blocks x) in
     let many : length after ≡ length (flat_map nodes_of (blocks x)) + length rest = ap length a ∙ length-append (flat_map nodes_of (blocks x)) rest in
@@ -207,31 +207,31 @@ fewer_left x rest before after b a =
 pub none_entered : (names : List ℕ → List ℕ) (root : Node) → Shows names root [] (root ∷ [])
 none_entered names root = record { ready = tt; one = refl; reads = λ sets. refl }
 
-pub first_entered : (names : List ℕ → List ℕ) (root : Node) (es : List Entry) (none stack : List Node) → es ≡ [] → none ≡ [] → stack ≡ none ++ root ∷ [] → Shows names root es (top_first stack)
+pub first_entered : (names : List ℕ → List ℕ) (root : Node) (es : List ShedNode) (none stack : List Node) → es ≡ [] → none ≡ [] → stack ≡ none ++ root ∷ [] → Shows names root es (top_first stack)
 first_entered names root es none stack e n s =
-    subst (λ (l : List Entry). Shows names root l (top_first stack)) (sym e)
+    subst (λ (l : List ShedNode). Shows names root l (top_first stack)) (sym e)
     (subst (λ (l : List Node). Shows names root [] (top_first l)) (sym (s ∙ ap (λ l. l ++ root ∷ []) n)) (none_entered names root))
 
 -- ---- entries from the last to the first, with the nodes that are finished
-pub record Builds (all entries : List Entry) (finished : List Node) : Type 0 where
+pub record Builds (all entries : List ShedNode) (finished : List Node) : Type 0 where
   pub ready : IsReady entries (length finished)
   pub one : left entries (length finished) ≡ 1
   pub reads : (sets : List ℕ → VertexSet) → read_entries sets entries (map (read_node sets kept) finished) ≡ read_entries sets all []
 
-pub none_built : (all : List Entry) → IsReady all 0 → left all 0 ≡ 1 → Builds all all []
+pub none_built : (all : List ShedNode) → IsReady all 0 → left all 0 ≡ 1 → Builds all all []
 none_built all r o = record { ready = r; one = o; reads = λ sets. refl }
 
-pub enough_built : (all entries es : List Entry) (e : Entry) (finished : List Node) → Builds all entries finished → entries ≡ es ++ e ∷ [] → wanted (joints_of e) ≤ length finished
-enough_built all entries es e finished h p = (ready_pop es e (length finished) (subst (λ (l : List Entry). IsReady l (length finished)) p h.ready)).0
+pub enough_built : (all entries es : List ShedNode) (e : ShedNode) (finished : List Node) → Builds all entries finished → entries ≡ es ++ e ∷ [] → wanted (joints_of e) ≤ length finished
+enough_built all entries es e finished h p = (ready_pop es e (length finished) (subst (λ (l : List ShedNode). IsReady l (length finished)) p h.ready)).0
 
-pub built_one : (all entries es : List Entry) (e : Entry) (x : Node) (before after : List Node) → Builds all entries before → entries ≡ es ++ e ∷ [] → vertices x ≡ e.vertices →
+pub built_one : (all entries es : List ShedNode) (e : ShedNode) (x : Node) (before after : List Node) → Builds all entries before → entries ≡ es ++ e ∷ [] → vertices x ≡ e.vertices →
     ((sets : List ℕ → VertexSet) → map (read_block sets kept) (blocks x) ≡ all_drawn (joints_of e) (map (read_node sets kept) before)) → after ≡ drop (wanted (joints_of e)) before → Builds all es (x ∷ after)
 built_one all entries es e x before after h p v bs a =
-    let r = ready_pop es e (length before) (subst (λ (l : List Entry). IsReady l (length before)) p h.ready) in
+    let r = ready_pop es e (length before) (subst (λ (l : List ShedNode). IsReady l (length before)) p h.ready) in
     let same : length before - wanted (joints_of e) + 1 ≡ length (x ∷ after) = omega (arith, ap length a, length-drop (wanted (joints_of e)) before) in
     record {
       ready = subst (IsReady es) same r.1;
-      one = ap (left es) (sym same) ∙ sym (left_push es e (length before)) ∙ ap (λ (l : List Entry). left l (length before)) (sym p) ∙ h.one;
+      one = ap (left es) (sym same) ∙ sym (left_push es e (length before)) ∙ ap (λ (l : List ShedNode). left l (length before)) (sym p) ∙ h.one;
       reads = λ sets.
           let f = read_node sets kept in
           let put : map f (x ∷ after) ≡ read_entry sets e (map f before) =
@@ -239,7 +239,7 @@ built_one all entries es e x before after h p v bs a =
           ∙ ap (λ own. node_read sets own (map (read_block sets kept) (blocks x)) ∷ map f after) v
           ∙ ap (λ (rs : List Read). node_read sets e.vertices rs ∷ map f after) (bs sets)
           ∙ ap (λ (rs : List Read). node_read sets e.vertices (all_drawn (joints_of e) (map f before)) ∷ rs) (ap (map f) a ∙ sym (drop-map f (wanted (joints_of e)) before)) in
-          ap (read_entries sets es) put ∙ sym (read_push sets es e (map f before)) ∙ ap (λ (l : List Entry). read_entries sets l (map f before)) (sym p) ∙ h.reads sets;
+          ap (read_entries sets es) put ∙ sym (read_push sets es e (map f before)) ∙ ap (λ (l : List ShedNode). read_entries sets l (map f before)) (sym p) ∙ h.reads sets;
     }
 
 -- ---- a block is put together from the front of the nodes

@@ -8,7 +8,7 @@ use Rattle.cactus_tree.specs.Widths.{joined}
 use Rattle.cactus_tree.specs.CutRanges.{Range, Layout, sizes_in, ranges_from, interval_ranges, size_along, ranges_along, side_by_side, bridge_layout, cycle_layout, node_layout}
 use Rattle.cactus_tree.specs.Outlines.{Outline, Hops, entries_with, block_entries, all_outlines}
 use Rattle.cactus_tree.specs.Borders.{AllHop, hops_end, hops_more, ranges_to, ranges_between, borders_along, borders_at, all_borders}
-use Rattle.cactus_tree.specs.declared.tree.outline.Entry.{Entry}
+use Rattle.cactus_tree.specs.declared.tree.outline.NodeOutline.{NodeOutline}
 use Rattle.cactus_tree.specs.declared.walk.borders.Border.{Border}
 
 abbrev Numbers : Type 0
@@ -29,7 +29,7 @@ pub record IsOutlined (o : Outline) (q : Layout) (s : Numbers) : Type 0 where
   pub ranges : (a b : Numbers) (rest : List Border) → ranges_between (all_borders (among a s b) (length a + 1) o.inner ++ rest) ≡ q.ranges (length a) ++ ranges_between rest
 
 -- the same of several nodes, their entries being given: as those of a block, or of all blocks below a node
-pub record AreEntries (nodes : ℕ) (es : List Entry) (q : Layout) (s : Numbers) : Type 0 where
+pub record AreEntries (nodes : ℕ) (es : List NodeOutline) (q : Layout) (s : Numbers) : Type 0 where
   pub size : q.size ≡ length s
   pub count : length es ≡ length s
   pub hops : (a b : Numbers) → Hops (among a s b) nodes (length a) (length a + length s)
@@ -54,13 +54,13 @@ hops_both : {X : Type 0} (s : Numbers) (xs ys : List X) (from mid to : ℕ) → 
 hops_both s [] ys from mid to e h = subst (λ k. Hops s (length ys) k to) (sym e) h
 hops_both s (x ∷ xs) ys from mid to g h = (g.0, hops_both s xs ys (from + slice_index s from) mid to g.1 h)
 
-all_both : (s : Numbers) (k : ℕ) (es fs : List Entry) → AllHop s k es → AllHop s (k + length es) fs → AllHop s k (es ++ fs)
+all_both : (s : Numbers) (k : ℕ) (es fs : List NodeOutline) → AllHop s k es → AllHop s (k + length es) fs → AllHop s k (es ++ fs)
 all_both s k es fs (hops_end t j) h = let e : j + 0 ≡ j = omega arith in subst (λ m. AllHop t m fs) e h
 all_both s k es fs (hops_more t j e es' at g) h =
     let f : j + length (e ∷ es') ≡ (j + 1) + length es' = omega arith in
     hops_more t j e (es' ++ fs) at (all_both t (j + 1) es' fs g (subst (λ m. AllHop t m fs) f h))
 
-borders_both : (s : Numbers) (k : ℕ) (es fs : List Entry) → all_borders s k (es ++ fs) ≡ all_borders s k es ++ all_borders s (k + length es) fs
+borders_both : (s : Numbers) (k : ℕ) (es fs : List NodeOutline) → all_borders s k (es ++ fs) ≡ all_borders s k es ++ all_borders s (k + length es) fs
 borders_both s k [] fs = let e : k ≡ k + 0 = omega arith in ap (λ m. all_borders s m fs) e
 borders_both s k (e ∷ es) fs =
     let f : (k + 1) + length es ≡ k + length (e ∷ es) = omega arith in
@@ -86,7 +86,7 @@ side_hops os qs ss (more o os' q qs' s ss' h t) a b =
     (omega (arith, h.some, all, both), hops_along whole (length os') (length (a ++ s)) (length a + slice_index whole (length a)) (length (a ++ s) + length rest) (length a + length (s ++ rest)) start ends next)
 
 -- the entries of nodes that are the first of no block
-abbrev rest_entries : List Outline → List Entry
+abbrev rest_entries : List Outline → List NodeOutline
 rest_entries = flat_map (entries_with 0)
 
 entries_length : (head : ℕ) (o : Outline) (q : Layout) (s : Numbers) → IsOutlined o q s → length (entries_with head o) ≡ length s
@@ -286,7 +286,7 @@ blocks_entries oss qs ss (one_block os oss' q qs' s ss' h t) =
     }
 
 -- a node above the blocks below it
-pub node_outlined : (count : ℕ) (es : List Entry) (q : Layout) (s : Numbers) → AreEntries count es q s → IsOutlined record { children = count; inner = es } (node_layout q) ((length s + 1) ∷ s)
+pub node_outlined : (count : ℕ) (es : List NodeOutline) (q : Layout) (s : Numbers) → AreEntries count es q s → IsOutlined record { children = count; inner = es } (node_layout q) ((length s + 1) ∷ s)
 node_outlined count es q s h =
     let top = length s + 1 in
     record {

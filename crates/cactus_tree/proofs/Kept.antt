@@ -10,7 +10,7 @@ use Rattle.cactus_tree.specs.CutRanges.{Range}
 use Rattle.cactus_tree.specs.Outlines.{Hops}
 use Rattle.cactus_tree.specs.Borders.{AllHop, hops_end, hops_more, all_borders, borders_along, borders_at, placed, ranges_between, ranges_to}
 use Rattle.cactus_tree.specs.Repeats.{all_marks, entry_at, is_between, marks_along, marks_at, passed_over, ranges_kept}
-use Rattle.cactus_tree.specs.declared.tree.outline.Entry.{Entry}
+use Rattle.cactus_tree.specs.declared.tree.outline.NodeOutline.{NodeOutline}
 use Rattle.cactus_tree.specs.declared.walk.borders.Border.{Border}
 use Rattle.cactus_tree.proofs.PlaceLaws.{range_placed, to_placed}
 
@@ -48,7 +48,7 @@ along f s zero k = []
 along f s (suc m) k = all_to k (drop (passed_over (f k)) (ends s (suc m) k)) ++ along f s m (k + slice_index s k)
 
 -- those of the blocks of all entries
-abbrev pub of_nodes : (ℕ → Bool) → List ℕ → ℕ → List Entry → List Range
+abbrev pub of_nodes : (ℕ → Bool) → List ℕ → ℕ → List NodeOutline → List Range
 of_nodes f s k [] = []
 of_nodes f s k (e ∷ es) = along f s e.head k ++ of_nodes f s (k + 1) es
 
@@ -92,11 +92,11 @@ kept_at : (f : ℕ → Bool) (s : List ℕ) (m k : ℕ) (rest : List Border) (ma
 kept_at f s zero k rest marks = refl
 kept_at f s (suc m) k rest marks = kept_along f s (suc m) k rest marks
 
-between_all : (s : List ℕ) (k : ℕ) (es : List Entry) → ranges_between (all_borders s k es) ≡ of_nodes never s k es
+between_all : (s : List ℕ) (k : ℕ) (es : List NodeOutline) → ranges_between (all_borders s k es) ≡ of_nodes never s k es
 between_all s k [] = refl
 between_all s k (e ∷ es) = between_at s e.head k (all_borders s (k + 1) es) ∙ ap (λ l. along never s e.head k ++ l) (between_all s (k + 1) es)
 
-kept_all : (f : ℕ → Bool) (s : List ℕ) (k : ℕ) (es : List Entry) → ranges_kept (all_borders s k es) (all_marks f s k es) ≡ of_nodes f s k es
+kept_all : (f : ℕ → Bool) (s : List ℕ) (k : ℕ) (es : List NodeOutline) → ranges_kept (all_borders s k es) (all_marks f s k es) ≡ of_nodes f s k es
 kept_all f s k [] = refl
 kept_all f s k (e ∷ es) = kept_at f s e.head k (all_borders s (k + 1) es) (all_marks f s (k + 1) es) ∙ ap (λ l. along f s e.head k ++ l) (kept_all f s (k + 1) es)
 
@@ -141,7 +141,7 @@ along_back f s (suc m) k r h =
       | inr there ↦ Contains-append_right (all_to k all) (along never s m next) r (along_back f s m next r there)
     ]
 
-nodes_back : (f : ℕ → Bool) (s : List ℕ) (k : ℕ) (es : List Entry) (r : Range) → Contains (of_nodes f s k es) r → Contains (of_nodes never s k es) r
+nodes_back : (f : ℕ → Bool) (s : List ℕ) (k : ℕ) (es : List NodeOutline) (r : Range) → Contains (of_nodes f s k es) r → Contains (of_nodes never s k es) r
 nodes_back f s k [] r h = h
 nodes_back f s k (e ∷ es) r h = elim (Contains-append_cases (along f s e.head k) (of_nodes f s (k + 1) es) r h) [
   | inl here ↦ Contains-append_left (along never s e.head k) (of_nodes never s (k + 1) es) r (along_back f s e.head k r here)
@@ -173,7 +173,7 @@ along_cases f s (suc m) k r h =
       ]
     ]
 
-nodes_cases : (f : ℕ → Bool) (s : List ℕ) (k : ℕ) (es : List Entry) (r : Range) → Contains (of_nodes never s k es) r → Contains (of_nodes f s k es) r ⊎ OfMarked f s r
+nodes_cases : (f : ℕ → Bool) (s : List ℕ) (k : ℕ) (es : List NodeOutline) (r : Range) → Contains (of_nodes never s k es) r → Contains (of_nodes f s k es) r ⊎ OfMarked f s r
 nodes_cases f s k [] r h = inl h
 nodes_cases f s k (e ∷ es) r h = elim (Contains-append_cases (along never s e.head k) (of_nodes never s (k + 1) es) r h) [
   | inl here ↦ elim (along_cases f s e.head k r here) [
@@ -203,7 +203,7 @@ whole_kept f s (suc (suc m)) k to two h =
     Contains-append_left (all_to k (drop (passed_over (f k)) (ends s (suc (suc m)) k))) (along f s (suc m) next) (range k to)
     (not_first (f k) k next (ends s (suc m) next) (range k to) (Contains-map (range k) (ends s (suc m) next) to (last_end s m next to h.1)))
 
-block_kept : (f : ℕ → Bool) (s : List ℕ) (k : ℕ) (es : List Entry) (i j to : ℕ) → i < length es → j ≡ k + i → 2 ≤ (entry_at es i).head → Hops s (entry_at es i).head j to → Contains (of_nodes f s k es) (range j to)
+block_kept : (f : ℕ → Bool) (s : List ℕ) (k : ℕ) (es : List NodeOutline) (i j to : ℕ) → i < length es → j ≡ k + i → 2 ≤ (entry_at es i).head → Hops s (entry_at es i).head j to → Contains (of_nodes f s k es) (range j to)
 block_kept f s k [] i j to h e two hops = absurd (omega (arith, h))
 block_kept f s k (x ∷ es) zero j to h e two hops =
     let same : j ≡ k = omega (arith, e) in
@@ -214,24 +214,24 @@ block_kept f s k (x ∷ es) (suc i) j to h e two hops =
     Contains-append_right (along f s x.head k) (of_nodes f s (k + 1) es) (range j to) (block_kept f s (k + 1) es i j to (omega (arith, h)) (omega (arith, e)) two hops)
 
 -- ---- a marked node, and the block below it
-own_at : (s : List ℕ) (k : ℕ) (es : List Entry) → AllHop s k es → (i j : ℕ) → i < length es → j ≡ k + i → Hops s (entry_at es i).children (j + 1) (j + slice_index s j)
+own_at : (s : List ℕ) (k : ℕ) (es : List NodeOutline) → AllHop s k es → (i j : ℕ) → i < length es → j ≡ k + i → Hops s (entry_at es i).children (j + 1) (j + slice_index s j)
 own_at s k es (hops_end t l) i j h e = absurd (omega (arith, h))
 own_at s k es (hops_more t l x xs at rest) zero j h e =
     let f : l ≡ j = omega (arith, e) in subst (λ m. Hops t x.children (m + 1) (m + slice_index t m)) f at.children
 own_at s k es (hops_more t l x xs at rest) (suc i) j h e = own_at t (l + 1) xs rest i j (omega (arith, h)) (omega (arith, e))
 
 -- an entry with a head is there
-entry_there : (es : List Entry) (i : ℕ) → 1 ≤ (entry_at es i).head → i < length es
+entry_there : (es : List NodeOutline) (i : ℕ) → 1 ≤ (entry_at es i).head → i < length es
 entry_there [] i h = absurd (omega (arith, h))
 entry_there (e ∷ es) zero h = omega arith
 entry_there (e ∷ es) (suc i) h = omega (arith, entry_there es i h)
 
-record Between (places : List ℕ) (es : List Entry) (i : ℕ) : Type 0 where
+record Between (places : List ℕ) (es : List NodeOutline) (i : ℕ) : Type 0 where
   some : 2 ≤ (entry_at es (i + 1)).head
   all : (entry_at es (i + 1)).head ≡ (entry_at es i).children
   empty : slice_index places i ≡ slice_index places (i + 1)
 
-between_is : (places : List ℕ) (es : List Entry) (i : ℕ) → is_between places es i ≡ true → Between places es i
+between_is : (places : List ℕ) (es : List NodeOutline) (i : ℕ) → is_between places es i ≡ true → Between places es i
 between_is places es i h =
     let head = (entry_at es (i + 1)).head in
     let children = (entry_at es i).children in
@@ -241,7 +241,7 @@ between_is places es i h =
     record { some = omega (arith, leb-true 2 children a.0, all); all = all; empty = eqb-true (slice_index places i) (slice_index places (i + 1)) b.1 }
 
 -- each range of a cut is at the places of one that is kept
-module _ (places s : List ℕ) (es : List Entry) (hops : AllHop s 0 es) where
+module _ (places s : List ℕ) (es : List NodeOutline) (hops : AllHop s 0 es) where
   abbrev pub marked : ℕ → Bool
   marked = is_between places es
 

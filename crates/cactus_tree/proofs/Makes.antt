@@ -13,7 +13,7 @@ use Rattle.cactus_tree.specs.Entries.{Read, bridge_read, nothing_read, used, wan
 use Rattle.cactus_tree.specs.declared.tree.Node.{Node}
 use Rattle.cactus_tree.specs.declared.tree.Block.{Block}
 use Rattle.cactus_tree.specs.declared.tree.entries.Joint.{Joint}
-use Rattle.cactus_tree.specs.declared.tree.entries.Entry.{Entry}
+use Rattle.cactus_tree.specs.declared.tree.entries.ShedNode.{ShedNode}
 use Rattle.cactus_tree.proofs.Entries.{drawn_front, read_push, left_push, ready_pop}
 use Rattle.cactus_tree.specs.Trims.{IsNodeOf, IsChildOf, IsBlockOf, Each, AreNodesOf, AreChildrenOf, AreBlocksOf, is_spare, is_above_bridge}
 use Rattle.cactus_tree.proofs.Trims.{node_made}
@@ -115,30 +115,30 @@ blocks_all target js bs stack e d =
     subst (λ l. AreBlocksOf l bs) (sym (append-nil d.done) ∙ ap (λ (l : List Joint). d.done ++ all_drawn l d.rest) (sym e) ∙ d.whole) d.blocks_done
 
 -- ---- a tree is put together from the last entry
-pub record Makes (r : Read) (entries : List Entry) (finished : List Node) : Type 0 where
+pub record Makes (r : Read) (entries : List ShedNode) (finished : List Node) : Type 0 where
   pub reads : List Read
   pub nodes : AreNodesOf reads finished
   pub all : read_entries has entries reads ≡ r ∷ []
 
-pub record Puts (all entries : List Entry) (finished : List Node) : Type 0 where
+pub record Puts (all entries : List ShedNode) (finished : List Node) : Type 0 where
   pub ready : IsReady entries (length finished)
   pub one : left entries (length finished) ≡ 1
   pub makes : (r : Read) → read_entries has all [] ≡ r ∷ [] → Makes r entries finished
 
-pub puts_none : (all : List Entry) → IsReady all 0 → left all 0 ≡ 1 → Puts all all []
+pub puts_none : (all : List ShedNode) → IsReady all 0 → left all 0 ≡ 1 → Puts all all []
 puts_none all r o = record { ready = r; one = o; makes = λ r e. record { reads = []; nodes = tt; all = e } }
 
-pub puts_enough : (all entries es : List Entry) (e : Entry) (finished : List Node) → Puts all entries finished → entries ≡ es ++ e ∷ [] → wanted (joints_of e) ≤ length finished
-puts_enough all entries es e finished h p = (ready_pop es e (length finished) (subst (λ (l : List Entry). IsReady l (length finished)) p h.ready)).0
+pub puts_enough : (all entries es : List ShedNode) (e : ShedNode) (finished : List Node) → Puts all entries finished → entries ≡ es ++ e ∷ [] → wanted (joints_of e) ≤ length finished
+puts_enough all entries es e finished h p = (ready_pop es e (length finished) (subst (λ (l : List ShedNode). IsReady l (length finished)) p h.ready)).0
 
-pub puts_one : (all entries es : List Entry) (e : Entry) (x : Node) (before after : List Node) → Puts all entries before → entries ≡ es ++ e ∷ [] → vertices x ≡ e.vertices →
+pub puts_one : (all entries es : List ShedNode) (e : ShedNode) (x : Node) (before after : List Node) → Puts all entries before → entries ≡ es ++ e ∷ [] → vertices x ≡ e.vertices →
     ((rs : List Read) → AreNodesOf rs before → AreBlocksOf (all_drawn (joints_of e) rs) (blocks x)) → after ≡ drop (wanted (joints_of e)) before → Puts all es (x ∷ after)
 puts_one all entries es e x before after h p v bs a =
-    let r = ready_pop es e (length before) (subst (λ (l : List Entry). IsReady l (length before)) p h.ready) in
+    let r = ready_pop es e (length before) (subst (λ (l : List ShedNode). IsReady l (length before)) p h.ready) in
     let same : length before - wanted (joints_of e) + 1 ≡ length (x ∷ after) = omega (arith, ap length a, length-drop (wanted (joints_of e)) before) in
     record {
       ready = subst (IsReady es) same r.1;
-      one = ap (left es) (sym same) ∙ sym (left_push es e (length before)) ∙ ap (λ (l : List Entry). left l (length before)) (sym p) ∙ h.one;
+      one = ap (left es) (sym same) ∙ sym (left_push es e (length before)) ∙ ap (λ (l : List ShedNode). left l (length before)) (sym p) ∙ h.one;
       makes = λ t begun.
           let m = h.makes t begun in
           record {
@@ -147,12 +147,12 @@ puts_one all entries es e x before after h p v bs a =
               node_made e.vertices (all_drawn (joints_of e) m.reads) x v (bs m.reads m.nodes),
               subst (AreNodesOf (drop (wanted (joints_of e)) m.reads)) (sym a) (each_drop IsNodeOf (wanted (joints_of e)) m.reads before m.nodes),
             );
-            all = sym (read_push has es e m.reads) ∙ ap (λ (l : List Entry). read_entries has l m.reads) (sym p) ∙ m.all;
+            all = sym (read_push has es e m.reads) ∙ ap (λ (l : List ShedNode). read_entries has l m.reads) (sym p) ∙ m.all;
           };
     }
 
-pub puts_all : (all entries : List Entry) (finished : List Node) (x : Node) (r : Read) → Puts all entries finished → entries ≡ [] → finished ≡ x ∷ [] → read_entries has all [] ≡ r ∷ [] → IsNodeOf r x
+pub puts_all : (all entries : List ShedNode) (finished : List Node) (x : Node) (r : Read) → Puts all entries finished → entries ≡ [] → finished ≡ x ∷ [] → read_entries has all [] ≡ r ∷ [] → IsNodeOf r x
 puts_all all entries finished x r h e f begun =
     let m = h.makes r begun in
-    let reads : m.reads ≡ r ∷ [] = ap (λ (l : List Entry). read_entries has l m.reads) (sym e) ∙ m.all in
+    let reads : m.reads ≡ r ∷ [] = ap (λ (l : List ShedNode). read_entries has l m.reads) (sym e) ∙ m.all in
     (subst (λ (l : List Read). AreNodesOf l (x ∷ [])) reads (subst (AreNodesOf m.reads) f m.nodes)).0

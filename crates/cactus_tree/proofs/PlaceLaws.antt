@@ -13,7 +13,7 @@ use Rattle.cactus_tree.specs.Walking.{AreBorders}
 use Rattle.cactus_tree.specs.Entered.{entered, entered_block}
 use Rattle.cactus_tree.specs.Trees.{vertices, blocks}
 use Rattle.cactus_tree.specs.Sides.{cuts}
-use Rattle.cactus_tree.specs.declared.tree.outline.Entry.{Entry}
+use Rattle.cactus_tree.specs.declared.tree.outline.NodeOutline.{NodeOutline}
 use Rattle.cactus_tree.specs.declared.walk.borders.Border.{Border}
 use Rattle.cactus_tree.specs.declared.tree.Node.{Node}
 use Rattle.cactus_tree.proofs.Laid.{set_at}
@@ -126,7 +126,7 @@ at_fit : (places : List ℕ) (long : ℕ) (s : List ℕ) (m k : ℕ) (rest : Lis
 at_fit places long s zero k rest h r = r
 at_fit places long s (suc m) k rest h r = along_fit places long s (suc m) k rest h r
 
-all_fit : (places : List ℕ) (long : ℕ) (s : List ℕ) (k : ℕ) (es : List Entry) → ((j : ℕ) → slice_index places j ≤ long) → AreBorders long (map (placed places) (all_borders s k es))
+all_fit : (places : List ℕ) (long : ℕ) (s : List ℕ) (k : ℕ) (es : List NodeOutline) → ((j : ℕ) → slice_index places j ≤ long) → AreBorders long (map (placed places) (all_borders s k es))
 all_fit places long s k [] h = tt
 all_fit places long s k (e ∷ es) h =
     subst (AreBorders long) (sym (map-append (placed places) (borders_at s e.head k) (all_borders s (k + 1) es))) (at_fit places long s e.head k (map (placed places) (all_borders s (k + 1) es)) h (all_fit places long s (k + 1) es h))

@@ -14,7 +14,7 @@ use Rattle.cactus_tree.specs.Normal.{is_normal}
 use Rattle.cactus_tree.specs.Different.{AreDifferent}
 use Rattle.cactus_tree.specs.Walking.{AreBorders, AreChained}
 use Rattle.cactus_tree.specs.declared.tree.Node.{Node}
-use Rattle.cactus_tree.specs.declared.tree.outline.Entry.{Entry}
+use Rattle.cactus_tree.specs.declared.tree.outline.NodeOutline.{NodeOutline}
 use Rattle.cactus_tree.specs.declared.walk.borders.Border.{Border}
 use Rattle.cactus_tree.proofs.Chained.{borders_chained}
 use Rattle.cactus_tree.proofs.Counted.{tree_counted}
@@ -49,7 +49,7 @@ are_places n x order borders cactus o b = record {
 pub places_many : (x : Node) (s ps : List ℕ) → s ≡ sizes x → ps ≡ places_from 0 (entered x) → length s < length ps
 places_many x s ps e f = omega (arith, ap length e, ap length f, places_length 0 (entered x), sizes_entered x)
 
-pub borders_read : (x : Node) (es : List Entry) (s ps : List ℕ) → es ≡ outlined x → s ≡ sizes x → ps ≡ places_from 0 (entered x) → map (placed ps) (all_borders s 0 es) ≡ walk_borders x
+pub borders_read : (x : Node) (es : List NodeOutline) (s ps : List ℕ) → es ≡ outlined x → s ≡ sizes x → ps ≡ places_from 0 (entered x) → map (placed ps) (all_borders s 0 es) ≡ walk_borders x
 borders_read x es s ps e f g =
     ap (λ p. map (placed p) (all_borders s 0 es)) g
     ∙ ap (λ t. map (placed (places_from 0 (entered x))) (all_borders t 0 es)) f
@@ -64,7 +64,7 @@ at_marks : (f : ℕ → Bool) (s : List ℕ) (m k : ℕ) → length (marks_at f 
 at_marks f s zero k = refl
 at_marks f s (suc m) k = along_marks f s (suc m) k
 
-marks_length : (f : ℕ → Bool) (s : List ℕ) (k : ℕ) (es : List Entry) → length (all_marks f s k es) ≡ length (all_borders s k es)
+marks_length : (f : ℕ → Bool) (s : List ℕ) (k : ℕ) (es : List NodeOutline) → length (all_marks f s k es) ≡ length (all_borders s k es)
 marks_length f s k [] = refl
 marks_length f s k (e ∷ es) =
     omega (
@@ -78,7 +78,7 @@ marks_length f s k (e ∷ es) =
 abbrev pub walk_marks : Node → List Bool
 walk_marks x = all_marks (is_between (places_from 0 (entered x)) (outlined x)) (sizes x) 0 (outlined x)
 
-pub marks_read : (x : Node) (es : List Entry) (s ps : List ℕ) → es ≡ outlined x → s ≡ sizes x → ps ≡ places_from 0 (entered x) → all_marks (is_between ps es) s 0 es ≡ walk_marks x
+pub marks_read : (x : Node) (es : List NodeOutline) (s ps : List ℕ) → es ≡ outlined x → s ≡ sizes x → ps ≡ places_from 0 (entered x) → all_marks (is_between ps es) s 0 es ≡ walk_marks x
 marks_read x es s ps e f g =
     ap (λ p. all_marks (is_between p es) s 0 es) g
     ∙ ap (λ t. all_marks (is_between (places_from 0 (entered x)) es) t 0 es) f

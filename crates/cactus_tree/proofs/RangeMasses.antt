@@ -1,12 +1,12 @@
 -- The mass of a side is that of its range.
-use Rattle.std.proofs.Common.{◌≡◌, ℕ, zero, suc, ◌+◌, ◌-◌, ◌*◌, ◌≤◌, ◌<◌, ◌^◌, ◌⊎◌, inl, inr, Bool, true, false, ◌||◌, ◌==◌, List, [], ◌∷◌, ◌++◌, length, get_or, take, ap, ◌∙◌, sym, refl, subst, arith}
-use Rattle.std.specs.List.{All, range_with_len, sum_by}
+use Rattle.std.proofs.Common.{◌≡◌, ℕ, zero, suc, ◌+◌, ◌-◌, ◌*◌, ◌≤◌, ◌<◌, ◌^◌, ◌⊎◌, inl, inr, true, ◌||◌, ◌==◌, List, [], ◌∷◌, ◌++◌, length, get_or, take, ap, ◌∙◌, sym, refl, subst, arith}
+use Rattle.std.specs.List.{All, sum_by}
 use Rattle.std.proofs.Math.Seq.{take-suc}
 use Rattle.std.proofs.lemmas.List.Elements.{All-get_or}
 use Rattle.std.proofs.lemmas.List.Sums.{sum_by-cons, sum_by-append}
-use Rattle.cut_definitions.specs.Balance.{AreMasses, balance, mass, mass_of}
+use Rattle.cut_definitions.specs.Balance.{AreMasses, mass, mass_of}
 use Rattle.cut_definitions.specs.Cuts.{has}
-use Rattle.cut_definitions.specs.Weight.{VertexSet, complement}
+use Rattle.cut_definitions.specs.Weight.{complement}
 use Rattle.cut_definitions.proofs.Masses.{mass-agree, mass-complement, mass-none, mass-put}
 use Rattle.vertex_set.proofs.Bits.{has-listed}
 use Rattle.cactus_tree.specs.CutRanges.{Range, elements_at}

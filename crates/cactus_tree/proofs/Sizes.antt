@@ -4,7 +4,7 @@ use Rattle.std.specs.Prelude.{slice_index}
 use Rattle.std.proofs.lemmas.Grind.{get_or_default_zero}
 use Rattle.cactus_tree.specs.Outlines.{Hops, outlined, sizes}
 use Rattle.cactus_tree.specs.Borders.{AllHop, hops_end, hops_more}
-use Rattle.cactus_tree.specs.declared.tree.outline.Entry.{Entry}
+use Rattle.cactus_tree.specs.declared.tree.outline.NodeOutline.{NodeOutline}
 use Rattle.cactus_tree.specs.declared.tree.Node.{Node}
 use Rattle.cactus_tree.proofs.Outlined.{sizes_length, all_hop}
 use Rattle.cactus_tree.proofs.Drops.{late, early, joint_length, joint_set}
@@ -40,30 +40,30 @@ hops_same s t k (suc m) from to e f le h =
     let moved : Hops s m (from + slice_index t from) to = subst (λ j. Hops s m (from + j) to) (f from le) h.1 in
     (omega (arith, h.0, e), hops_same s t k m (from + slice_index t from) to e f (omega (arith, le)) moved)
 
-abbrev pub counts_of : List Entry → List ℕ
-counts_of = map (λ (e : Entry). e.children)
+abbrev pub counts_of : List NodeOutline → List ℕ
+counts_of = map (λ (e : NodeOutline). e.children)
 
-pub counts_length : (es : List Entry) → length (counts_of es) ≡ length es
+pub counts_length : (es : List NodeOutline) → length (counts_of es) ≡ length es
 counts_length [] = refl
 counts_length (e ∷ es) = ap suc (counts_length es)
 
-children_at : (s : List ℕ) (k : ℕ) (es : List Entry) → AllHop s k es → (i j : ℕ) → i < length es → j ≡ k + i → Hops s (slice_index (counts_of es) i) (j + 1) (j + slice_index s j)
+children_at : (s : List ℕ) (k : ℕ) (es : List NodeOutline) → AllHop s k es → (i j : ℕ) → i < length es → j ≡ k + i → Hops s (slice_index (counts_of es) i) (j + 1) (j + slice_index s j)
 children_at s k es (hops_end t l) i j h e = absurd (omega (arith, h))
 children_at s k es (hops_more t l x xs at rest) zero j h e =
     let f : l ≡ j = omega (arith, e) in subst (λ m. Hops t x.children (m + 1) (m + slice_index t m)) f at.children
 children_at s k es (hops_more t l x xs at rest) (suc i) j h e = children_at t (l + 1) xs rest i j (omega (arith, h)) (omega (arith, e))
 
-pub block_at : (s : List ℕ) (k : ℕ) (es : List Entry) → AllHop s k es → (i j : ℕ) (d : Entry) → i < length es → j ≡ k + i → (end : ℕ) × (end ≤ length s) × Hops s (get_or es i d).head j end
+pub block_at : (s : List ℕ) (k : ℕ) (es : List NodeOutline) → AllHop s k es → (i j : ℕ) (d : NodeOutline) → i < length es → j ≡ k + i → (end : ℕ) × (end ≤ length s) × Hops s (get_or es i d).head j end
 block_at s k es (hops_end t l) i j d h e = absurd (omega (arith, h))
 block_at s k es (hops_more t l x xs at rest) zero j d h e =
     let f : l ≡ j = omega (arith, e) in (at.end, at.within, subst (λ m. Hops t x.head m at.end) f at.block)
 block_at s k es (hops_more t l x xs at rest) (suc i) j d h e = block_at t (l + 1) xs rest i j d (omega (arith, h)) (omega (arith, e))
 
 -- the sizes that are found already, behind the numbers of children of the nodes before them
-abbrev pub found_from : ℕ → List Entry → Node → List ℕ
+abbrev pub found_from : ℕ → List NodeOutline → Node → List ℕ
 found_from i es x = take i (counts_of es) ++ drop i (sizes x)
 
-pub nothing_found : (es : List Entry) (x : Node) → es ≡ outlined x → (counts : List ℕ) (i : ℕ) → counts ≡ counts_of es → i ≡ length counts → counts ≡ found_from i es x
+pub nothing_found : (es : List NodeOutline) (x : Node) → es ≡ outlined x → (counts : List ℕ) (i : ℕ) → counts ≡ counts_of es → i ≡ length counts → counts ≡ found_from i es x
 nothing_found es x is counts i c e =
     let same : length (counts_of es) ≡ length (sizes x) = counts_length es ∙ ap length is ∙ sizes_length x in
     let all : i ≡ length (counts_of es) = e ∙ ap length c in
@@ -76,7 +76,7 @@ nothing_found es x is counts i c e =
     whole (x ∷ xs) (y ∷ ys) e = ap (λ l. x ∷ l) (whole xs ys (omega (arith, e)))
 
 -- the subtrees right below a node end where its own does
-pub node_hops : (es : List Entry) (x : Node) → es ≡ outlined x → (before : List ℕ) (i j : ℕ) → before ≡ found_from i es x → i ≡ suc j → i ≤ length es →
+pub node_hops : (es : List NodeOutline) (x : Node) → es ≡ outlined x → (before : List ℕ) (i j : ℕ) → before ≡ found_from i es x → i ≡ suc j → i ≤ length es →
     Hops before (slice_index before j) (j + 1) (j + slice_index (sizes x) j)
 node_hops es x is before i j b e le =
     let same : length (counts_of es) ≡ length (sizes x) = counts_length es ∙ ap length is ∙ sizes_length x in
@@ -89,20 +89,20 @@ node_hops es x is before i j b e le =
     (omega arith)
     (subst (λ c. Hops (sizes x) c (j + 1) (j + slice_index (sizes x) j)) (sym count) hops)
 
-inside_at : (s : List ℕ) (k : ℕ) (es : List Entry) → AllHop s k es → (i j : ℕ) → i < length es → j ≡ k + i → j + slice_index s j ≤ length s
+inside_at : (s : List ℕ) (k : ℕ) (es : List NodeOutline) → AllHop s k es → (i j : ℕ) → i < length es → j ≡ k + i → j + slice_index s j ≤ length s
 inside_at s k es (hops_end t l) i j h e = absurd (omega (arith, h))
 inside_at s k es (hops_more t l x xs at rest) zero j h e =
     let f : l ≡ j = omega (arith, e) in subst (λ m. m + slice_index t m ≤ length t) f at.inside
 inside_at s k es (hops_more t l x xs at rest) (suc i) j h e = inside_at t (l + 1) xs rest i j (omega (arith, h)) (omega (arith, e))
 
-read_zero : (es : List Entry) (x : Node) → es ≡ outlined x → (before : List ℕ) (i j v : ℕ) → before ≡ found_from i es x → i ≡ suc j → i ≤ length es → v ≡ get_or before j v → v ≡ slice_index before j
+read_zero : (es : List NodeOutline) (x : Node) → es ≡ outlined x → (before : List ℕ) (i j v : ℕ) → before ≡ found_from i es x → i ≡ suc j → i ≤ length es → v ≡ get_or before j v → v ≡ slice_index before j
 read_zero es x is before i j v b e le at =
     let equal : length (counts_of es) ≡ length (sizes x) = counts_length es ∙ ap length is ∙ sizes_length x in
     let long : length before ≡ length (sizes x) = ap length b ∙ joint_length (counts_of es) (sizes x) i equal in
     at ∙ get_or_default_zero before j v (omega (arith, e, le, long, equal, counts_length es))
 
 -- the end of the subtrees right below a node, at what a loop reads
-pub end_known : (es : List Entry) (x : Node) → es ≡ outlined x → (before : List ℕ) (i j : ℕ) (d : List ℕ) (v : ℕ) → before ≡ found_from i es x → i ≡ suc j → i ≤ length es → d ≡ before → v ≡ get_or before j v →
+pub end_known : (es : List NodeOutline) (x : Node) → es ≡ outlined x → (before : List ℕ) (i j : ℕ) (d : List ℕ) (v : ℕ) → before ≡ found_from i es x → i ≡ suc j → i ≤ length es → d ≡ before → v ≡ get_or before j v →
     (end : ℕ) × (end ≤ length d) × Hops d v (j + 1) end
 end_known es x is before i j d v b e le same at =
     let read = read_zero es x is before i j v b e le at in
@@ -116,7 +116,7 @@ end_known es x is before i j d v b e le same at =
     )
 
 -- one more size
-pub one_found : (es : List Entry) (x : Node) → es ≡ outlined x → (before after : List ℕ) (i j end : ℕ) (d : List ℕ) (v : ℕ) → before ≡ found_from i es x → i ≡ suc j → i ≤ length es → d ≡ before → v ≡ get_or before j v →
+pub one_found : (es : List NodeOutline) (x : Node) → es ≡ outlined x → (before after : List ℕ) (i j end : ℕ) (d : List ℕ) (v : ℕ) → before ≡ found_from i es x → i ≡ suc j → i ≤ length es → d ≡ before → v ≡ get_or before j v →
     Hops d v (j + 1) end → after ≡ set before j (end - j) → after ≡ found_from j es x
 one_found es x is before after i j end d v b e le same at h a =
     let read = read_zero es x is before i j v b e le at in

@@ -5,7 +5,7 @@ use Rattle.std.proofs.lemmas.List.{append-nil, append_assoc, length-append}
 use Rattle.cactus_tree.specs.Outlines.{Outline, outline, block_outline, entries_with, block_entries, all_outlines}
 use Rattle.cactus_tree.specs.Heads.{entries_waiting}
 use Rattle.cactus_tree.specs.Trees.{blocks}
-use Rattle.cactus_tree.specs.declared.tree.outline.Entry.{Entry}
+use Rattle.cactus_tree.specs.declared.tree.outline.NodeOutline.{NodeOutline}
 use Rattle.cactus_tree.specs.declared.tree.outline.Seen.{Seen}
 use Rattle.cactus_tree.specs.declared.tree.Node.{Node}
 use Rattle.cactus_tree.specs.declared.tree.Block.{Block}
@@ -13,7 +13,7 @@ use Rattle.cactus_tree.proofs.Outlined.{outline_out}
 use Rattle.cactus_tree.proofs.Drops.{drop_at}
 
 -- the entries of the nodes of a block from a place on
-abbrev pub entries_from : ℕ → List Outline → List Entry
+abbrev pub entries_from : ℕ → List Outline → List NodeOutline
 entries_from zero os = block_entries os
 entries_from (suc _) os = flat_map (entries_with 0) os
 
@@ -33,11 +33,11 @@ rest_from zero os h = absurd (omega (arith, h))
 rest_from (suc i) os h = refl
 
 -- the node of a bridge
-pub one_node : (o : Outline) (rest : List Entry) → entries_with 1 o ++ rest ≡ block_entries (o ∷ []) ++ rest
-one_node o rest = ap (λ l. (let y : Entry = record { children = o.children; head = 1 } in y) ∷ (l ++ rest)) (sym (append-nil o.inner))
+pub one_node : (o : Outline) (rest : List NodeOutline) → entries_with 1 o ++ rest ≡ block_entries (o ∷ []) ++ rest
+one_node o rest = ap (λ l. (let y : NodeOutline = record { children = o.children; head = 1 } in y) ∷ (l ++ rest)) (sym (append-nil o.inner))
 
 -- one more node of a cycle, with its head
-pub stacked_node : (xs : List Node) (i head : ℕ) (x : Node) (before after rest : List Entry) → 0 < i → i ≤ length xs → x ≡ get_or xs (i - 1) x →
+pub stacked_node : (xs : List Node) (i head : ℕ) (x : Node) (before after rest : List NodeOutline) → 0 < i → i ≤ length xs → x ≡ get_or xs (i - 1) x →
     (i - 1 ≡ 0 → head ≡ length xs) → (0 < i - 1 → head ≡ 0) →
     before ≡ entries_from i (map outline (drop i xs)) ++ rest → after ≡ entries_with head (outline x) ++ before → after ≡ entries_from (i - 1) (map outline (drop (i - 1) xs)) ++ rest
 stacked_node xs i head x before after rest some within is first others b a =
@@ -54,7 +54,7 @@ stacked_node xs i head x before after rest some within is first others b a =
     length_mapped (y ∷ ys) = ap suc (length_mapped ys)
 
 -- the nodes of one more block
-pub stacked_block : (bs : List Block) (i : ℕ) (x : Block) (before after rest : List Entry) → 0 < i → i ≤ length bs → x ≡ get_or bs (i - 1) x →
+pub stacked_block : (bs : List Block) (i : ℕ) (x : Block) (before after rest : List NodeOutline) → 0 < i → i ≤ length bs → x ≡ get_or bs (i - 1) x →
     before ≡ flat_map block_entries (map block_outline (drop i bs)) ++ rest → after ≡ block_entries (block_outline x) ++ before → after ≡ flat_map block_entries (map block_outline (drop (i - 1) bs)) ++ rest
 stacked_block bs i x before after rest some within is b a =
     let here : drop (i - 1) bs ≡ x ∷ drop i bs = drop_at bs i x some within is in
@@ -71,12 +71,12 @@ stacked_length bs i before after rest x some within is b a =
     omega arith
 
 -- a node is taken off the stack, its entry is kept, and the nodes right below it are put there
-pub entered_one : (x : Node) (e : Entry) (kept more before after rest : List Entry) → before ≡ entries_with e.head (outline x) ++ rest → after ≡ flat_map block_entries (map block_outline (blocks x)) ++ rest →
+pub entered_one : (x : Node) (e : NodeOutline) (kept more before after rest : List NodeOutline) → before ≡ entries_with e.head (outline x) ++ rest → after ≡ flat_map block_entries (map block_outline (blocks x)) ++ rest →
     e.children ≡ length (all_outlines (map block_outline (blocks x))) → more ≡ kept ++ e ∷ [] → (length after < length before) × (more ++ after ≡ kept ++ before)
 entered_one x e kept more before after rest b a c m =
     let out = outline_out x in
     let whole : before ≡ e ∷ after =
     b ∙ ap (λ o. entries_with e.head o ++ rest) out
-    ∙ ap (λ k. (let y : Entry = record { children = k; head = e.head } in y) ∷ (flat_map block_entries (map block_outline (blocks x)) ++ rest)) (sym c)
+    ∙ ap (λ k. (let y : NodeOutline = record { children = k; head = e.head } in y) ∷ (flat_map block_entries (map block_outline (blocks x)) ++ rest)) (sym c)
     ∙ ap (λ l. e ∷ l) (sym a) in
     (omega (arith, ap length whole), ap (λ l. l ++ after) m ∙ append_assoc kept (e ∷ []) after ∙ ap (λ l. kept ++ l) (sym whole))

@@ -2,7 +2,7 @@
 use Rattle.std.specs.Prelude.{ℕ, zero, suc, ◌+◌, ◌≤◌, List, [], ◌∷◌, ◌++◌, map, length, take, slice_index, slice_index_or}
 use Rattle.cactus_tree.specs.CutRanges.{Range}
 use Rattle.cactus_tree.specs.Outlines.{Hops}
-use Rattle.cactus_tree.specs.declared.tree.outline.Entry.{Entry}
+use Rattle.cactus_tree.specs.declared.tree.outline.NodeOutline.{NodeOutline}
 use Rattle.cactus_tree.specs.declared.walk.borders.Border.{Border}
 
 -- the ranges from a place to each of several borders
@@ -25,7 +25,7 @@ borders_at sizes zero first = []
 borders_at sizes (suc count) first = borders_along sizes (suc count) first
 
 -- the borders of the blocks of the entries, of which the first has the number k
-abbrev pub all_borders : List ℕ → ℕ → List Entry → List Border
+abbrev pub all_borders : List ℕ → ℕ → List NodeOutline → List Border
 all_borders sizes k [] = []
 all_borders sizes k (e ∷ es) = borders_at sizes e.head k ++ all_borders sizes (k + 1) es
 
@@ -38,7 +38,7 @@ abbrev pub placed : List ℕ → Border → Border
 placed places b = record { place = slice_index places b.place; following = b.following }
 
 -- the subtrees right below a node, and those of the block whose first one it is, lie within the sizes
-pub record HopsAt (sizes : List ℕ) (k : ℕ) (e : Entry) : Type 0 where
+pub record HopsAt (sizes : List ℕ) (k : ℕ) (e : NodeOutline) : Type 0 where
   pub children : Hops sizes e.children (k + 1) (k + slice_index sizes k)
   pub inside : k + slice_index sizes k ≤ length sizes
   pub end : ℕ
@@ -46,6 +46,6 @@ pub record HopsAt (sizes : List ℕ) (k : ℕ) (e : Entry) : Type 0 where
   pub block : Hops sizes e.head k end
 
 -- the same of each entry, of which the first has the number k
-pub data AllHop : List ℕ → ℕ → List Entry → Type 0 where
+pub data AllHop : List ℕ → ℕ → List NodeOutline → Type 0 where
   hops_end : (sizes : List ℕ) (k : ℕ) → AllHop sizes k []
-  hops_more : (sizes : List ℕ) (k : ℕ) (e : Entry) (es : List Entry) → HopsAt sizes k e → AllHop sizes (k + 1) es → AllHop sizes k (e ∷ es)
+  hops_more : (sizes : List ℕ) (k : ℕ) (e : NodeOutline) (es : List NodeOutline) → HopsAt sizes k e → AllHop sizes (k + 1) es → AllHop sizes k (e ∷ es)

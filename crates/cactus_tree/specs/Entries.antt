@@ -9,7 +9,7 @@ use Rattle.cactus_tree.specs.declared.tree.Children.{Children}
 use Rattle.cactus_tree.specs.declared.tree.Block.TheOpen.{Block-F, Bridge, Cycle}
 use Rattle.cactus_tree.specs.declared.tree.entries.Joint.{Joint}
 use Rattle.cactus_tree.specs.declared.tree.entries.Joint.TheVariants as Joints
-use Rattle.cactus_tree.specs.declared.tree.entries.Entry.{Entry}
+use Rattle.cactus_tree.specs.declared.tree.entries.ShedNode.{ShedNode}
 use Rattle.cactus_tree.specs.Trees.{nodes_in}
 use Rattle.cactus_tree.specs.Entered.{entered, entered_block}
 use Rattle.cactus_tree.specs.Widths.{widths, block_widths}
@@ -97,30 +97,30 @@ all_drawn [] rs = []
 all_drawn (j ∷ js) rs = drawn j rs ∷ all_drawn js (drop (used j) rs)
 
 -- the blocks of an entry, the first first
-abbrev pub joints_of : Entry → List Joint
+abbrev pub joints_of : ShedNode → List Joint
 joints_of e = top_first e.joints.items
 
 -- what is read off an entry, which takes the nodes below it from the front of a list, and all that is left
-abbrev pub read_entry : (List ℕ → VertexSet) → Entry → List Read → List Read
+abbrev pub read_entry : (List ℕ → VertexSet) → ShedNode → List Read → List Read
 read_entry sets e rs = node_read sets e.vertices (all_drawn (joints_of e) rs) ∷ drop (wanted (joints_of e)) rs
 
 -- the same of several entries, the last first
-abbrev pub read_entries : (List ℕ → VertexSet) → List Entry → List Read → List Read
+abbrev pub read_entries : (List ℕ → VertexSet) → List ShedNode → List Read → List Read
 read_entries sets [] rs = rs
 read_entries sets (e ∷ es) rs = read_entry sets e (read_entries sets es rs)
 
 -- how many nodes stand in the list after several entries, where so many stood there before
-abbrev pub left : List Entry → ℕ → ℕ
+abbrev pub left : List ShedNode → ℕ → ℕ
 left [] k = k
 left (e ∷ es) k = left es k - wanted (joints_of e) + 1
 
 -- each entry finds the nodes below it in the list
-abbrev pub IsReady : List Entry → ℕ → Type 0
+abbrev pub IsReady : List ShedNode → ℕ → Type 0
 IsReady [] k = ⊤
 IsReady (e ∷ es) k = (wanted (joints_of e) ≤ left es k) × IsReady es k
 
 -- entries, and after them the nodes that are still to be entered, are those of a tree under other names
-pub record Shows (names : List ℕ → List ℕ) (root : Node) (entries : List Entry) (waiting : List Node) : Type 0 where
+pub record Shows (names : List ℕ → List ℕ) (root : Node) (entries : List ShedNode) (waiting : List Node) : Type 0 where
   pub ready : IsReady entries (length waiting)
   pub one : left entries (length waiting) ≡ 1
   pub reads : (sets : List ℕ → VertexSet) → read_entries sets entries (map (read_node sets names) waiting) ≡ read_node sets names root ∷ []

@@ -14,6 +14,7 @@ pub mod Flattened
 pub mod CutRanges
 pub mod Outlines
 pub mod Heads
+pub mod Held
 pub mod Borders
 pub mod Repeats
 pub mod Places

@@ -5,20 +5,20 @@ use Rattle.cactus_tree.specs.declared.tree.Node.{Node}
 use Rattle.cactus_tree.specs.declared.tree.Block.{Block}
 use Rattle.cactus_tree.specs.declared.tree.Block.TheOpen.{Block-F, Blocks-F, Children-F, Node-F, Bridge, Cycle}
 use Rattle.cactus_tree.specs.declared.tree.Block.TheFolds.{fold-Node, fold-Block}
-use Rattle.cactus_tree.specs.declared.tree.outline.Entry.{Entry}
+use Rattle.cactus_tree.specs.declared.tree.outline.NodeOutline.{NodeOutline}
 use Rattle.cactus_tree.specs.Widths.{joined}
 
 -- a node without its place in a block: the number of the nodes right below it, and the entries of all nodes below it
 pub record Outline : Type 0 where
   pub children : ℕ
-  pub inner : List Entry
+  pub inner : List NodeOutline
 
 -- the entries of a node and of all below it
-abbrev pub entries_with : ℕ → Outline → List Entry
+abbrev pub entries_with : ℕ → Outline → List NodeOutline
 entries_with head o = record { children = o.children; head = head } ∷ o.inner
 
 -- the entries of the nodes of a block: the first one's head is the number of the nodes
-abbrev pub block_entries : List Outline → List Entry
+abbrev pub block_entries : List Outline → List NodeOutline
 block_entries [] = []
 block_entries (o ∷ os) = entries_with (length (o ∷ os)) o ++ flat_map (entries_with 0) os
 
@@ -46,7 +46,7 @@ unfoldable pub block_outline : Block → List Outline
 block_outline = fold-Block (List Outline) (List (List Outline)) (List Outline) Outline block_outline_step blocks_outline_step children_outline_step node_outline_step
 
 -- the entries of all nodes of a tree; its root is the first of no block
-abbrev pub outlined : Node → List Entry
+abbrev pub outlined : Node → List NodeOutline
 outlined x = entries_with 0 (outline x)
 
 abbrev pub sizes_block_step : Block-F (List ℕ) (List ℕ) (List ℕ) (List ℕ) → List ℕ

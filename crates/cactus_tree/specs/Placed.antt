@@ -1,5 +1,5 @@
 -- Whether a block is as it must be for a tree to be normal, without what is below its nodes.
-use Rattle.std.specs.Prelude.{Bool, ◌&&◌, ◌==◌, true, false, nat_le, List, ◌∷◌, length, map}
+use Rattle.std.specs.Prelude.{Bool, ◌&&◌, ◌==◌, true, false, nat_le, ◌∷◌, length, map}
 use Rattle.std.specs.List.{list_all}
 use Rattle.cactus_tree.specs.declared.tree.Node.{Node}
 use Rattle.cactus_tree.specs.declared.tree.Block.{Block, out-Block}

@@ -2,15 +2,15 @@
 use Rattle.std.specs.Prelude.{ℕ, zero, suc, ◌+◌, ◌&&◌, ◌==◌, nat_le, Bool, true, false, List, [], ◌∷◌, ◌++◌, take, drop, slice_index, slice_index_or}
 use Rattle.cactus_tree.specs.CutRanges.{Range}
 use Rattle.cactus_tree.specs.Borders.{ranges_to}
-use Rattle.cactus_tree.specs.declared.tree.outline.Entry.{Entry}
+use Rattle.cactus_tree.specs.declared.tree.outline.NodeOutline.{NodeOutline}
 use Rattle.cactus_tree.specs.declared.walk.borders.Border.{Border}
 
 -- the entry at a place of a list
-abbrev pub entry_at : List Entry → ℕ → Entry
+abbrev pub entry_at : List NodeOutline → ℕ → NodeOutline
 entry_at es i = slice_index_or es i record { children = 0; head = 0 }
 
 -- a node has no vertex, and two or more nodes right below it, all of one block
-abbrev pub is_between : List ℕ → List Entry → ℕ → Bool
+abbrev pub is_between : List ℕ → List NodeOutline → ℕ → Bool
 is_between places es i = nat_le 2 (entry_at es i).children && ((entry_at es (i + 1)).head == (entry_at es i).children && (slice_index places i == slice_index places (i + 1)))
 
 -- the marks of the borders of so many subtrees, one after another, from a number on; the last border has none
@@ -24,7 +24,7 @@ marks_at marked sizes zero first = []
 marks_at marked sizes (suc count) first = marks_along marked sizes (suc count) first
 
 -- the marks of the borders of the blocks of the entries, of which the first has the number k
-abbrev pub all_marks : (ℕ → Bool) → List ℕ → ℕ → List Entry → List Bool
+abbrev pub all_marks : (ℕ → Bool) → List ℕ → ℕ → List NodeOutline → List Bool
 all_marks marked sizes k [] = []
 all_marks marked sizes k (e ∷ es) = marks_at marked sizes e.head k ++ all_marks marked sizes (k + 1) es
 

@@ -50,7 +50,7 @@ impl Model for Cactus {
 fn all_vertices(alloc: Global, n: u32) -> Result<VertexList, NoMemory>
     ensures { IfOk result (λ l. l ≡ range_with_len 1 n) }
 {
-    let mut list = VertexList::new(alloc);
+    let mut list = VertexList::with_capacity(alloc, n as usize)?;
     'vertices: for v in 0..n {
         list.push(v + 1)?;
     }
@@ -148,7 +148,7 @@ impl Cactus {
         ensures sides { IfOk result (λ c. HaveSameSides c self) }
     {
         let n = self.n();
-        let entries = entries_of(alloc, self.into_root())?;
+        let entries = entries_of(alloc, self.into_root(), n as usize)?;
         let root = put_trimmed(alloc, entries)?;
         Ok(Cactus::from_root(n, root))
     }

@@ -65,19 +65,20 @@ impl FlatCactus {
         }
     }
 
-    /// The same with room for all vertices, for so many nodes and for as many bridges.
+    /// The same with room for all vertices, for so many nodes, and for as many bridges and members of cycles.
     pub fn with_capacity(alloc: Global, n: u32, nodes: usize) -> Result<FlatCactus, NoMemory>
         ensures { IfOk result (λ f. f ≡ record { vertices = n; nodes = []; bridges = []; cycles = [] }) }
     {
         let vertices = Vec::with_capacity(alloc, n as usize)?;
         let node_starts = Vec::with_capacity(alloc, nodes)?;
         let bridges = Vec::with_capacity(alloc, nodes)?;
+        let members = Vec::with_capacity(alloc, nodes)?;
         Ok(FlatCactus {
             n,
             vertices,
             node_starts,
             bridges,
-            members: Vec::new(alloc),
+            members,
             cycle_starts: Vec::new(alloc),
         })
     }

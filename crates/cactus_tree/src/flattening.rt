@@ -150,9 +150,9 @@ pub fn flatten(alloc: Global, cactus: &Cactus) -> Result<FlatCactus, NoMemory>
     ensures { IfOk result (λ f. f ≡ flat_of cactus.now) }
 {
     let root = cactus.root();
-    let subtrees = subtree_sizes(alloc, root)?;
+    let subtrees = subtree_sizes(alloc, root, cactus.n() as usize)?;
     let mut flat = FlatCactus::with_capacity(alloc, cactus.n(), subtrees.len())?;
-    let mut stack = Vec::new(alloc);
+    let mut stack = Vec::with_capacity(alloc, subtrees.len())?;
     stack.push(Task::Enter(root))?;
     'walk: while let Some(task) = stack.pop() {
         enter(&mut flat, &mut stack, &subtrees, task)?;

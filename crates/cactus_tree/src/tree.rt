@@ -21,9 +21,9 @@ pub use count::count_node;
 pub use normal::{blocks_are_normal, is_normal_below};
 pub use number::{count_cuts, number_of};
 pub use order::{InOrder, in_order, vertices_in_order};
-pub use outline::{Entry, outline_of, sizes_along, subtree_sizes};
+pub use outline::{NodeOutline, outline_of, sizes_along, subtree_sizes};
 pub use rename::rename_node;
-pub use spread::{gather, spread_node};
+pub use spread::{spread_node, vertices_by_class};
 pub use trim::{entries_of, put_trimmed};
 
 /// A node: its vertices, and the blocks below it.

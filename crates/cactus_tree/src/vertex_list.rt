@@ -1,16 +1,26 @@
 //! Lists of vertices.
 
-ghost use Rattle.std.specs.Prelude.{◌≡◌, [], ◌∷◌, ◌++◌, ◌<◌, length, option_to_list, IsSome, ◌↔◌, OnOk, OnErr, slice_get};
+ghost use Rattle.std.specs.Prelude.{◌≡◌, [], ◌∷◌, ◌++◌, ◌<◌, length, option_to_list, IsSome, ◌↔◌, OnOk, OnErr, IfOk, slice_get};
 ghost use Rattle.cactus_tree.specs.Entered.{name_of, renamed};
 
 use cut_definitions::NoMemory;
 use std::alloc::Global;
 use std::marker::Model;
+use std::slice;
+
+/// How the vertices of a list are held. Most nodes of a large cactus have one vertex, which needs no memory of its own.
+#[derive(Drop)]
+enum Held {
+    /// One vertex, and where memory comes from once there are more.
+    One(u32, Global),
+    /// Any number of vertices.
+    Many(Vec<u32>),
+}
 
 /// A list of vertices; contracts see it as a list of numbers.
 #[derive(Drop)]
 pub struct VertexList {
-    items: Vec<u32>,
+    held: Held,
 }
 
 impl Model for VertexList {
@@ -18,7 +28,19 @@ impl Model for VertexList {
 
     ghost Value = { List ℕ };
 
-    ghost view = { λ l. l.items.items };
+    ghost use Rattle.cactus_tree.specs.Held.{held_vertices};
+
+    ghost view = { λ l. held_vertices l.held };
+}
+
+/// A vector of two vertices.
+fn pair(alloc: Global, first: u32, second: u32) -> Result<Vec<u32>, NoMemory>
+    ensures { IfOk result (λ v. v.items ≡ first ∷ second ∷ []) }
+{
+    let mut items = Vec::with_capacity(alloc, 2)?;
+    items.push(first)?;
+    items.push(second)?;
+    Ok(items)
 }
 
 impl VertexList {
@@ -27,24 +49,52 @@ impl VertexList {
         ensures { result ≡ [] }
     {
         VertexList {
-            items: Vec::new(alloc),
+            held: Held::Many(Vec::new(alloc)),
         }
+    }
+
+    /// The empty list with room for so many vertices. For none and for one it takes no memory.
+    pub fn with_capacity(alloc: Global, count: usize) -> Result<VertexList, NoMemory>
+        ensures { IfOk result (λ l. l ≡ []) }
+    {
+        if count <= 1 {
+            return Ok(VertexList::new(alloc));
+        }
+        let items = Vec::with_capacity(alloc, count)?;
+        Ok(VertexList {
+            held: Held::Many(items),
+        })
     }
 
     /// The list of the numbers of a vector, which is taken over. It takes no memory.
     pub fn from_vec(items: Vec<u32>) -> VertexList
         ensures { result ≡ items.items }
     {
-        VertexList { items }
+        VertexList {
+            held: Held::Many(items),
+        }
     }
 
-    /// Appends a vertex. Where memory is wanting the list stays as it was.
+    /// Appends a vertex. Where memory is wanting the list stays as it was. The first vertex of a list takes no memory.
     pub fn push(&mut self, item: u32) -> Result<(), NoMemory>
         ensures ok { OnOk result (self.new ≡ self.old ++ item ∷ []) }
         ensures err { OnErr result (self.new ≡ self.old) }
     {
-        self.items.push(item)?;
-        Ok(())
+        match &mut self.held {
+            Held::One(first, alloc) => {
+                let items = pair(*alloc, *first, item)?;
+                self.held = Held::Many(items);
+                Ok(())
+            }
+            Held::Many(items) => {
+                if items.is_empty() && items.capacity() == 0 {
+                    self.held = Held::One(item, *items.allocator());
+                    return Ok(());
+                }
+                items.push(item)?;
+                Ok(())
+            }
+        }
     }
 
     /// Takes the last vertex out; none exactly where the list is empty.
@@ -52,21 +102,34 @@ impl VertexList {
         ensures items { self.old ≡ self.new ++ option_to_list result }
         ensures some { IsSome result ↔ (0 < length self.old) }
     {
-        self.items.pop()
+        match &mut self.held {
+            Held::One(vertex, alloc) => {
+                let last = *vertex;
+                self.held = Held::Many(Vec::new(*alloc));
+                Some(last)
+            }
+            Held::Many(items) => items.pop(),
+        }
     }
 
     /// The number of entries.
     pub fn len(&self) -> usize
         ensures { result ≡ length self.now }
     {
-        self.items.len()
+        match &self.held {
+            Held::One(_, _) => 1,
+            Held::Many(items) => items.len(),
+        }
     }
 
     /// All vertices, lent without a copy.
     pub fn as_slice(&self) -> &[u32]
         ensures { result.now ≡ self.now }
     {
-        &self.items
+        match &self.held {
+            Held::One(vertex, _) => slice::from_ref(vertex),
+            Held::Many(items) => items.as_slice(),
+        }
     }
 
     /// The entry at a place, counted from 0.
@@ -74,17 +137,31 @@ impl VertexList {
         requires { i < length self.now }
         ensures { slice_get self.now i ≡ Some result }
     {
-        self.items[i]
+        self.as_slice()[i]
     }
 
     /// Puts in place of each number the entry of the table at that place, counted from 0; a number past its end stays.
     pub fn rename(&mut self, names: &[u32])
         ensures { self.new ≡ renamed names.now self.old }
     {
-        for i in 0..self.items.len() {
-            let number = self.items[i];
-            self.items[i] = new_name(names, number);
+        match &mut self.held {
+            Held::One(vertex, _) => {
+                *vertex = new_name(names, *vertex);
+            }
+            Held::Many(items) => {
+                rename_all(items.as_mut_slice(), names);
+            }
         }
+    }
+}
+
+/// Puts in place of each number the entry of the table at that place, or leaves it.
+fn rename_all(items: &mut [u32], names: &[u32])
+    ensures { items.new ≡ renamed names.now items.old }
+{
+    for i in 0..items.len() {
+        let number = items[i];
+        items[i] = new_name(names, number);
     }
 }
 

@@ -1,25 +1,30 @@
 //! A tree taken apart into its nodes, in the order in which it is entered, by loops.
 
-ghost use Rattle.std.specs.Prelude.{List, ◌≡◌, [], ◌++◌, map, OnOk, IfOk};
-ghost use Rattle.std.specs.List.{flat_map};
-ghost use Rattle.cactus_tree.specs.Entries.{joint_of, nodes_of, top_first};
+ghost use Rattle.std.specs.Prelude.{List, ◌≡◌, [], ◌++◌, OnOk, IfOk};
+ghost use Rattle.cactus_tree.specs.Entries.{top_first};
 ghost use Rattle.cactus_tree.specs.Trees.{blocks_in, nodes_in};
-ghost use Rattle.canonical_cactus.specs.Taken.{Shows, as_joint};
+ghost use Rattle.canonical_cactus.specs.Taken.{AreShed, IsShed, Shows};
 
+use crate::parts::bare_node;
 use cactus_tree::{Block, Blocks, Children, Node, VertexList};
 use cut_definitions::NoMemory;
 use std::alloc::Global;
+use std::mem;
 
-/// A block without its nodes: a bridge, or a cycle with so many nodes below its upper one.
+/// A block without its nodes.
 #[derive(Drop)]
 pub enum Joint {
-    Bridge,
+    /// A bridge, and a box for the node below it.
+    Bridge(Box<Node>),
+    /// A bridge down to a node without blocks, which stays where it is.
+    Leaf(Box<Node>),
+    /// A cycle with so many nodes below its upper one.
     Cycle(usize),
 }
 
 /// A node without the nodes below it: its vertices, and its blocks, the last first.
 #[derive(Drop)]
-pub struct Entry {
+pub struct OpenNode {
     pub vertices: VertexList,
     pub joints: Vec<Joint>,
 }
@@ -35,15 +40,19 @@ fn shed_nodes(stack: &mut Vec<Node>, nodes: Children) -> Result<(), NoMemory>
     Ok(())
 }
 
-/// Moves the nodes of a block onto the stack, the first on top.
-fn shed_block(stack: &mut Vec<Node>, block: Block) -> Result<Joint, NoMemory>
-    ensures stack { OnOk result (top_first stack.new.items ≡ nodes_of block ++ top_first stack.old.items) }
-    ensures joint { IfOk result (λ j. as_joint j ≡ joint_of block) }
+/// Moves the nodes of a block onto the stack, the first on top, but for a leaf below a bridge. The box of a bridge stays, with
+/// a bare node in it.
+fn shed_block(alloc: Global, stack: &mut Vec<Node>, block: Block) -> Result<Joint, NoMemory>
+    ensures { IfOk result (λ j. (xs : List Node) × IsShed block j xs × (top_first stack.new.items ≡ xs ++ top_first stack.old.items)) }
 {
     match block {
         Block::Bridge(node) => {
-            stack.push(Box::into_inner(node))?;
-            Ok(Joint::Bridge)
+            if node.blocks.len() == 0 {
+                return Ok(Joint::Leaf(node));
+            }
+            let mut place = node;
+            stack.push(mem::replace(&mut *place, bare_node(alloc)))?;
+            Ok(Joint::Bridge(place))
         }
         Block::Cycle(nodes) => {
             let count = nodes.len();
@@ -53,15 +62,15 @@ fn shed_block(stack: &mut Vec<Node>, block: Block) -> Result<Joint, NoMemory>
     }
 }
 
-/// Moves the nodes of some blocks onto the stack, the first on top, and lists the blocks, the last first.
+/// Moves the nodes of some blocks onto the stack, the first on top, but for leaves below bridges, and lists the blocks, the
+/// last first.
 fn shed_blocks(alloc: Global, stack: &mut Vec<Node>, blocks: Blocks) -> Result<Vec<Joint>, NoMemory>
-    ensures stack { OnOk result (top_first stack.new.items ≡ flat_map nodes_of (blocks_in blocks) ++ top_first stack.old.items) }
-    ensures joints { IfOk result (λ j. map as_joint (top_first j.items) ≡ map joint_of (blocks_in blocks)) }
+    ensures { IfOk result (λ j. (xs : List Node) × AreShed (blocks_in blocks) (top_first j.items) xs × (top_first stack.new.items ≡ xs ++ top_first stack.old.items)) }
 {
     let mut blocks = blocks;
     let mut joints = Vec::with_capacity(alloc, blocks.len())?;
     'back: while let Some(block) = blocks.pop() {
-        let joint = shed_block(stack, block)?;
+        let joint = shed_block(alloc, stack, block)?;
         joints.push(joint)?;
     }
     Ok(joints)
@@ -69,7 +78,7 @@ fn shed_blocks(alloc: Global, stack: &mut Vec<Node>, blocks: Blocks) -> Result<V
 
 /// The entries of a tree, in the order in which it is entered. Room for so many nodes as are expected is reserved at once,
 /// since a long list that grows is copied again and again; there may be more of them, or fewer.
-pub fn entries_of(alloc: Global, root: Node, expected: usize) -> Result<Vec<Entry>, NoMemory>
+pub fn entries_of(alloc: Global, root: Node, expected: usize) -> Result<Vec<OpenNode>, NoMemory>
     ensures { IfOk result (λ e. Shows root e.items []) }
 {
     let mut entries = Vec::with_capacity(alloc, expected)?;
@@ -78,7 +87,7 @@ pub fn entries_of(alloc: Global, root: Node, expected: usize) -> Result<Vec<Entr
     'walk: while let Some(node) = stack.pop() {
         let Node { vertices, blocks } = node;
         let joints = shed_blocks(alloc, &mut stack, blocks)?;
-        entries.push(Entry { vertices, joints })?;
+        entries.push(OpenNode { vertices, joints })?;
     }
     Ok(entries)
 }

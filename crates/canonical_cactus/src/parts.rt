@@ -7,7 +7,7 @@ ghost use Rattle.cactus_tree.specs.Trees.{blocks, blocks_in, vertices};
 ghost use Rattle.cactus_tree.specs.Trims.{is_above_bridge, is_spare};
 ghost use Rattle.canonical_cactus.specs.Making.{IsBlockOf, IsChildOf, IsNodeOf};
 
-use cactus_tree::{Block, Blocks, Node};
+use cactus_tree::{Block, Blocks, Node, VertexList};
 use cut_definitions::NoMemory;
 use std::alloc::Global;
 
@@ -69,20 +69,37 @@ fn below_bridge(block: Block) -> Node
     }
 }
 
-/// A bridge to the node, or the node's one block where it has no vertex and no other block.
-pub fn hang(alloc: Global, placed: Placed) -> Result<Hung, NoMemory>
-    ensures { IfOk result (λ b. (r : Read) → IsNodeOf r placed → IsBlockOf (bridge_read r) b) }
+/// A node without vertices and blocks. It takes no memory.
+pub fn bare_node(alloc: Global) -> Node {
+    Node {
+        vertices: VertexList::new(alloc),
+        blocks: Blocks::new(alloc),
+    }
+}
+
+/// A bridge to the node, by way of a box that there is, or the node's one block where it has no vertex and no other block.
+pub fn hang_in(placed: Placed, place: Box<Node>) -> Hung
+    ensures { (r : Read) → IsNodeOf r placed → IsBlockOf (bridge_read r) result }
 {
     let Placed { node, least } = placed;
     if is_spare(&node) {
         let block = only_block(node.blocks);
-        return Ok(Hung { block, least });
+        return Hung { block, least };
     }
-    let child = Box::new(alloc, node)?;
-    Ok(Hung {
+    let mut child = place;
+    *child = node;
+    Hung {
         block: Block::Bridge(child),
         least,
-    })
+    }
+}
+
+/// A bridge to the node, or the node's one block where it has no vertex and no other block.
+pub fn hang(alloc: Global, placed: Placed) -> Result<Hung, NoMemory>
+    ensures { IfOk result (λ b. (r : Read) → IsNodeOf r placed → IsBlockOf (bridge_read r) b) }
+{
+    let place = Box::new(alloc, bare_node(alloc))?;
+    Ok(hang_in(placed, place))
 }
 
 /// The node as it may stand in a cycle: what is below its bridge, where it has no vertex and nothing but that bridge.

@@ -2,15 +2,18 @@
 
 ghost use Rattle.std.specs.Prelude.{List, ◌≡◌, ◌∷◌, [], ◌≤◌, ◌<◌, length, take, drop, map, OnOk, IfOk, slice_index_or};
 ghost use Rattle.cut_definitions.specs.Cuts.{has};
-ghost use Rattle.cactus_tree.specs.Entries.{Read, top_first, used, wanted, drawn, all_drawn, bridge_read, cycle_read, nothing_read};
+ghost use Rattle.cactus_tree.specs.Entries.{Read, top_first, bridge_read, cycle_read, node_read, nothing_read};
+ghost use Rattle.cactus_tree.specs.Trees.{vertices};
 ghost use Rattle.canonical_cactus.specs.Making.{AreBlocksOf, AreChildrenOf, AreNodesOf, IsBlockOf, IsNodeOf};
-ghost use Rattle.canonical_cactus.specs.Taken.{IsReady, as_joint, left, read_entries};
+ghost use Rattle.canonical_cactus.specs.Taken.{IsReady, all_drawn, drawn, left, read_entries, used, wanted};
 
-use crate::entries::{Entry, Joint};
-use crate::parts::{Hung, Placed, hang, trimmed};
+use crate::entries::{Joint, OpenNode};
+use crate::parts::{Hung, Placed, bare_node, hang_in, trimmed};
 use crate::rows::{cycle_of, node_of, star_of};
+use cactus_tree::Node;
 use cut_definitions::NoMemory;
 use std::alloc::Global;
+use std::mem;
 
 /// Takes the nodes of a cycle from the top of the stack, in order.
 fn draw_nodes(alloc: Global, stack: &mut Vec<Placed>, count: usize) -> Result<Vec<Placed>, NoMemory>
@@ -28,14 +31,27 @@ fn draw_nodes(alloc: Global, stack: &mut Vec<Placed>, count: usize) -> Result<Ve
 }
 
 /// The block that stands for a bridge to the node on top of the stack.
-fn draw_bridge(alloc: Global, stack: &mut Vec<Placed>) -> Result<Hung, NoMemory>
+fn draw_bridge(stack: &mut Vec<Placed>, place: Box<Node>) -> Hung
     requires { 0 < length stack.old.items }
-    ensures block { IfOk result (λ b. (rs : List Read) → AreNodesOf rs (top_first stack.old.items) → IsBlockOf (bridge_read (slice_index_or rs 0 nothing_read)) b) }
-    ensures stack { OnOk result (top_first stack.new.items ≡ drop 1 (top_first stack.old.items)) }
+    ensures block { (rs : List Read) → AreNodesOf rs (top_first stack.old.items) → IsBlockOf (bridge_read (slice_index_or rs 0 nothing_read)) result }
+    ensures stack { top_first stack.new.items ≡ drop 1 (top_first stack.old.items) }
 {
     let node = stack.pop().unwrap();
-    let block = hang(alloc, node)?;
-    Ok(block)
+    hang_in(node, place)
+}
+
+/// The block that stands for a bridge to a node without blocks.
+fn draw_leaf(alloc: Global, place: Box<Node>) -> Result<Hung, NoMemory>
+    ensures { IfOk result (IsBlockOf (bridge_read (node_read has (vertices place.value) []))) }
+{
+    let mut place = place;
+    let Node {
+        vertices,
+        blocks: _,
+    } = mem::replace(&mut *place, bare_node(alloc));
+    let mut none = Vec::new(alloc);
+    let leaf = node_of(alloc, vertices, &mut none)?;
+    Ok(hang_in(leaf, place))
 }
 
 /// The block that stands for a cycle through two nodes from the top of the stack.
@@ -67,13 +83,14 @@ fn draw_cycle(alloc: Global, stack: &mut Vec<Placed>, count: usize) -> Result<Hu
 
 /// A block through the nodes on top of the stack.
 fn draw_block(alloc: Global, stack: &mut Vec<Placed>, joint: Joint) -> Result<Hung, NoMemory>
-    requires { used (as_joint joint) ≤ length stack.old.items }
-    ensures block { IfOk result (λ b. (rs : List Read) → AreNodesOf rs (top_first stack.old.items) → IsBlockOf (drawn (as_joint joint) rs) b) }
-    ensures stack { OnOk result (top_first stack.new.items ≡ drop (used (as_joint joint)) (top_first stack.old.items)) }
+    requires { used joint ≤ length stack.old.items }
+    ensures block { IfOk result (λ b. (rs : List Read) → AreNodesOf rs (top_first stack.old.items) → IsBlockOf (drawn has joint rs) b) }
+    ensures stack { OnOk result (top_first stack.new.items ≡ drop (used joint) (top_first stack.old.items)) }
 {
     match joint {
-        Joint::Bridge => {
-            let block = draw_bridge(alloc, stack)?;
+        Joint::Bridge(place) => Ok(draw_bridge(stack, place)),
+        Joint::Leaf(place) => {
+            let block = draw_leaf(alloc, place)?;
             Ok(block)
         }
         Joint::Cycle(count) => {
@@ -83,39 +100,43 @@ fn draw_block(alloc: Global, stack: &mut Vec<Placed>, joint: Joint) -> Result<Hu
     }
 }
 
-/// Takes the nodes of several blocks from the top of the stack. The blocks are listed with the last first.
+/// Takes the nodes of several blocks from the top of the stack, and makes a row of the blocks. They are listed with the last
+/// first.
 fn draw_blocks(
     alloc: Global,
     stack: &mut Vec<Placed>,
     joints: Vec<Joint>,
-) -> Result<Vec<Hung>, NoMemory>
-    requires { wanted (map as_joint (top_first joints.items)) ≤ length stack.old.items }
-    ensures blocks { IfOk result (λ b. (rs : List Read) → AreNodesOf rs (top_first stack.old.items) → AreBlocksOf (all_drawn (map as_joint (top_first joints.items)) rs) b.items) }
-    ensures stack { OnOk result (top_first stack.new.items ≡ drop (wanted (map as_joint (top_first joints.items))) (top_first stack.old.items)) }
+    row: &mut Vec<Hung>,
+) -> Result<(), NoMemory>
+    requires enough { wanted (top_first joints.items) ≤ length stack.old.items }
+    requires empty { row.old.items ≡ [] }
+    ensures blocks { OnOk result ((rs : List Read) → AreNodesOf rs (top_first stack.old.items) → AreBlocksOf (all_drawn has (top_first joints.items) rs) row.new.items) }
+    ensures stack { OnOk result (top_first stack.new.items ≡ drop (wanted (top_first joints.items)) (top_first stack.old.items)) }
 {
     let mut joints = joints;
-    let mut blocks = Vec::with_capacity(alloc, joints.len())?;
+    row.reserve(joints.len())?;
     'draw: while let Some(joint) = joints.pop() {
         let block = draw_block(alloc, stack, joint)?;
-        blocks.push(block)?;
+        row.push(block)?;
     }
-    Ok(blocks)
+    Ok(())
 }
 
 /// A tree that shows what the entries of another show, in its canonical form.
 ///
-/// From the last entry to the first: the nodes below an entry are finished when it is its turn.
-pub fn put_in_order(alloc: Global, entries: Vec<Entry>) -> Result<Placed, NoMemory>
+/// From the last entry to the first: the nodes below an entry are finished when it is its turn. All share one row of blocks.
+pub fn put_in_order(alloc: Global, entries: Vec<OpenNode>) -> Result<Placed, NoMemory>
     requires ready { IsReady entries.items 0 }
     requires one { left entries.items 0 ≡ 1 }
     ensures { IfOk result (λ p. (r : Read) → read_entries has entries.items [] ≡ r ∷ [] → IsNodeOf r p) }
 {
     let mut entries = entries;
     let mut finished = Vec::with_capacity(alloc, entries.len())?;
+    let mut row = Vec::new(alloc);
     'up: while let Some(entry) = entries.pop() {
-        let Entry { vertices, joints } = entry;
-        let blocks = draw_blocks(alloc, &mut finished, joints)?;
-        let node = node_of(alloc, vertices, blocks)?;
+        let OpenNode { vertices, joints } = entry;
+        draw_blocks(alloc, &mut finished, joints, &mut row)?;
+        let node = node_of(alloc, vertices, &mut row)?;
         finished.push(node)?;
     }
     Ok(finished.pop().unwrap())

@@ -1,6 +1,6 @@
 //! The blocks of a node in the order of their least vertices, and cycles in the one of their two directions that is meant.
 
-ghost use Rattle.std.specs.Prelude.{◌≡◌, [], ◌∷◌, length, IfOk, List};
+ghost use Rattle.std.specs.Prelude.{◌≡◌, [], ◌∷◌, length, IfOk, OnOk, List};
 ghost use Rattle.std.specs.List.Sorted.{IsPermutation, IsNonDecreasingBy};
 ghost use Rattle.cut_definitions.specs.Cuts.{has};
 ghost use Rattle.cactus_tree.specs.Entries.{Read, bridge_read, cycle_read, node_read, top_first};
@@ -21,12 +21,12 @@ fn sort_down(row: &mut Vec<Hung>)
     row.reverse();
 }
 
-/// The node of some vertices, with these blocks below it in the order of their least vertices.
-pub fn node_of(alloc: Global, vertices: VertexList, row: Vec<Hung>) -> Result<Placed, NoMemory>
-    ensures { IfOk result (λ p. (rs : List Read) → AreBlocksOf rs row.items → IsNodeOf (node_read has vertices rs) p) }
+/// The node of some vertices, with the blocks of a row below it in the order of their least vertices. The row is empty then.
+pub fn node_of(alloc: Global, vertices: VertexList, row: &mut Vec<Hung>) -> Result<Placed, NoMemory>
+    ensures node { IfOk result (λ p. (rs : List Read) → AreBlocksOf rs row.old.items → IsNodeOf (node_read has vertices rs) p) }
+    ensures empty { OnOk result (row.new.items ≡ []) }
 {
-    let mut row = row;
-    sort_down(&mut row);
+    sort_down(row);
     let mut least = least_vertex(&vertices);
     let mut blocks = Blocks::with_capacity(alloc, row.len())?;
     'fill: while let Some(next) = row.pop() {
@@ -87,7 +87,7 @@ pub fn star_of(alloc: Global, first: Placed, second: Placed) -> Result<Hung, NoM
     blocks.push(first)?;
     blocks.push(second)?;
     let none = VertexList::new(alloc);
-    let middle = node_of(alloc, none, blocks)?;
+    let middle = node_of(alloc, none, &mut blocks)?;
     let block = hang(alloc, middle)?;
     Ok(block)
 }

@@ -125,7 +125,7 @@ impl<'a> Lister<'a> {
     }
 
     /// The different sides that are asked for, in the order of lists.
-    fn gather(&self, alloc: Global, cactus: &Cactus) -> Result<Vec<Side>, NoMemory>
+    fn sorted_sides(&self, alloc: Global, cactus: &Cactus) -> Result<Vec<Side>, NoMemory>
         requires n { cactus.now.vertices ≡ self.now.n }
         requires normal { is_normal cactus.now.root ≡ true }
         requires few { cactus.now.vertices ≤ 4194304 }
@@ -158,7 +158,7 @@ impl<'a> Lister<'a> {
         if cuts == 0 {
             return Ok(Vec::new(alloc));
         }
-        let sides = self.gather(alloc, cactus)?;
+        let sides = self.sorted_sides(alloc, cactus)?;
         Ok(sides)
     }
 

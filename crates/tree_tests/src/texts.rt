@@ -125,7 +125,7 @@ fn a_long_text_goes_out_in_pages(rt: HostRuntime) -> Result<(), Fail> {
     let mut broken = MemorySink::new(alloc, 60000, [1].to_vec(alloc)?)?;
     let mut page = Page::new(alloc)?;
     assert!(rt; print_flat(&mut page, &flat, 7, &mut broken).is_err());
-    assert_eq!(rt; broken.taken().len(), 32767);
+    assert_eq!(rt; broken.taken().len(), 32766);
     assert!(rt; taken.starts_with(broken.taken()));
     Ok(())
 }

@@ -20,7 +20,7 @@ pub enum Joint {
 
 /// A node without the nodes below it: its vertices, and its blocks, the last first.
 #[derive(Drop)]
-pub struct Entry {
+pub struct ShedNode {
     pub vertices: VertexList,
     pub joints: Vec<Joint>,
 }
@@ -64,7 +64,7 @@ pub fn shed_blocks(
     ensures joints { IfOk result (λ j. top_first j.items ≡ map joint_of (blocks_in blocks)) }
 {
     let mut blocks = blocks;
-    let mut joints = Vec::new(alloc);
+    let mut joints = Vec::with_capacity(alloc, blocks.len())?;
     'back: while let Some(block) = blocks.pop() {
         let joint = shed_block(stack, block)?;
         joints.push(joint)?;
@@ -78,7 +78,7 @@ fn draw_nodes(alloc: Global, stack: &mut Vec<Node>, count: usize) -> Result<Chil
     ensures nodes { IfOk result (λ c. nodes_in c ≡ take count (top_first stack.old.items)) }
     ensures stack { OnOk result (top_first stack.new.items ≡ drop count (top_first stack.old.items)) }
 {
-    let mut nodes = Children::new(alloc);
+    let mut nodes = Children::with_capacity(alloc, count)?;
     'draw: while nodes.len() < count {
         let node = stack.pop().unwrap();
         nodes.push(node)?;
@@ -132,7 +132,7 @@ fn draw_blocks(alloc: Global, stack: &mut Vec<Node>, joints: Vec<Joint>) -> Resu
     ensures stack { OnOk result (top_first stack.new.items ≡ drop (wanted (top_first joints.items)) (top_first stack.old.items)) }
 {
     let mut joints = joints;
-    let mut blocks = Blocks::new(alloc);
+    let mut blocks = Blocks::with_capacity(alloc, joints.len())?;
     'draw: while let Some(joint) = joints.pop() {
         let block = draw_block(alloc, stack, joint)?;
         blocks.push(block)?;
@@ -145,15 +145,15 @@ fn draw_blocks(alloc: Global, stack: &mut Vec<Node>, joints: Vec<Joint>) -> Resu
 /// It takes memory for each bridge and for the lists of blocks and of nodes, and moves the nodes; where memory is wanting
 /// they are dropped. One step for each node, from the last entry to the first, so that a deep tree does not run out of
 /// stack.
-pub fn put_together(alloc: Global, entries: Vec<Entry>) -> Result<Node, NoMemory>
+pub fn put_together(alloc: Global, entries: Vec<ShedNode>) -> Result<Node, NoMemory>
     requires ready { IsReady entries.items 0 }
     requires one { left entries.items 0 ≡ 1 }
     ensures { IfOk result (λ x. (sets : List ℕ → VertexSet) → read_entries sets entries.items [] ≡ read_node sets kept x ∷ []) }
 {
     let mut entries = entries;
-    let mut finished = Vec::new(alloc);
+    let mut finished = Vec::with_capacity(alloc, entries.len())?;
     'up: while let Some(entry) = entries.pop() {
-        let Entry { vertices, joints } = entry;
+        let ShedNode { vertices, joints } = entry;
         let blocks = draw_blocks(alloc, &mut finished, joints)?;
         finished.push(Node { vertices, blocks })?;
     }

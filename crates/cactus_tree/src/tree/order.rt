@@ -78,13 +78,14 @@ pub struct InOrder {
 
 /// The vertices of all nodes in the order of entering, with the place at which each node begins.
 ///
-/// As `vertices_in_order`, with 8 bytes more for each node.
-pub fn in_order(alloc: Global, root: &Node) -> Result<InOrder, NoMemory>
+/// As `vertices_in_order`, with 8 bytes more for each node. Room for so many vertices and nodes as are expected is reserved
+/// at once; there may be more of them, or fewer.
+pub fn in_order(alloc: Global, root: &Node, expected: usize) -> Result<InOrder, NoMemory>
     ensures vertices { IfOk result (λ r. r.vertices.items ≡ concat (entered root.now)) }
     ensures places { IfOk result (λ r. r.places.items ≡ places_from 0 (entered root.now)) }
 {
-    let mut vertices = Vec::new(alloc);
-    let mut places = Vec::new(alloc);
+    let mut vertices = Vec::with_capacity(alloc, expected)?;
+    let mut places = Vec::with_capacity(alloc, expected)?;
     let mut stack = Vec::new(alloc);
     stack.push(root)?;
     'walk: while let Some(node) = stack.pop() {

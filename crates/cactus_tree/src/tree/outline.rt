@@ -13,7 +13,7 @@ use std::alloc::Global;
 
 /// A node in the order of entering.
 #[derive(Clone, Copy)]
-pub struct Entry {
+pub struct NodeOutline {
     /// The number of the nodes right below it.
     pub children: usize,
     /// The number of the nodes of the block whose first one this is; 0 where it is the first of none.
@@ -83,12 +83,13 @@ fn stack_blocks<'a>(stack: &mut Vec<Seen<'a>>, blocks: &'a Blocks) -> Result<(),
 }
 
 /// The entries of all nodes of a tree, in the order of entering. One step for each node and block, in a loop with a
-/// stack; it takes memory in proportion to the nodes, and is refused only where that is wanting.
-pub fn outline_of(alloc: Global, root: &Node) -> Result<Vec<Entry>, NoMemory>
+/// stack; it takes memory in proportion to the nodes, and is refused only where that is wanting. Room for so many nodes as
+/// are expected is reserved at once; there may be more of them, or fewer.
+pub fn outline_of(alloc: Global, root: &Node, expected: usize) -> Result<Vec<NodeOutline>, NoMemory>
     ensures { IfOk result (λ v. v.items ≡ outlined root.now) }
 {
-    let mut entries = Vec::new(alloc);
-    let mut stack = Vec::new(alloc);
+    let mut entries = Vec::with_capacity(alloc, expected)?;
+    let mut stack = Vec::with_capacity(alloc, expected)?;
     stack.push(Seen {
         node: root,
         head: 0,
@@ -96,7 +97,7 @@ pub fn outline_of(alloc: Global, root: &Node) -> Result<Vec<Entry>, NoMemory>
     'walk: while let Some(seen) = stack.pop() {
         let before = stack.len();
         stack_blocks(&mut stack, &seen.node.blocks)?;
-        entries.push(Entry {
+        entries.push(NodeOutline {
             children: stack.len() - before,
             head: seen.head,
         })?;
@@ -119,8 +120,8 @@ fn end_of(sizes: &[usize], from: usize, count: usize) -> usize
 }
 
 /// The numbers of the nodes right below each node.
-fn child_counts(alloc: Global, entries: &[Entry]) -> Result<Vec<usize>, NoMemory>
-    ensures { IfOk result (λ v. v.items ≡ map (λ (e : Entry). e.children) entries.now) }
+fn child_counts(alloc: Global, entries: &[NodeOutline]) -> Result<Vec<usize>, NoMemory>
+    ensures { IfOk result (λ v. v.items ≡ map (λ (e : NodeOutline). e.children) entries.now) }
 {
     let mut counts = Vec::with_capacity(alloc, entries.len())?;
     'entries: for i in 0..entries.len() {
@@ -134,7 +135,7 @@ fn child_counts(alloc: Global, entries: &[Entry]) -> Result<Vec<usize>, NoMemory
 ///
 /// From the last node to the first: the subtrees right below a node are known when it is its turn. One step for each
 /// node; it takes 8 bytes a node, and is refused only where these are wanting.
-pub fn sizes_along(alloc: Global, entries: &[Entry]) -> Result<Vec<usize>, NoMemory>
+pub fn sizes_along(alloc: Global, entries: &[NodeOutline]) -> Result<Vec<usize>, NoMemory>
     requires { (x : Node) × (entries.now ≡ outlined x) }
     ensures { (x : Node) → entries.now ≡ outlined x → IfOk result (λ v. v.items ≡ sizes x) }
 {
@@ -151,11 +152,12 @@ pub fn sizes_along(alloc: Global, entries: &[Entry]) -> Result<Vec<usize>, NoMem
 /// The sizes of the subtrees of a tree: for each node, in the order of entering, how many nodes there are from it down.
 ///
 /// Three loops, of one step for each node and block, so that a deep tree does not run out of stack. It takes memory in
-/// proportion to the nodes, and is refused only where that is wanting.
-pub fn subtree_sizes(alloc: Global, root: &Node) -> Result<Vec<usize>, NoMemory>
+/// proportion to the nodes, and is refused only where that is wanting. Room for so many nodes as are expected is reserved at
+/// once; there may be more of them, or fewer.
+pub fn subtree_sizes(alloc: Global, root: &Node, expected: usize) -> Result<Vec<usize>, NoMemory>
     ensures { IfOk result (λ v. v.items ≡ sizes root.now) }
 {
-    let entries = outline_of(alloc, root)?;
+    let entries = outline_of(alloc, root, expected)?;
     let sizes = sizes_along(alloc, &entries)?;
     Ok(sizes)
 }

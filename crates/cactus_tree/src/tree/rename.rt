@@ -8,12 +8,12 @@ ghost use Rattle.cactus_tree.specs.Entries.{Shows};
 ghost use Rattle.cactus_tree.specs.Widths.{widths};
 
 use super::Node;
-use super::entries::{Entry, put_together, shed_blocks};
+use super::entries::{ShedNode, put_together, shed_blocks};
 use cut_definitions::NoMemory;
 use std::alloc::Global;
 
 /// The entries of a tree, with other names.
-fn renamed_entries(alloc: Global, root: Node, names: &[u32]) -> Result<Vec<Entry>, NoMemory>
+fn renamed_entries(alloc: Global, root: Node, names: &[u32]) -> Result<Vec<ShedNode>, NoMemory>
     ensures { IfOk result (λ e. Shows (renamed names.now) root e.items []) }
 {
     let mut entries = Vec::new(alloc);
@@ -24,7 +24,7 @@ fn renamed_entries(alloc: Global, root: Node, names: &[u32]) -> Result<Vec<Entry
         let mut vertices = vertices;
         vertices.rename(names);
         let joints = shed_blocks(alloc, &mut stack, blocks)?;
-        entries.push(Entry { vertices, joints })?;
+        entries.push(ShedNode { vertices, joints })?;
     }
     Ok(entries)
 }

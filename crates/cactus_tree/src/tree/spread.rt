@@ -11,7 +11,7 @@ ghost use Rattle.cactus_tree.specs.Spread.{group_at, AreGathered};
 ghost use Rattle.cactus_tree.specs.Widths.{widths};
 
 use super::Node;
-use super::entries::{Entry, put_together, shed_blocks};
+use super::entries::{ShedNode, put_together, shed_blocks};
 use crate::vertex_list::VertexList;
 use cut_definitions::NoMemory;
 use std::alloc::Global;
@@ -41,7 +41,11 @@ fn no_groups(alloc: Global, last: u32) -> Result<Vec<Vec<u32>>, NoMemory>
 }
 
 /// The vertices of each class, ascending.
-pub fn gather(alloc: Global, classes: &[u32], last: u32) -> Result<Vec<Vec<u32>>, NoMemory>
+pub fn vertices_by_class(
+    alloc: Global,
+    classes: &[u32],
+    last: u32,
+) -> Result<Vec<Vec<u32>>, NoMemory>
     requires few { length classes.now < 2 ^ 32 }
     requires in_range { All (λ c. c ≤ last) classes.now }
     ensures { IfOk result (λ g. AreGathered classes.now g.items) }
@@ -93,7 +97,7 @@ fn spread_list(
 }
 
 /// The entries of a tree, with the vertices of each class in place of the class.
-fn spread_entries(alloc: Global, root: Node, groups: &[Vec<u32>]) -> Result<Vec<Entry>, NoMemory>
+fn spread_entries(alloc: Global, root: Node, groups: &[Vec<u32>]) -> Result<Vec<ShedNode>, NoMemory>
     ensures { IfOk result (λ e. (classes : List ℕ) → AreGathered classes groups.now → Shows (lift classes) root e.items []) }
 {
     let mut entries = Vec::new(alloc);
@@ -103,7 +107,7 @@ fn spread_entries(alloc: Global, root: Node, groups: &[Vec<u32>]) -> Result<Vec<
         let Node { vertices, blocks } = node;
         let vertices = spread_list(alloc, &vertices, groups)?;
         let joints = shed_blocks(alloc, &mut stack, blocks)?;
-        entries.push(Entry { vertices, joints })?;
+        entries.push(ShedNode { vertices, joints })?;
     }
     Ok(entries)
 }
@@ -116,7 +120,7 @@ pub fn spread_node(alloc: Global, node: Node, classes: &[u32], last: u32) -> Res
     ensures sides { IfOk result (λ x. (sets : List ℕ → VertexSet) → part_by sets x ≡ part_by (λ l. sets (lift classes.now l)) node) }
     ensures widths { IfOk result (λ x. widths x ≡ widths node) }
 {
-    let groups = gather(alloc, classes, last)?;
+    let groups = vertices_by_class(alloc, classes, last)?;
     let entries = spread_entries(alloc, node, &groups)?;
     let tree = put_together(alloc, entries)?;
     Ok(tree)

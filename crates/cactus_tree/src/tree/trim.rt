@@ -9,23 +9,24 @@ ghost use Rattle.cactus_tree.specs.Rooted.{IsCactus, sides_of};
 ghost use Rattle.cactus_tree.specs.Different.{HaveSameSides, HasNoEmptySide};
 ghost use Rattle.cactus_tree.specs.Trims.{is_spare, is_above_bridge, IsNodeOf, IsChildOf, IsBlockOf, AreNodesOf, AreChildrenOf, AreBlocksOf};
 
-use super::entries::{Entry, Joint, shed_blocks};
+use super::entries::{Joint, ShedNode, shed_blocks};
 use super::normal::is_cycle;
 use super::{Block, Blocks, Children, Node};
 use cut_definitions::NoMemory;
 use std::alloc::Global;
 
-/// The entries of a tree, in the order in which it is entered.
-pub fn entries_of(alloc: Global, root: Node) -> Result<Vec<Entry>, NoMemory>
+/// The entries of a tree, in the order in which it is entered. Room for so many nodes as are expected is reserved at once;
+/// there may be more of them, or fewer.
+pub fn entries_of(alloc: Global, root: Node, expected: usize) -> Result<Vec<ShedNode>, NoMemory>
     ensures { IfOk result (λ e. Shows kept root e.items []) }
 {
-    let mut entries = Vec::new(alloc);
-    let mut stack = Vec::new(alloc);
+    let mut entries = Vec::with_capacity(alloc, expected)?;
+    let mut stack = Vec::with_capacity(alloc, expected)?;
     stack.push(root)?;
     'walk: while let Some(node) = stack.pop() {
         let Node { vertices, blocks } = node;
         let joints = shed_blocks(alloc, &mut stack, blocks)?;
-        entries.push(Entry { vertices, joints })?;
+        entries.push(ShedNode { vertices, joints })?;
     }
     Ok(entries)
 }
@@ -92,7 +93,7 @@ fn draw_nodes(alloc: Global, stack: &mut Vec<Node>, count: usize) -> Result<Chil
     ensures nodes { IfOk result (λ c. (rs : List Read) → AreNodesOf rs (top_first stack.old.items) → AreChildrenOf (take count rs) (nodes_in c)) }
     ensures stack { OnOk result (top_first stack.new.items ≡ drop count (top_first stack.old.items)) }
 {
-    let mut nodes = Children::new(alloc);
+    let mut nodes = Children::with_capacity(alloc, count)?;
     'draw: while nodes.len() < count {
         let node = stack.pop().unwrap();
         nodes.push(trimmed(node))?;
@@ -146,7 +147,7 @@ fn draw_blocks(alloc: Global, stack: &mut Vec<Node>, joints: Vec<Joint>) -> Resu
     ensures stack { OnOk result (top_first stack.new.items ≡ drop (wanted (top_first joints.items)) (top_first stack.old.items)) }
 {
     let mut joints = joints;
-    let mut blocks = Blocks::new(alloc);
+    let mut blocks = Blocks::with_capacity(alloc, joints.len())?;
     'draw: while let Some(joint) = joints.pop() {
         let block = draw_block(alloc, stack, joint)?;
         blocks.push(block)?;
@@ -157,15 +158,15 @@ fn draw_blocks(alloc: Global, stack: &mut Vec<Node>, joints: Vec<Joint>) -> Resu
 /// A tree that shows what the entries of another show, without the nodes and bridges that can be spared.
 ///
 /// From the last entry to the first: a node whose blocks stand is looked at when its own block is made.
-pub fn put_trimmed(alloc: Global, entries: Vec<Entry>) -> Result<Node, NoMemory>
+pub fn put_trimmed(alloc: Global, entries: Vec<ShedNode>) -> Result<Node, NoMemory>
     requires ready { IsReady entries.items 0 }
     requires one { left entries.items 0 ≡ 1 }
     ensures { IfOk result (λ x. (r : Read) → read_entries has entries.items [] ≡ r ∷ [] → IsNodeOf r x) }
 {
     let mut entries = entries;
-    let mut finished = Vec::new(alloc);
+    let mut finished = Vec::with_capacity(alloc, entries.len())?;
     'up: while let Some(entry) = entries.pop() {
-        let Entry { vertices, joints } = entry;
+        let ShedNode { vertices, joints } = entry;
         let blocks = draw_blocks(alloc, &mut finished, joints)?;
         finished.push(Node { vertices, blocks })?;
     }

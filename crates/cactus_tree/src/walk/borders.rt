@@ -4,7 +4,7 @@ ghost use Rattle.std.specs.Prelude.{◌≡◌, ℕ, ◌+◌, ◌++◌, ◌<◌, 
 ghost use Rattle.cactus_tree.specs.Outlines.{Hops};
 ghost use Rattle.cactus_tree.specs.Borders.{AllHop, all_borders, border_at, borders_along, placed, ranges_between};
 
-use crate::tree::Entry;
+use crate::tree::NodeOutline;
 use cut_definitions::NoMemory;
 use std::alloc::Global;
 
@@ -51,7 +51,7 @@ fn add_block(
 /// One step for each node and block. It takes memory in proportion to these, and is refused only where that is wanting.
 pub fn borders_of(
     alloc: Global,
-    entries: &[Entry],
+    entries: &[NodeOutline],
     sizes: &[usize],
     places: &[usize],
 ) -> Result<Vec<Border>, NoMemory>

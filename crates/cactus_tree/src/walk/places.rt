@@ -15,7 +15,7 @@ ghost use Rattle.cactus_tree.specs.Walking.{AreBorders, AreChained};
 use super::borders::{Border, borders_of};
 use super::repeats::repeats_of;
 use crate::cactus::Cactus;
-use crate::tree::{Entry, InOrder, in_order, outline_of, sizes_along};
+use crate::tree::{InOrder, NodeOutline, in_order, outline_of, sizes_along};
 use cut_definitions::NoMemory;
 use std::alloc::Global;
 
@@ -44,7 +44,7 @@ pub struct KeptPlaces {
 #[derive(Drop)]
 struct Laid {
     listing: InOrder,
-    entries: Vec<Entry>,
+    entries: Vec<NodeOutline>,
     sizes: Vec<usize>,
 }
 
@@ -56,8 +56,9 @@ fn lay_out(alloc: Global, cactus: &Cactus) -> Result<Laid, NoMemory>
     ensures sizes { IfOk result (λ l. l.sizes.items ≡ sizes cactus.now.root) }
 {
     let root = cactus.root();
-    let listing = in_order(alloc, root)?;
-    let entries = outline_of(alloc, root)?;
+    let expected = cactus.n() as usize;
+    let listing = in_order(alloc, root, expected)?;
+    let entries = outline_of(alloc, root, expected)?;
     let sizes = sizes_along(alloc, &entries)?;
     Ok(Laid {
         listing,

@@ -9,12 +9,12 @@ ghost use Rattle.cactus_tree.specs.Borders.{AllHop, border_at};
 ghost use Rattle.cactus_tree.specs.Repeats.{all_marks, is_between, mark_at, marks_along, passed_over, ranges_kept};
 
 use super::borders::Border;
-use crate::tree::Entry;
+use crate::tree::NodeOutline;
 use cut_definitions::NoMemory;
 use std::alloc::Global;
 
 /// Whether a node has no vertex and one block below it, a cycle.
-fn is_between(entries: &[Entry], places: &[usize], number: usize) -> bool
+fn is_between(entries: &[NodeOutline], places: &[usize], number: usize) -> bool
     requires node { number < length entries.now }
     requires places { number + 1 < length places.now }
     ensures { result ≡ is_between places.now entries.now number }
@@ -29,7 +29,7 @@ fn is_between(entries: &[Entry], places: &[usize], number: usize) -> bool
 /// Appends the marks of the borders of a block of so many nodes, whose first one has the number.
 fn add_marks(
     repeats: &mut Vec<bool>,
-    entries: &[Entry],
+    entries: &[NodeOutline],
     sizes: &[usize],
     places: &[usize],
     first: usize,
@@ -56,7 +56,7 @@ fn add_marks(
 /// One step for each node and block. It takes a byte for each border, and is refused only where these are wanting.
 pub fn repeats_of(
     alloc: Global,
-    entries: &[Entry],
+    entries: &[NodeOutline],
     sizes: &[usize],
     places: &[usize],
 ) -> Result<Vec<bool>, NoMemory>

@@ -4,9 +4,9 @@ use Rattle.cactus_tree.specs.Trees.{vertices}
 use Rattle.cactus_tree.specs.Entries.{top_first}
 use Rattle.cactus_tree.specs.declared.tree.Node.{Node}
 use Rattle.canonical_cactus.specs.Taken.{Shows}
-use Rattle.canonical_cactus.specs.declared.entries.Entry.{Entry}
-use Rattle.cactus_tree.proofs.Entries.{fewer_left, none_popped, top_push}
-use Rattle.canonical_cactus.proofs.Taken.{entered_one, first_entered}
+use Rattle.canonical_cactus.specs.declared.entries.OpenNode.{OpenNode}
+use Rattle.cactus_tree.proofs.Entries.{none_popped, top_push}
+use Rattle.canonical_cactus.proofs.Taken.{entered_one, fewer_left, first_entered}
 use Rattle.canonical_cactus.proofs.entries.entries_of.Goals as goal
 
 pub walk-init : goal.walk-init
@@ -17,16 +17,16 @@ walk-smaller c =
     let x = c.in-Some.node in
     let left = c.pop.new.self.items in
     let popped = popped_is c.walk.stack.items left c.pop.result x c.pop.ensures.items c.in-Some.is in
-    fewer_left x (top_first left) (top_first c.walk.stack.items) (top_first c.shed_blocks.new.stack.items) (ap top_first popped ∙ top_push left x) c.in_ok-joints.ensures.stack
+    fewer_left x (top_first c.in_ok-joints.joints.items) c.in_ok-joints.ensures.0 (top_first left) (top_first c.walk.stack.items) (top_first c.shed_blocks.new.stack.items) (ap top_first popped ∙ top_push left x) c.in_ok-joints.ensures.1 c.in_ok-joints.ensures.2
 
 pub walk-preserved : goal.walk-preserved
 walk-preserved c =
     let x = c.in-Some.node in
     let left = c.pop.new.self.items in
     let popped = popped_is c.walk.stack.items left c.pop.result x c.pop.ensures.items c.in-Some.is in
-    let e : Entry = record { vertices = vertices x; joints = c.in_ok-joints.joints } in
-    subst (λ (l : List Entry). Shows c.args.root l (top_first c.shed_blocks.new.stack.items)) (sym c.in_ok-push-2.ensures.items)
-    (entered_one c.args.root x c.walk.entries.items e (top_first left) (top_first c.walk.stack.items) (top_first c.shed_blocks.new.stack.items) c.walk.invariant (ap top_first popped ∙ top_push left x) refl c.in_ok-joints.ensures.joints c.in_ok-joints.ensures.stack)
+    let e : OpenNode = record { vertices = vertices x; joints = c.in_ok-joints.joints } in
+    subst (λ (l : List OpenNode). Shows c.args.root l (top_first c.shed_blocks.new.stack.items)) (sym c.in_ok-push-2.ensures.items)
+    (entered_one c.args.root x c.walk.entries.items e c.in_ok-joints.ensures.0 (top_first left) (top_first c.walk.stack.items) (top_first c.shed_blocks.new.stack.items) c.walk.invariant (ap top_first popped ∙ top_push left x) refl c.in_ok-joints.ensures.1 c.in_ok-joints.ensures.2)
 
 pub returns : goal.returns
 returns c =

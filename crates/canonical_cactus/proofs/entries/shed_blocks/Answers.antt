@@ -1,17 +1,14 @@
-use Rattle.std.proofs.Common.{[], ◌∷◌, ◌++◌, List, length, map, ◌∙◌, ap, sym, refl, arith}
-use Rattle.std.specs.List.{flat_map}
-use Rattle.std.proofs.lemmas.List.{append-nil, length-append}
+use Rattle.std.proofs.Common.{[], ◌∷◌, ◌∙◌, length, ap, refl, arith}
+use Rattle.std.proofs.lemmas.List.{length-append}
 use Rattle.cut_definitions.proofs.ListLaws.{popped_is}
 use Rattle.cactus_tree.specs.Trees.{blocks_in}
-use Rattle.cactus_tree.specs.Entries.{top_first, nodes_of, joint_of}
-use Rattle.canonical_cactus.specs.declared.entries.Joint.{Joint}
-use Rattle.cactus_tree.specs.declared.tree.Block.{Block}
-use Rattle.cactus_tree.proofs.Entries.{moved_list, moved_map, top_push, none_popped}
-use Rattle.canonical_cactus.specs.Taken.{as_joint}
+use Rattle.cactus_tree.specs.Entries.{top_first}
+use Rattle.cactus_tree.proofs.Entries.{top_push, none_popped}
+use Rattle.canonical_cactus.proofs.Taken.{shed_none, shed_one, shed_all}
 use Rattle.canonical_cactus.proofs.entries.shed_blocks.Goals as goal
 
 pub back-init : goal.back-init
-back-init c = record { stack = refl; joints = ap (λ (l : List Joint). map joint_of (blocks_in c.args.blocks) ++ map as_joint (top_first l)) c.in_ok-joints.ensures.items ∙ append-nil (map joint_of (blocks_in c.args.blocks)) }
+back-init c = shed_none (blocks_in c.args.blocks) (top_first c.in_ok-joints.joints.items) (top_first c.args.stack.now.items) (ap top_first c.in_ok-joints.ensures.items)
 
 pub back-smaller : goal.back-smaller
 back-smaller c =
@@ -21,18 +18,11 @@ back-smaller c =
 pub back-preserved : goal.back-preserved
 back-preserved c =
     let popped = popped_is (blocks_in c.back.blocks) (blocks_in c.pop.new.self) c.pop.result c.in-Some.block c.pop.ensures.items c.in-Some.is in
-    record {
-      stack = moved_list nodes_of (blocks_in c.back.blocks) (blocks_in c.pop.new.self) (top_first c.back.stack.items) (top_first c.shed_block.new.stack.items) _ c.in-Some.block popped c.in_ok-joint.ensures.stack c.back.invariant.stack;
-      joints = moved_map joint_of (blocks_in c.back.blocks) (blocks_in c.pop.new.self) (map as_joint (top_first c.back.joints.items)) (map as_joint (top_first c.push.new.self.items)) _ c.in-Some.block popped
-          (ap (λ (l : List Joint). map as_joint (top_first l)) c.in_ok-push.ensures.items ∙ ap (map as_joint) (top_push c.back.joints.items c.in_ok-joint.joint) ∙ ap (λ j. j ∷ map as_joint (top_first c.back.joints.items)) c.in_ok-joint.ensures.joint) c.back.invariant.joints;
-    }
+    let shed = c.in_ok-joint.ensures in
+    shed_one (blocks_in c.args.blocks) (blocks_in c.back.blocks) (blocks_in c.pop.new.self) c.in-Some.block (top_first c.back.joints.items) (top_first c.push.new.self.items) c.in_ok-joint.joint shed.0 (top_first c.args.stack.now.items) (top_first c.back.stack.items) (top_first c.shed_block.new.stack.items)
+    c.back.invariant popped (ap top_first c.in_ok-push.ensures.items ∙ top_push c.back.joints.items c.in_ok-joint.joint) shed.1 shed.2
 
-pub returns-clause-stack : goal.returns-clause-stack
-returns-clause-stack c =
+pub returns : goal.returns
+returns c =
     let none = none_popped (blocks_in c.back.blocks) (length (blocks_in c.back.blocks)) c.pop.result refl c.pop.ensures.some c.in_default.not-Some in
-    sym (ap (λ (l : List Block). flat_map nodes_of l ++ top_first c.back.stack.items) none) ∙ c.back.invariant.stack
-
-pub returns-clause-joints : goal.returns-clause-joints
-returns-clause-joints c =
-    let none = none_popped (blocks_in c.back.blocks) (length (blocks_in c.back.blocks)) c.pop.result refl c.pop.ensures.some c.in_default.not-Some in
-    sym (ap (λ (l : List Block). map joint_of l ++ map as_joint (top_first c.back.joints.items)) none) ∙ c.back.invariant.joints
+    shed_all (blocks_in c.args.blocks) (blocks_in c.back.blocks) (top_first c.back.joints.items) (top_first c.args.stack.now.items) (top_first c.back.stack.items) c.back.invariant none

@@ -1,17 +1,18 @@
-use Rattle.std.proofs.Common.{◌≡◌, [], ◌∷◌, List, length, map, drop, ◌∙◌, ap, sym, refl, arith}
+use Rattle.std.proofs.Common.{◌≡◌, [], ◌∷◌, List, length, drop, ◌∙◌, ap, sym, refl, arith}
 use Rattle.std.proofs.lemmas.List.{length-append, length-drop}
 use Rattle.cut_definitions.proofs.ListLaws.{popped_is}
-use Rattle.cactus_tree.specs.Entries.{top_first, used, wanted, all_drawn}
-use Rattle.cactus_tree.proofs.Entries.{dropped_more, top_push, top_length, none_popped}
-use Rattle.canonical_cactus.specs.Taken.{as_joint}
+use Rattle.cactus_tree.specs.Entries.{top_first}
+use Rattle.cactus_tree.proofs.Entries.{top_push, top_length, none_popped}
+use Rattle.canonical_cactus.specs.Taken.{used, wanted, all_drawn}
+use Rattle.cut_definitions.specs.Cuts.{has}
 use Rattle.canonical_cactus.specs.declared.entries.Joint.{Joint}
-use Rattle.canonical_cactus.proofs.Draws.{blocks_none, blocks_one, blocks_all}
+use Rattle.canonical_cactus.proofs.Draws.{blocks_none, blocks_one, blocks_all, dropped_more}
 use Rattle.canonical_cactus.proofs.put.draw_blocks.Goals as goal
 
 pub draw-init : goal.draw-init
 draw-init c = record {
-  enough = c.requires;
-  blocks = λ rs a. blocks_none rs (map as_joint (top_first c.args.joints.items)) c.in_ok-blocks.blocks.items (top_first c.args.stack.now.items) c.in_ok-blocks.ensures.items a;
+  enough = c.requires.enough;
+  blocks = λ rs a. blocks_none rs (top_first c.args.joints.items) c.reserve.new.self.items (top_first c.args.stack.now.items) (c.reserve.ensures.items ∙ c.requires.empty) a;
   stack = refl;
 }
 
@@ -19,7 +20,7 @@ pub draw_block-requires : goal.draw_block-requires
 draw_block-requires c =
     let left = c.pop.new.self.items in
     let popped = popped_is c.draw.joints.items left c.pop.result c.in-Some.joint c.pop.ensures.items c.in-Some.is in
-    let top : map as_joint (top_first c.draw.joints.items) ≡ as_joint c.in-Some.joint ∷ map as_joint (top_first left) = ap (map as_joint) (ap top_first popped ∙ top_push left c.in-Some.joint) in
+    let top : top_first c.draw.joints.items ≡ c.in-Some.joint ∷ top_first left = ap top_first popped ∙ top_push left c.in-Some.joint in
     omega (arith, ap wanted top, c.draw.invariant.enough)
 
 pub draw-smaller : goal.draw-smaller
@@ -34,21 +35,21 @@ draw-preserved c =
     let before = top_first c.draw.stack.items in
     let after = top_first c.draw_block.new.stack.items in
     let popped = popped_is c.draw.joints.items left c.pop.result joint c.pop.ensures.items c.in-Some.is in
-    let later = map as_joint (top_first left) in
-    let all = map as_joint (top_first c.draw.joints.items) in
-    let top : all ≡ as_joint joint ∷ later = ap (map as_joint) (ap top_first popped ∙ top_push left joint) in
+    let later = top_first left in
+    let all = top_first c.draw.joints.items in
+    let top : all ≡ joint ∷ later = ap top_first popped ∙ top_push left joint in
     record {
-      enough = omega (arith, ap wanted top, c.draw.invariant.enough, ap length c.in_ok-block.ensures.stack, length-drop (used (as_joint joint)) before, top_length c.draw.stack.items, top_length c.draw_block.new.stack.items);
-      blocks = λ rs a. blocks_one (all_drawn (map as_joint (top_first c.args.joints.items)) rs) all later (as_joint joint) c.draw.blocks.items c.push.new.self.items c.in_ok-block.block before after (c.draw.invariant.blocks rs a) top c.in_ok-push.ensures.items c.in_ok-block.ensures.stack c.in_ok-block.ensures.block;
-      stack = dropped_more all later (as_joint joint) before after _ top c.in_ok-block.ensures.stack c.draw.invariant.stack;
+      enough = omega (arith, ap wanted top, c.draw.invariant.enough, ap length c.in_ok-block.ensures.stack, length-drop (used joint) before, top_length c.draw.stack.items, top_length c.draw_block.new.stack.items);
+      blocks = λ rs a. blocks_one (all_drawn has (top_first c.args.joints.items) rs) all later joint c.draw.row.items c.push.new.self.items c.in_ok-block.block before after (c.draw.invariant.blocks rs a) top c.in_ok-push.ensures.items c.in_ok-block.ensures.stack c.in_ok-block.ensures.block;
+      stack = dropped_more all later joint before after _ top c.in_ok-block.ensures.stack c.draw.invariant.stack;
     }
 
 pub returns-clause-blocks : goal.returns-clause-blocks
 returns-clause-blocks c = λ rs a.
     let none = none_popped c.draw.joints.items c.draw.joints.len c.pop.result c.draw.joints.ok.0 c.pop.ensures.variant c.in_default.not-Some in
-    blocks_all (all_drawn (map as_joint (top_first c.args.joints.items)) rs) (map as_joint (top_first c.draw.joints.items)) c.draw.blocks.items (top_first c.draw.stack.items) (ap (λ (l : List Joint). map as_joint (top_first l)) none) (c.draw.invariant.blocks rs a)
+    blocks_all (all_drawn has (top_first c.args.joints.items) rs) (top_first c.draw.joints.items) c.draw.row.items (top_first c.draw.stack.items) (ap top_first none) (c.draw.invariant.blocks rs a)
 
 pub returns-clause-stack : goal.returns-clause-stack
 returns-clause-stack c =
     let none = none_popped c.draw.joints.items c.draw.joints.len c.pop.result c.draw.joints.ok.0 c.pop.ensures.variant c.in_default.not-Some in
-    ap (λ (l : List Joint). drop (wanted (map as_joint (top_first l))) (top_first c.draw.stack.items)) (sym none) ∙ c.draw.invariant.stack
+    ap (λ (l : List Joint). drop (wanted (top_first l)) (top_first c.draw.stack.items)) (sym none) ∙ c.draw.invariant.stack

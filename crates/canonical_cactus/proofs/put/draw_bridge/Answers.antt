@@ -10,7 +10,7 @@ returns-clause-block c = λ rs a.
     let node = c.unwrap-node.result in
     let left = c.pop.new.self.items in
     let popped = popped_is c.args.stack.now.items left c.pop.result node c.pop.ensures.items c.unwrap-node.ensures in
-    bridge_drawn c.in_ok-block.block node (top_first left) (top_first c.args.stack.now.items) rs (ap top_first popped ∙ top_push left node) c.in_ok-block.ensures a
+    bridge_drawn c.hang_in.result node (top_first left) (top_first c.args.stack.now.items) rs (ap top_first popped ∙ top_push left node) c.hang_in.ensures a
 
 pub returns-clause-stack : goal.returns-clause-stack
 returns-clause-stack c =

@@ -1,5 +1,5 @@
-use Rattle.std.proofs.Common.{[], ◌∷◌, ◌++◌, length, map, ◌∙◌, ap, refl, arith}
-use Rattle.std.proofs.lemmas.List.{length-append}
+use Rattle.std.proofs.Common.{[], ◌∷◌, ◌++◌, length, map, ◌∙◌, ap, sym, refl, arith}
+use Rattle.std.proofs.lemmas.List.{append-nil, length-append}
 use Rattle.cut_definitions.proofs.ListLaws.{popped_is}
 use Rattle.cactus_tree.specs.Entries.{top_first}
 use Rattle.cactus_tree.specs.Trees.{blocks_in}
@@ -30,10 +30,15 @@ fill-preserved c =
       least = lessers_one (λ (h : Hung). h.least) c.fill.least c.lesser-least.result (top_first c.fill.row.items) (top_first left) next _ c.lesser-least.ensures top c.fill.invariant.least;
     }
 
-pub returns : goal.returns
-returns c = λ rs a.
+pub returns-clause-node : goal.returns-clause-node
+returns-clause-node c = λ rs a.
     let none = none_popped c.fill.row.items c.fill.row.len c.pop.result c.fill.row.ok.0 c.pop.ensures.variant c.in_default.not-Some in
     let empty = ap top_first none in
-    node_finished c.args.vertices rs c.args.row.items (top_first c.sort_down.new.row.items) _ c.sort_down.ensures.same c.sort_down.ensures.sorted refl
+    node_finished c.args.vertices rs c.args.row.now.items (top_first c.sort_down.new.row.items) _ c.sort_down.ensures.same c.sort_down.ensures.sorted refl
     (filled_all block_in (blocks_in c.fill.blocks) (top_first c.fill.row.items) _ empty c.fill.invariant.blocks)
     (lessers_all (λ (h : Hung). h.least) c.fill.least (top_first c.fill.row.items) _ empty c.fill.invariant.least) a
+
+pub returns-clause-empty : goal.returns-clause-empty
+returns-clause-empty c =
+    let none = none_popped c.fill.row.items c.fill.row.len c.pop.result c.fill.row.ok.0 c.pop.ensures.variant c.in_default.not-Some in
+    sym (append-nil c.pop.new.self.items) ∙ sym c.in_default.ensures.items ∙ none

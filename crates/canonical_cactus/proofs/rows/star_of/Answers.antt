@@ -16,5 +16,5 @@ returns c = λ r s a b.
     let second = c.in_ok-second.second in
     let row = two _ _ _ first second c.in_ok-blocks.ensures.items c.in_ok-push.ensures.items c.in_ok-push-2.ensures.items in
     let blocks = subst (AreBlocksOf (bridge_read r ∷ (bridge_read s ∷ []))) (sym row) (c.in_ok-first.ensures r a, (c.in_ok-second.ensures s b, tt)) in
-    let node = subst (λ l. IsNodeOf (node_read has l (bridge_read r ∷ (bridge_read s ∷ []))) c.in_ok-middle.middle) c.new-none.ensures (c.in_ok-middle.ensures (bridge_read r ∷ (bridge_read s ∷ [])) blocks) in
+    let node = subst (λ l. IsNodeOf (node_read has l (bridge_read r ∷ (bridge_read s ∷ []))) c.in_ok-middle.middle) c.new-none.ensures (c.in_ok-middle.ensures.node (bridge_read r ∷ (bridge_read s ∷ [])) blocks) in
     star_shown r s c.in_ok-block.block (c.in_ok-block.ensures _ node)

@@ -11,7 +11,7 @@ use Rattle.cactus_tree.proofs.tree.entries.draw_blocks.Goals as goal
 pub draw-init : goal.draw-init
 draw-init c = record {
   enough = c.requires;
-  blocks = λ sets. ap (λ (l : List Block). map (read_block sets kept) l ++ all_drawn (top_first c.args.joints.items) (map (read_node sets kept) (top_first c.args.stack.now.items))) c.new-blocks.ensures;
+  blocks = λ sets. ap (λ (l : List Block). map (read_block sets kept) l ++ all_drawn (top_first c.args.joints.items) (map (read_node sets kept) (top_first c.args.stack.now.items))) c.in_ok-blocks.ensures;
   stack = refl;
 }
 

@@ -3,13 +3,13 @@ use Rattle.std.proofs.lemmas.List.{length-append}
 use Rattle.cut_definitions.proofs.ListLaws.{popped_is}
 use Rattle.cactus_tree.specs.Entries.{top_first, read_node, read_entries, kept, left}
 use Rattle.cactus_tree.specs.declared.tree.Node.{Node, roll-Node}
-use Rattle.cactus_tree.specs.declared.tree.entries.Entry.{Entry}
+use Rattle.cactus_tree.specs.declared.tree.entries.ShedNode.{ShedNode}
 use Rattle.cactus_tree.proofs.Entries.{Builds, none_built, enough_built, built_one, top_push, top_length, none_popped, alone}
 use Rattle.cactus_tree.proofs.tree.entries.put_together.Goals as goal
 
 pub up-init : goal.up-init
 up-init c =
-    subst (λ (l : List Node). Builds c.args.entries.items c.args.entries.items (top_first l)) (sym c.new-finished.ensures.items)
+    subst (λ (l : List Node). Builds c.args.entries.items c.args.entries.items (top_first l)) (sym c.in_ok-finished.ensures.items)
     (none_built c.args.entries.items c.requires.ready c.requires.one)
 
 pub draw_blocks-requires : goal.draw_blocks-requires
@@ -38,16 +38,16 @@ pub unwrap-requires : goal.unwrap-requires
 unwrap-requires c =
     let none = none_popped c.up.entries.items c.up.entries.len c.pop.result c.up.entries.ok.0 c.pop.ensures.variant c.in_default.not-Some in
     let one : left c.up.entries.items (length (top_first c.up.finished.items)) ≡ 1 = c.up.invariant.one in
-    let many : length (top_first c.up.finished.items) ≡ 1 = subst (λ (l : List Entry). left l (length (top_first c.up.finished.items)) ≡ 1) none one in
+    let many : length (top_first c.up.finished.items) ≡ 1 = subst (λ (l : List ShedNode). left l (length (top_first c.up.finished.items)) ≡ 1) none one in
     c.pop-2.ensures.variant.1 (omega (arith, many, top_length c.up.finished.items))
 
 pub returns : goal.returns
 returns c = λ sets.
     let none = none_popped c.up.entries.items c.up.entries.len c.pop.result c.up.entries.ok.0 c.pop.ensures.variant c.in_default.not-Some in
     let finished = c.up.finished.items in
-    let many : length (top_first finished) ≡ 1 = subst (λ (l : List Entry). left l (length (top_first finished)) ≡ 1) none c.up.invariant.one in
+    let many : length (top_first finished) ≡ 1 = subst (λ (l : List ShedNode). left l (length (top_first finished)) ≡ 1) none c.up.invariant.one in
     let x = c.unwrap.result in
     let popped = popped_is finished c.pop-2.new.self.items c.pop-2.result x c.pop-2.ensures.items c.unwrap.ensures in
     sym (c.up.invariant.reads sets)
-    ∙ ap (λ (l : List Entry). read_entries sets l (map (read_node sets kept) (top_first finished))) none
+    ∙ ap (λ (l : List ShedNode). read_entries sets l (map (read_node sets kept) (top_first finished))) none
     ∙ ap (λ (l : List Node). map (read_node sets kept) l) (alone finished c.pop-2.new.self.items x popped (omega (arith, many, top_length finished)))

@@ -10,7 +10,7 @@ use Rattle.cactus_tree.proofs.Entries.{moved_list, moved_map, top_push, none_pop
 use Rattle.cactus_tree.proofs.tree.entries.shed_blocks.Goals as goal
 
 pub back-init : goal.back-init
-back-init c = record { stack = refl; joints = ap (λ (l : List Joint). map joint_of (blocks_in c.args.blocks) ++ top_first l) c.new-joints.ensures.items ∙ append-nil (map joint_of (blocks_in c.args.blocks)) }
+back-init c = record { stack = refl; joints = ap (λ (l : List Joint). map joint_of (blocks_in c.args.blocks) ++ top_first l) c.in_ok-joints.ensures.items ∙ append-nil (map joint_of (blocks_in c.args.blocks)) }
 
 pub back-smaller : goal.back-smaller
 back-smaller c =

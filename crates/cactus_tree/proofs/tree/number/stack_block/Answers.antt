@@ -1,4 +1,3 @@
-use Rattle.std.proofs.Common.{◌∙◌, ap}
 use Rattle.cactus_tree.proofs.Entries.{nodes_bridge, nodes_cycle}
 use Rattle.cactus_tree.proofs.tree.number.stack_block.Goals as goal
 

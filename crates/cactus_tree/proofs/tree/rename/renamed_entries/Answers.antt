@@ -3,7 +3,7 @@ use Rattle.cut_definitions.proofs.ListLaws.{popped_is}
 use Rattle.cactus_tree.specs.Entered.{renamed}
 use Rattle.cactus_tree.specs.Entries.{top_first, Shows}
 use Rattle.cactus_tree.specs.declared.tree.Node.{Node}
-use Rattle.cactus_tree.specs.declared.tree.entries.Entry.{Entry}
+use Rattle.cactus_tree.specs.declared.tree.entries.ShedNode.{ShedNode}
 use Rattle.cactus_tree.proofs.Entries.{entered_one, fewer_left, first_entered, none_popped, top_push}
 use Rattle.cactus_tree.proofs.tree.rename.renamed_entries.Goals as goal
 
@@ -22,8 +22,8 @@ walk-preserved c =
     let x = c.in-Some.node in
     let left = c.pop.new.self.items in
     let popped = popped_is c.walk.stack.items left c.pop.result x c.pop.ensures.items c.in-Some.is in
-    let e : Entry = record { vertices = c.rename.new.self; joints = c.in_ok-joints.joints } in
-    subst (λ (l : List Entry). Shows (renamed c.args.names.now) c.args.root l (top_first c.shed_blocks.new.stack.items)) (sym c.in_ok-push-2.ensures.items)
+    let e : ShedNode = record { vertices = c.rename.new.self; joints = c.in_ok-joints.joints } in
+    subst (λ (l : List ShedNode). Shows (renamed c.args.names.now) c.args.root l (top_first c.shed_blocks.new.stack.items)) (sym c.in_ok-push-2.ensures.items)
     (entered_one (renamed c.args.names.now) c.args.root x c.walk.entries.items e (top_first left) (top_first c.walk.stack.items) (top_first c.shed_blocks.new.stack.items) c.walk.invariant (ap top_first popped ∙ top_push left x) c.rename.ensures c.in_ok-joints.ensures.joints c.in_ok-joints.ensures.stack)
 
 pub returns : goal.returns

@@ -11,7 +11,7 @@ use Rattle.cactus_tree.proofs.tree.trim.draw_blocks.Goals as goal
 pub draw-init : goal.draw-init
 draw-init c = record {
   enough = c.requires;
-  blocks = λ rs a. blocks_none rs (top_first c.args.joints.items) (blocks_in c.new-blocks.result) (top_first c.args.stack.now.items) c.new-blocks.ensures a;
+  blocks = λ rs a. blocks_none rs (top_first c.args.joints.items) (blocks_in c.in_ok-blocks.blocks) (top_first c.args.stack.now.items) c.in_ok-blocks.ensures a;
   stack = refl;
 }
 

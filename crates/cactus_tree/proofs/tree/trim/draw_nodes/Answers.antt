@@ -9,12 +9,12 @@ use Rattle.cactus_tree.proofs.tree.trim.draw_nodes.Goals as goal
 
 pub draw-init : goal.draw-init
 draw-init c =
-    let none : length (nodes_in c.new-nodes.result) ≡ 0 = ap length c.new-nodes.ensures in
+    let none : length (nodes_in c.in_ok-nodes.nodes) ≡ 0 = ap length c.in_ok-nodes.ensures in
     record {
       few = omega (arith, none);
       rest = omega (arith, none);
       stack = sym (ap (λ k. drop k (top_first c.args.stack.now.items)) none);
-      draws = λ rs a. draws_none rs (nodes_in c.new-nodes.result) (top_first c.args.stack.now.items) c.new-nodes.ensures a;
+      draws = λ rs a. draws_none rs (nodes_in c.in_ok-nodes.nodes) (top_first c.args.stack.now.items) c.in_ok-nodes.ensures a;
     }
 
 pub draw-preserved : goal.draw-preserved

@@ -3,12 +3,12 @@ use Rattle.cut_definitions.proofs.ListLaws.{popped_is}
 use Rattle.cactus_tree.specs.Trees.{vertices}
 use Rattle.cactus_tree.specs.Entries.{top_first, Shows, kept}
 use Rattle.cactus_tree.specs.declared.tree.Node.{Node}
-use Rattle.cactus_tree.specs.declared.tree.entries.Entry.{Entry}
+use Rattle.cactus_tree.specs.declared.tree.entries.ShedNode.{ShedNode}
 use Rattle.cactus_tree.proofs.Entries.{entered_one, fewer_left, first_entered, none_popped, top_push}
 use Rattle.cactus_tree.proofs.tree.trim.entries_of.Goals as goal
 
 pub walk-init : goal.walk-init
-walk-init c = first_entered kept c.args.root c.new-entries.result.items c.new-stack.result.items c.push.new.self.items c.new-entries.ensures.items c.new-stack.ensures.items c.in_ok-push.ensures.items
+walk-init c = first_entered kept c.args.root c.in_ok-entries.entries.items c.in_ok-stack.stack.items c.push.new.self.items c.in_ok-entries.ensures.items c.in_ok-stack.ensures.items c.in_ok-push.ensures.items
 
 pub walk-smaller : goal.walk-smaller
 walk-smaller c =
@@ -22,8 +22,8 @@ walk-preserved c =
     let x = c.in-Some.node in
     let left = c.pop.new.self.items in
     let popped = popped_is c.walk.stack.items left c.pop.result x c.pop.ensures.items c.in-Some.is in
-    let e : Entry = record { vertices = vertices x; joints = c.in_ok-joints.joints } in
-    subst (λ (l : List Entry). Shows kept c.args.root l (top_first c.shed_blocks.new.stack.items)) (sym c.in_ok-push-2.ensures.items)
+    let e : ShedNode = record { vertices = vertices x; joints = c.in_ok-joints.joints } in
+    subst (λ (l : List ShedNode). Shows kept c.args.root l (top_first c.shed_blocks.new.stack.items)) (sym c.in_ok-push-2.ensures.items)
     (entered_one kept c.args.root x c.walk.entries.items e (top_first left) (top_first c.walk.stack.items) (top_first c.shed_blocks.new.stack.items) c.walk.invariant (ap top_first popped ∙ top_push left x) refl c.in_ok-joints.ensures.joints c.in_ok-joints.ensures.stack)
 
 pub returns : goal.returns

@@ -3,14 +3,14 @@ use Rattle.std.proofs.lemmas.List.{length-append}
 use Rattle.cut_definitions.proofs.ListLaws.{popped_is}
 use Rattle.cactus_tree.specs.Entries.{top_first, left}
 use Rattle.cactus_tree.specs.declared.tree.Node.{Node, roll-Node}
-use Rattle.cactus_tree.specs.declared.tree.entries.Entry.{Entry}
+use Rattle.cactus_tree.specs.declared.tree.entries.ShedNode.{ShedNode}
 use Rattle.cactus_tree.proofs.Entries.{top_push, top_length, none_popped, alone}
 use Rattle.cactus_tree.proofs.Makes.{Puts, puts_none, puts_enough, puts_one, puts_all}
 use Rattle.cactus_tree.proofs.tree.trim.put_trimmed.Goals as goal
 
 pub up-init : goal.up-init
 up-init c =
-    subst (λ (l : List Node). Puts c.args.entries.items c.args.entries.items (top_first l)) (sym c.new-finished.ensures.items)
+    subst (λ (l : List Node). Puts c.args.entries.items c.args.entries.items (top_first l)) (sym c.in_ok-finished.ensures.items)
     (puts_none c.args.entries.items c.requires.ready c.requires.one)
 
 pub draw_blocks-requires : goal.draw_blocks-requires
@@ -39,14 +39,14 @@ pub unwrap-requires : goal.unwrap-requires
 unwrap-requires c =
     let none = none_popped c.up.entries.items c.up.entries.len c.pop.result c.up.entries.ok.0 c.pop.ensures.variant c.in_default.not-Some in
     let one : left c.up.entries.items (length (top_first c.up.finished.items)) ≡ 1 = c.up.invariant.one in
-    let many : length (top_first c.up.finished.items) ≡ 1 = subst (λ (l : List Entry). left l (length (top_first c.up.finished.items)) ≡ 1) none one in
+    let many : length (top_first c.up.finished.items) ≡ 1 = subst (λ (l : List ShedNode). left l (length (top_first c.up.finished.items)) ≡ 1) none one in
     c.pop-2.ensures.variant.1 (omega (arith, many, top_length c.up.finished.items))
 
 pub returns : goal.returns
 returns c = λ r begun.
     let none = none_popped c.up.entries.items c.up.entries.len c.pop.result c.up.entries.ok.0 c.pop.ensures.variant c.in_default.not-Some in
     let finished = c.up.finished.items in
-    let many : length (top_first finished) ≡ 1 = subst (λ (l : List Entry). left l (length (top_first finished)) ≡ 1) none c.up.invariant.one in
+    let many : length (top_first finished) ≡ 1 = subst (λ (l : List ShedNode). left l (length (top_first finished)) ≡ 1) none c.up.invariant.one in
     let x = c.unwrap.result in
     let popped = popped_is finished c.pop-2.new.self.items c.pop-2.result x c.pop-2.ensures.items c.unwrap.ensures in
     puts_all c.args.entries.items c.up.entries.items (top_first finished) x r c.up.invariant none (alone finished c.pop-2.new.self.items x popped (omega (arith, many, top_length finished))) begun

@@ -1,6 +1,6 @@
 use Rattle.std.proofs.Common.{◌≡◌, ℕ, ◌+◌, length}
 use Rattle.cactus_tree.specs.Spread.{group_at, class_of_first}
-use Rattle.cactus_tree.proofs.tree.spread.gather.Given as goal
+use Rattle.cactus_tree.proofs.tree.spread.vertices_by_class.Given as goal
 
 abbrev pub invariant-vertices : goal.invariant-vertices
 invariant-vertices l = record {

@@ -1,6 +1,6 @@
 use Rattle.std.proofs.Common.{◌∙◌, get_or, refl}
 use Rattle.cactus_tree.proofs.Groups.{gathered_more}
-use Rattle.cactus_tree.proofs.tree.spread.gather.Goals as goal
+use Rattle.cactus_tree.proofs.tree.spread.vertices_by_class.Goals as goal
 
 pub vertices-preserved : goal.vertices-preserved
 vertices-preserved c = record {
