@@ -1,13 +1,12 @@
 -- A region enters, with the tree of its share grafted on its node.
-use Rattle.std.proofs.Common.{◌≡◌, ℕ, zero, suc, ◌+◌, ◌-◌, ◌<◌, ◌≤◌, ⊎_elim, Bool, true, false, eqb, List, [], ◌∷◌, length, replicate, get_or, set, refl, sym, ◌∙◌, ap, subst, inl, inr, arith}
-use Rattle.std.specs.Prelude.{◌⊎◌, ◌≢◌, if◌then◌else◌, IfOk, IfSome, Ok, Option, Result, Some}
+use Rattle.std.proofs.Common.{◌≡◌, ℕ, ◌+◌, ◌-◌, ◌<◌, ◌≤◌, ⊎_elim, Bool, true, false, eqb, List, [], ◌∷◌, length, replicate, get_or, set, refl, sym, ◌∙◌, ap, subst, inl, inr, arith}
+use Rattle.std.specs.Prelude.{◌≢◌, if◌then◌else◌, IfOk, IfSome, Ok, Option, Result, Some}
 use Rattle.std.specs.declared.alloc.AllocError.{AllocError as NoMemory}
-use Rattle.std.specs.List.{All, Contains}
-use Rattle.std.proofs.lemmas.Bool.{cases_eq, cases_lt, cases_Bool, eq-eqb, ne_eqb, false≢true}
+use Rattle.std.specs.List.{All}
+use Rattle.std.proofs.lemmas.Bool.{cases_eq, cases_lt, cases_Bool, eq-eqb, ne_eqb}
 use Rattle.std.proofs.lemmas.List.{get_or_default, get_or_past, get_or-set_same, get_or-set_other, get_or-replicate, length-replicate, length-set}
-use Rattle.std.proofs.lemmas.List.Elements.{Contains-get_or}
 use Rattle.cut_definitions.specs.Graph.{Graph, IsGraph}
-use Rattle.cut_definitions.specs.Weight.{VertexSet, weight, IsCut, IsMinimumCut}
+use Rattle.cut_definitions.specs.Weight.{VertexSet, weight, IsCut}
 use Rattle.cut_definitions.specs.Contraction.{label, relabel}
 use Rattle.cut_definitions.specs.Cuts.{has, value}
 use Rattle.cut_definitions.proofs.Ascending.{has_contains, contains_has}
@@ -23,14 +22,13 @@ use Rattle.cactus_solver.specs.declared.shares.Share.{Share}
 use Rattle.cactus_solver.specs.declared.sweep.Sweep.{Sweep}
 use Rattle.cactus_solver.specs.Covered.{IsRefined}
 use Rattle.cactus_solver.specs.Finished.{IsFinished, arrays_of}
-use Rattle.cactus_solver.specs.Flat.{NodeArrays, AreNodes, TreeLinks, sets_of}
+use Rattle.cactus_solver.specs.Flat.{NodeArrays, TreeLinks}
 use Rattle.cactus_solver.specs.Fronts.{AreFew, FrontsState, KeepsAll, HasEnds}
 use Rattle.cactus_solver.specs.Grafted.{AreRehomed, IsGrafted, grafted_at}
-use Rattle.cactus_solver.specs.Homes.{HomesState, AreNumbered, home_of}
+use Rattle.cactus_solver.specs.Homes.{HomesState}
 use Rattle.cactus_solver.specs.Regrouping.{KeepsFeed}
 use Rattle.cactus_solver.specs.Shares.{ArePutAway, HasTree, IsInside, IsLeftOrEntered, IsPartTree, IsShare}
 use Rattle.cactus_solver.specs.Sweeping.{IsSweeping}
-use Rattle.cactus_solver.specs.TreeSets.{IsTreeSide}
 use Rattle.cactus_solver.specs.UnderWay.{IsUnderWay, nodes_of}
 use Rattle.cactus_solver.proofs.Covering.{covering, fed_open}
 use Rattle.cactus_solver.proofs.Grafting.{grafting}
@@ -126,10 +124,14 @@ put_next upto classes nodes node count h h' h'' room done inside outside =
     ⊎_elim
     (λ (low : label classes v < 2).
     let same = outside (omega (arith, low)) in
-    let before = λ (u : ℕ) (i : IsInside v classes u). (let r : IsInside upto classes u = (i.0, ⊎_elim
-        (λ (e : u ≡ v). let k : label classes u ≡ label classes v = ap (λ (w : ℕ). label classes w) e in absurd (omega (arith, k, low, i.2)))
-        (λ (ne : u ≢ v). omega (arith, i.1, ne))
-        (cases_eq u v), i.2) in r) in
+    let before = λ (u : ℕ) (i : IsInside v classes u). (let r : IsInside upto classes u = (
+      i.0,
+      ⊎_elim
+          (λ (e : u ≡ v). let k : label classes u ≡ label classes v = ap (λ (w : ℕ). label classes w) e in absurd (omega (arith, k, low, i.2)))
+          (λ (ne : u ≢ v). omega (arith, i.1, ne))
+          (cases_eq u v),
+      i.2,
+    ) in r) in
     let kept : ArePutAway v classes nodes node count h h' = record {
       regions = done.regions;
       long = done.long;
@@ -199,9 +201,10 @@ module _ (g : Graph) (labels labels' : List ℕ) (s : Share) (h : IsShare g labe
   -- a vertex of the region is one of 1 to n, and is in the list
   pub in_range : (v : ℕ) → get_or labels v 0 ≡ s.region → (1 ≤ v) × (v ≤ g.vertices)
   in_range v e =
-      let one : 1 ≤ get_or labels v 0 = omega (arith, e, h.outside) in
-      (⊎_elim (λ (z : v ≡ 0). let k : get_or labels v 0 ≡ get_or labels 0 0 = ap (λ (w : ℕ). get_or labels w 0) z in absurd (omega (arith, k, nobody, one))) (λ (ne : v ≢ 0). omega (arith, ne)) (cases_eq v 0),
-        labelled_to_n labels g.vertices v long one)
+      let one : 1 ≤ get_or labels v 0 = omega (arith, e, h.outside) in (
+        ⊎_elim (λ (z : v ≡ 0). let k : get_or labels v 0 ≡ get_or labels 0 0 = ap (λ (w : ℕ). get_or labels w 0) z in absurd (omega (arith, k, nobody, one))) (λ (ne : v ≢ 0). omega (arith, ne)) (cases_eq v 0),
+        labelled_to_n labels g.vertices v long one,
+      )
 
   in_own : (v : ℕ) → get_or labels v 0 ≡ s.region → has s.own.items v ≡ true
   in_own v e =

@@ -1,9 +1,9 @@
 -- The vertices and classes of a region, and what a share is while others enter.
-use Rattle.std.proofs.Common.{◌≡◌, ℕ, zero, suc, ◌+◌, ◌-◌, ◌<◌, ◌≤◌, ⊎_elim, Bool, true, false, eqb, List, [], ◌∷◌, ◌++◌, length, map, max, get_or, refl, sym, ◌∙◌, ap, subst, arith}
-use Rattle.std.specs.Prelude.{◌⊎◌, ◌≢◌}
+use Rattle.std.proofs.Common.{◌≡◌, ℕ, suc, ◌+◌, ◌-◌, ◌<◌, ◌≤◌, ⊎_elim, Bool, true, false, eqb, List, [], ◌∷◌, ◌++◌, length, map, max, get_or, refl, sym, ◌∙◌, ap, subst, arith}
+use Rattle.std.specs.Prelude.{◌≢◌}
 use Rattle.std.specs.List.{All, AllPairs, fold}
 use Rattle.std.specs.Global.{Vec}
-use Rattle.std.proofs.lemmas.Bool.{cases_eq, cases_lt, cases_Bool, eq-eqb, eqb-true, ne_eqb}
+use Rattle.std.proofs.lemmas.Bool.{cases_eq, cases_lt, cases_Bool, eq-eqb, eqb-true}
 use Rattle.std.proofs.lemmas.List.Elements.{All-push}
 use Rattle.std.proofs.lemmas.List.Quantifiers.{all_pairs_push}
 use Rattle.std.proofs.lemmas.List.{get_or-map, get_or_append_left, get_or_push, get_or_default, length-append, length-map}
@@ -14,7 +14,7 @@ use Rattle.weighted_graph.specs.ContractionLaws.{IsLabelled}
 use Rattle.cactus_solver.specs.declared.shares.Share.{Share}
 use Rattle.cactus_solver.specs.Flat.{AddsNode, TreeLinks, is_follower}
 use Rattle.cactus_solver.specs.Grafted.{IsGrafted, IsRegionGraph, grafted_at}
-use Rattle.cactus_solver.specs.Shares.{AddsClass, AreClasses, IsLeftOrEntered, IsOwnAt, IsShare, IsSolvedFrom, IsSolvedShare}
+use Rattle.cactus_solver.specs.Shares.{AddsClass, AreClasses, IsLeftOrEntered, IsShare, IsSolvedFrom, IsSolvedShare}
 
 -- ---- the classes, one after another
 
@@ -336,11 +336,12 @@ shares_left g labels labels' xs rest share is all apart left =
     let front = All-front (IsSolvedShare g labels) rest last (subst (All (IsSolvedShare g labels)) is all) in
     let pairs = subst (AllPairs (λ (p q : Share). p.region ≢ q.region)) is apart in
     let long : length (rest ++ last) ≡ length rest + 1 = length-append rest last in
-    let at = λ (i : ℕ) (d : Share) (l : i < length rest). get_or_append_left rest last d i l in
-    (λ k d l. still_share g labels labels' share.region (get_or rest k d) left
-      (λ e. pairs k (length rest) d l (omega (arith, long)) (ap (λ (s : Share). s.region) (at k d l) ∙ (e ∙ sym (ap (λ (s : Share). s.region) (get_or_push rest share d (length rest) refl)))))
-      (front k d l),
-      λ i j d l u e. pairs i j d l (omega (arith, u, long)) (ap (λ (s : Share). s.region) (at i d (omega (arith, l, u))) ∙ (e ∙ sym (ap (λ (s : Share). s.region) (at j d u)))))
+    let at = λ (i : ℕ) (d : Share) (l : i < length rest). get_or_append_left rest last d i l in (
+      λ k d l. still_share g labels labels' share.region (get_or rest k d) left
+          (λ e. pairs k (length rest) d l (omega (arith, long)) (ap (λ (s : Share). s.region) (at k d l) ∙ (e ∙ sym (ap (λ (s : Share). s.region) (get_or_push rest share d (length rest) refl)))))
+          (front k d l),
+      λ i j d l u e. pairs i j d l (omega (arith, u, long)) (ap (λ (s : Share). s.region) (at i d (omega (arith, l, u))) ∙ (e ∙ sym (ap (λ (s : Share). s.region) (at j d u)))),
+    )
 
 -- ---- regions that ascend
 
@@ -348,7 +349,10 @@ abbrev pub AscendTo : ℕ → List ℕ → Type 0
 AscendTo last xs = All (λ r. 1 ≤ r) xs × (All (λ r. r ≤ last) xs × AllPairs (λ p q. p < q) xs)
 
 pub ascends_more : (xs : List ℕ) (last r : ℕ) → last < r → AscendTo last xs → AscendTo r (xs ++ r ∷ [])
-ascends_more xs last r more h =
-    (All-push (λ k. 1 ≤ k) xs r h.0 (omega (arith, more)),
-      (All-push (λ k. k ≤ r) xs r (λ k d l. omega (arith, more, h.1.0 k d l)) (omega arith),
-        all_pairs_push (λ p q. p < q) xs r h.1.1 (λ k d l. omega (arith, more, h.1.0 k d l))))
+ascends_more xs last r more h = (
+  All-push (λ k. 1 ≤ k) xs r h.0 (omega (arith, more)),
+  (
+    All-push (λ k. k ≤ r) xs r (λ k d l. omega (arith, more, h.1.0 k d l)) (omega arith),
+    all_pairs_push (λ p q. p < q) xs r h.1.1 (λ k d l. omega (arith, more, h.1.0 k d l)),
+  ),
+)

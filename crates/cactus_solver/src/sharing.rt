@@ -61,14 +61,7 @@ fn put_away(homes: &mut Homes, classes: &Labels, nodes: &[usize], node: usize, c
 }
 
 /// Does so for one vertex, if it is in the region.
-fn put_one(
-    homes: &mut Homes,
-    classes: &Labels,
-    nodes: &[usize],
-    node: usize,
-    count: usize,
-    v: u32,
-)
+fn put_one(homes: &mut Homes, classes: &Labels, nodes: &[usize], node: usize, count: usize, v: u32)
     requires from_one { 1 ≤ v }
     requires to_n { v ≤ length classes.now }
     requires entered { v < length homes.old.entered }

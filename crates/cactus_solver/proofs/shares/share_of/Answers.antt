@@ -1,5 +1,5 @@
 -- One vertex after another gets its class.
-use Rattle.std.proofs.Common.{ℕ, eqb, ap, sym, arith}
+use Rattle.std.proofs.Common.{ℕ, eqb, ap, arith}
 use Rattle.cactus_solver.proofs.ShareLaws.{are_labels, classes_start, classes_step, share_is}
 use Rattle.cactus_solver.proofs.shares.share_of.Goals as goal
 

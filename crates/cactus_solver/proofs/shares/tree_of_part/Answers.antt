@@ -1,5 +1,5 @@
 -- The cuts of the graph of a region weigh no less than those of the whole graph.
-use Rattle.std.proofs.Common.{◌≡◌, ap, subst, sym, ◌∙◌, arith}
+use Rattle.std.proofs.Common.{subst, sym, arith}
 use Rattle.cut_definitions.specs.Components.{IsConnected}
 use Rattle.cut_definitions.specs.Contraction.{relabel}
 use Rattle.cut_definitions.specs.Graph.{Graph}

@@ -1,5 +1,5 @@
 -- One share after another.
-use Rattle.std.proofs.Common.{◌≡◌, ◌∷◌, ◌++◌, [], ℕ, List, get_or, length, map, take, sym, ◌∙◌, ap, subst, arith}
+use Rattle.std.proofs.Common.{◌≡◌, ◌∷◌, ◌++◌, [], ℕ, List, map, take, sym, ◌∙◌, ap, subst, arith}
 use Rattle.std.specs.List.{All}
 use Rattle.std.proofs.lemmas.List.{map-append, take_all}
 use Rattle.std.proofs.lemmas.List.Elements.{All-push}
@@ -17,10 +17,11 @@ loop-region-preserved c =
     let share = c.in_ok-share.share in
     let regions = c.args.regions.now in
     let i = c.loop-region.region-index in
-    let items = c.in_ok-push.ensures.items in
-    (subst (All p) (sym items) (All-push p old share c.loop-region.invariant.0 c.in_ok-share.ensures.share),
+    let items = c.in_ok-push.ensures.items in (
+      subst (All p) (sym items) (All-push p old share c.loop-region.invariant.0 c.in_ok-share.ensures.share),
       ap (map f) items ∙ (map-append f old (share ∷ []) ∙ (ap (λ (l : List ℕ). l ++ share.region ∷ []) c.loop-region.invariant.1
-      ∙ (ap (λ (r : ℕ). take i regions ++ r ∷ []) c.in_ok-share.ensures.region ∙ sym (take_next regions i (omega arith))))))
+          ∙ (ap (λ (r : ℕ). take i regions ++ r ∷ []) c.in_ok-share.ensures.region ∙ sym (take_next regions i (omega arith))))),
+    )
 
 pub returns : goal.returns
 returns c =

@@ -2,7 +2,6 @@
 use Rattle.std.proofs.Common.{◌≤◌, length, get_or, refl, sym, arith}
 use Rattle.std.proofs.lemmas.Bool.{eqb-false}
 use Rattle.std.specs.Prelude.{vec_len}
-use Rattle.weighted_graph.proofs.Contraction.{label_to_classes}
 use Rattle.cut_definitions.specs.Contraction.{relabel}
 use Rattle.min_value.proofs.Scanned.{relabelled_vertices}
 use Rattle.cactus_solver.proofs.Grafts.{few_left, grafted_on, left_or_entered, may_be_cut_off, own_to_n, tree_found}

@@ -1,5 +1,5 @@
 -- One share after another.
-use Rattle.std.proofs.Common.{◌≡◌, ◌∷◌, ◌++◌, [], length, ap, ⊎_elim, ◌∙◌, arith}
+use Rattle.std.proofs.Common.{◌∷◌, [], length, ap, ⊎_elim, ◌∙◌, arith}
 use Rattle.std.proofs.lemmas.List.{length-append}
 use Rattle.cut_definitions.proofs.ListLaws.{popped_is}
 use Rattle.cactus_solver.proofs.ShareLaws.{last_share, shares_left}

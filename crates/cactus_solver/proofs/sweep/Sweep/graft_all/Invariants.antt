@@ -1,6 +1,6 @@
 -- The shares that are left are of regions that have not entered.
-use Rattle.std.proofs.Common.{◌≡◌, ℕ, length}
-use Rattle.std.specs.Prelude.{◌≢◌, slice_index}
+use Rattle.std.proofs.Common.{length}
+use Rattle.std.specs.Prelude.{◌≢◌}
 use Rattle.std.specs.List.{All, AllPairs}
 use Rattle.cactus_solver.specs.Shares.{IsSolvedShare}
 use Rattle.cactus_solver.specs.UnderWay.{IsUnderWay}
@@ -13,7 +13,7 @@ invariant-shares l = record {
   under_way : IsUnderWay l.graph l.self;
   each : All (IsSolvedShare l.graph l.self.flow.labels) l.shares.items;
   apart : AllPairs (λ (p q : Share). p.region ≢ q.region) l.shares.items;
-  stay : Stays l.initial.self.flow.labels l.self.flow.labels
+  stay : Stays l.initial.self.flow.labels l.self.flow.labels;
 }
 
 abbrev pub decreases-shares : goal.decreases-shares

@@ -14,9 +14,11 @@ grafted_at-upper-requires-clause-fits c =
 
 pub loop-i-preserved : goal.loop-i-preserved
 loop-i-preserved c =
-    let h = c.loop-i.invariant in
-    (h.0, graft_step c.args.node c.args.self.now c.args.other.now c.loop-i.self c.add.new.self _ c.loop-i.i c.grafted_at-upper.result c.is_follower.result c.requires.old c.loop-i.auto.i h.1
-    c.in_ok-add.ensures (rw (h.0, c.upper.ensures) at c.grafted_at-upper.ensures) c.is_follower.ensures)
+    let h = c.loop-i.invariant in (
+      h.0,
+      graft_step c.args.node c.args.self.now c.args.other.now c.loop-i.self c.add.new.self _ c.loop-i.i c.grafted_at-upper.result c.is_follower.result c.requires.old c.loop-i.auto.i h.1
+          c.in_ok-add.ensures (rw (h.0, c.upper.ensures) at c.grafted_at-upper.ensures) c.is_follower.ensures,
+    )
 
 pub returns : goal.returns
 returns c = graft_whole c.args.node c.args.self.now c.args.other.now c.loop-i.self c.loop-i.i (omega (arith, c.loop-i-test.false, c.loop-i.auto.i-end, c.len-i-end.ensures.uppers, c.requires.some)) c.loop-i.invariant.1
