@@ -48,6 +48,15 @@ fn a_seat_that_was_not_made_is_refused(rt: HostRuntime) -> Result<(), Fail> {
     Ok(())
 }
 
+#[test]
+fn a_vertex_that_is_there_is_taken(rt: HostRuntime) -> Result<(), Fail> {
+    let graph = uneven_triangle(rt.alloc())?;
+    let mut core = open_triangle(rt.alloc(), &graph)?;
+    assert!(rt; !core.step(&Event::Take { seat: 1, vertex: 4 })?);
+    assert!(rt; core.step(&Event::Take { seat: 1, vertex: 3 })?);
+    Ok(())
+}
+
 // The second mark of seat 2 is refused, since it saw 6 and the cut around vertex 3, of weight 5, parts the edge.
 #[test]
 fn a_stale_mark_is_refused(rt: HostRuntime) -> Result<(), Fail> {
