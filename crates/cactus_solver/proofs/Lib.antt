@@ -57,3 +57,5 @@ pub mod SplitRegions
 pub mod ShareLaws
 pub mod Grafts
 pub mod Grafting
+pub mod Branching
+pub mod TreeGraphs

@@ -78,7 +78,7 @@ not_below u size down x k lt low = ⊎_elim
     (λ ne. below_step u size down x k (omega arith) lt ∙ step_low x k (is_below u k (get_or u x 0)) low)
     (cases_eq x 0)
 
-itself : (u : List ℕ) (size : ℕ) → Descend u size → (k : ℕ) → k < size → is_below u k k ≡ true
+pub itself : (u : List ℕ) (size : ℕ) → Descend u size → (k : ℕ) → k < size → is_below u k k ≡ true
 itself u size down k lt = ⊎_elim
     (λ (e : k ≡ 0). subst (λ (y : ℕ). is_below u y y ≡ true) (sym e) (at_root u 0 0 ∙ eq-eqb 0 0 refl))
     (λ ne. below_step u size down k k (omega arith) lt ∙ step_here k k (is_below u k (get_or u k 0)) refl)

@@ -39,3 +39,4 @@ pub mod Settling
 pub mod Surplus
 pub mod Grafted
 pub mod Shares
+pub mod Branches

@@ -14,6 +14,7 @@
 #![tactic(auto)]
 
 mod between;
+mod branches;
 mod fronts;
 mod halts;
 mod hang_parts;

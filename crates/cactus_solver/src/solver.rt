@@ -9,6 +9,7 @@ ghost use Rattle.min_value.specs.Kernels.{IsKept};
 ghost use Rattle.cactus_solver.specs.Finished.{IsFinished};
 ghost use Rattle.cactus_solver.specs.Solved.{SameMembers};
 
+use crate::branches::tree_of_branches;
 use crate::homed_tree::HomedTree;
 use crate::into_cactus::{cactus_of_tree, normal_form};
 use crate::sweep::tree_by_workers;
@@ -25,6 +26,27 @@ use weighted_graph::Graph;
 pub struct Solved {
     pub value: u64,
     pub cactus: Cactus,
+}
+
+/// The tree of the minimum cuts of a graph whose value is given: read off the graph where it is a tree whose edges all have
+/// the value, and else by a sweep.
+fn tree_of_cuts<R: Threads + Sync>(
+    rt: &R,
+    alloc: Global,
+    graph: &Graph,
+    value: u64,
+    workers: u32,
+) -> Result<HomedTree, NoMemory>
+    requires connected { IsConnected graph.now }
+    requires enough { 2 ≤ graph.now.vertices }
+    requires value { value ≡ least_value graph.now }
+    requires workers { 1 ≤ workers }
+    ensures { IfOk result (IsFinished graph.now) }
+{
+    match tree_of_branches(alloc, graph, value)? {
+        Some(tree) => Ok(tree),
+        None => tree_by_workers(rt, alloc, graph, value, workers),
+    }
 }
 
 /// The tree of the minimum cuts of a graph, by that of a smaller graph, which is given back.
@@ -49,7 +71,7 @@ fn tree_by_kernel<R: Threads + Sync>(
     // known by these calls: the graphs are edge lists
     let _n = graph.n();
     let _small = small.n();
-    let tree = tree_by_workers(rt, alloc, &small, value, workers)?;
+    let tree = tree_of_cuts(rt, alloc, &small, value, workers)?;
     tree.spread(alloc, labels.as_slice())
 }
 
@@ -70,16 +92,16 @@ fn tree_at_value<R: Threads + Sync, G: Gate>(
 {
     match reduce(rt, alloc, graph, value, workers, gate)? {
         Some(kernel) => tree_by_kernel(rt, alloc, graph, kernel, workers),
-        None => tree_by_workers(rt, alloc, graph, value, workers),
+        None => tree_of_cuts(rt, alloc, graph, value, workers),
     }
 }
 
 /// The value of a connected graph of two or more vertices, and the cactus of its minimum cuts, in its normal form.
 ///
 /// The value comes from rounds of contraction and a sweep of flows. Then scans or rounds contract edges that lie in no minimum
-/// cut, where there are some, and the sweep over regions makes the tree of what is left. Each vertex of the graph is put into
-/// the node of its class, and the cactus is made of that, once all else is given back, and made normal where a node has no
-/// vertex. Memory is in proportion to n + m. The runtime, the workers and the gate are handed to the search for the value and
+/// cut, where there are some. What is left is mostly a tree whose edges all have the value where that is 1; else the sweep over
+/// regions makes the tree of its minimum cuts. Each vertex of the graph is put into the node of its class, and the cactus is
+/// made of that, once all else is given back, and made normal where a node has no vertex. Memory is in proportion to n + m. The runtime, the workers and the gate are handed to the search for the value and
 /// to the rounds; and the workers share the large regions, where the sweep lists two or more of them at once. It is refused
 /// only where memory is wanting.
 pub fn solve<R: Threads + Sync, G: Gate>(
