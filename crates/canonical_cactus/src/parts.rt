@@ -70,7 +70,10 @@ fn below_bridge(block: Block) -> Node
 }
 
 /// A node without vertices and blocks. It takes no memory.
-pub fn bare_node(alloc: Global) -> Node {
+pub fn bare_node(alloc: Global) -> Node
+    ensures vertices { vertices result ≡ [] }
+    ensures blocks { blocks result ≡ [] }
+{
     Node {
         vertices: VertexList::new(alloc),
         blocks: Blocks::new(alloc),
