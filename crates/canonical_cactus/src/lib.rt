@@ -30,6 +30,7 @@ ghost use Rattle.canonical_cactus.specs.Canonical.{is_canonical};
 
 mod entries;
 mod first_side;
+mod joints;
 pub mod laws;
 mod making;
 mod minima;
