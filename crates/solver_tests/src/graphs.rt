@@ -26,7 +26,7 @@ pub struct Known {
 }
 
 /// The graphs that the solver is tried on.
-pub const GRAPHS: [Known; 9] = [
+pub const GRAPHS: [Known; 10] = [
     Known {
         name: "a triangle",
         text: "3 3\n2 3\n1 3\n1 2\n",
@@ -56,6 +56,12 @@ pub const GRAPHS: [Known; 9] = [
         text: "5 4\n3\n3\n1 2 4 5\n3\n3\n",
         value: 1,
         sides: &[&[2], &[2, 3, 4, 5], &[4], &[5]],
+    },
+    Known {
+        name: "a tree with an edge that is no minimum cut",
+        text: "5 4 1\n2 3\n1 3 3 5 5 3\n2 5 4 3\n3 3\n2 3\n",
+        value: 3,
+        sides: &[&[2, 3, 4, 5], &[4], &[5]],
     },
     Known {
         name: "two cycles that meet in a node without vertices",
