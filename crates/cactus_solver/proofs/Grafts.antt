@@ -1,10 +1,10 @@
 -- A region enters, with the tree of its share grafted on its node.
-use Rattle.std.proofs.Common.{◌≡◌, ℕ, ◌+◌, ◌-◌, ◌<◌, ◌≤◌, ⊎_elim, Bool, true, false, eqb, List, [], ◌∷◌, length, replicate, get_or, set, refl, sym, ◌∙◌, ap, subst, inl, inr, arith}
+use Rattle.std.proofs.Common.{◌≡◌, ℕ, ◌+◌, ◌-◌, ◌<◌, ◌≤◌, ⊎_elim, Bool, true, false, List, [], ◌∷◌, length, replicate, get_or, set, refl, sym, ◌∙◌, ap, subst, inl, inr, arith}
 use Rattle.std.specs.Prelude.{◌≢◌, if◌then◌else◌, IfOk, IfSome, Ok, Option, Result, Some}
 use Rattle.std.specs.declared.alloc.AllocError.{AllocError as NoMemory}
 use Rattle.std.specs.List.{All}
 use Rattle.std.proofs.lemmas.Bool.{cases_eq, cases_lt, cases_Bool, eq-eqb, ne_eqb}
-use Rattle.std.proofs.lemmas.List.{get_or_default, get_or_past, get_or-set_same, get_or-set_other, get_or-replicate, length-replicate, length-set}
+use Rattle.std.proofs.lemmas.List.{get_or_default, get_or_past, get_or-set_same, get_or-set_other, get_or-replicate, length-replicate, length-set, nil_from_length}
 use Rattle.cut_definitions.specs.Graph.{Graph, IsGraph}
 use Rattle.cut_definitions.specs.Weight.{VertexSet, weight, IsCut}
 use Rattle.cut_definitions.specs.Contraction.{label, relabel}
@@ -27,14 +27,14 @@ use Rattle.cactus_solver.specs.Fronts.{AreFew, FrontsState, KeepsAll, HasEnds}
 use Rattle.cactus_solver.specs.Grafted.{AreRehomed, IsGrafted, grafted_at}
 use Rattle.cactus_solver.specs.Homes.{HomesState}
 use Rattle.cactus_solver.specs.Regrouping.{KeepsFeed}
-use Rattle.cactus_solver.specs.Shares.{ArePutAway, HasTree, IsInside, IsLeftOrEntered, IsPartTree, IsShare}
+use Rattle.cactus_solver.specs.Shares.{ArePutAway, HasLeft, HasTree, IsInside, IsPartTree, IsShare}
 use Rattle.cactus_solver.specs.Sweeping.{IsSweeping}
 use Rattle.cactus_solver.specs.UnderWay.{IsUnderWay, nodes_of}
 use Rattle.cactus_solver.proofs.Covering.{covering, fed_open}
 use Rattle.cactus_solver.proofs.Grafting.{grafting}
 use Rattle.cactus_solver.proofs.Labelling.{lowered_numbered}
 use Rattle.cactus_solver.proofs.Regrouping.{home_entered, home_outside, home_same}
-use Rattle.cactus_solver.proofs.ShareLaws.{region_graph}
+use Rattle.cactus_solver.proofs.ShareLaws.{left_cases, region_graph}
 
 -- ---- trees of parts
 
@@ -182,11 +182,11 @@ pub own_to_n : (g : Graph) (labels : List ℕ) (s : Share) → IsShare g labels 
 own_to_n g labels s h k d l = omega (arith, get_or_default s.own.items k d 0 l, (h.classes.each k l).to_upto)
 
 -- labels that stay or become 0 are no greater
-pub few_left : (n : ℕ) (labels labels' : List ℕ) (region : ℕ) → AreFew n labels → IsLeftOrEntered labels region labels' → AreFew n labels'
+pub few_left : (n : ℕ) (labels labels' : List ℕ) (region : ℕ) → AreFew n labels → HasLeft labels region labels' → AreFew n labels'
 few_left n labels labels' region few left v = ⊎_elim
-    (λ (e : get_or labels' v 0 ≡ get_or labels v 0). omega (arith, e, few v))
-    (λ e. omega (arith, e.1))
-    (left v)
+    (λ kept. omega (arith, kept.1, few v))
+    (λ moved. omega (arith, moved.1))
+    (left_cases labels labels' region v left)
 
 -- ---- the labels afterwards
 
@@ -220,8 +220,12 @@ module _ (g : Graph) (labels labels' : List ℕ) (s : Share) (h : IsShare g labe
   pub outside_label : (v : ℕ) → ¬ (get_or labels v 0 ≡ s.region) → get_or labels' v 0 ≡ get_or labels v 0
   outside_label v ne = moved v ∙ ap (λ (b : Bool). if b then 0 else get_or labels v 0) (⊎_elim (λ (t : has s.own.items v ≡ true). absurd (ne (own_is_in v t))) (λ (f : has s.own.items v ≡ false). f) (cases_Bool (has s.own.items v)))
 
-  pub left_or_entered : IsLeftOrEntered labels s.region labels'
-  left_or_entered v = ⊎_elim (λ e. inr (e, inside_label v e)) (λ ne. inl (outside_label v ne)) (cases_eq (get_or labels v 0) s.region)
+  -- the vertices of the region have entered, and no others
+  pub has_left : HasLeft labels s.region labels'
+  has_left v = ⊎_elim
+      (λ (e : get_or labels v 0 ≡ s.region). inside_label v e ∙ sym (ap (λ (b : Bool). if b then 0 else get_or labels v 0) (eq-eqb (get_or labels v 0) s.region e)))
+      (λ (ne : get_or labels v 0 ≢ s.region). outside_label v ne ∙ sym (ap (λ (b : Bool). if b then 0 else get_or labels v 0) (ne_eqb (get_or labels v 0) s.region ne)))
+      (cases_eq (get_or labels v 0) s.region)
 
   pub refined : IsRefined labels labels'
   refined = record {
@@ -232,11 +236,10 @@ module _ (g : Graph) (labels labels' : List ℕ) (s : Share) (h : IsShare g labe
       left : (v : ℕ) → 1 ≤ get_or labels' v 0 → get_or labels v 0 ≡ get_or labels' v 0
       left v one = ⊎_elim (λ e. let z = inside_label v e in absurd (omega (arith, z, one))) (λ ne. sym (outside_label v ne)) (cases_eq (get_or labels v 0) s.region)
 
-  pub entered : IsGraph g → 1 ≤ s.region → (v : ℕ) → 1 ≤ v → v ≤ g.vertices → get_or labels' v 0 ≡ (if eqb (get_or labels v 0) s.region then 0 else get_or labels v 0)
-  entered ok one v from to = ⊎_elim
-      (λ (e : get_or labels v 0 ≡ s.region). inside_label v e ∙ sym (ap (λ (b : Bool). if b then 0 else get_or labels v 0) (eq-eqb (get_or labels v 0) s.region e)))
-      (λ (ne : get_or labels v 0 ≢ s.region). outside_label v ne ∙ sym (ap (λ (b : Bool). if b then 0 else get_or labels v 0) (ne_eqb (get_or labels v 0) s.region ne)))
-      (cases_eq (get_or labels v 0) s.region)
+-- a region without vertices has been left
+pub empty_left : (g : Graph) (labels : List ℕ) (s : Share) → IsShare g labels s → length labels ≡ g.vertices + 1 → get_or labels 0 0 ≡ 0 → length s.own.items ≡ 0 → HasLeft labels s.region labels
+empty_left g labels s h long nobody none =
+    has_left g labels labels s h long nobody (λ v. sym (ap (λ (own : List ℕ). relabelled labels own 0 v) (nil_from_length s.own.items none)))
 
 -- ---- the sweep afterwards
 
@@ -331,7 +334,7 @@ module _ (g : Graph) (s : Sweep) (share : Share) (t : HomedTree) (f : RegionStat
   sweeping : IsSweeping g f.labels a'
   sweeping = grafting g (relabel g share.classes) labels f.labels share.classes region node a (arrays_of t) a' ok two h.sweeping is_share.outside
       (region_graph g labels share is_share) part.tree node_below d.grafted rehomed
-      (entered g labels f.labels share is_share h.flow.labels_length h.flow.nobody d.labels ok is_share.outside)
+      (λ v from to. has_left g labels f.labels share is_share h.flow.labels_length h.flow.nobody d.labels v)
 
   -- a vertex whose label has changed is of the region
   changed_ends : (v : ℕ) → 1 ≤ v → v ≤ n → get_or labels v 0 ≢ get_or f.labels v 0 → HasEnds g f.labels fronts v

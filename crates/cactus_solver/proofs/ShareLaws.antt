@@ -1,20 +1,19 @@
 -- The vertices and classes of a region, and what a share is while others enter.
-use Rattle.std.proofs.Common.{◌≡◌, ℕ, suc, ◌+◌, ◌-◌, ◌<◌, ◌≤◌, ⊎_elim, Bool, true, false, eqb, List, [], ◌∷◌, ◌++◌, length, map, max, get_or, refl, sym, ◌∙◌, ap, subst, arith}
-use Rattle.std.specs.Prelude.{◌≢◌}
+use Rattle.std.proofs.Common.{◌≡◌, ℕ, suc, ◌+◌, ◌-◌, ◌<◌, ◌≤◌, ◌⊎◌, inl, inr, ⊎_elim, Bool, true, false, ◌||◌, eqb, List, [], ◌∷◌, ◌++◌, append_assoc, length, map, max, get_or, refl, sym, ◌∙◌, ap, subst, arith}
+use Rattle.std.specs.Prelude.{◌≢◌, if◌then◌else◌}
 use Rattle.std.specs.List.{All, AllPairs, fold}
-use Rattle.std.specs.Global.{Vec}
-use Rattle.std.proofs.lemmas.Bool.{cases_eq, cases_lt, cases_Bool, eq-eqb, eqb-true}
+use Rattle.std.proofs.lemmas.Bool.{cases_eq, cases_lt, cases_Bool, eq-eqb, eqb-true, ne_eqb}
 use Rattle.std.proofs.lemmas.List.Elements.{All-push}
 use Rattle.std.proofs.lemmas.List.Quantifiers.{all_pairs_push}
-use Rattle.std.proofs.lemmas.List.{get_or-map, get_or_append_left, get_or_push, get_or_default, length-append, length-map}
+use Rattle.std.proofs.lemmas.List.{append-nil, get_or-map, get_or_append_left, get_or_push, get_or_default, length-append, length-map, map-append}
 use Rattle.cut_definitions.specs.Graph.{Graph}
 use Rattle.cut_definitions.specs.Contraction.{label, classes, relabel, IsLabels}
+use Rattle.cut_definitions.specs.Cuts.{has}
 use Rattle.cut_definitions.proofs.ListLaws.{All-back, All-front, label_at}
-use Rattle.weighted_graph.specs.ContractionLaws.{IsLabelled}
 use Rattle.cactus_solver.specs.declared.shares.Share.{Share}
 use Rattle.cactus_solver.specs.Flat.{AddsNode, TreeLinks, is_follower}
 use Rattle.cactus_solver.specs.Grafted.{IsGrafted, IsRegionGraph, grafted_at}
-use Rattle.cactus_solver.specs.Shares.{AddsClass, AreClasses, IsLeftOrEntered, IsShare, IsSolvedFrom, IsSolvedShare}
+use Rattle.cactus_solver.specs.Shares.{AddsClass, AreClasses, HasLeft, HaveLeft, IsShare, IsSolvedShare, regions_of}
 
 -- ---- the classes, one after another
 
@@ -180,15 +179,23 @@ region_graph g labels s h = record {
 
 -- ---- shares while others enter
 
+-- a vertex of the region has entered, and one of another keeps its label
+pub left_cases : (labels labels' : List ℕ) (region v : ℕ) → HasLeft labels region labels' →
+    ((get_or labels v 0 ≢ region) × (get_or labels' v 0 ≡ get_or labels v 0)) ⊎ ((get_or labels v 0 ≡ region) × (get_or labels' v 0 ≡ 0))
+left_cases labels labels' region v left = ⊎_elim
+    (λ (e : get_or labels v 0 ≡ region). inr (e, left v ∙ ap (λ (b : Bool). if b then 0 else get_or labels v 0) (eq-eqb (get_or labels v 0) region e)))
+    (λ (ne : get_or labels v 0 ≢ region). inl (ne, left v ∙ ap (λ (b : Bool). if b then 0 else get_or labels v 0) (ne_eqb (get_or labels v 0) region ne)))
+    (cases_eq (get_or labels v 0) region)
+
 -- a vertex has the label of a region that did not enter just where it had it
-label_left : (labels labels' : List ℕ) (region other v : ℕ) → IsLeftOrEntered labels region labels' → other ≢ region → 1 ≤ other →
+label_left : (labels labels' : List ℕ) (region other v : ℕ) → HasLeft labels region labels' → other ≢ region → 1 ≤ other →
     ((get_or labels' v 0 ≡ other → get_or labels v 0 ≡ other) × (get_or labels v 0 ≡ other → get_or labels' v 0 ≡ other))
 label_left labels labels' region other v left ne one = ⊎_elim
-    (λ (same : get_or labels' v 0 ≡ get_or labels v 0). (λ e. sym same ∙ e, λ e. same ∙ e))
+    (λ kept. (λ e. sym kept.1 ∙ e, λ e. kept.1 ∙ e))
     (λ moved. (λ e. absurd (omega (arith, moved.1, e, one)), λ e. absurd (ne (sym e ∙ moved.0))))
-    (left v)
+    (left_cases labels labels' region v left)
 
-pub still_share : (g : Graph) (labels labels' : List ℕ) (region : ℕ) (s : Share) → IsLeftOrEntered labels region labels' → s.region ≢ region → IsSolvedShare g labels s → IsSolvedShare g labels' s
+pub still_share : (g : Graph) (labels labels' : List ℕ) (region : ℕ) (s : Share) → HasLeft labels region labels' → s.region ≢ region → IsSolvedShare g labels s → IsSolvedShare g labels' s
 still_share g labels labels' region s left ne h =
     let c = h.share.classes in
     let at = λ (v : ℕ). label_left labels labels' region s.region v left ne h.share.outside in
@@ -206,6 +213,7 @@ still_share g labels labels' region s left ne h =
               record { from_one = b.from_one; to_upto = b.to_upto; in_region = (at (get_or s.own.items place 0)).1 b.in_region; class = b.class };
         };
       };
+      looked_for = h.looked_for;
       tree = h.tree;
     }
 
@@ -296,32 +304,6 @@ share_is g labels list s upto is all one root outside h =
       classes = h';
     }
 
--- shares that were solved
-pub solved_share : (g : Graph) (labels : List ℕ) (old new : Share) → IsShare g labels old → IsSolvedFrom g old new → IsSolvedShare g labels new
-solved_share g labels old new h is = record {
-  share = record {
-    outside = omega (arith, h.outside, is.region);
-    labelled = subst (IsLabelled g) (sym is.classes) h.labelled;
-    classes = subst (λ (l : List ℕ). AreClasses labels new.region g.vertices new.own.items l) (sym is.classes)
-        (subst (λ (o : Vec ℕ). AreClasses labels new.region g.vertices o.items old.classes) (sym is.own)
-        (subst (λ (r : ℕ). AreClasses labels r g.vertices old.own.items old.classes) (sym is.region) h.classes));
-  };
-  tree = is.tree;
-}
-
-pub solved_shares : (g : Graph) (labels : List ℕ) (olds news : List Share) → All (IsShare g labels) olds → length news ≡ length olds →
-    ((i : ℕ) (d : Share) → i < length olds → IsSolvedFrom g (get_or olds i d) (get_or news i d)) → All (IsSolvedShare g labels) news
-solved_shares g labels olds news h long is i d l =
-    let b : i < length olds = omega (arith, l, long) in
-    solved_share g labels (get_or olds i d) (get_or news i d) (h i d b) (is i d b)
-
-pub solved_apart : (g : Graph) (olds news : List Share) → AllPairs (λ (p q : Share). p.region ≢ q.region) olds → length news ≡ length olds →
-    ((i : ℕ) (d : Share) → i < length olds → IsSolvedFrom g (get_or olds i d) (get_or news i d)) → AllPairs (λ (p q : Share). p.region ≢ q.region) news
-solved_apart g olds news h long is i j d l u e =
-    let b : j < length olds = omega (arith, u, long) in
-    let a : i < length olds = omega (arith, b, l) in
-    h i j d l b (sym (is i d a).region ∙ (e ∙ (is j d b).region))
-
 -- ---- shares one after another, from the last one on
 
 pub last_share : (g : Graph) (labels : List ℕ) (xs rest : List Share) (share : Share) → xs ≡ rest ++ share ∷ [] → All (IsSolvedShare g labels) xs → IsSolvedShare g labels share
@@ -329,7 +311,7 @@ last_share g labels xs rest share is all = All-back (IsSolvedShare g labels) res
 
 -- those that are left are of other regions than the one that entered
 pub shares_left : (g : Graph) (labels labels' : List ℕ) (xs rest : List Share) (share : Share) → xs ≡ rest ++ share ∷ [] → All (IsSolvedShare g labels) xs →
-    AllPairs (λ (p q : Share). p.region ≢ q.region) xs → IsLeftOrEntered labels share.region labels' →
+    AllPairs (λ (p q : Share). p.region ≢ q.region) xs → HasLeft labels share.region labels' →
     All (IsSolvedShare g labels') rest × AllPairs (λ (p q : Share). p.region ≢ q.region) rest
 shares_left g labels labels' xs rest share is all apart left =
     let last = share ∷ [] in
@@ -342,6 +324,61 @@ shares_left g labels labels' xs rest share is all apart left =
           (front k d l),
       λ i j d l u e. pairs i j d l (omega (arith, u, long)) (ap (λ (s : Share). s.region) (at i d (omega (arith, l, u))) ∙ (e ∙ sym (ap (λ (s : Share). s.region) (at j d u)))),
     )
+
+-- ---- regions that are left one after another, from the last one on
+
+-- no region has been left
+left_none : (labels : List ℕ) → HaveLeft labels [] labels
+left_none labels v = refl
+
+-- one more
+left_more : (labels labels' labels'' regions : List ℕ) (region : ℕ) → HaveLeft labels regions labels' → HasLeft labels' region labels'' → HaveLeft labels (region ∷ regions) labels''
+left_more labels labels' labels'' regions region before left v =
+    let x = get_or labels v 0 in
+    ⊎_elim
+    (λ (there : has regions x ≡ true).
+    let z : get_or labels' v 0 ≡ 0 = before v ∙ ap (λ (b : Bool). if b then 0 else x) there in
+    let stays : get_or labels'' v 0 ≡ 0 = ⊎_elim (λ kept. kept.1 ∙ z) (λ moved. moved.1) (left_cases labels' labels'' region v left) in
+    stays ∙ sym (ap (λ (b : Bool). if b then 0 else x) (ap (λ (b : Bool). eqb region x || b) there ∙ or_true (eqb region x))))
+    (λ (not_there : has regions x ≡ false).
+    let same : get_or labels' v 0 ≡ x = before v ∙ ap (λ (b : Bool). if b then 0 else x) not_there in
+    ⊎_elim
+    (λ kept.
+    let other : eqb region x ≡ false = ne_eqb region x (λ e. kept.0 (same ∙ sym e)) in
+    kept.1 ∙ (same ∙ sym (ap (λ (b : Bool). if b then 0 else x) (ap (λ (b : Bool). b || has regions x) other ∙ not_there))))
+    (λ moved.
+    let own : eqb region x ≡ true = eq-eqb region x (sym moved.0 ∙ same) in
+    moved.1 ∙ sym (ap (λ (b : Bool). if b then 0 else x) (ap (λ (b : Bool). b || has regions x) own)))
+    (left_cases labels' labels'' region v left))
+    (cases_Bool (has regions x))
+  where
+    or_true : (b : Bool) → (b || true) ≡ true
+    or_true true = refl
+    or_true false = refl
+
+-- the regions of some shares have been left, all but the first ones
+pub record HaveLeftBehind (labels : List ℕ) (shares first : List Share) (labels' : List ℕ) : Type 0 where
+  pub behind : List ℕ
+  pub all : regions_of shares ≡ regions_of first ++ behind
+  pub left : HaveLeft labels behind labels'
+
+pub behind_none : (labels : List ℕ) (shares : List Share) → HaveLeftBehind labels shares shares labels
+behind_none labels shares = record { behind = []; all = sym (append-nil (regions_of shares)); left = left_none labels }
+
+pub behind_more : (labels labels' labels'' : List ℕ) (shares xs rest : List Share) (share : Share) → xs ≡ rest ++ share ∷ [] → HaveLeftBehind labels shares xs labels' →
+    HasLeft labels' share.region labels'' → HaveLeftBehind labels shares rest labels''
+behind_more labels labels' labels'' shares xs rest share is h left = record {
+  behind = share.region ∷ h.behind;
+  all = h.all
+      ∙ (ap (λ (k : List Share). regions_of k ++ h.behind) is
+      ∙ (ap (λ (k : List ℕ). k ++ h.behind) (map-append (λ (s : Share). s.region) rest (share ∷ []))
+      ∙ append_assoc (regions_of rest) (share.region ∷ []) h.behind));
+  left = left_more labels labels' labels'' h.behind share.region h.left left;
+}
+
+pub behind_all : (labels labels' : List ℕ) (shares first : List Share) → first ≡ [] → HaveLeftBehind labels shares first labels' → HaveLeft labels (regions_of shares) labels'
+behind_all labels labels' shares first none h =
+    subst (λ (k : List ℕ). HaveLeft labels k labels') (sym (h.all ∙ ap (λ (k : List Share). regions_of k ++ h.behind) none)) h.left
 
 -- ---- regions that ascend
 

@@ -1,9 +1,9 @@
 -- Regions that are solved as graphs of their own: their vertices, their classes and their trees.
-use Rattle.std.specs.Prelude.{ℕ, ◌≡◌, ◌≢◌, ◌+◌, ◌-◌, ◌<◌, ◌≤◌, ◌⊎◌, ◌++◌, ◌∷◌, [], Bool, true, false, IfOk, IfSome, List, length, slice_index}
+use Rattle.std.specs.Prelude.{ℕ, ◌≡◌, ◌≢◌, ◌==◌, ◌+◌, ◌-◌, ◌<◌, ◌≤◌, ◌++◌, ◌∷◌, [], Bool, true, false, IfOk, IfSome, IsSome, if◌then◌else◌, List, length, map, slice_index}
 use Rattle.std.specs.List.{All, AllPairs}
 use Rattle.cut_definitions.specs.Graph.{Graph}
 use Rattle.cut_definitions.specs.Contraction.{label, relabel}
-use Rattle.cut_definitions.specs.Cuts.{value}
+use Rattle.cut_definitions.specs.Cuts.{has, value}
 use Rattle.weighted_graph.specs.ContractionLaws.{IsLabelled}
 use Rattle.cactus_solver.specs.declared.homed_tree.HomedTree.{HomedTree}
 use Rattle.cactus_solver.specs.declared.shares.Share.{Share}
@@ -53,11 +53,13 @@ pub record IsSolvedFrom (g : Graph) (old new : Share) : Type 0 where
   pub region : new.region ≡ old.region
   pub own : new.own ≡ old.own
   pub classes : new.classes ≡ old.classes
+  pub looked_for : IsSome new.tree
   pub tree : HasTree g new
 
 -- a share whose tree was looked for
 pub record IsSolvedShare (g : Graph) (labels : List ℕ) (s : Share) : Type 0 where
   pub share : IsShare g labels s
+  pub looked_for : IsSome s.tree
   pub tree : HasTree g s
 
 -- shares of different regions
@@ -65,9 +67,24 @@ pub record AreShares (g : Graph) (labels : List ℕ) (shares : List Share) : Typ
   pub each : All (IsShare g labels) shares
   pub apart : AllPairs (λ (p q : Share). p.region ≢ q.region) shares
 
--- a vertex outside a region keeps its label, and one of the region does, or has entered
-abbrev pub IsLeftOrEntered : List ℕ → ℕ → List ℕ → Type 0
-IsLeftOrEntered labels region labels' = (v : ℕ) → (slice_index labels' v ≡ slice_index labels v) ⊎ ((slice_index labels v ≡ region) × (slice_index labels' v ≡ 0))
+-- the regions of shares
+abbrev pub regions_of : List Share → List ℕ
+regions_of shares = map (λ (s : Share). s.region) shares
+
+-- all vertices have left a region and entered, and all other labels stay
+abbrev pub HasLeft : List ℕ → ℕ → List ℕ → Type 0
+HasLeft labels region labels' = (v : ℕ) → slice_index labels' v ≡ (if slice_index labels v == region then 0 else slice_index labels v)
+
+-- the same of several regions
+abbrev pub HaveLeft : List ℕ → List ℕ → List ℕ → Type 0
+HaveLeft labels regions labels' = (v : ℕ) → slice_index labels' v ≡ (if has regions (slice_index labels v) then 0 else slice_index labels v)
+
+-- the list of a part has at least so many vertices, and the region is the label of one of them
+pub record IsLargePart (labels list : List ℕ) (least region : ℕ) : Type 0 where
+  pub large : least ≤ length list
+  pub place : ℕ
+  pub there : place < length list
+  pub label : slice_index labels (slice_index list place) ≡ region
 
 -- a vertex up to one with a class from 2 on
 abbrev pub IsInside : ℕ → List ℕ → ℕ → Type 0

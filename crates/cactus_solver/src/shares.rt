@@ -1,9 +1,11 @@
 //! Regions that are solved side by side, each as a graph of its own.
 
-ghost use Rattle.std.specs.Prelude.{◌≡◌, ◌+◌, ◌^◌, ◌<◌, ◌≤◌, ◌++◌, ◌∷◌, [], ℕ, true, false, All, IfOk, IsTrue, IsFalse, OnOk, length, slice_index, slice_index_or};
+ghost use Rattle.std.specs.Prelude.{◌≡◌, ◌+◌, ◌^◌, ◌<◌, ◌≤◌, ◌++◌, ◌∷◌, [], ℕ, None, true, false, All, IfOk, IsTrue, IsFalse, OnOk, length, slice_index, slice_index_or};
 ghost use Rattle.cut_definitions.specs.Components.{IsConnected};
 ghost use Rattle.cut_definitions.specs.Contraction.{relabel};
 ghost use Rattle.cut_definitions.specs.Cuts.{value as least_value};
+ghost use Rattle.cut_definitions.specs.Scan.{single};
+ghost use Rattle.cut_definitions.specs.Weight.{weight};
 ghost use Rattle.weighted_graph.specs.ContractionLaws.{IsLabelled};
 ghost use Rattle.cactus_solver.specs.Shares.{AddsClass, IsPartTree, IsShare, IsSolvedFrom};
 
@@ -60,6 +62,7 @@ pub fn share_of(
     requires outside { 1 ≤ region }
     ensures share { IfOk result (IsShare graph.now flow.now.labels) }
     ensures region { IfOk result (λ s. s.region ≡ region) }
+    ensures tree { IfOk result (λ s. s.tree ≡ None) }
 {
     let n = graph.n();
     let mut own = Vec::new(alloc);
@@ -76,10 +79,12 @@ pub fn share_of(
     })
 }
 
-/// Whether a vertex has at most a degree.
+/// Whether some vertex has at most a degree.
 fn has_degree(graph: &Graph, degree: u64) -> bool
     requires { 2 ≤ graph.now.vertices }
-    ensures { IsTrue result → least_value graph.now ≤ degree }
+    ensures value { IsTrue result → least_value graph.now ≤ degree }
+    ensures some { IsTrue result → (v : ℕ) × (1 ≤ v) × (v ≤ graph.now.vertices) × (weight graph.now (single v) ≤ degree) }
+    ensures none { IsFalse result → (v : ℕ) → 1 ≤ v → v ≤ graph.now.vertices → degree < weight graph.now (single v) }
 {
     let n = graph.n();
     for v in 0..n {

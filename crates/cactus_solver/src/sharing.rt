@@ -1,12 +1,15 @@
 //! A sweep whose large regions are solved side by side.
+//!
+//! No answer rests on which regions are shared: each that is left is split as ever.
 
-ghost use Rattle.std.specs.Prelude.{◌≡◌, ◌≢◌, ◌+◌, ◌-◌, ◌^◌, ◌<◌, ◌≤◌, ◌⊎◌, ℕ, All, IfOk, OnOk, length, slice_index, slice_set};
+ghost use Rattle.std.specs.Prelude.{◌≡◌, ◌≢◌, ◌+◌, ◌-◌, ◌^◌, ◌<◌, ◌≤◌, ℕ, All, IfOk, IfSome, OnOk, length, slice_index, slice_set};
 ghost use Rattle.cut_definitions.specs.Contraction.{label, classes as classes_of};
 ghost use Rattle.cactus_solver.specs.Grafted.{grafted_at};
 ghost use Rattle.std.specs.List.{AllPairs};
 ghost use Rattle.cut_definitions.specs.Components.{IsConnected};
 ghost use Rattle.cut_definitions.specs.Cuts.{value as least_value};
-ghost use Rattle.cactus_solver.specs.Shares.{AreShares, ArePutAway, IsLeftOrEntered, IsSolvedShare};
+ghost use Rattle.cactus_solver.specs.Listed.{part_list};
+ghost use Rattle.cactus_solver.specs.Shares.{AreShares, ArePutAway, HasLeft, HaveLeft, IsLargePart, IsSolvedShare, regions_of};
 ghost use Rattle.cactus_solver.specs.UnderWay.{IsUnderWay};
 
 use crate::homes::Homes;
@@ -25,7 +28,7 @@ const LARGE: usize = 20_000;
 /// Nor is one of less than so manieth of all vertices, since each is looked for among all of them.
 const MANY: usize = 16;
 
-/// Shares of regions.
+/// Shares of regions, one for each.
 fn shares_of(
     alloc: Global,
     graph: &Graph,
@@ -37,7 +40,8 @@ fn shares_of(
     requires some { 1 ≤ graph.now.vertices }
     requires outside { All (λ region. 1 ≤ region) regions.now }
     requires ascending { AllPairs (λ p q. p < q) regions.now }
-    ensures { IfOk result (λ shares. AreShares graph.now flow.now.labels shares.items) }
+    ensures shares { IfOk result (λ shares. AreShares graph.now flow.now.labels shares.items) }
+    ensures regions { IfOk result (λ shares. regions_of shares.items ≡ regions.now) }
 {
     let mut shares = Vec::new(alloc);
     for region in regions {
@@ -84,11 +88,14 @@ impl Sweep {
         requires { length self.now.flow.labels ≡ n + 1 }
         ensures outside { IfOk result (λ regions. All (λ region. 1 ≤ region) regions.items) }
         ensures ascending { IfOk result (λ regions. AllPairs (λ p q. p < q) regions.items) }
+        ensures large { IfOk result (λ regions. All (λ region. (part : ℕ) × (part ≤ self.now.parts.count) × IsLargePart self.now.flow.labels (part_list self.now.parts part) least region) regions.items) }
     {
         let mut regions = Vec::new(alloc);
         let mut last = 0;
         for before in 0..self.parts.count() {
-            let region = self.large_region(before + 1, n, least);
+            let Some(region) = self.large_region(before + 1, n, least) else {
+                continue;
+            };
             if region > last {
                 regions.push(region)?;
                 last = region;
@@ -97,26 +104,27 @@ impl Sweep {
         Ok(regions)
     }
 
-    /// The region of a part with at least so many vertices; 0 where it has fewer. The vertex that entered when the parts were
-    /// made is not the last one of its list.
-    fn large_region(&self, part: u32, n: u32, least: usize) -> u32
+    /// The region of a part with at least so many vertices. The vertex that entered when the parts were made is not the last
+    /// one of its list.
+    fn large_region(&self, part: u32, n: u32, least: usize) -> Option<u32>
         requires part { part ≤ self.now.parts.count }
         requires labels { length self.now.flow.labels ≡ n + 1 }
+        ensures { IfSome result (IsLargePart self.now.flow.labels (part_list self.now.parts part) least) }
     {
         let list = self.parts.part(part);
         match list.last() {
-            Some(v) if *v <= n && list.len() >= least => self.flow.label(*v),
-            _ => 0,
+            Some(v) if *v <= n && list.len() >= least => Some(self.flow.label(*v)),
+            _ => None,
         }
     }
 
-    /// Lets a region enter, with the tree of its share grafted on its node. Nothing is done where no tree was looked for.
+    /// Lets a region enter, with the tree of its share grafted on its node.
     fn graft(&mut self, graph: &Graph, share: Share) -> Result<(), NoMemory>
         requires enough { 2 ≤ graph.now.vertices }
         requires under_way { IsUnderWay graph.now self.old }
         requires share { IsSolvedShare graph.now self.old.flow.labels share }
         ensures under_way { OnOk result (IsUnderWay graph.now self.new) }
-        ensures labels { OnOk result (IsLeftOrEntered self.old.flow.labels share.region self.new.flow.labels) }
+        ensures left { OnOk result (HasLeft self.old.flow.labels share.region self.new.flow.labels) }
     {
         let _n = graph.n();
         let Share {
@@ -125,10 +133,7 @@ impl Sweep {
             classes,
             tree,
         } = share;
-        let Some(found) = tree else {
-            return Ok(());
-        };
-        let found = found?;
+        let found = tree.unwrap()?;
         if own.is_empty() {
             return Ok(());
         }
@@ -150,7 +155,7 @@ impl Sweep {
         requires shares { All (IsSolvedShare graph.now self.old.flow.labels) shares.items }
         requires apart { AllPairs (λ (p q : Share). p.region ≢ q.region) shares.items }
         ensures under_way { OnOk result (IsUnderWay graph.now self.new) }
-        ensures stay { OnOk result ((v : ℕ) → slice_index self.old.flow.labels v ≡ 0 → slice_index self.new.flow.labels v ≡ 0) }
+        ensures left { OnOk result (HaveLeft self.old.flow.labels (regions_of shares.items) self.new.flow.labels) }
     {
         'shares: while let Some(share) = shares.pop() {
             self.graft(graph, share)?;

@@ -23,11 +23,14 @@ loop-region-preserved c =
           ∙ (ap (λ (r : ℕ). take i regions ++ r ∷ []) c.in_ok-share.ensures.region ∙ sym (take_next regions i (omega arith))))),
     )
 
-pub returns : goal.returns
-returns c =
+pub returns-clause-shares : goal.returns-clause-shares
+returns-clause-shares c =
     let regions = c.args.regions.now in
     let all : take c.loop-region.region-index regions ≡ regions = take_all c.loop-region.region-index regions (omega (arith, c.loop-region-test.false)) in
     record {
       each = c.loop-region.invariant.0;
       apart = shares_apart c.loop-region.shares.items regions (c.loop-region.invariant.1 ∙ all) c.requires.ascending;
     }
+
+pub returns-clause-regions : goal.returns-clause-regions
+returns-clause-regions c = c.loop-region.invariant.1 ∙ take_all c.loop-region.region-index c.args.regions.now (omega (arith, c.loop-region-test.false))

@@ -4,7 +4,7 @@ use Rattle.std.proofs.lemmas.Bool.{eqb-false}
 use Rattle.std.specs.Prelude.{vec_len}
 use Rattle.cut_definitions.specs.Contraction.{relabel}
 use Rattle.min_value.proofs.Scanned.{relabelled_vertices}
-use Rattle.cactus_solver.proofs.Grafts.{few_left, grafted_on, left_or_entered, may_be_cut_off, own_to_n, tree_found}
+use Rattle.cactus_solver.proofs.Grafts.{few_left, grafted_on, has_left, may_be_cut_off, own_to_n, tree_found}
 use Rattle.cactus_solver.proofs.Labelling.{fresh_labels}
 use Rattle.cactus_solver.proofs.UnderWay.{few_labels}
 use Rattle.cactus_solver.proofs.sweep.Sweep.graft.Goals as goal
@@ -20,7 +20,7 @@ of_region-node-requires c =
 pub put_away-requires-clause-nodes : goal.put_away-requires-clause-nodes
 put_away-requires-clause-nodes c = λ k to.
     let g = c.args.graph.now in
-    let part = tree_found g c.args.share c.in-Some.found c.in_ok-found.found c.requires.share.tree c.in-Some.is c.in_ok-found.was in
+    let part = tree_found g c.args.share c.unwrap.result c.in_ok-found.found c.requires.share.tree c.unwrap.ensures c.in_ok-found.was in
     let count = relabelled_vertices g c.args.share.classes (relabel g c.args.share.classes) refl in
     omega (arith, to, part.long, count, c.deref.ensures.len, c.in_ok-found.found.homes.ok.0)
 
@@ -36,7 +36,7 @@ put_all_ends-requires-clause-few c =
     let s = c.args.self.now in
     let h = c.requires.under_way in
     few_left g.vertices s.flow.labels c.cut_off.new.self.labels c.args.share.region (few_labels g.vertices s.flow.labels s.fresh h.numbered)
-    (left_or_entered g s.flow.labels c.cut_off.new.self.labels c.args.share c.requires.share.share h.flow.labels_length h.flow.nobody (rw c.deref-2.ensures.value at c.cut_off.ensures.labels))
+    (has_left g s.flow.labels c.cut_off.new.self.labels c.args.share c.requires.share.share h.flow.labels_length h.flow.nobody (rw c.deref-2.ensures.value at c.cut_off.ensures.labels))
 
 pub returns-clause-under_way : goal.returns-clause-under_way
 returns-clause-under_way c =
@@ -46,7 +46,7 @@ returns-clause-under_way c =
     let is_share = c.requires.share.share in
     let own = share.own in
     let some : 1 ≤ length own.items = omega (arith, eqb-false (vec_len own) 0 (sym c.if-is_empty.ensures), own.ok.0) in
-    let part = tree_found g share c.in-Some.found c.in_ok-found.found c.requires.share.tree c.in-Some.is c.in_ok-found.was in
+    let part = tree_found g share c.unwrap.result c.in_ok-found.found c.requires.share.tree c.unwrap.ensures c.in_ok-found.was in
     let ends = c.in_ok-put_all_ends.ensures in
     grafted_on g s share c.in_ok-found.found c.cut_off.new.self c.put_away.new.homes c.graft.new.self c.put_all_ends.new.self c.n-n.ensures.edge_list.is_graph c.requires.enough
     c.requires.under_way is_share part some
@@ -61,8 +61,8 @@ returns-clause-under_way c =
       ends = rw c.deref-3.ensures.value at ends.ends;
     })
 
-pub returns-clause-labels : goal.returns-clause-labels
-returns-clause-labels c =
+pub returns-clause-left : goal.returns-clause-left
+returns-clause-left c =
     let s = c.args.self.now in
     let h = c.requires.under_way in
-    left_or_entered c.args.graph.now s.flow.labels c.cut_off.new.self.labels c.args.share c.requires.share.share h.flow.labels_length h.flow.nobody (rw c.deref-2.ensures.value at c.cut_off.ensures.labels)
+    has_left c.args.graph.now s.flow.labels c.cut_off.new.self.labels c.args.share c.requires.share.share h.flow.labels_length h.flow.nobody (rw c.deref-2.ensures.value at c.cut_off.ensures.labels)

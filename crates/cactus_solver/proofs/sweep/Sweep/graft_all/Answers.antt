@@ -1,8 +1,8 @@
 -- One share after another.
-use Rattle.std.proofs.Common.{◌∷◌, [], length, ap, ⊎_elim, ◌∙◌, arith}
+use Rattle.std.proofs.Common.{◌∷◌, [], length, ap, arith}
 use Rattle.std.proofs.lemmas.List.{length-append}
 use Rattle.cut_definitions.proofs.ListLaws.{popped_is}
-use Rattle.cactus_solver.proofs.ShareLaws.{last_share, shares_left}
+use Rattle.cactus_solver.proofs.ShareLaws.{behind_more, behind_none, last_share, shares_left}
 use Rattle.cactus_solver.proofs.sweep.Sweep.graft_all.Goals as goal
 
 pub graft-requires-clause-share : goal.graft-requires-clause-share
@@ -15,15 +15,23 @@ pub shares-preserved : goal.shares-preserved
 shares-preserved c =
     let xs = c.shares.shares.items in
     let rest = c.pop.new.self.items in
-    let left = c.in_ok-graft.ensures.labels in
-    let next = shares_left c.args.graph.now c.shares.self.flow.labels c.graft.new.self.flow.labels xs rest c.in-Some.share
-    (popped_is xs rest c.pop.result c.in-Some.share c.pop.ensures.items c.in-Some.is) c.shares.invariant.each c.shares.invariant.apart left in
+    let is = popped_is xs rest c.pop.result c.in-Some.share c.pop.ensures.items c.in-Some.is in
+    let left = c.in_ok-graft.ensures.left in
+    let next = shares_left c.args.graph.now c.shares.self.flow.labels c.graft.new.self.flow.labels xs rest c.in-Some.share is c.shares.invariant.each c.shares.invariant.apart left in
     record {
       under_way = c.in_ok-graft.ensures.under_way;
       each = next.0;
       apart = next.1;
-      stay = λ v e. ⊎_elim (λ same. same ∙ c.shares.invariant.stay v e) (λ moved. moved.1) (left v);
+      left = behind_more c.args.self.now.flow.labels c.shares.self.flow.labels c.graft.new.self.flow.labels c.args.shares.items xs rest c.in-Some.share is c.shares.invariant.left left;
     }
+
+pub shares-init : goal.shares-init
+shares-init c = record {
+  under_way = c.requires.under_way;
+  each = c.requires.shares;
+  apart = c.requires.apart;
+  left = behind_none c.args.self.now.flow.labels c.args.shares.items;
+}
 
 pub shares-smaller : goal.shares-smaller
 shares-smaller c =

@@ -5,7 +5,7 @@ use Rattle.std.specs.List.{All, AllPairs}
 use Rattle.cactus_solver.specs.Shares.{IsSolvedShare}
 use Rattle.cactus_solver.specs.UnderWay.{IsUnderWay}
 use Rattle.cactus_solver.specs.declared.shares.Share.{Share}
-use Rattle.cactus_solver.proofs.Leaving.{Stays}
+use Rattle.cactus_solver.proofs.ShareLaws.{HaveLeftBehind}
 use Rattle.cactus_solver.proofs.sweep.Sweep.graft_all.Given as goal
 
 abbrev pub invariant-shares : goal.invariant-shares
@@ -13,7 +13,7 @@ invariant-shares l = record {
   under_way : IsUnderWay l.graph l.self;
   each : All (IsSolvedShare l.graph l.self.flow.labels) l.shares.items;
   apart : AllPairs (λ (p q : Share). p.region ≢ q.region) l.shares.items;
-  stay : Stays l.initial.self.flow.labels l.self.flow.labels;
+  left : HaveLeftBehind l.initial.self.flow.labels l.initial.shares.items l.shares.items l.self.flow.labels;
 }
 
 abbrev pub decreases-shares : goal.decreases-shares

@@ -1,7 +1,13 @@
--- The regions ascend to the last one.
-use Rattle.std.proofs.Common.{◌≤◌, ◌<◌}
-use Rattle.std.specs.List.{All, AllPairs}
+-- The regions ascend to the last one, and each is that of a large part.
+use Rattle.std.proofs.Common.{ℕ, ◌≤◌}
+use Rattle.std.specs.List.{All}
+use Rattle.cactus_solver.specs.Listed.{part_list}
+use Rattle.cactus_solver.specs.Shares.{IsLargePart}
+use Rattle.cactus_solver.proofs.ShareLaws.{AscendTo}
 use Rattle.cactus_solver.proofs.sweep.Sweep.large_regions.Given as goal
 
 abbrev pub invariant-loop-before : goal.invariant-loop-before
-invariant-loop-before l = All (λ r. 1 ≤ r) l.regions.items × (All (λ r. r ≤ l.last) l.regions.items × AllPairs (λ p q. p < q) l.regions.items)
+invariant-loop-before l = record {
+  ascend : AscendTo l.last l.regions.items;
+  large : All (λ region. (part : ℕ) × (part ≤ l.self.parts.count) × IsLargePart l.self.flow.labels (part_list l.self.parts part) l.least region) l.regions.items;
+}
