@@ -80,7 +80,7 @@ impl Gate for MeetingGate {
 }
 
 /// Words as the program gets them.
-pub fn strings_of(alloc: Global, words: &[&str]) -> Result<Vec<String>, Fail> {
+pub(crate) fn strings_of(alloc: Global, words: &[&str]) -> Result<Vec<String>, Fail> {
     let mut strings = Vec::new(alloc);
     for word in words {
         strings.push(String::from_str(alloc, word)?)?;
@@ -100,7 +100,7 @@ fn sink_of(alloc: Global, room: usize, failing: &[u64]) -> Result<MemorySink, Fa
 }
 
 /// Whether a run by this script answers and writes just what is wanted.
-pub fn gives<R: Threads + Sync>(
+pub(crate) fn gives<R: Threads + Sync>(
     rt: &R,
     alloc: Global,
     words: &[&str],
@@ -129,7 +129,7 @@ pub fn gives<R: Threads + Sync>(
 }
 
 /// Whether an honest run answers `Ok`, writes this text, and tells nothing.
-pub fn answers<R: Threads + Sync>(
+pub(crate) fn answers<R: Threads + Sync>(
     rt: &R,
     alloc: Global,
     words: &[&str],
@@ -145,7 +145,7 @@ pub fn answers<R: Threads + Sync>(
 }
 
 /// Whether an honest run answers this status, writes nothing, and tells this line.
-pub fn tells<R: Threads + Sync>(
+pub(crate) fn tells<R: Threads + Sync>(
     rt: &R,
     alloc: Global,
     words: &[&str],
@@ -162,7 +162,7 @@ pub fn tells<R: Threads + Sync>(
 }
 
 /// Whether worker 0 waits at the gate in an honest run, and worker 1 passes it meanwhile.
-pub fn meets<R: Threads + Sync>(
+pub(crate) fn meets<R: Threads + Sync>(
     rt: &R,
     alloc: Global,
     words: &[&str],
@@ -182,7 +182,7 @@ pub fn meets<R: Threads + Sync>(
 }
 
 /// How often a worker passes the gate in an honest run.
-pub fn passes_of<R: Threads + Sync>(
+pub(crate) fn passes_of<R: Threads + Sync>(
     rt: &R,
     alloc: Global,
     words: &[&str],

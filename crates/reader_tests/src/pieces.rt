@@ -5,7 +5,7 @@ use metis_reader::{Fault, FaultKind, MetisGraph, ReadRefusal, Reader};
 use std::alloc::Global;
 
 // What the reader answers of a text that comes in pieces of this length.
-pub fn graph(alloc: Global, text: &[u8], length: usize) -> Result<MetisGraph, ReadRefusal> {
+pub(crate) fn graph(alloc: Global, text: &[u8], length: usize) -> Result<MetisGraph, ReadRefusal> {
     let mut reader = Reader::new(alloc);
     for piece in text.chunks(length.max(1)) {
         reader.feed(piece)?;
@@ -14,7 +14,7 @@ pub fn graph(alloc: Global, text: &[u8], length: usize) -> Result<MetisGraph, Re
 }
 
 // The edges of the graph.
-pub fn edges(alloc: Global, text: &[u8], length: usize) -> Result<Vec<Edge>, ReadRefusal> {
+pub(crate) fn edges(alloc: Global, text: &[u8], length: usize) -> Result<Vec<Edge>, ReadRefusal> {
     let graph = graph(alloc, text, length)?;
     Ok(Vec::from_slice(alloc, graph.edges.edges())?)
 }

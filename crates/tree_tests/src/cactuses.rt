@@ -56,7 +56,11 @@ fn has_no_other(alloc: Global, cactus: &Cactus, lists: &[&[u32]]) -> Result<bool
 }
 
 /// Whether the cactus has just these sides, as lists of their vertices.
-pub fn has_sides(alloc: Global, cactus: &Cactus, lists: &[&[u32]]) -> Result<bool, NoMemory> {
+pub(crate) fn has_sides(
+    alloc: Global,
+    cactus: &Cactus,
+    lists: &[&[u32]],
+) -> Result<bool, NoMemory> {
     for vertices in lists {
         if !has_side(alloc, cactus, vertices)? {
             return Ok(false);

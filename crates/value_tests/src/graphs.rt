@@ -35,7 +35,7 @@ pub fn triangle_list(alloc: Global) -> Result<EdgeList, NoMemory>
 }
 
 /// The edges of a file, if it has a graph.
-pub fn edges_of(alloc: Global, text: &str) -> Option<EdgeList> {
+pub(crate) fn edges_of(alloc: Global, text: &str) -> Option<EdgeList> {
     let mut reader = Reader::new(alloc);
     if reader.feed(text.as_bytes()).is_err() {
         return None;
