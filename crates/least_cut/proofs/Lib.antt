@@ -1,3 +1,5 @@
 pub mod Even
-pub mod Dense
+pub mod LightEdges
+pub mod FewEdges
 pub mod Sweeping
+pub mod ByDegrees

@@ -6,13 +6,15 @@
 //! last, since the flow into it has the shortest way. No cut of a connected graph weighs less than 1, and
 //! none less than 2 where all degrees are even; so the sweep ends where it knows of a cut that light, and makes no flow at
 //! all where a vertex is one. Nor does it in a dense graph with light edges, where no cut weighs less than a vertex alone
-//! (Chartrand, 1966).
+//! (Chartrand, 1966); `value_of_dense` answers for such a graph from the list of edges, without its rows.
 //!
 //! The sweep is that of Hao and Orlin (1994), without distances. It takes memory for one flow, and for each vertex 5 bytes
 //! more. No good bound in n and m is known for its time; a limit on its work can be given.
 #![tactic(auto)]
 
+pub mod dense;
 mod front;
 pub mod sweep;
 
+pub use dense::value_of_dense;
 pub use sweep::{Swept, least_weight, least_weight_below, least_weight_within};

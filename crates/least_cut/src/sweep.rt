@@ -4,8 +4,9 @@ ghost use Rattle.std.specs.Prelude.{◌≡◌, ◌≤◌, ◌<◌, ◌-◌, ◌^
 ghost use Rattle.cut_definitions.specs.Components.{IsConnected};
 ghost use Rattle.cut_definitions.specs.Cuts.{value};
 ghost use Rattle.region_flow.specs.Regions.{IsRegionFlow};
-ghost use Rattle.least_cut.specs.Sweep.{AreLight, HasDegrees, HasEvenDegrees, IsSwept, TellsLeast};
+ghost use Rattle.least_cut.specs.Sweep.{HasDegrees, HasEvenDegrees, IsSwept, TellsLeast};
 
+use crate::dense::are_light;
 use crate::front::Front;
 use cut_definitions::NoMemory;
 use max_flow::Outcome;
@@ -62,34 +63,15 @@ fn least_if_connected(graph: &Graph) -> u64
     if has_even_degrees(graph) { 2 } else { 1 }
 }
 
-/// The greatest weight of an edge, and 0 where there is none.
-fn heaviest_edge(graph: &Graph) -> u64
-    ensures { AreLight result graph.now.edges }
-{
-    let edges = graph.edge_list();
-    let mut heaviest = 0;
-    for edge in edges {
-        if edge.w > heaviest {
-            heaviest = edge.w;
-        }
-    }
-    heaviest
-}
-
 /// Whether the edges are so light against a weight that no degree undercuts that no cut undercuts it either: the side of a
 /// cut with k vertices, at most half of all, weighs no less than k degrees less what k (k - 1) of the heaviest edges weigh
-/// (after Chartrand, 1966). It looks at the edges only where the degrees are high against the number of vertices.
+/// (after Chartrand, 1966). It looks no further than the first edge that is too heavy.
 fn is_dense(graph: &Graph, weight: u64) -> bool
     requires enough { 2 ≤ graph.now.vertices }
     requires degrees { HasDegrees graph.now weight }
     ensures { IsTrue result → weight ≤ value graph.now }
 {
-    let n = u64::from(graph.n());
-    let most = weight.saturating_mul(2) / n;
-    if most == 0 {
-        return false;
-    }
-    heaviest_edge(graph) <= most
+    are_light(graph.n(), graph.edge_list(), weight)
 }
 
 /// Whether no cut undercuts a weight, as far as the degrees and the components tell. It is refused only where memory is

@@ -17,6 +17,7 @@ use crate::reply::Reply;
 use crate::stop::Stop;
 use cactus_solver::solve;
 use cut_definitions::{EdgeList, VertexWeights};
+use least_cut::value_of_dense;
 use metis_reader::MetisGraph;
 use min_value::value as least_weight;
 use outside::{Gate, NoMemory};
@@ -41,7 +42,16 @@ fn with_rows(alloc: Global, list: EdgeList) -> Result<Graph, NoMemory>
     Ok(graph)
 }
 
-// The line of the job `value`.
+// The line that tells a value.
+fn value_text(alloc: Global, value: u64) -> Result<Reply, NoMemory>
+    ensures text { IfOk result (λ reply. text_of reply ≡ value_line value) }
+    ensures printable { IfOk result IsPrintable }
+{
+    let text = format!(in alloc; "value {value}\n")?;
+    Ok(Reply::Text(text))
+}
+
+// The line of the job `value`. A dense graph needs no rows for it.
 fn value_reply<R: Threads + Sync, G: Gate>(
     rt: &R,
     alloc: Global,
@@ -54,10 +64,12 @@ fn value_reply<R: Threads + Sync, G: Gate>(
     ensures text { IfOk result (λ reply. text_of reply ≡ value_line (value list)) }
     ensures printable { IfOk result IsPrintable }
 {
+    if let Some(value) = value_of_dense(alloc, &list)? {
+        return value_text(alloc, value);
+    }
     let graph = with_rows(alloc, list)?;
     let value = least_weight(rt, alloc, &graph, workers, gate)?;
-    let text = format!(in alloc; "value {value}\n")?;
-    Ok(Reply::Text(text))
+    value_text(alloc, value)
 }
 
 // Whether a number is a vertex of 1 to n.

@@ -2,7 +2,7 @@
 
 use crate::graphs::{edges_of, triangle_list, uneven_triangle};
 use cut_definitions::{EdgeList, NoMemory};
-use least_cut::{Swept, least_weight, least_weight_below, least_weight_within};
+use least_cut::{Swept, least_weight, least_weight_below, least_weight_within, value_of_dense};
 use min_value::value;
 use outside::OpenGate;
 use scan_forest::{LastPair, last_pair, plain_value};
@@ -83,6 +83,48 @@ fn a_dense_graph_needs_no_sweep(rt: HostRuntime) -> Result<(), Fail> {
         return Err(Fail::from("no graph"));
     };
     assert!(rt; keeps_its_limit(rt.alloc(), &list, Swept::Whole(3))?);
+    Ok(())
+}
+
+// Files, and what `value_of_dense` tells of their graphs: the complete graph of five vertices; one of four where vertex 4 has
+// the least degree, 12, and four times the heaviest edge is twice that; the same with an edge of weight 7; one of four where
+// an edge of weight 2 is too heavy for the least degree, 3; a ring of eight; two vertices with an edge, and without one.
+const DENSE: [(&str, Option<u64>); 7] = [
+    (
+        "5 10\n2 3 4 5\n1 3 4 5\n1 2 4 5\n1 2 3 5\n1 2 3 4\n",
+        Some(4),
+    ),
+    (
+        "4 6 1\n2 6 3 6 4 4\n1 6 3 6 4 4\n1 6 2 6 4 4\n1 4 2 4 3 4\n",
+        Some(12),
+    ),
+    (
+        "4 6 1\n2 7 3 6 4 4\n1 7 3 6 4 4\n1 6 2 6 4 4\n1 4 2 4 3 4\n",
+        None,
+    ),
+    (UNEVEN_FOUR, None),
+    ("8 8\n2 8\n1 3\n2 4\n3 5\n4 6\n5 7\n6 8\n1 7\n", None),
+    ("2 1 1\n2 7\n1 7\n", Some(7)),
+    ("2 0\n\n\n", Some(0)),
+];
+
+// Whether this is told of a list of edges alone.
+fn is_told(alloc: Global, list: &EdgeList, known: Option<u64>) -> Result<bool, NoMemory> {
+    if list.n() < 2 {
+        return Ok(false);
+    }
+    let found = value_of_dense(alloc, list)?;
+    Ok(found == known)
+}
+
+#[test]
+fn values_of_dense_graphs(rt: HostRuntime) -> Result<(), Fail> {
+    for (text, known) in DENSE {
+        let Some(list) = edges_of(rt.alloc(), text) else {
+            return Err(Fail::from("no graph"));
+        };
+        assert!(rt; is_told(rt.alloc(), &list, known)?);
+    }
     Ok(())
 }
 

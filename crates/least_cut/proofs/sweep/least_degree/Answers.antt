@@ -1,6 +1,6 @@
 -- Each vertex alone is a cut.
-use Rattle.std.proofs.Common.{◌∙◌, sym, arith}
-use Rattle.least_cut.proofs.Dense.{more_degrees}
+use Rattle.std.proofs.Common.{arith}
+use Rattle.least_cut.proofs.LightEdges.{more_degrees}
 use Rattle.least_cut.proofs.Sweeping.{value-le_degree}
 use Rattle.least_cut.proofs.sweep.least_degree.Goals as goal
 
