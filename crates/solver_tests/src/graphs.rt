@@ -5,7 +5,7 @@ use metis_reader::Reader;
 use std::alloc::Global;
 
 /// The edges of a file, if it has a graph.
-pub fn edges_of(alloc: Global, text: &str) -> Option<EdgeList> {
+pub(crate) fn edges_of(alloc: Global, text: &str) -> Option<EdgeList> {
     let mut reader = Reader::new(alloc);
     if reader.feed(text.as_bytes()).is_err() {
         return None;

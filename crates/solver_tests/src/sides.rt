@@ -16,7 +16,7 @@ fn members(alloc: Global, side: &Side) -> Result<Vec<u32>, NoMemory> {
 }
 
 /// All sides of a cactus, in the order of a walk. A side may stand twice.
-pub fn all_sides(alloc: Global, cactus: &Cactus) -> Result<Vec<Vec<u32>>, NoMemory> {
+pub(crate) fn all_sides(alloc: Global, cactus: &Cactus) -> Result<Vec<Vec<u32>>, NoMemory> {
     let mut sides = Vec::new(alloc);
     let mut room = Side::empty(alloc, cactus.n())?;
     let mut walk = Walk::new(alloc, cactus)?;
@@ -45,7 +45,7 @@ fn is_found(list: &[u32], found: &[Vec<u32>]) -> bool {
 }
 
 /// Whether the two have the same lists, each once or more, in any order.
-pub fn are_same(found: &[Vec<u32>], wanted: &[&[u32]]) -> bool {
+pub(crate) fn are_same(found: &[Vec<u32>], wanted: &[&[u32]]) -> bool {
     for list in found {
         if !is_among(list.as_slice(), wanted) {
             return false;
