@@ -25,7 +25,7 @@ pub fn uneven_triangle(alloc: Global) -> Result<Graph, NoMemory>
 
 /// The edges of the same triangle, pushed one by one.
 pub fn triangle_list(alloc: Global) -> Result<EdgeList, NoMemory>
-    ensures { IfOk result (λ list. list.vertices ≡ 3) }
+    ensures { IfOk result (λ list. list ≡ record { vertices = 3; edges = record { u = 1; v = 2; w = 5 } ∷ record { u = 1; v = 3; w = 1 } ∷ record { u = 2; v = 3; w = 4 } ∷ [] }) }
 {
     let mut list = EdgeList::new(alloc, 3);
     list.push(Edge { u: 1, v: 2, w: 5 })?;
