@@ -1,4 +1,4 @@
-use Rattle.std.proofs.Common.{◌≤◌, subst, sym, IfOk, arith}
+use Rattle.std.proofs.Common.{◌≤◌, subst, sym, IfOk, arith, rules}
 use Rattle.std.specs.Prelude.{IfErr}
 use Rattle.cut_definitions.specs.Graph.{Graph}
 use Rattle.mincut_program.specs.Jobs.{IsAnswerOf, IsStopFor}
@@ -21,3 +21,6 @@ returns-clause-text g c = subst (λ (l : Graph). IfOk c.cuts_reply.result (λ re
 
 pub returns-clause-stop : goal.returns-clause-stop
 returns-clause-stop g c = subst (λ (l : Graph). IfErr c.cuts_reply.result (IsStopFor c.args.command c.args.weights.now l)) c.in_ok-graph.ensures c.cuts_reply.ensures.stop
+
+pub apart_reply-requires-clause-components : goal.apart_reply-requires-clause-components
+apart_reply-requires-clause-components g c = search rules

@@ -1,4 +1,4 @@
-use Rattle.std.proofs.Common.{◌∙◌, ap, sym}
+use Rattle.std.proofs.Common.{◌∙◌, ap, sym, rules}
 use Rattle.cut_definitions.specs.Cuts.{mincuts}
 use Rattle.mincut_program.specs.declared.command.Job.TheVariants.{Cuts}
 use Rattle.mincut_program.specs.Jobs.{asked_of}
@@ -7,3 +7,6 @@ use Rattle.mincut_program.proofs.cuts.ask_of.Goals as goal
 
 pub returns-in-None-clause-cuts : goal.returns-in-None-clause-cuts
 returns-in-None-clause-cuts c = λ g. cuts_of_all g ∙ ap (λ least. asked_of Cuts least c.args.weights.now (mincuts g)) (sym c.in-None.is)
+
+pub returns-in-Some-clause-cuts : goal.returns-in-Some-clause-cuts
+returns-in-Some-clause-cuts c = search rules
