@@ -4,7 +4,7 @@ use Rattle.std.specs.Prelude.{slice_index_or}
 use Rattle.std.proofs.lemmas.List.{append_assoc, append-nil, drop-drop, length-drop, length-take-le}
 use Rattle.cut_definitions.specs.Cuts.{has}
 use Rattle.cactus_tree.specs.Entries.{Read, bridge_read, cycle_read, node_read, nothing_read}
-use Rattle.canonical_cactus.specs.declared.joints.Joint.{Joint}
+use Rattle.canonical_cactus.specs.declared.entries.Joint.{Joint}
 use Rattle.cactus_tree.proofs.Entries.{drawn_front}
 use Rattle.cactus_tree.proofs.Makes.{each_push, each_length, each_drop, each_first}
 use Rattle.canonical_cactus.specs.Making.{IsNodeOf, IsChildOf, IsBlockOf, AreNodesOf, AreChildrenOf, AreBlocksOf}

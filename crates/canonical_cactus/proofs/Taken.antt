@@ -1,6 +1,6 @@
 -- A tree taken apart into entries is read off them.
 use Rattle.std.proofs.Common.{◌≡◌, ℕ, ◌+◌, ◌-◌, ◌≤◌, ◌<◌, List, [], ◌∷◌, ◌++◌, length, map, take, drop, refl, sym, ◌∙◌, ap, subst, arith}
-use Rattle.std.specs.Prelude.{Box, Option, option_to_list}
+use Rattle.std.specs.Prelude.{Box}
 use Rattle.std.specs.declared.alloc.Global.{Global}
 use Rattle.std.specs.List.{flat_map}
 use Rattle.std.proofs.lemmas.List.{append_assoc, append-nil, length-append, length-map, map-append}
@@ -17,8 +17,8 @@ use Rattle.cactus_tree.specs.Entries.{top_first, Read, bridge_read, cycle_read, 
 use Rattle.cactus_tree.proofs.Entries.{read_out, read_bridge, read_cycle}
 use Rattle.cactus_tree.proofs.Orders.{entered_out, entered_bridge, entered_cycle}
 use Rattle.canonical_cactus.specs.Taken.{used, wanted, all_drawn, IsShed, AreShed, joints_of, read_entry, read_entries, left, IsReady, Shows}
-use Rattle.canonical_cactus.specs.declared.joints.Joint.{Joint}
-use Rattle.canonical_cactus.specs.declared.joints.Joint.TheVariants as Joints
+use Rattle.canonical_cactus.specs.declared.entries.Joint.{Joint}
+use Rattle.canonical_cactus.specs.declared.entries.Joint.TheVariants as Joints
 use Rattle.canonical_cactus.specs.declared.entries.OpenNode.{OpenNode}
 
 -- ---- a bridge, a bridge to a leaf, and a cycle are taken apart
@@ -110,11 +110,6 @@ pub shed_all : (all less : List Block) (js : List Joint) (before now : List Node
 shed_all all less js before now s none =
     let whole : s.done ≡ all = sym (ap (λ bs. bs ++ s.done) none) ∙ s.whole in
     (s.nodes, subst (λ (bs : List Block). AreShed bs js s.nodes) whole s.shed, s.stack)
-
--- the list from which the last was taken is empty
-pub emptied : (all less : List Block) (r : Option Block) → all ≡ less ++ option_to_list r → all ≡ [] → less ≡ []
-emptied all [] r e none = refl
-emptied all (b ∷ bs) r e none = absurd (omega (arith, ap length e, ap length none, length-append (b ∷ bs) (option_to_list r)))
 
 -- ---- fewer nodes are left
 pub fewer_left : (x : Node) (js : List Joint) (xs rest before after : List Node) → before ≡ x ∷ rest → AreShed (blocks x) js xs → after ≡ xs ++ rest → length (flat_map entered after) < length (flat_map entered before)

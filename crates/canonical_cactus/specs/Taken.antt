@@ -1,15 +1,14 @@
 -- A tree taken apart into its nodes, in the order in which it is entered, and what is read off them.
-use Rattle.std.specs.Prelude.{ℕ, ◌≡◌, ◌+◌, ◌-◌, ◌≤◌, ⊤, List, [], ◌∷◌, ◌++◌, length, map, option_to_list, take, drop, slice_index_or}
-use Rattle.std.specs.List.{All, flat_map}
+use Rattle.std.specs.Prelude.{ℕ, ◌≡◌, ◌+◌, ◌-◌, ◌≤◌, ⊤, List, [], ◌∷◌, ◌++◌, length, map, take, drop, slice_index_or}
+use Rattle.std.specs.List.{flat_map}
 use Rattle.cut_definitions.specs.Weight.{VertexSet}
 use Rattle.cactus_tree.specs.declared.tree.Node.{Node}
 use Rattle.cactus_tree.specs.declared.tree.Block.{Block}
-use Rattle.cactus_tree.specs.Trees.{blocks_in, vertices}
+use Rattle.cactus_tree.specs.Trees.{vertices}
 use Rattle.cactus_tree.specs.Entered.{entered, entered_block}
 use Rattle.cactus_tree.specs.Entries.{Read, top_first, read_node, read_block, node_read, bridge_read, cycle_read, nothing_read, kept}
-use Rattle.canonical_cactus.specs.declared.joints.Joint.{Joint}
-use Rattle.canonical_cactus.specs.declared.joints.Joints.{Joints}
-use Rattle.canonical_cactus.specs.declared.joints.Joint.TheVariants.{Bridge, Leaf, Cycle}
+use Rattle.canonical_cactus.specs.declared.entries.Joint.{Joint}
+use Rattle.canonical_cactus.specs.declared.entries.Joint.TheVariants.{Bridge, Leaf, Cycle}
 use Rattle.canonical_cactus.specs.declared.entries.OpenNode.{OpenNode}
 
 -- how many nodes a block takes from the front of a list
@@ -44,17 +43,9 @@ pub record AreShed (bs : List Block) (js : List Joint) (xs : List Node) : Type 0
   pub fewer : length (flat_map entered xs) ≤ length (flat_map entered_block bs)
   pub reads : (sets : List ℕ → VertexSet) (rs : List Read) → all_drawn sets js (map (read_node sets kept) xs ++ rs) ≡ map (read_block sets kept) bs
 
--- a list of joints
-abbrev pub joints_in : Joints → List Joint
-joints_in j = option_to_list j.first ++ j.more.items
-
 -- the blocks of an entry, the first first
 abbrev pub joints_of : OpenNode → List Joint
-joints_of e = top_first (joints_in e.joints)
-
--- the lists of blocks of entries are empty
-abbrev pub AreBare : List OpenNode → Type 0
-AreBare = All (λ (e : OpenNode). blocks_in e.blocks ≡ [])
+joints_of e = top_first e.joints.items
 
 -- what is read off an entry, which takes the nodes below it from the front of a list, and all that is left
 abbrev pub read_entry : (List ℕ → VertexSet) → OpenNode → List Read → List Read

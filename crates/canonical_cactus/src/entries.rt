@@ -3,21 +3,30 @@
 ghost use Rattle.std.specs.Prelude.{List, ◌≡◌, [], ◌++◌, OnOk, IfOk};
 ghost use Rattle.cactus_tree.specs.Entries.{top_first};
 ghost use Rattle.cactus_tree.specs.Trees.{blocks_in, nodes_in};
-ghost use Rattle.canonical_cactus.specs.Taken.{AreBare, AreShed, IsShed, joints_in, Shows};
+ghost use Rattle.canonical_cactus.specs.Taken.{AreShed, IsShed, Shows};
 
-use crate::joints::{Joint, Joints};
 use crate::parts::bare_node;
 use cactus_tree::{Block, Blocks, Children, Node, VertexList};
 use cut_definitions::NoMemory;
 use std::alloc::Global;
 use std::mem;
 
-/// A node without the nodes below it: its vertices, what is left of its blocks, the last first, and their list, which is empty.
+/// A block without its nodes.
+#[derive(Drop)]
+pub enum Joint {
+    /// A bridge, and a box for the node below it.
+    Bridge(Box<Node>),
+    /// A bridge down to a node without blocks, which stays where it is.
+    Leaf(Box<Node>),
+    /// A cycle with so many nodes below its upper one.
+    Cycle(usize),
+}
+
+/// A node without the nodes below it: its vertices, and its blocks, the last first.
 #[derive(Drop)]
 pub struct OpenNode {
     pub vertices: VertexList,
-    pub joints: Joints,
-    pub blocks: Blocks,
+    pub joints: Vec<Joint>,
 }
 
 /// Moves the nodes of a cycle onto the stack, the first on top.
@@ -53,42 +62,32 @@ fn shed_block(alloc: Global, stack: &mut Vec<Node>, block: Block) -> Result<Join
     }
 }
 
-/// Moves the nodes of some blocks onto the stack, the first on top, but for leaves below bridges, and lists what is left of
-/// the blocks, the last first. Their own list is empty then, and keeps its room.
-fn shed_blocks(
-    alloc: Global,
-    stack: &mut Vec<Node>,
-    blocks: Blocks,
-) -> Result<(Joints, Blocks), NoMemory>
-    ensures shed { IfOk result (λ r. (xs : List Node) × AreShed (blocks_in blocks) (top_first (joints_in r.0)) xs × (top_first stack.new.items ≡ xs ++ top_first stack.old.items)) }
-    ensures empty { IfOk result (λ r. blocks_in r.1 ≡ []) }
+/// Moves the nodes of some blocks onto the stack, the first on top, but for leaves below bridges, and lists the blocks, the
+/// last first.
+fn shed_blocks(alloc: Global, stack: &mut Vec<Node>, blocks: Blocks) -> Result<Vec<Joint>, NoMemory>
+    ensures { IfOk result (λ j. (xs : List Node) × AreShed (blocks_in blocks) (top_first j.items) xs × (top_first stack.new.items ≡ xs ++ top_first stack.old.items)) }
 {
     let mut blocks = blocks;
-    let mut joints = Joints::with_capacity(alloc, blocks.len())?;
+    let mut joints = Vec::with_capacity(alloc, blocks.len())?;
     'back: while let Some(block) = blocks.pop() {
         let joint = shed_block(alloc, stack, block)?;
         joints.push(joint)?;
     }
-    Ok((joints, blocks))
+    Ok(joints)
 }
 
 /// The entries of a tree, in the order in which it is entered. Room for so many nodes as are expected is reserved at once,
 /// since a long list that grows is copied again and again; there may be more of them, or fewer.
 pub fn entries_of(alloc: Global, root: Node, expected: usize) -> Result<Vec<OpenNode>, NoMemory>
-    ensures shows { IfOk result (λ e. Shows root e.items []) }
-    ensures bare { IfOk result (λ e. AreBare e.items) }
+    ensures { IfOk result (λ e. Shows root e.items []) }
 {
     let mut entries = Vec::with_capacity(alloc, expected)?;
     let mut stack = Vec::with_capacity(alloc, expected)?;
     stack.push(root)?;
     'walk: while let Some(node) = stack.pop() {
         let Node { vertices, blocks } = node;
-        let (joints, blocks) = shed_blocks(alloc, &mut stack, blocks)?;
-        entries.push(OpenNode {
-            vertices,
-            joints,
-            blocks,
-        })?;
+        let joints = shed_blocks(alloc, &mut stack, blocks)?;
+        entries.push(OpenNode { vertices, joints })?;
     }
     Ok(entries)
 }

@@ -14,9 +14,9 @@
 //! be spared, and the order of blocks and children are the freedoms which the representation of Dinitz, Karzanov and
 //! Lomonosov (1976) leaves.
 //!
-//! `canonical` takes a tree apart into entries (`entries`), but for leaves below bridges, each with what is left of its blocks
-//! (`joints`), and puts it together from the last one (`put`): each node and block is finished with its least vertex
-//! (`parts`), and blocks and cycles are put in order as they are made (`rows`).
+//! `canonical` takes a tree apart into entries (`entries`), but for leaves below bridges, and puts it together from the last
+//! one (`put`): each node and block is finished with its least vertex (`parts`), and blocks and cycles are put in order as
+//! they are made (`rows`).
 //! It takes O(n log n) for n vertices, in loops; `is_canonical` one step for each node and vertex, and a call for each
 //! level.
 //!
@@ -30,7 +30,6 @@ ghost use Rattle.canonical_cactus.specs.Canonical.{is_canonical};
 
 mod entries;
 mod first_side;
-mod joints;
 pub mod laws;
 mod making;
 mod minima;

@@ -5,13 +5,12 @@ ghost use Rattle.cut_definitions.specs.Cuts.{has};
 ghost use Rattle.cactus_tree.specs.Entries.{Read, top_first, bridge_read, cycle_read, node_read, nothing_read};
 ghost use Rattle.cactus_tree.specs.Trees.{vertices};
 ghost use Rattle.canonical_cactus.specs.Making.{AreBlocksOf, AreChildrenOf, AreNodesOf, IsBlockOf, IsNodeOf};
-ghost use Rattle.canonical_cactus.specs.Taken.{AreBare, IsReady, all_drawn, drawn, joints_in, left, read_entries, used, wanted};
+ghost use Rattle.canonical_cactus.specs.Taken.{IsReady, all_drawn, drawn, left, read_entries, used, wanted};
 
-use crate::entries::OpenNode;
-use crate::joints::{Joint, Joints};
+use crate::entries::{Joint, OpenNode};
 use crate::parts::{Hung, Placed, bare_node, hang_in, trimmed};
 use crate::rows::{cycle_of, node_of, star_of};
-use cactus_tree::{Blocks, Node};
+use cactus_tree::Node;
 use cut_definitions::NoMemory;
 use std::alloc::Global;
 use std::mem;
@@ -51,7 +50,7 @@ fn draw_leaf(alloc: Global, place: Box<Node>) -> Result<Hung, NoMemory>
         blocks: _,
     } = mem::replace(&mut *place, bare_node(alloc));
     let mut none = Vec::new(alloc);
-    let leaf = node_of(vertices, Blocks::new(alloc), &mut none)?;
+    let leaf = node_of(alloc, vertices, &mut none)?;
     Ok(hang_in(leaf, place))
 }
 
@@ -106,15 +105,16 @@ fn draw_block(alloc: Global, stack: &mut Vec<Placed>, joint: Joint) -> Result<Hu
 fn draw_blocks(
     alloc: Global,
     stack: &mut Vec<Placed>,
-    joints: Joints,
+    joints: Vec<Joint>,
     row: &mut Vec<Hung>,
 ) -> Result<(), NoMemory>
-    requires enough { wanted (top_first (joints_in joints)) ≤ length stack.old.items }
+    requires enough { wanted (top_first joints.items) ≤ length stack.old.items }
     requires empty { row.old.items ≡ [] }
-    ensures blocks { OnOk result ((rs : List Read) → AreNodesOf rs (top_first stack.old.items) → AreBlocksOf (all_drawn has (top_first (joints_in joints)) rs) row.new.items) }
-    ensures stack { OnOk result (top_first stack.new.items ≡ drop (wanted (top_first (joints_in joints))) (top_first stack.old.items)) }
+    ensures blocks { OnOk result ((rs : List Read) → AreNodesOf rs (top_first stack.old.items) → AreBlocksOf (all_drawn has (top_first joints.items) rs) row.new.items) }
+    ensures stack { OnOk result (top_first stack.new.items ≡ drop (wanted (top_first joints.items)) (top_first stack.old.items)) }
 {
     let mut joints = joints;
+    row.reserve(joints.len())?;
     'draw: while let Some(joint) = joints.pop() {
         let block = draw_block(alloc, stack, joint)?;
         row.push(block)?;
@@ -128,20 +128,15 @@ fn draw_blocks(
 pub fn put_in_order(alloc: Global, entries: Vec<OpenNode>) -> Result<Placed, NoMemory>
     requires ready { IsReady entries.items 0 }
     requires one { left entries.items 0 ≡ 1 }
-    requires bare { AreBare entries.items }
     ensures { IfOk result (λ p. (r : Read) → read_entries has entries.items [] ≡ r ∷ [] → IsNodeOf r p) }
 {
     let mut entries = entries;
     let mut finished = Vec::with_capacity(alloc, entries.len())?;
     let mut row = Vec::new(alloc);
     'up: while let Some(entry) = entries.pop() {
-        let OpenNode {
-            vertices,
-            joints,
-            blocks,
-        } = entry;
+        let OpenNode { vertices, joints } = entry;
         draw_blocks(alloc, &mut finished, joints, &mut row)?;
-        let node = node_of(vertices, blocks, &mut row)?;
+        let node = node_of(alloc, vertices, &mut row)?;
         finished.push(node)?;
     }
     Ok(finished.pop().unwrap())

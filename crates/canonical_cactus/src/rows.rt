@@ -3,7 +3,6 @@
 ghost use Rattle.std.specs.Prelude.{◌≡◌, [], ◌∷◌, length, IfOk, OnOk, List};
 ghost use Rattle.std.specs.List.Sorted.{IsPermutation, IsNonDecreasingBy};
 ghost use Rattle.cut_definitions.specs.Cuts.{has};
-ghost use Rattle.cactus_tree.specs.Trees.{blocks_in};
 ghost use Rattle.cactus_tree.specs.Entries.{Read, bridge_read, cycle_read, node_read, top_first};
 ghost use Rattle.canonical_cactus.specs.Making.{AreBlocksOf, AreChildrenOf, IsBlockOf, IsNodeOf, key_of, ends_rise, faced};
 
@@ -23,19 +22,13 @@ fn sort_down(row: &mut Vec<Hung>)
 }
 
 /// The node of some vertices, with the blocks of a row below it in the order of their least vertices. The row is empty then.
-/// The blocks go to an empty list, which takes memory only where it has not room enough.
-pub fn node_of(
-    vertices: VertexList,
-    blocks: Blocks,
-    row: &mut Vec<Hung>,
-) -> Result<Placed, NoMemory>
-    requires { blocks_in blocks ≡ [] }
+pub fn node_of(alloc: Global, vertices: VertexList, row: &mut Vec<Hung>) -> Result<Placed, NoMemory>
     ensures node { IfOk result (λ p. (rs : List Read) → AreBlocksOf rs row.old.items → IsNodeOf (node_read has vertices rs) p) }
     ensures empty { OnOk result (row.new.items ≡ []) }
 {
     sort_down(row);
     let mut least = least_vertex(&vertices);
-    let mut blocks = blocks;
+    let mut blocks = Blocks::with_capacity(alloc, row.len())?;
     'fill: while let Some(next) = row.pop() {
         least = lesser(least, next.least);
         blocks.push(next.block)?;
@@ -94,7 +87,7 @@ pub fn star_of(alloc: Global, first: Placed, second: Placed) -> Result<Hung, NoM
     blocks.push(first)?;
     blocks.push(second)?;
     let none = VertexList::new(alloc);
-    let middle = node_of(none, Blocks::new(alloc), &mut blocks)?;
+    let middle = node_of(alloc, none, &mut blocks)?;
     let block = hang(alloc, middle)?;
     Ok(block)
 }

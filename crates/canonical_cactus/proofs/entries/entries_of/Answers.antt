@@ -1,43 +1,34 @@
-use Rattle.std.proofs.Common.{◌≡◌, [], ◌∷◌, List, ◌∙◌, ap, sym, subst, refl}
-use Rattle.std.proofs.lemmas.List.Elements.{All-append, All-cons, All-nil}
+use Rattle.std.proofs.Common.{List, ◌∙◌, ap, sym, subst, refl}
 use Rattle.cut_definitions.proofs.ListLaws.{popped_is}
-use Rattle.cactus_tree.specs.Trees.{blocks_in, vertices}
+use Rattle.cactus_tree.specs.Trees.{vertices}
 use Rattle.cactus_tree.specs.Entries.{top_first}
 use Rattle.cactus_tree.specs.declared.tree.Node.{Node}
-use Rattle.canonical_cactus.specs.Taken.{AreBare, joints_in, Shows}
+use Rattle.canonical_cactus.specs.Taken.{Shows}
 use Rattle.canonical_cactus.specs.declared.entries.OpenNode.{OpenNode}
 use Rattle.cactus_tree.proofs.Entries.{none_popped, top_push}
 use Rattle.canonical_cactus.proofs.Taken.{entered_one, fewer_left, first_entered}
 use Rattle.canonical_cactus.proofs.entries.entries_of.Goals as goal
 
 pub walk-init : goal.walk-init
-walk-init c = record {
-  shows = first_entered c.args.root c.in_ok-entries.entries.items c.in_ok-stack.stack.items c.push.new.self.items c.in_ok-entries.ensures.items c.in_ok-stack.ensures.items c.in_ok-push.ensures.items;
-  bare = subst AreBare (sym c.in_ok-entries.ensures.items) (All-nil (λ (e : OpenNode). blocks_in e.blocks ≡ []));
-}
+walk-init c = first_entered c.args.root c.in_ok-entries.entries.items c.in_ok-stack.stack.items c.push.new.self.items c.in_ok-entries.ensures.items c.in_ok-stack.ensures.items c.in_ok-push.ensures.items
 
 pub walk-smaller : goal.walk-smaller
 walk-smaller c =
     let x = c.in-Some.node in
     let left = c.pop.new.self.items in
     let popped = popped_is c.walk.stack.items left c.pop.result x c.pop.ensures.items c.in-Some.is in
-    fewer_left x (top_first (joints_in c.in_ok-joints.joints)) c.in_ok-joints.ensures.shed.0 (top_first left) (top_first c.walk.stack.items) (top_first c.shed_blocks.new.stack.items) (ap top_first popped ∙ top_push left x) c.in_ok-joints.ensures.shed.1 c.in_ok-joints.ensures.shed.2
+    fewer_left x (top_first c.in_ok-joints.joints.items) c.in_ok-joints.ensures.0 (top_first left) (top_first c.walk.stack.items) (top_first c.shed_blocks.new.stack.items) (ap top_first popped ∙ top_push left x) c.in_ok-joints.ensures.1 c.in_ok-joints.ensures.2
 
 pub walk-preserved : goal.walk-preserved
 walk-preserved c =
     let x = c.in-Some.node in
     let left = c.pop.new.self.items in
     let popped = popped_is c.walk.stack.items left c.pop.result x c.pop.ensures.items c.in-Some.is in
-    let e : OpenNode = record { vertices = vertices x; joints = c.in_ok-joints.joints; blocks = c.in_ok-joints.blocks } in
-    let shed = c.in_ok-joints.ensures.shed in
-    let P = λ (d : OpenNode). blocks_in d.blocks ≡ [] in
-    record {
-      shows = subst (λ (l : List OpenNode). Shows c.args.root l (top_first c.shed_blocks.new.stack.items)) (sym c.in_ok-push-2.ensures.items)
-          (entered_one c.args.root x c.walk.entries.items e shed.0 (top_first left) (top_first c.walk.stack.items) (top_first c.shed_blocks.new.stack.items) c.walk.invariant.shows (ap top_first popped ∙ top_push left x) refl shed.1 shed.2);
-      bare = subst AreBare (sym c.in_ok-push-2.ensures.items) (All-append P c.walk.entries.items (e ∷ []) c.walk.invariant.bare (All-cons P e [] c.in_ok-joints.ensures.empty (All-nil P)));
-    }
+    let e : OpenNode = record { vertices = vertices x; joints = c.in_ok-joints.joints } in
+    subst (λ (l : List OpenNode). Shows c.args.root l (top_first c.shed_blocks.new.stack.items)) (sym c.in_ok-push-2.ensures.items)
+    (entered_one c.args.root x c.walk.entries.items e c.in_ok-joints.ensures.0 (top_first left) (top_first c.walk.stack.items) (top_first c.shed_blocks.new.stack.items) c.walk.invariant (ap top_first popped ∙ top_push left x) refl c.in_ok-joints.ensures.1 c.in_ok-joints.ensures.2)
 
-pub returns-clause-shows : goal.returns-clause-shows
-returns-clause-shows c =
+pub returns : goal.returns
+returns c =
     let none = none_popped c.walk.stack.items c.walk.stack.len c.pop.result c.walk.stack.ok.0 c.pop.ensures.variant c.in_default.not-Some in
-    subst (λ (l : List Node). Shows c.args.root c.walk.entries.items (top_first l)) none c.walk.invariant.shows
+    subst (λ (l : List Node). Shows c.args.root c.walk.entries.items (top_first l)) none c.walk.invariant

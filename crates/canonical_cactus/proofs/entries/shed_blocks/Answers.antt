@@ -4,12 +4,11 @@ use Rattle.cut_definitions.proofs.ListLaws.{popped_is}
 use Rattle.cactus_tree.specs.Trees.{blocks_in}
 use Rattle.cactus_tree.specs.Entries.{top_first}
 use Rattle.cactus_tree.proofs.Entries.{top_push, none_popped}
-use Rattle.canonical_cactus.specs.Taken.{joints_in}
-use Rattle.canonical_cactus.proofs.Taken.{emptied, shed_none, shed_one, shed_all}
+use Rattle.canonical_cactus.proofs.Taken.{shed_none, shed_one, shed_all}
 use Rattle.canonical_cactus.proofs.entries.shed_blocks.Goals as goal
 
 pub back-init : goal.back-init
-back-init c = shed_none (blocks_in c.args.blocks) (top_first (joints_in c.in_ok-joints.joints)) (top_first c.args.stack.now.items) (ap top_first c.in_ok-joints.ensures)
+back-init c = shed_none (blocks_in c.args.blocks) (top_first c.in_ok-joints.joints.items) (top_first c.args.stack.now.items) (ap top_first c.in_ok-joints.ensures.items)
 
 pub back-smaller : goal.back-smaller
 back-smaller c =
@@ -20,15 +19,10 @@ pub back-preserved : goal.back-preserved
 back-preserved c =
     let popped = popped_is (blocks_in c.back.blocks) (blocks_in c.pop.new.self) c.pop.result c.in-Some.block c.pop.ensures.items c.in-Some.is in
     let shed = c.in_ok-joint.ensures in
-    shed_one (blocks_in c.args.blocks) (blocks_in c.back.blocks) (blocks_in c.pop.new.self) c.in-Some.block (top_first (joints_in c.back.joints)) (top_first (joints_in c.push.new.self)) c.in_ok-joint.joint shed.0 (top_first c.args.stack.now.items) (top_first c.back.stack.items) (top_first c.shed_block.new.stack.items)
-    c.back.invariant popped (ap top_first c.in_ok-push.ensures ∙ top_push (joints_in c.back.joints) c.in_ok-joint.joint) shed.1 shed.2
+    shed_one (blocks_in c.args.blocks) (blocks_in c.back.blocks) (blocks_in c.pop.new.self) c.in-Some.block (top_first c.back.joints.items) (top_first c.push.new.self.items) c.in_ok-joint.joint shed.0 (top_first c.args.stack.now.items) (top_first c.back.stack.items) (top_first c.shed_block.new.stack.items)
+    c.back.invariant popped (ap top_first c.in_ok-push.ensures.items ∙ top_push c.back.joints.items c.in_ok-joint.joint) shed.1 shed.2
 
-pub returns-clause-shed : goal.returns-clause-shed
-returns-clause-shed c =
+pub returns : goal.returns
+returns c =
     let none = none_popped (blocks_in c.back.blocks) (length (blocks_in c.back.blocks)) c.pop.result refl c.pop.ensures.some c.in_default.not-Some in
-    shed_all (blocks_in c.args.blocks) (blocks_in c.back.blocks) (top_first (joints_in c.back.joints)) (top_first c.args.stack.now.items) (top_first c.back.stack.items) c.back.invariant none
-
-pub returns-clause-empty : goal.returns-clause-empty
-returns-clause-empty c =
-    let none = none_popped (blocks_in c.back.blocks) (length (blocks_in c.back.blocks)) c.pop.result refl c.pop.ensures.some c.in_default.not-Some in
-    emptied (blocks_in c.back.blocks) (blocks_in c.pop.new.self) c.pop.result c.pop.ensures.items none
+    shed_all (blocks_in c.args.blocks) (blocks_in c.back.blocks) (top_first c.back.joints.items) (top_first c.args.stack.now.items) (top_first c.back.stack.items) c.back.invariant none

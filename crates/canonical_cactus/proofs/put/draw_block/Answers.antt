@@ -1,6 +1,6 @@
 use Rattle.std.proofs.Common.{sym, subst}
 use Rattle.cut_definitions.specs.Cuts.{has}
-use Rattle.canonical_cactus.specs.declared.joints.Joint.{Joint}
+use Rattle.canonical_cactus.specs.declared.entries.Joint.{Joint}
 use Rattle.canonical_cactus.specs.Making.{IsBlockOf}
 use Rattle.canonical_cactus.specs.Taken.{drawn}
 use Rattle.canonical_cactus.proofs.put.draw_block.Goals as goal

@@ -3,53 +3,53 @@ use Rattle.std.proofs.lemmas.List.{length-append, length-drop}
 use Rattle.cut_definitions.proofs.ListLaws.{popped_is}
 use Rattle.cactus_tree.specs.Entries.{top_first}
 use Rattle.cactus_tree.proofs.Entries.{top_push, top_length, none_popped}
-use Rattle.canonical_cactus.specs.Taken.{joints_in, used, wanted, all_drawn}
+use Rattle.canonical_cactus.specs.Taken.{used, wanted, all_drawn}
 use Rattle.cut_definitions.specs.Cuts.{has}
-use Rattle.canonical_cactus.specs.declared.joints.Joint.{Joint}
+use Rattle.canonical_cactus.specs.declared.entries.Joint.{Joint}
 use Rattle.canonical_cactus.proofs.Draws.{blocks_none, blocks_one, blocks_all, dropped_more}
 use Rattle.canonical_cactus.proofs.put.draw_blocks.Goals as goal
 
 pub draw-init : goal.draw-init
 draw-init c = record {
   enough = c.requires.enough;
-  blocks = λ rs a. blocks_none rs (top_first (joints_in c.args.joints)) c.args.row.now.items (top_first c.args.stack.now.items) c.requires.empty a;
+  blocks = λ rs a. blocks_none rs (top_first c.args.joints.items) c.reserve.new.self.items (top_first c.args.stack.now.items) (c.reserve.ensures.items ∙ c.requires.empty) a;
   stack = refl;
 }
 
 pub draw_block-requires : goal.draw_block-requires
 draw_block-requires c =
-    let left = joints_in c.pop.new.self in
-    let popped = popped_is (joints_in c.draw.joints) left c.pop.result c.in-Some.joint c.pop.ensures.items c.in-Some.is in
-    let top : top_first (joints_in c.draw.joints) ≡ c.in-Some.joint ∷ top_first left = ap top_first popped ∙ top_push left c.in-Some.joint in
+    let left = c.pop.new.self.items in
+    let popped = popped_is c.draw.joints.items left c.pop.result c.in-Some.joint c.pop.ensures.items c.in-Some.is in
+    let top : top_first c.draw.joints.items ≡ c.in-Some.joint ∷ top_first left = ap top_first popped ∙ top_push left c.in-Some.joint in
     omega (arith, ap wanted top, c.draw.invariant.enough)
 
 pub draw-smaller : goal.draw-smaller
 draw-smaller c =
-    let popped = popped_is (joints_in c.draw.joints) (joints_in c.pop.new.self) c.pop.result c.in-Some.joint c.pop.ensures.items c.in-Some.is in
-    omega (arith, ap length popped, length-append (joints_in c.pop.new.self) (c.in-Some.joint ∷ []))
+    let popped = popped_is c.draw.joints.items c.pop.new.self.items c.pop.result c.in-Some.joint c.pop.ensures.items c.in-Some.is in
+    omega (arith, ap length popped, length-append c.pop.new.self.items (c.in-Some.joint ∷ []))
 
 pub draw-preserved : goal.draw-preserved
 draw-preserved c =
     let joint = c.in-Some.joint in
-    let left = joints_in c.pop.new.self in
+    let left = c.pop.new.self.items in
     let before = top_first c.draw.stack.items in
     let after = top_first c.draw_block.new.stack.items in
-    let popped = popped_is (joints_in c.draw.joints) left c.pop.result joint c.pop.ensures.items c.in-Some.is in
+    let popped = popped_is c.draw.joints.items left c.pop.result joint c.pop.ensures.items c.in-Some.is in
     let later = top_first left in
-    let all = top_first (joints_in c.draw.joints) in
+    let all = top_first c.draw.joints.items in
     let top : all ≡ joint ∷ later = ap top_first popped ∙ top_push left joint in
     record {
       enough = omega (arith, ap wanted top, c.draw.invariant.enough, ap length c.in_ok-block.ensures.stack, length-drop (used joint) before, top_length c.draw.stack.items, top_length c.draw_block.new.stack.items);
-      blocks = λ rs a. blocks_one (all_drawn has (top_first (joints_in c.args.joints)) rs) all later joint c.draw.row.items c.push.new.self.items c.in_ok-block.block before after (c.draw.invariant.blocks rs a) top c.in_ok-push.ensures.items c.in_ok-block.ensures.stack c.in_ok-block.ensures.block;
+      blocks = λ rs a. blocks_one (all_drawn has (top_first c.args.joints.items) rs) all later joint c.draw.row.items c.push.new.self.items c.in_ok-block.block before after (c.draw.invariant.blocks rs a) top c.in_ok-push.ensures.items c.in_ok-block.ensures.stack c.in_ok-block.ensures.block;
       stack = dropped_more all later joint before after _ top c.in_ok-block.ensures.stack c.draw.invariant.stack;
     }
 
 pub returns-clause-blocks : goal.returns-clause-blocks
 returns-clause-blocks c = λ rs a.
-    let none = none_popped (joints_in c.draw.joints) (length (joints_in c.draw.joints)) c.pop.result refl c.pop.ensures.some c.in_default.not-Some in
-    blocks_all (all_drawn has (top_first (joints_in c.args.joints)) rs) (top_first (joints_in c.draw.joints)) c.draw.row.items (top_first c.draw.stack.items) (ap top_first none) (c.draw.invariant.blocks rs a)
+    let none = none_popped c.draw.joints.items c.draw.joints.len c.pop.result c.draw.joints.ok.0 c.pop.ensures.variant c.in_default.not-Some in
+    blocks_all (all_drawn has (top_first c.args.joints.items) rs) (top_first c.draw.joints.items) c.draw.row.items (top_first c.draw.stack.items) (ap top_first none) (c.draw.invariant.blocks rs a)
 
 pub returns-clause-stack : goal.returns-clause-stack
 returns-clause-stack c =
-    let none = none_popped (joints_in c.draw.joints) (length (joints_in c.draw.joints)) c.pop.result refl c.pop.ensures.some c.in_default.not-Some in
+    let none = none_popped c.draw.joints.items c.draw.joints.len c.pop.result c.draw.joints.ok.0 c.pop.ensures.variant c.in_default.not-Some in
     ap (λ (l : List Joint). drop (wanted (top_first l)) (top_first c.draw.stack.items)) (sym none) ∙ c.draw.invariant.stack

@@ -2,16 +2,16 @@ use Rattle.cut_definitions.specs.Cuts.{has}
 use Rattle.std.proofs.Common.{◌≡◌, ◌≤◌, List, length, drop}
 use Rattle.cactus_tree.specs.Entries.{Read, top_first}
 use Rattle.canonical_cactus.specs.Making.{AreNodesOf}
-use Rattle.canonical_cactus.specs.Taken.{joints_in, wanted, all_drawn}
+use Rattle.canonical_cactus.specs.Taken.{wanted, all_drawn}
 use Rattle.canonical_cactus.proofs.Draws.{DrawsBlocks}
 use Rattle.canonical_cactus.proofs.put.draw_blocks.Given as goal
 
 abbrev pub invariant-draw : goal.invariant-draw
 invariant-draw l = record {
-  enough : wanted (top_first (joints_in l.joints)) ≤ length l.stack.items;
-  blocks : (rs : List Read) → AreNodesOf rs (top_first l.initial.stack.items) → DrawsBlocks (all_drawn has (top_first (joints_in l.fn.joints)) rs) (top_first (joints_in l.joints)) l.row.items (top_first l.stack.items);
-  stack : drop (wanted (top_first (joints_in l.joints))) (top_first l.stack.items) ≡ drop (wanted (top_first (joints_in l.fn.joints))) (top_first l.initial.stack.items);
+  enough : wanted (top_first l.joints.items) ≤ length l.stack.items;
+  blocks : (rs : List Read) → AreNodesOf rs (top_first l.initial.stack.items) → DrawsBlocks (all_drawn has (top_first l.fn.joints.items) rs) (top_first l.joints.items) l.row.items (top_first l.stack.items);
+  stack : drop (wanted (top_first l.joints.items)) (top_first l.stack.items) ≡ drop (wanted (top_first l.fn.joints.items)) (top_first l.initial.stack.items);
 }
 
 abbrev pub decreases-draw : goal.decreases-draw
-decreases-draw l = length (joints_in l.joints)
+decreases-draw l = length l.joints.items

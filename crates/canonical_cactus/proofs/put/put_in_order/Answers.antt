@@ -1,11 +1,10 @@
 use Rattle.cut_definitions.specs.Cuts.{has}
-use Rattle.std.proofs.Common.{◌≡◌, [], ◌∷◌, ◌++◌, List, length, ◌∙◌, ap, sym, subst, arith}
+use Rattle.std.proofs.Common.{◌≡◌, [], ◌∷◌, List, length, ◌∙◌, ap, sym, subst, arith}
 use Rattle.std.proofs.lemmas.List.{length-append}
-use Rattle.cut_definitions.proofs.ListLaws.{All-back, All-front, popped_is}
+use Rattle.cut_definitions.proofs.ListLaws.{popped_is}
 use Rattle.cactus_tree.specs.Entries.{top_first}
-use Rattle.cactus_tree.specs.Trees.{blocks_in}
 use Rattle.cactus_tree.proofs.Entries.{top_push, top_length, none_popped, alone}
-use Rattle.canonical_cactus.specs.Taken.{AreBare, all_drawn, left, joints_of}
+use Rattle.canonical_cactus.specs.Taken.{all_drawn, left, joints_of}
 use Rattle.canonical_cactus.specs.declared.entries.OpenNode.{OpenNode}
 use Rattle.canonical_cactus.specs.declared.parts.Placed.{Placed}
 use Rattle.canonical_cactus.proofs.Draws.{Puts, puts_none, puts_enough, puts_one, puts_all}
@@ -16,7 +15,6 @@ up-init c = record {
   puts = subst (λ (l : List Placed). Puts c.args.entries.items c.args.entries.items (top_first l)) (sym c.in_ok-finished.ensures.items)
       (puts_none c.args.entries.items c.requires.ready c.requires.one);
   empty = c.new-row.ensures.items;
-  bare = c.requires.bare;
 }
 
 pub draw_blocks-requires-clause-enough : goal.draw_blocks-requires-clause-enough
@@ -25,14 +23,6 @@ draw_blocks-requires-clause-enough c =
     let e = c.in-Some.entry in
     let popped = popped_is c.up.entries.items es c.pop.result e c.pop.ensures.items c.in-Some.is in
     omega (arith, puts_enough c.args.entries.items c.up.entries.items es e (top_first c.up.finished.items) c.up.invariant.puts popped, top_length c.up.finished.items)
-
-pub node_of-requires : goal.node_of-requires
-node_of-requires c =
-    let es = c.pop.new.self.items in
-    let e = c.in-Some.entry in
-    let popped = popped_is c.up.entries.items es c.pop.result e c.pop.ensures.items c.in-Some.is in
-    let P = λ (d : OpenNode). blocks_in d.blocks ≡ [] in
-    All-back P es (e ∷ []) (subst AreBare popped c.up.invariant.bare) 0 e (omega arith)
 
 pub up-smaller : goal.up-smaller
 up-smaller c =
@@ -51,7 +41,6 @@ up-preserved c =
           (puts_one c.args.entries.items c.up.entries.items es e x (top_first c.up.finished.items) (top_first under) c.up.invariant.puts popped
           (λ rs a. c.in_ok-node.ensures.node (all_drawn has (joints_of e) rs) (c.in_ok-draw_blocks.ensures.blocks rs a)) c.in_ok-draw_blocks.ensures.stack);
       empty = c.in_ok-node.ensures.empty;
-      bare = All-front (λ (d : OpenNode). blocks_in d.blocks ≡ []) es (e ∷ []) (subst AreBare popped c.up.invariant.bare);
     }
 
 pub unwrap-requires : goal.unwrap-requires

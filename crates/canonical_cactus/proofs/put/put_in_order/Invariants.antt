@@ -1,6 +1,5 @@
 use Rattle.std.proofs.Common.{◌≡◌, [], length}
 use Rattle.cactus_tree.specs.Entries.{top_first}
-use Rattle.canonical_cactus.specs.Taken.{AreBare}
 use Rattle.canonical_cactus.proofs.Draws.{Puts}
 use Rattle.canonical_cactus.proofs.put.put_in_order.Given as goal
 
@@ -8,7 +7,6 @@ abbrev pub invariant-up : goal.invariant-up
 invariant-up l = record {
   puts : Puts l.fn.entries.items l.entries.items (top_first l.finished.items);
   empty : l.row.items ≡ [];
-  bare : AreBare l.entries.items;
 }
 
 abbrev pub decreases-up : goal.decreases-up

@@ -10,7 +10,7 @@ use Rattle.canonical_cactus.proofs.rows.node_of.Goals as goal
 
 pub fill-init : goal.fill-init
 fill-init c = record {
-  blocks = ap (λ bs. bs ++ map block_in (top_first c.sort_down.new.row.items)) c.requires;
+  blocks = ap (λ bs. bs ++ map block_in (top_first c.sort_down.new.row.items)) c.in_ok-blocks.ensures;
   least = ap (λ o. lessers o (map (λ (h : Hung). h.least) (top_first c.sort_down.new.row.items))) c.least_vertex-least.ensures;
 }
 
