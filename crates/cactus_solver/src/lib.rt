@@ -8,6 +8,8 @@
 //! end all vertices have entered, and the sides of the tree are the minimum cuts. The graph of a part is built only where
 //! several workers are to share the work: of two or more large parts that are listed at once each is then made a graph in
 //! which one vertex stands for all else, these are solved side by side, and their trees are grafted on the tree.
+//! Where what is left after contraction is a tree whose edges all have the value, each edge is a minimum cut and there is no
+//! other, and no sweep is made.
 //!
 //! The parts are the chain across an edge of Karzanov and Timofeev (1986) and of Nagamochi, Nakao and Ibaraki (2000), as
 //! closed sets of a flow (Picard and Queyranne, 1980); the source that grows is that of Hao and Orlin (1994).

@@ -98,12 +98,12 @@ fn tree_at_value<R: Threads + Sync, G: Gate>(
 
 /// The value of a connected graph of two or more vertices, and the cactus of its minimum cuts, in its normal form.
 ///
-/// The value comes from rounds of contraction and a sweep of flows. Then scans or rounds contract edges that lie in no minimum
-/// cut, where there are some. What is left is mostly a tree whose edges all have the value where that is 1; else the sweep over
-/// regions makes the tree of its minimum cuts. Each vertex of the graph is put into the node of its class, and the cactus is
-/// made of that, once all else is given back, and made normal where a node has no vertex. Memory is in proportion to n + m. The runtime, the workers and the gate are handed to the search for the value and
-/// to the rounds; and the workers share the large regions, where the sweep lists two or more of them at once. It is refused
-/// only where memory is wanting.
+/// The value comes from rounds of contraction and a sweep of flows. Then scans or rounds contract edges that lie in no
+/// minimum cut, where there are some. What is left is mostly a tree whose edges all have the value where that is 1; else the
+/// sweep over regions makes the tree of its minimum cuts. Each vertex of the graph is put into the node of its class, and the
+/// cactus is made of that, once all else is given back, and made normal where a node has no vertex. Memory is in proportion
+/// to n + m. The runtime, the workers and the gate are handed to the search for the value and to the rounds; and the workers
+/// share the large regions, where the sweep lists two or more of them at once. It is refused only where memory is wanting.
 pub fn solve<R: Threads + Sync, G: Gate>(
     rt: &R,
     alloc: Global,

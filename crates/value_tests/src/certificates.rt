@@ -9,7 +9,7 @@ use std::test::Fail;
 use weighted_graph::Graph;
 
 /// Whether none of the four tests holds for any edge.
-pub fn none_is_certified(graph: &Graph, bound: u64, slack: u64) -> bool
+pub(crate) fn none_is_certified(graph: &Graph, bound: u64, slack: u64) -> bool
     requires bound { bound ≤ 2 ^ 62 }
     requires slack { slack ≤ 1 }
 {
