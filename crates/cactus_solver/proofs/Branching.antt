@@ -59,14 +59,14 @@ put_search n b b' v upper s h one to_n new at =
     let kept = put_keeps n b b' v upper s h in
     let last : vertex_in b' (found b) ≡ v = ap (λ (xs : List ℕ). get_or xs (found b) 0) h.order ∙ get_or_push b.order.items v 0 (found b) refl in
     let last_upper : upper_of b' (found b) ≡ upper =
-        ap (λ (xs : List ℕ). get_or xs (found b) 0) h.tree.uppers ∙ get_or_push b.made.tree.uppers upper 0 (found b) s.nodes in
+    ap (λ (xs : List ℕ). get_or xs (found b) 0) h.tree.uppers ∙ get_or_push b.made.tree.uppers upper 0 (found b) s.nodes in
     let node_v : node_of b' v ≡ found b = ap (λ (xs : List ℕ). get_or xs v 0) h.homes ∙ get_or-set_same b.made.homes.items v (length b.made.tree.uppers) 0 (omega (arith, to_n, s.long)) ∙ s.nodes in
     let node_other = λ (w : ℕ) (ne : w ≢ v). (let r : node_of b' w ≡ node_of b w = ap (λ (xs : List ℕ). get_or xs w 0) h.homes ∙ get_or-set_other b.made.homes.items v w (length b.made.tree.uppers) 0 ne in r) in
     let other = λ (k : ℕ) (l : k < found b) (e : vertex_in b k ≡ v). (let r : ⊥ =
-        ⊎_elim
-        (λ (z : k ≡ 0). new (inl (sym e ∙ ap (vertex_in b) z ∙ s.first)))
-        (λ (ne : k ≢ 0). new (inr (omega (arith, ne, ap (node_of b) (sym e) ∙ s.holds k l))))
-        (cases_eq k 0) in r) in
+    ⊎_elim
+    (λ (z : k ≡ 0). new (inl (sym e ∙ ap (vertex_in b) z ∙ s.first)))
+    (λ (ne : k ≢ 0). new (inr (omega (arith, ne, ap (node_of b) (sym e) ∙ s.holds k l))))
+    (cases_eq k 0) in r) in
     let end = λ (k : ℕ) (l : k < found b') (far : found b ≤ k). (let r : k ≡ found b = omega (arith, l, far, count) in r) in
     record {
       long = ap length h.homes ∙ length-set b.made.homes.items v (length b.made.tree.uppers) ∙ s.long;
@@ -167,7 +167,7 @@ row_done g amount old b node upto row within h is now all = record {
       let same : node ≡ k = omega (arith, l, far) in
       let here : All (LeadsAlong amount b node) row = All-from_get_or (LeadsAlong amount b node) row no_arc (λ j less. now.arcs j (omega (arith, less, all))) in
       let at_node : All (LeadsAlong amount b node) (row_of g (vertex_in b node)) =
-          subst (λ (v : ℕ). All (LeadsAlong amount b node) (row_of g v)) (sym (now.kept.vertices node within)) (subst (All (LeadsAlong amount b node)) is here) in
+      subst (λ (v : ℕ). All (LeadsAlong amount b node) (row_of g v)) (sym (now.kept.vertices node within)) (subst (All (LeadsAlong amount b node)) is here) in
       subst (λ (i : ℕ). All (LeadsAlong amount b i) (row_of g (vertex_in b i))) same at_node)
       (cases_lt k node);
 }

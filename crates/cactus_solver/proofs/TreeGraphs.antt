@@ -311,17 +311,17 @@ under_minimum g b ok connected h k one l =
     let cut = under_cut n b s connected.some_vertex k one l in
     let low = value-le_cut g ok x cut in
     let high : weight g x ≤ value g = at_most_one (λ e. parts x e.u e.v) (value g) g.edges
-        (λ i d less. let t = tree (get_or g.edges i d) (Contains-get_or g.edges i d less) in omega (arith, t.weighs))
-        (λ i j d less below pd pe.
-        let e = get_or g.edges i d in
-        let f = get_or g.edges j d in
-        let t = tree e (Contains-get_or g.edges i d (omega (arith, less, below))) in
-        let t' = tree f (Contains-get_or g.edges j d below) in
-        let within = ok.in_range i d (omega (arith, less, below)) in
-        let within' = ok.in_range j d below in
-        let ends = same_ends (value g) b e f t t' (node_is n (value g) b s e t k pd ∙ sym (node_is n (value g) b s f t' k pe)) within.1 within'.1 in
-        let before : (e.u < f.u) ⊎ ((e.u ≡ f.u) × (e.v < f.v)) = ok.ascending i j d less below in
-        ⊎_elim (λ (q : e.u < f.u). omega (arith, q, ends.0)) (λ (q : (e.u ≡ f.u) × (e.v < f.v)). omega (arith, q.1, ends.1)) before) in
+    (λ i d less. let t = tree (get_or g.edges i d) (Contains-get_or g.edges i d less) in omega (arith, t.weighs))
+    (λ i j d less below pd pe.
+    let e = get_or g.edges i d in
+    let f = get_or g.edges j d in
+    let t = tree e (Contains-get_or g.edges i d (omega (arith, less, below))) in
+    let t' = tree f (Contains-get_or g.edges j d below) in
+    let within = ok.in_range i d (omega (arith, less, below)) in
+    let within' = ok.in_range j d below in
+    let ends = same_ends (value g) b e f t t' (node_is n (value g) b s e t k pd ∙ sym (node_is n (value g) b s f t' k pe)) within.1 within'.1 in
+    let before : (e.u < f.u) ⊎ ((e.u ≡ f.u) × (e.v < f.v)) = ok.ascending i j d less below in
+    ⊎_elim (λ (q : e.u < f.u). omega (arith, q, ends.0)) (λ (q : (e.u ≡ f.u) × (e.v < f.v)). omega (arith, q.1, ends.1)) before) in
     IsMinimumCut-from_weight g ok x cut (omega (arith, low, high))
 
 -- ---- there is no other
@@ -373,24 +373,24 @@ is_under_node g b ok connected h x minimum out =
     let y : VertexSet = λ v. not (either_of (x v) (under b k v)) in
     let root_out : under b k 1 ≡ false = under_at n b s k 0 1 (omega (arith, t.within)) s.first ∙ not_below b.made.tree.uppers (length b.made.tree.uppers) (descend n b s) 0 k (omega (arith, t.within, s.nodes)) (omega (arith, t.from_one)) in
     let same = λ (d : Edge) (c : Contains g.edges d).
-        (let r : parts x d.u d.v ≡ parts (under b k) d.u d.v =
-            same_tests (parts x d.u d.v) (parts (under b k) d.u d.v)
-            (λ parted. ⊎_elim
-            (λ (yes : parts (under b k) d.u d.v ≡ true). yes)
-            (λ (no : parts (under b k) d.u d.v ≡ false).
-            let apart : ¬ (e ≡ d) = λ is. contrary own (ap (λ (f : Edge). parts (under b k) f.u f.v) is ∙ no) in
-            let both = two_terms (λ f. parts x f.u f.v) g.edges e d crossing.1 c apart crossing.2 parted in
-            absurd (omega (arith, both, t.weighs, (tree d c).weighs, weighs, at_least)))
-            (cases_Bool (parts (under b k) d.u d.v)))
-            (λ parted.
-            let t' = tree d c in
-            let within = All-contains (IsEdgeWithin n) g.edges e ok.in_range crossing.1 in
-            let within' = All-contains (IsEdgeWithin n) g.edges d ok.in_range c in
-            let ends = same_ends (value g) b e d t t' (sym (node_is n (value g) b s d t' k parted)) within.1 within'.1 in
-            rw (sym ends.0, sym ends.1) crossing.2) in r) in
+    (let r : parts x d.u d.v ≡ parts (under b k) d.u d.v =
+    same_tests (parts x d.u d.v) (parts (under b k) d.u d.v)
+    (λ parted. ⊎_elim
+    (λ (yes : parts (under b k) d.u d.v ≡ true). yes)
+    (λ (no : parts (under b k) d.u d.v ≡ false).
+    let apart : ¬ (e ≡ d) = λ is. contrary own (ap (λ (f : Edge). parts (under b k) f.u f.v) is ∙ no) in
+    let both = two_terms (λ f. parts x f.u f.v) g.edges e d crossing.1 c apart crossing.2 parted in
+    absurd (omega (arith, both, t.weighs, (tree d c).weighs, weighs, at_least)))
+    (cases_Bool (parts (under b k) d.u d.v)))
+    (λ parted.
+    let t' = tree d c in
+    let within = All-contains (IsEdgeWithin n) g.edges e ok.in_range crossing.1 in
+    let within' = All-contains (IsEdgeWithin n) g.edges d ok.in_range c in
+    let ends = same_ends (value g) b e d t t' (sym (node_is n (value g) b s d t' k parted)) within.1 within'.1 in
+    rw (sym ends.0, sym ends.1) crossing.2) in r) in
     let all = all_in g connected y
-        (record { vertex = 1; from_one = omega arith; to_n = connected.some_vertex; is_in = rw (out, root_out) refl })
-        (λ d c. not_same (either_of (x d.u) (under b k d.u)) (either_of (x d.v) (under b k d.v)) (same_parted (x d.u) (x d.v) (under b k d.u) (under b k d.v) (same d c))) in
+    (record { vertex = 1; from_one = omega arith; to_n = connected.some_vertex; is_in = rw (out, root_out) refl })
+    (λ d c. not_same (either_of (x d.u) (under b k d.u)) (either_of (x d.v) (under b k d.v)) (same_parted (x d.u) (x d.v) (under b k d.u) (under b k d.v) (same d c))) in
     (k, t.from_one, t.within, λ v one to_n. neither_differs (x v) (under b k v) (all v one to_n))
 
 -- ---- the tree
