@@ -14,7 +14,7 @@ use Rattle.cactus_solver.specs.Flat.{TreeLinks}
 
 -- ---- the start
 
-all_zero : (n v : ℕ) → get_or (replicate {A = ℕ} n 0) v 0 ≡ 0
+pub all_zero : (n v : ℕ) → get_or (replicate {A = ℕ} n 0) v 0 ≡ 0
 all_zero n v = ⊎_elim (λ (l : v < n). get_or-replicate n v 0 0 l) (λ (l : n ≤ v). get_or_past (replicate {A = ℕ} n 0) v 0 (omega (arith, l, length-replicate {A = ℕ} n 0))) (cases_lt v n)
 
 one_apart : (k : ℕ) → get_or (false ∷ []) k false ≡ false

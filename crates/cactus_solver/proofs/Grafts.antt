@@ -4,7 +4,7 @@ use Rattle.std.specs.Prelude.{◌≢◌, if◌then◌else◌, IfOk, IfSome, Ok, 
 use Rattle.std.specs.declared.alloc.AllocError.{AllocError as NoMemory}
 use Rattle.std.specs.List.{All}
 use Rattle.std.proofs.lemmas.Bool.{cases_eq, cases_lt, cases_Bool, eq-eqb, ne_eqb}
-use Rattle.std.proofs.lemmas.List.{get_or_default, get_or_past, get_or-set_same, get_or-set_other, get_or-replicate, length-replicate, length-set, nil_from_length}
+use Rattle.std.proofs.lemmas.List.{get_or_default, get_or-set_same, get_or-set_other, length-replicate, length-set, nil_from_length}
 use Rattle.cut_definitions.specs.Graph.{Graph, IsGraph}
 use Rattle.cut_definitions.specs.Weight.{VertexSet, weight, IsCut}
 use Rattle.cut_definitions.specs.Contraction.{label, relabel}
@@ -30,6 +30,7 @@ use Rattle.cactus_solver.specs.Regrouping.{KeepsFeed}
 use Rattle.cactus_solver.specs.Shares.{ArePutAway, HasLeft, HasTree, IsInside, IsPartTree, IsShare}
 use Rattle.cactus_solver.specs.Sweeping.{IsSweeping}
 use Rattle.cactus_solver.specs.UnderWay.{IsUnderWay, nodes_of}
+use Rattle.cactus_solver.proofs.Branching.{all_zero}
 use Rattle.cactus_solver.proofs.Covering.{covering, fed_open}
 use Rattle.cactus_solver.proofs.Grafting.{grafting}
 use Rattle.cactus_solver.proofs.Labelling.{lowered_numbered}
@@ -49,9 +50,6 @@ finished_part h t amount ok done e = record {
     complete = λ x cut weighs out. done.all.complete x (IsMinimumCut-from_weight h ok x cut (weighs ∙ e)) out;
   };
 }
-
-all_zero : (n v : ℕ) → get_or (replicate {A = ℕ} n 0) v 0 ≡ 0
-all_zero n v = ⊎_elim (λ (l : v < n). get_or-replicate n v 0 0 l) (λ (l : n ≤ v). get_or_past (replicate {A = ℕ} n 0) v 0 (omega (arith, l, length-replicate {A = ℕ} n 0))) (cases_lt v n)
 
 -- the root alone, where no cut has the weight
 pub root_part : (h : Graph) (t : HomedTree) (amount : ℕ) → t.tree ≡ record { uppers = 0 ∷ []; follows = false ∷ [] } → t.homes.items ≡ replicate (h.vertices + 1) 0 →

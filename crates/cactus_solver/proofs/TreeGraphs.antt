@@ -354,9 +354,6 @@ neither_differs true false e = absurd (contrary e refl)
 neither_differs false true e = absurd (contrary e refl)
 neither_differs false false e = refl
 
-not_same : (a b : Bool) → a ≡ b → not a ≡ not b
-not_same a b e = ap not e
-
 is_under_node : (g : Graph) (b : Branches) → IsGraph g → IsConnected g → IsBranching g (value g) b (found b) → (x : VertexSet) → IsMinimumCut g x → x 1 ≡ false → (k : ℕ) × (1 ≤ k) × (k < found b) × SameOn g.vertices x (under b k)
 is_under_node g b ok connected h x minimum out =
     let n = g.vertices in
@@ -390,7 +387,7 @@ is_under_node g b ok connected h x minimum out =
     rw (sym ends.0, sym ends.1) crossing.2) in r) in
     let all = all_in g connected y
     (record { vertex = 1; from_one = omega arith; to_n = connected.some_vertex; is_in = rw (out, root_out) refl })
-    (λ d c. not_same (either_of (x d.u) (under b k d.u)) (either_of (x d.v) (under b k d.v)) (same_parted (x d.u) (x d.v) (under b k d.u) (under b k d.v) (same d c))) in
+    (λ d c. ap not (same_parted (x d.u) (x d.v) (under b k d.u) (under b k d.v) (same d c))) in
     (k, t.from_one, t.within, λ v one to_n. neither_differs (x v) (under b k v) (all v one to_n))
 
 -- ---- the tree
