@@ -1,17 +1,28 @@
 -- Nodes and blocks are drawn from a stack of finished nodes, and a tree is put together from the last entry.
 use Rattle.std.proofs.Common.{◌≡◌, ℕ, ◌+◌, ◌-◌, ◌≤◌, List, [], ◌∷◌, ◌++◌, length, take, drop, ap, ◌∙◌, sym, refl, subst, arith}
-use Rattle.std.specs.Prelude.{slice_index_or}
+use Rattle.std.specs.Prelude.{slice_index_or, ◌==◌}
+use Rattle.std.proofs.Math.Bool.{and-false}
+use Rattle.std.proofs.lemmas.List.Sorted.{IsPermutation-refl, IsNonDecreasingBy-short}
+use Rattle.std.specs.Prelude.{Box}
+use Rattle.std.specs.declared.alloc.Global.{Global}
 use Rattle.std.proofs.lemmas.List.{append_assoc, append-nil, drop-drop, length-drop, length-take-le}
 use Rattle.cut_definitions.specs.Cuts.{has}
+use Rattle.cactus_tree.specs.declared.tree.Node.{Node}
+use Rattle.cactus_tree.specs.declared.tree.Block.TheVariants.{Bridge}
+use Rattle.cactus_tree.specs.Trees.{vertices, blocks}
+use Rattle.cactus_tree.specs.Trims.{is_spare}
 use Rattle.cactus_tree.specs.Entries.{Read, bridge_read, cycle_read, node_read, nothing_read}
 use Rattle.canonical_cactus.specs.declared.entries.Joint.{Joint}
 use Rattle.cactus_tree.proofs.Entries.{drawn_front}
 use Rattle.cactus_tree.proofs.Makes.{each_push, each_length, each_drop, each_first}
-use Rattle.canonical_cactus.specs.Making.{IsNodeOf, IsChildOf, IsBlockOf, AreNodesOf, AreChildrenOf, AreBlocksOf}
+use Rattle.canonical_cactus.specs.Making.{IsNodeOf, IsChildOf, IsBlockOf, AreNodesOf, AreChildrenOf, AreBlocksOf, key_of}
+use Rattle.canonical_cactus.specs.Standing.{least_in}
 use Rattle.canonical_cactus.specs.Taken.{used, wanted, drawn, all_drawn, joints_of, read_entry, read_entries, left, IsReady}
 use Rattle.canonical_cactus.specs.declared.entries.OpenNode.{OpenNode}
 use Rattle.canonical_cactus.specs.declared.parts.Placed.{Placed}
 use Rattle.canonical_cactus.specs.declared.parts.Hung.{Hung}
+use Rattle.canonical_cactus.proofs.Ordered.{node_finished}
+use Rattle.canonical_cactus.proofs.Spared.{hung_kept}
 use Rattle.canonical_cactus.proofs.Taken.{read_push, left_push, ready_pop}
 
 -- ---- nodes are drawn for a cycle
@@ -130,3 +141,11 @@ star_drawn b x y after all rs e f a =
 -- so many of the reads of a stack that has as many nodes
 pub drawn_many : (rs : List Read) (xs : List Placed) (k : ℕ) → AreNodesOf rs xs → k ≤ length xs → length (take k rs) ≡ k
 drawn_many rs xs k a h = length-take-le k rs (omega (arith, h, each_length IsNodeOf rs xs a))
+
+-- ---- a node without blocks stays in its box
+pub leaf_drawn : (own : List ℕ) (x : Node) (leaf : Box Node Global) (h : Hung) → leaf.value ≡ x → vertices x ≡ own → blocks x ≡ [] → h.block ≡ Bridge leaf → h.least ≡ least_in own →
+    IsBlockOf (bridge_read (node_read has own [])) h
+leaf_drawn own x leaf h e v none b l =
+    let p : Placed = record { node = x; least = h.least } in
+    hung_kept (node_read has own []) p leaf h e b refl (ap (is_spare (vertices x)) none ∙ and-false (length (vertices x) == 0))
+    (node_finished own [] [] [] p (IsPermutation-refl []) (IsNonDecreasingBy-short key_of [] (omega arith)) v none l tt)

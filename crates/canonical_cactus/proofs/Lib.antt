@@ -6,6 +6,7 @@ pub mod Sound
 pub mod Unique
 pub mod OneTree
 pub mod Ascending
+pub mod Inner
 pub mod Taken
 pub mod Moved
 pub mod Turned

@@ -2,6 +2,7 @@ pub mod Canonical
 pub mod Plain
 pub mod Laws
 pub mod Standing
+pub mod Inner
 pub mod Taken
 pub mod Making
 pub mod FirstBest

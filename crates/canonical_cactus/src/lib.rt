@@ -14,18 +14,18 @@
 //! be spared, and the order of blocks and children are the freedoms which the representation of Dinitz, Karzanov and
 //! Lomonosov (1976) leaves.
 //!
-//! `canonical` takes a tree apart into entries (`entries`), but for leaves below bridges, and puts it together from the last
-//! one (`put`): each node and block is finished with its least vertex (`parts`), and blocks and cycles are put in order as
-//! they are made (`rows`).
+//! `canonical` gives a canonical cactus back as it is. Else it takes the tree apart into entries (`entries`), but for leaves
+//! below bridges, and puts it together from the last one (`put`): each node and block is finished with its least vertex
+//! (`parts`), and blocks and cycles are put in order as they are made (`rows`).
 //! It takes O(n log n) for n vertices, in loops; `is_canonical` one step for each node and vertex, and a call for each
-//! level.
+//! level (`order`), and `is_canonical_within` the same by loops (`standing`).
 //!
 //! `first_best` tells one side in the same way: of the sides of best balance the first, so it is a function of the sides
 //! and the masses alone. It goes over the cuts of best balance only, and compares two sides by the least vertices of a few
 //! ranges, which trees of minima (`minima`) tell.
 #![tactic(auto)]
 
-ghost use Rattle.std.specs.Prelude.{◌≡◌};
+ghost use Rattle.std.specs.Prelude.{◌≡◌, IfOk};
 ghost use Rattle.canonical_cactus.specs.Canonical.{is_canonical};
 
 mod entries;
@@ -37,11 +37,15 @@ mod order;
 mod parts;
 mod put;
 mod rows;
+mod standing;
 
 use cactus_tree::Cactus;
+use cut_definitions::NoMemory;
 pub use first_side::first_best;
 pub use making::canonical;
 use order::node_standing;
+use standing::stands_in_order;
+use std::alloc::Global;
 
 /// Whether a cactus is normal, every cycle has four or more nodes, the blocks of each node ascend by the least vertex
 /// below them, and in every cycle the least vertex at or under the first child is less than that at or under the last.
@@ -52,4 +56,18 @@ pub fn is_canonical(cactus: &Cactus) -> bool
     ensures { result ≡ is_canonical cactus.now.root }
 {
     cactus.is_normal() && node_standing(cactus.root()).in_order
+}
+
+/// The same as by `is_canonical`, by loops, so that a deep tree does not run out of stack.
+///
+/// One step for each node and each vertex. It takes memory for the nodes that have blocks below them, at most 32 bytes each,
+/// and is refused only where that is wanting.
+pub fn is_canonical_within(alloc: Global, cactus: &Cactus) -> Result<bool, NoMemory>
+    ensures { IfOk result (λ all. all ≡ is_canonical cactus.now.root) }
+{
+    if !cactus.is_normal_within(alloc)? {
+        return Ok(false);
+    }
+    let in_order = stands_in_order(alloc, cactus.root(), cactus.n() as usize)?;
+    Ok(in_order)
 }

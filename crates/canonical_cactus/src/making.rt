@@ -5,6 +5,7 @@ ghost use Rattle.cactus_tree.specs.Different.{HasNoEmptySide, HaveSameSides};
 ghost use Rattle.canonical_cactus.specs.Canonical.{is_canonical};
 
 use crate::entries::entries_of;
+use crate::is_canonical_within;
 use crate::put::put_in_order;
 use cactus_tree::Cactus;
 use cut_definitions::NoMemory;
@@ -17,15 +18,18 @@ use std::alloc::Global;
 /// bridge alone to the node below that bridge; then the blocks of each node are put in the order of the least vertices
 /// below them, and a cycle is turned round where its last node has a lesser one than its first.
 ///
-/// The tree is taken apart and its nodes are moved. Time O(n log n), in loops, so that a deep tree does not run out of
-/// stack. It takes memory in proportion to the nodes, and is refused only where that is wanting; the cactus is dropped
-/// then.
+/// A cactus that is canonical is given back as it is. Else the tree is taken apart and its nodes are moved. Time O(n log n), in
+/// loops, so that a deep tree does not run out of stack. It takes memory in proportion to the nodes, and is refused only where
+/// that is wanting; the cactus is dropped then.
 pub fn canonical(alloc: Global, cactus: Cactus) -> Result<Cactus, NoMemory>
     requires { HasNoEmptySide cactus }
     ensures n { IfOk result (λ c. c.vertices ≡ cactus.vertices) }
     ensures canonical { IfOk result (λ c. is_canonical c.root ≡ true) }
     ensures sides { IfOk result (λ c. HaveSameSides c cactus) }
 {
+    if is_canonical_within(alloc, &cactus)? {
+        return Ok(cactus);
+    }
     let n = cactus.n();
     let entries = entries_of(alloc, cactus.into_root(), n as usize)?;
     let placed = put_in_order(alloc, entries)?;

@@ -50,14 +50,14 @@ pub fn least_vertex(list: &VertexList) -> Option<u32>
 }
 
 /// Whether the vertex at a place is greater than the one before it, if there is one.
-fn comes_after(place: usize, before: u32, vertex: u32) -> bool
+pub fn comes_after(place: usize, before: u32, vertex: u32) -> bool
     ensures { result ≡ ((place == 0) || nat_lt before vertex) }
 {
     place == 0 || before < vertex
 }
 
 /// The vertex at place 0: the one that is given where this is the place, else the one that was found before.
-fn first_of(place: usize, first: u32, vertex: u32) -> u32
+pub fn first_of(place: usize, first: u32, vertex: u32) -> u32
     ensures zero { place ≡ 0 → result ≡ vertex }
     ensures later { 0 < place → result ≡ first }
 {

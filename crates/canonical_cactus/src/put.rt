@@ -8,12 +8,12 @@ ghost use Rattle.canonical_cactus.specs.Making.{AreBlocksOf, AreChildrenOf, AreN
 ghost use Rattle.canonical_cactus.specs.Taken.{IsReady, all_drawn, drawn, left, read_entries, used, wanted};
 
 use crate::entries::{Joint, OpenNode};
-use crate::parts::{Hung, Placed, bare_node, hang_in, trimmed};
+use crate::order::least_vertex;
+use crate::parts::{Hung, Placed, hang_in, trimmed};
 use crate::rows::{cycle_of, node_of, star_of};
-use cactus_tree::Node;
+use cactus_tree::{Block, Blocks, Node};
 use cut_definitions::NoMemory;
 use std::alloc::Global;
-use std::mem;
 
 /// Takes the nodes of a cycle from the top of the stack, in order.
 fn draw_nodes(alloc: Global, stack: &mut Vec<Placed>, count: usize) -> Result<Vec<Placed>, NoMemory>
@@ -40,18 +40,17 @@ fn draw_bridge(stack: &mut Vec<Placed>, place: Box<Node>) -> Hung
     hang_in(node, place)
 }
 
-/// The block that stands for a bridge to a node without blocks.
-fn draw_leaf(alloc: Global, place: Box<Node>) -> Result<Hung, NoMemory>
-    ensures { IfOk result (IsBlockOf (bridge_read (node_read has (vertices place.value) []))) }
+/// The block that stands for a bridge to a node without blocks, which stays where it is.
+fn draw_leaf(alloc: Global, place: Box<Node>) -> Hung
+    ensures { IsBlockOf (bridge_read (node_read has (vertices place.value) [])) result }
 {
-    let mut place = place;
-    let Node {
-        vertices,
-        blocks: _,
-    } = mem::replace(&mut *place, bare_node(alloc));
-    let mut none = Vec::new(alloc);
-    let leaf = node_of(alloc, vertices, &mut none)?;
-    Ok(hang_in(leaf, place))
+    let mut leaf = place;
+    leaf.blocks = Blocks::new(alloc);
+    let least = least_vertex(&leaf.vertices);
+    Hung {
+        block: Block::Bridge(leaf),
+        least,
+    }
 }
 
 /// The block that stands for a cycle through two nodes from the top of the stack.
@@ -89,10 +88,7 @@ fn draw_block(alloc: Global, stack: &mut Vec<Placed>, joint: Joint) -> Result<Hu
 {
     match joint {
         Joint::Bridge(place) => Ok(draw_bridge(stack, place)),
-        Joint::Leaf(place) => {
-            let block = draw_leaf(alloc, place)?;
-            Ok(block)
-        }
+        Joint::Leaf(place) => Ok(draw_leaf(alloc, place)),
         Joint::Cycle(count) => {
             let block = draw_cycle(alloc, stack, count)?;
             Ok(block)

@@ -7,7 +7,7 @@ use crate::cactuses::has_sides;
 use crate::trees::{leaf, leaves, one_ring, ring_and_bridge, two_spare, with_bridge, with_cycle};
 use cactus_tree::Cactus;
 use canonical_cactus::laws::{one_flat, one_tree, vertices_below};
-use canonical_cactus::{canonical, is_canonical};
+use canonical_cactus::{canonical, is_canonical, is_canonical_within};
 use cut_definitions::NoMemory;
 use std::alloc::Global;
 use std::test::Fail;
@@ -51,11 +51,19 @@ fn turned_star(alloc: Global) -> Result<Cactus, NoMemory>
     Ok(Cactus::from_root(3, tree))
 }
 
+// Whether a cactus is told to be canonical, or not to be, both by calls and by loops.
+fn is_told(alloc: Global, cactus: &Cactus, canonical: bool) -> Result<bool, NoMemory> {
+    let within = is_canonical_within(alloc, cactus)?;
+    Ok(is_canonical(cactus) == canonical && within == canonical)
+}
+
 #[test]
 fn a_ring_and_a_star_in_order_are_canonical(rt: HostRuntime) -> Result<(), Fail> {
     let ring = one_ring(rt.alloc())?;
     let star = star(rt.alloc())?;
-    assert!(rt; is_canonical(&ring) && is_canonical(&star));
+    let of_ring = is_told(rt.alloc(), &ring, true)?;
+    let of_star = is_told(rt.alloc(), &star, true)?;
+    assert!(rt; of_ring && of_star);
     Ok(())
 }
 
@@ -63,14 +71,17 @@ fn a_ring_and_a_star_in_order_are_canonical(rt: HostRuntime) -> Result<(), Fail>
 fn a_turned_ring_and_a_turned_star_are_not(rt: HostRuntime) -> Result<(), Fail> {
     let ring = turned_ring(rt.alloc())?;
     let star = turned_star(rt.alloc())?;
-    assert!(rt; !is_canonical(&ring) && !is_canonical(&star));
+    let of_ring = is_told(rt.alloc(), &ring, false)?;
+    let of_star = is_told(rt.alloc(), &star, false)?;
+    assert!(rt; of_ring && of_star);
     Ok(())
 }
 
 #[test]
 fn a_cycle_of_three_nodes_is_not(rt: HostRuntime) -> Result<(), Fail> {
     let cactus = ring_and_bridge(rt.alloc())?;
-    assert!(rt; !is_canonical(&cactus));
+    let holds = is_told(rt.alloc(), &cactus, false)?;
+    assert!(rt; holds);
     Ok(())
 }
 
@@ -88,6 +99,14 @@ const RING: [&[u32]; 6] = [&[2], &[2, 3], &[2, 3, 4], &[3], &[3, 4], &[4]];
 #[test]
 fn a_turned_ring_is_turned_back(rt: HostRuntime) -> Result<(), Fail> {
     let cactus = turned_ring(rt.alloc())?;
+    let holds = becomes(rt.alloc(), cactus, 4, &RING)?;
+    assert!(rt; holds);
+    Ok(())
+}
+
+#[test]
+fn a_ring_in_order_is_given_back(rt: HostRuntime) -> Result<(), Fail> {
+    let cactus = one_ring(rt.alloc())?;
     let holds = becomes(rt.alloc(), cactus, 4, &RING)?;
     assert!(rt; holds);
     Ok(())

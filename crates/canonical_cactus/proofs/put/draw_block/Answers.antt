@@ -13,6 +13,6 @@ pub returns-in_ok-block-in-Cycle-clause-block : goal.returns-in_ok-block-in-Cycl
 returns-in_ok-block-in-Cycle-clause-block c = λ rs a.
     subst (λ (j : Joint). IsBlockOf (drawn has j rs) c.in_ok-block-in-Cycle.block) (sym c.in-Cycle.is) (c.in_ok-block-in-Cycle.ensures.block rs a)
 
-pub returns-in_ok-block-in-Leaf-clause-block : goal.returns-in_ok-block-in-Leaf-clause-block
-returns-in_ok-block-in-Leaf-clause-block c = λ rs a.
-    subst (λ (j : Joint). IsBlockOf (drawn has j rs) c.in_ok-block-in-Leaf.block) (sym c.in-Leaf.is) c.in_ok-block-in-Leaf.ensures
+pub returns-in-Leaf-clause-block : goal.returns-in-Leaf-clause-block
+returns-in-Leaf-clause-block c = λ rs a.
+    subst (λ (j : Joint). IsBlockOf (drawn has j rs) c.draw_leaf.result) (sym c.in-Leaf.is) c.draw_leaf.ensures

@@ -1,0 +1,197 @@
+//! Whether the blocks and the cycles of a tree stand in order, by loops, so that a deep tree does not run out of stack.
+
+ghost use Rattle.std.specs.Prelude.{List, Option, ℕ, ◌≡◌, ◌&&◌, [], ◌∷◌, ◌++◌, IfOk, OnOk, length, map, nat_le};
+ghost use Rattle.std.specs.List.{filter, flat_map, list_all};
+ghost use Rattle.cactus_tree.specs.Entries.{nodes_of};
+ghost use Rattle.cactus_tree.specs.Numbers.{is_inner, seen};
+ghost use Rattle.cactus_tree.specs.Trees.{blocks_in, nodes_in};
+ghost use Rattle.canonical_cactus.specs.Canonical.{all_vertices, arranged, arranged_block, ascend, leasts, rises};
+ghost use Rattle.canonical_cactus.specs.Inner.{AreInner, IsWalk, inner_below, least_of, leasts_of, is_turned, stands};
+ghost use Rattle.canonical_cactus.specs.Standing.{least_in};
+
+use crate::order::{Standing, comes_after, first_of, least_vertex, lesser, vertex_or_zero};
+use cactus_tree::{Block, Blocks, Children, Node};
+use cut_definitions::NoMemory;
+use std::alloc::Global;
+
+/// Puts a node on the stack where it has a block below it.
+fn stack_node<'a>(stack: &mut Vec<&'a Node>, node: &'a Node) -> Result<(), NoMemory>
+    ensures { OnOk result (seen stack.new.items ≡ seen stack.old.items ++ filter is_inner (node.now ∷ [])) }
+{
+    if node.blocks.len() > 0 {
+        stack.push(node)?;
+    }
+    Ok(())
+}
+
+/// Puts the nodes of a block that have a block below them on the stack.
+fn stack_block<'a>(stack: &mut Vec<&'a Node>, block: &'a Block) -> Result<(), NoMemory>
+    ensures { OnOk result (seen stack.new.items ≡ seen stack.old.items ++ filter is_inner (nodes_of block.now)) }
+{
+    match block {
+        Block::Bridge(node) => {
+            stack_node(stack, node)?;
+            Ok(())
+        }
+        Block::Cycle(nodes) => {
+            'each_node: for i in 0..nodes.len() {
+                stack_node(stack, nodes.at(i))?;
+            }
+            Ok(())
+        }
+    }
+}
+
+/// Puts the nodes right below a node that have a block below them on the stack.
+fn stack_below<'a>(stack: &mut Vec<&'a Node>, blocks: &'a Blocks) -> Result<(), NoMemory>
+    ensures { OnOk result (seen stack.new.items ≡ seen stack.old.items ++ filter is_inner (flat_map nodes_of (blocks_in blocks.now))) }
+{
+    'each_block: for i in 0..blocks.len() {
+        stack_block(stack, blocks.at(i))?;
+    }
+    Ok(())
+}
+
+/// The root, and all nodes that have a block below them, each before those below it. Room for so many nodes as are expected
+/// is reserved at once.
+fn inner_nodes<'a>(
+    alloc: Global,
+    root: &'a Node,
+    expected: usize,
+) -> Result<Vec<&'a Node>, NoMemory>
+    ensures { IfOk result (λ v. AreInner root.now (seen v.items)) }
+{
+    let mut nodes = Vec::with_capacity(alloc, expected)?;
+    let mut stack = Vec::with_capacity(alloc, expected)?;
+    stack.push(root)?;
+    'walk: while let Some(node) = stack.pop() {
+        nodes.push(node)?;
+        stack_below(&mut stack, &node.blocks)?;
+    }
+    Ok(nodes)
+}
+
+/// The least vertex at or under a node, taken off the stack where the node has a block below it.
+fn draw_least(known: &mut Vec<Option<u32>>, node: &Node) -> Option<u32>
+    requires { (rest : List (Option ℕ)) × (known.old.items ≡ rest ++ leasts_of (filter is_inner (node.now ∷ []))) }
+    ensures least { result ≡ least_of node.now }
+    ensures known { (rest : List (Option ℕ)) → known.old.items ≡ rest ++ leasts_of (filter is_inner (node.now ∷ [])) → known.new.items ≡ rest }
+{
+    if node.blocks.len() == 0 {
+        return least_vertex(&node.vertices);
+    }
+    known.pop().unwrap()
+}
+
+/// The least vertex of a cycle below its upper node, and whether it has three or more nodes there, the first with a lesser
+/// least vertex than the last.
+fn draw_cycle(known: &mut Vec<Option<u32>>, nodes: &Children) -> Standing
+    requires { (rest : List (Option ℕ)) × (known.old.items ≡ rest ++ leasts_of (filter is_inner (nodes_in nodes.now))) }
+    ensures least { result.least ≡ least_in (all_vertices (map arranged (nodes_in nodes.now))) }
+    ensures in_order { result.in_order ≡ (nat_le 3 (length (nodes_in nodes.now)) && rises (leasts (map arranged (nodes_in nodes.now)))) }
+    ensures known { (rest : List (Option ℕ)) → known.old.items ≡ rest ++ leasts_of (filter is_inner (nodes_in nodes.now)) → known.new.items ≡ rest }
+{
+    let count = nodes.len();
+    let mut least = None;
+    let mut first = 0;
+    let mut last = 0;
+    let mut i = count;
+    'back: while i > 0 {
+        i -= 1;
+        let node = draw_least(known, nodes.at(i));
+        first = vertex_or_zero(node);
+        last = first_of(count - 1 - i, last, first);
+        least = lesser(node, least);
+    }
+    Standing {
+        least,
+        in_order: count >= 3 && first < last,
+    }
+}
+
+/// The least vertex below a block, and whether it is a bridge, or a cycle that stands in order.
+fn draw_block(known: &mut Vec<Option<u32>>, block: &Block) -> Standing
+    requires { (rest : List (Option ℕ)) × (known.old.items ≡ rest ++ leasts_of (filter is_inner (nodes_of block.now))) }
+    ensures least { result.least ≡ least_in (arranged_block block.now).vertices }
+    ensures in_order { result.in_order ≡ is_turned block.now }
+    ensures known { (rest : List (Option ℕ)) → known.old.items ≡ rest ++ leasts_of (filter is_inner (nodes_of block.now)) → known.new.items ≡ rest }
+{
+    match block {
+        Block::Bridge(node) => Standing {
+            least: draw_least(known, node),
+            in_order: true,
+        },
+        Block::Cycle(nodes) => draw_cycle(known, nodes),
+    }
+}
+
+/// The least vertex below some blocks, and whether they ascend by their least vertices and each of them stands in order.
+fn draw_blocks(known: &mut Vec<Option<u32>>, blocks: &Blocks) -> Standing
+    requires { (rest : List (Option ℕ)) × (known.old.items ≡ rest ++ leasts_of (filter is_inner (flat_map nodes_of (blocks_in blocks.now)))) }
+    ensures least { result.least ≡ least_in (all_vertices (map arranged_block (blocks_in blocks.now))) }
+    ensures in_order { result.in_order ≡ (ascend (leasts (map arranged_block (blocks_in blocks.now))) && list_all is_turned (blocks_in blocks.now)) }
+    ensures known { (rest : List (Option ℕ)) → known.old.items ≡ rest ++ leasts_of (filter is_inner (flat_map nodes_of (blocks_in blocks.now))) → known.new.items ≡ rest }
+{
+    let count = blocks.len();
+    let mut least = None;
+    let mut next = 0;
+    let mut ascends = true;
+    let mut each = true;
+    let mut i = count;
+    'back: while i > 0 {
+        i -= 1;
+        let block = draw_block(known, blocks.at(i));
+        let vertex = vertex_or_zero(block.least);
+        ascends &= comes_after(count - 1 - i, vertex, next);
+        each &= block.in_order;
+        next = vertex;
+        least = lesser(block.least, least);
+    }
+    Standing {
+        least,
+        in_order: ascends & each,
+    }
+}
+
+/// The least vertex at or under a node, and whether its blocks stand in order, whatever is below their nodes.
+fn draw_node(known: &mut Vec<Option<u32>>, node: &Node) -> Standing
+    requires { (rest : List (Option ℕ)) × (known.old.items ≡ rest ++ leasts_of (inner_below node.now)) }
+    ensures least { result.least ≡ least_of node.now }
+    ensures in_order { result.in_order ≡ stands node.now }
+    ensures known { (rest : List (Option ℕ)) → known.old.items ≡ rest ++ leasts_of (inner_below node.now) → known.new.items ≡ rest }
+{
+    let own = least_vertex(&node.vertices);
+    let below = draw_blocks(known, &node.blocks);
+    Standing {
+        least: lesser(own, below.least),
+        in_order: below.in_order,
+    }
+}
+
+/// Whether the blocks of each of some nodes stand in order. From the last node to the first: the least vertices at or under
+/// the nodes below one are known when it is its turn. It ends with the first node whose blocks do not.
+fn all_stand(alloc: Global, nodes: Vec<&Node>) -> Result<bool, NoMemory>
+    requires { (root : Node) × IsWalk (root ∷ []) (seen nodes.items) [] }
+    ensures { IfOk result (λ all. all ≡ list_all stands (seen nodes.entry.items)) }
+{
+    let mut nodes = nodes;
+    let mut known = Vec::with_capacity(alloc, nodes.len())?;
+    'up: while let Some(node) = nodes.pop() {
+        let standing = draw_node(&mut known, node);
+        if !standing.in_order {
+            return Ok(false);
+        }
+        known.push(standing.least)?;
+    }
+    Ok(true)
+}
+
+/// Whether all in a tree stands in order. It takes memory for the nodes that have blocks, at most 32 bytes each, and is
+/// refused only where that is wanting; room for so many nodes as are expected is reserved at once.
+pub fn stands_in_order(alloc: Global, root: &Node, expected: usize) -> Result<bool, NoMemory>
+    ensures { IfOk result (λ all. all ≡ (arranged root.now).in_order) }
+{
+    let nodes = inner_nodes(alloc, root, expected)?;
+    let all = all_stand(alloc, nodes)?;
+    Ok(all)
+}
