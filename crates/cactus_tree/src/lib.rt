@@ -36,7 +36,8 @@ pub use cactus::Cactus;
 pub use flat::FlatCactus;
 pub use flattening::flatten;
 pub use tree::{
-    Block, Blocks, Children, Node, rename_node, subtree_sizes, vertices_by_class, vertices_in_order,
+    Block, Blocks, Children, Node, rename_node, stack_inner, subtree_sizes, vertices_by_class,
+    vertices_in_order,
 };
 pub use vertex_list::VertexList;
 pub use walk::{

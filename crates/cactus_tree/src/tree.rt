@@ -19,7 +19,7 @@ mod trim;
 
 pub use count::count_node;
 pub use normal::{blocks_are_normal, is_normal_below};
-pub use number::{count_cuts, number_of};
+pub use number::{count_cuts, number_of, stack_inner};
 pub use order::{InOrder, in_order, vertices_in_order};
 pub use outline::{NodeOutline, outline_of, sizes_along, subtree_sizes};
 pub use rename::rename_node;

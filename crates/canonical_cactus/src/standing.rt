@@ -10,47 +10,9 @@ ghost use Rattle.canonical_cactus.specs.Inner.{AreInner, IsWalk, inner_below, le
 ghost use Rattle.canonical_cactus.specs.Standing.{least_in};
 
 use crate::order::{Standing, comes_after, first_of, least_vertex, lesser, vertex_or_zero};
-use cactus_tree::{Block, Blocks, Children, Node};
+use cactus_tree::{Block, Blocks, Children, Node, stack_inner};
 use cut_definitions::NoMemory;
 use std::alloc::Global;
-
-/// Puts a node on the stack where it has a block below it.
-fn stack_node<'a>(stack: &mut Vec<&'a Node>, node: &'a Node) -> Result<(), NoMemory>
-    ensures { OnOk result (seen stack.new.items ≡ seen stack.old.items ++ filter is_inner (node.now ∷ [])) }
-{
-    if node.blocks.len() > 0 {
-        stack.push(node)?;
-    }
-    Ok(())
-}
-
-/// Puts the nodes of a block that have a block below them on the stack.
-fn stack_block<'a>(stack: &mut Vec<&'a Node>, block: &'a Block) -> Result<(), NoMemory>
-    ensures { OnOk result (seen stack.new.items ≡ seen stack.old.items ++ filter is_inner (nodes_of block.now)) }
-{
-    match block {
-        Block::Bridge(node) => {
-            stack_node(stack, node)?;
-            Ok(())
-        }
-        Block::Cycle(nodes) => {
-            'each_node: for i in 0..nodes.len() {
-                stack_node(stack, nodes.at(i))?;
-            }
-            Ok(())
-        }
-    }
-}
-
-/// Puts the nodes right below a node that have a block below them on the stack.
-fn stack_below<'a>(stack: &mut Vec<&'a Node>, blocks: &'a Blocks) -> Result<(), NoMemory>
-    ensures { OnOk result (seen stack.new.items ≡ seen stack.old.items ++ filter is_inner (flat_map nodes_of (blocks_in blocks.now))) }
-{
-    'each_block: for i in 0..blocks.len() {
-        stack_block(stack, blocks.at(i))?;
-    }
-    Ok(())
-}
 
 /// The root, and all nodes that have a block below them, each before those below it. Room for so many nodes as are expected
 /// is reserved at once.
@@ -66,7 +28,7 @@ fn inner_nodes<'a>(
     stack.push(root)?;
     'walk: while let Some(node) = stack.pop() {
         nodes.push(node)?;
-        stack_below(&mut stack, &node.blocks)?;
+        stack_inner(&mut stack, &node.blocks)?;
     }
     Ok(nodes)
 }

@@ -6,7 +6,7 @@ ghost use Rattle.cactus_tree.specs.Trees.{blocks, blocks_in, nodes_in, vertices}
 ghost use Rattle.cactus_tree.specs.Normal.{BlockShape, shape, block_shape, child_fine, well_placed};
 ghost use Rattle.cactus_tree.specs.Placed.{is_placed, is_set};
 
-use super::number::stack_blocks;
+use super::number::stack_inner;
 use super::{Block, Blocks, Children, Node};
 use cut_definitions::NoMemory;
 use std::alloc::Global;
@@ -121,7 +121,7 @@ pub fn is_normal_below(alloc: Global, root: &Node) -> Result<bool, NoMemory>
         if !blocks_are_placed(&node.blocks) {
             return Ok(false);
         }
-        stack_blocks(&mut stack, &node.blocks)?;
+        stack_inner(&mut stack, &node.blocks)?;
     }
     Ok(true)
 }

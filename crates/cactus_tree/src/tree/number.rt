@@ -99,9 +99,12 @@ fn stack_block<'a>(stack: &mut Vec<&'a Node>, block: &'a Block) -> Result<(), No
     }
 }
 
-/// Puts the nodes of some blocks on the stack, but for those with no block below them, so that a long cycle of such nodes takes no
-/// memory.
-pub fn stack_blocks<'a>(stack: &mut Vec<&'a Node>, blocks: &'a Blocks) -> Result<(), NoMemory>
+/// Puts the nodes of some blocks on the stack, in order, but for those with no block below them, so that a long cycle of such
+/// nodes takes no memory.
+///
+/// One step for each node of these blocks. It takes memory only where the stack has no room, and is refused only where that is
+/// wanting.
+pub fn stack_inner<'a>(stack: &mut Vec<&'a Node>, blocks: &'a Blocks) -> Result<(), NoMemory>
     ensures { OnOk result (seen stack.new.items ≡ seen stack.old.items ++ filter is_inner (flat_map nodes_of (blocks_in blocks.now))) }
 {
     'each_block: for i in 0..blocks.len() {
@@ -120,7 +123,7 @@ pub fn count_cuts(alloc: Global, root: &Node) -> Result<u64, NoMemory>
     stack.push(root)?;
     'walk: while let Some(node) = stack.pop() {
         count += own_cuts(node);
-        stack_blocks(&mut stack, &node.blocks)?;
+        stack_inner(&mut stack, &node.blocks)?;
     }
     Ok(count)
 }

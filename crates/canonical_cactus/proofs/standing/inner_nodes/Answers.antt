@@ -13,14 +13,14 @@ pub walk-smaller : goal.walk-smaller
 walk-smaller c =
     let left = c.pop.new.self.items in
     let top = ap seen (popped_is c.walk.stack.items left c.pop.result c.in-Some.node c.pop.ensures.items c.in-Some.is) ∙ seen_push left c.in-Some.node in
-    fewer_inner (seen left) (seen c.walk.stack.items) _ c.in-Some.node.now top c.in_ok-stack_below.ensures
+    fewer_inner (seen left) (seen c.walk.stack.items) _ c.in-Some.node.now top c.in_ok-stack_inner.ensures
 
 pub walk-preserved : goal.walk-preserved
 walk-preserved c =
     let left = c.pop.new.self.items in
     let top = ap seen (popped_is c.walk.stack.items left c.pop.result c.in-Some.node c.pop.ensures.items c.in-Some.is) ∙ seen_push left c.in-Some.node in
     entered c.args.root.now c.in-Some.node.now (seen c.walk.nodes.items) _ (seen left) (seen c.walk.stack.items) _ c.walk.invariant top
-    (ap seen c.in_ok-push-2.ensures.items ∙ seen_push c.walk.nodes.items c.in-Some.node) c.in_ok-stack_below.ensures
+    (ap seen c.in_ok-push-2.ensures.items ∙ seen_push c.walk.nodes.items c.in-Some.node) c.in_ok-stack_inner.ensures
 
 pub returns : goal.returns
 returns c =

@@ -20,10 +20,10 @@ pub walk-smaller : goal.walk-smaller
 walk-smaller c =
     let left = c.pop.new.self.items in
     let top = ap seen (popped_is c.walk.stack.items left c.pop.result c.in-Some.node c.pop.ensures.items c.in-Some.is) ∙ seen_push left c.in-Some.node in
-    fewer_inner (seen left) (seen c.walk.stack.items) _ c.in-Some.node.now top c.in_ok-stack_blocks.ensures
+    fewer_inner (seen left) (seen c.walk.stack.items) _ c.in-Some.node.now top c.in_ok-stack_inner.ensures
 
 pub walk-preserved : goal.walk-preserved
 walk-preserved c =
     let left = c.pop.new.self.items in
     let top = ap seen (popped_is c.walk.stack.items left c.pop.result c.in-Some.node c.pop.ensures.items c.in-Some.is) ∙ seen_push left c.in-Some.node in
-    omega (arith, numbers_step (seen left) (seen c.walk.stack.items) (seen c.stack_blocks.new.stack.items) c.in-Some.node.now top c.in_ok-stack_blocks.ensures, c.walk.invariant, c.own_cuts-count.ensures)
+    omega (arith, numbers_step (seen left) (seen c.walk.stack.items) (seen c.stack_inner.new.stack.items) c.in-Some.node.now top c.in_ok-stack_inner.ensures, c.walk.invariant, c.own_cuts-count.ensures)

@@ -3,7 +3,7 @@ use Rattle.std.specs.List.{filter, flat_map}
 use Rattle.cactus_tree.specs.Trees.{blocks_in}
 use Rattle.cactus_tree.specs.Entries.{nodes_of}
 use Rattle.cactus_tree.specs.Numbers.{seen, is_inner}
-use Rattle.canonical_cactus.proofs.standing.stack_below.Given as goal
+use Rattle.cactus_tree.proofs.tree.number.stack_inner.Given as goal
 
 abbrev pub invariant-each_block : goal.invariant-each_block
 invariant-each_block l = record {

@@ -1,6 +1,6 @@
 use Rattle.cactus_tree.specs.Trees.{blocks_in}
 use Rattle.cactus_tree.proofs.Tallies.{inner_block}
-use Rattle.canonical_cactus.proofs.standing.stack_below.Goals as goal
+use Rattle.cactus_tree.proofs.tree.number.stack_inner.Goals as goal
 
 pub each_block-preserved : goal.each_block-preserved
 each_block-preserved c = record {
