@@ -1,14 +1,12 @@
 -- The side at a best range is a best side.
-use Rattle.std.proofs.Common.{◌≡◌, ℕ, ◌-◌, ◌≤◌, min, true, List, [], ◌∷◌, length, map, ap, ◌∙◌, sym, refl, subst, arith}
+use Rattle.std.proofs.Common.{◌≡◌, ℕ, ◌-◌, ◌≤◌, min, true, List, [], ◌∷◌, length, map, ap, ◌∙◌, sym, subst, arith}
 use Rattle.std.specs.List.{All, Contains}
 use Rattle.std.proofs.lemmas.List.Elements.{All-nil, All-cons, All-head, All-tail, All-map, All-contains}
 use Rattle.cut_definitions.specs.Balance.{balance, mass, IsBest}
-use Rattle.cut_definitions.specs.Weight.{VertexSet, complement, either}
+use Rattle.cut_definitions.specs.Weight.{complement}
 use Rattle.cut_definitions.specs.Cuts.{has}
 use Rattle.cut_definitions.proofs.Lists.{Contains-map}
-use Rattle.vertex_set.specs.Side.{VertexList, listed}
-use Rattle.vertex_set.proofs.Bits.{listed-none}
-use Rattle.cactus_tree.specs.CutRanges.{Range, elements_at}
+use Rattle.cactus_tree.specs.CutRanges.{Range}
 use Rattle.cactus_tree.specs.Places.{AreOnce, IsVertex, side_at}
 use Rattle.cactus_tree.proofs.RangeMasses.{before_no_less, side_balance}
 use Rattle.balanced_cut.specs.Ends.{IsRangeOf, IsScale, IsScaleOf, NoneGreater, mass_to, places_of, range_balance, span_mass}
@@ -68,11 +66,3 @@ best_side n masses order s ranges sides r side is fit member none same at =
           (subst (λ k. All (λ q. balance masses (side_at n order q) ≤ k) ranges) (sym equal) (none_better n (range_balance s r) masses order s ranges is fit none));
     } in
     subst (λ t. IsBest masses sides t) (sym at) (subst (λ l. IsBest masses l (side_at n order r)) same best)
-
--- an empty side into which the vertices at the places of a range were put
-pub side_filled : (n : ℕ) (order : List ℕ) (r : Range) (empty side : VertexList) → empty ≡ record { vertices = n; members = [] } →
-    ((s : VertexSet) → empty ≡ listed empty.vertices s → side ≡ listed empty.vertices (either s (has (elements_at order r)))) → side.members ≡ side_at n order r
-side_filled n order r empty side is put =
-    let same : empty.vertices ≡ n = ap (λ (s : VertexList). s.vertices) is in
-    let none : empty ≡ listed empty.vertices (has []) = is ∙ sym (listed-none n (has []) (λ v. refl)) ∙ ap (λ k. listed k (has [])) (sym same) in
-    ap (λ (s : VertexList). s.members) (put (has []) none) ∙ ap (λ k. side_at k order r) same

@@ -7,9 +7,9 @@ use Rattle.cut_definitions.specs.Weight.{VertexSet, either, minus}
 use Rattle.cut_definitions.specs.Cuts.{has}
 use Rattle.cut_definitions.specs.Scan.{single}
 use Rattle.vertex_set.specs.Side.{VertexList, listed}
-use Rattle.vertex_set.proofs.Bits.{listed-same, has-listed}
+use Rattle.vertex_set.proofs.Bits.{listed-none, listed-same, has-listed}
 use Rattle.cactus_tree.specs.CutRanges.{Range, elements_at}
-use Rattle.cactus_tree.specs.Places.{AreOnce}
+use Rattle.cactus_tree.specs.Places.{AreOnce, side_at}
 
 abbrev range : ℕ → ℕ → Range
 range from to = record { from = from; to = to }
@@ -220,3 +220,11 @@ changed_to n xs a b c d m1 m2 m3 m4 s0 s1 s2 s3 s4 e1 e2 e3 e4 once n0 n1 n2 n3 
     (λ s h. h2 s h ∙ ap (λ k. listed s1.vertices (minus s (has (elements_at xs (range k b))))) e2)
     (λ s h. h3 s h ∙ ap (λ k. listed s2.vertices (either s (has (elements_at xs (range c k))))) e3)
     (λ s h. h4 s h ∙ ap (λ k. listed s3.vertices (either s (has (elements_at xs (range k d))))) e4)
+
+-- an empty side into which the vertices at the places of a range were put
+pub side_filled : (n : ℕ) (order : List ℕ) (r : Range) (empty side : VertexList) → empty ≡ record { vertices = n; members = [] } →
+    ((s : VertexSet) → empty ≡ listed empty.vertices s → side ≡ listed empty.vertices (either s (has (elements_at order r)))) → side.members ≡ side_at n order r
+side_filled n order r empty side is put =
+    let same : empty.vertices ≡ n = ap (λ (s : VertexList). s.vertices) is in
+    let none : empty ≡ listed empty.vertices (has []) = is ∙ sym (listed-none n (has []) (λ v. refl)) ∙ ap (λ k. listed k (has [])) (sym same) in
+    ap (λ (s : VertexList). s.members) (put (has []) none) ∙ ap (λ k. side_at k order r) same

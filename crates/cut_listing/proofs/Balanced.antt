@@ -7,11 +7,9 @@ use Rattle.std.proofs.lemmas.List.{length-map}
 use Rattle.std.proofs.lemmas.List.Elements.{All-append, All-cons, All-drop, All-head, All-map, All-nil, All-tail}
 use Rattle.cut_definitions.specs.Balance.{AreMasses, balance, mass}
 use Rattle.cut_definitions.specs.Cuts.{has}
-use Rattle.cut_definitions.specs.Weight.{VertexSet, complement, either}
-use Rattle.vertex_set.specs.Side.{VertexList, listed}
-use Rattle.vertex_set.proofs.Bits.{listed-none}
+use Rattle.cut_definitions.specs.Weight.{complement}
 use Rattle.cactus_tree.specs.Borders.{border_at, ranges_to}
-use Rattle.cactus_tree.specs.CutRanges.{Range, elements_at}
+use Rattle.cactus_tree.specs.CutRanges.{Range}
 use Rattle.cactus_tree.specs.Different.{AreDifferent}
 use Rattle.cactus_tree.specs.Entered.{entered}
 use Rattle.cactus_tree.specs.Normal.{is_normal}
@@ -32,14 +30,6 @@ use Rattle.cut_listing.specs.Listings.{different}
 use Rattle.cut_listing.proofs.Counted.{number_different}
 use Rattle.cut_listing.proofs.Listed.{all_different, same_different}
 use Rattle.cut_listing.proofs.Passes.{asked_differ, given_asked}
-
--- an empty side into which the vertices at the places of a range were put
-pub side_filled : (n : ℕ) (order : List ℕ) (r : Range) (empty side : VertexList) → empty ≡ record { vertices = n; members = [] } →
-    ((s : VertexSet) → empty ≡ listed empty.vertices s → side ≡ listed empty.vertices (either s (has (elements_at order r)))) → side.members ≡ side_at n order r
-side_filled n order r empty side is put =
-    let same : empty.vertices ≡ n = ap (λ (s : VertexList). s.vertices) is in
-    let none : empty ≡ listed empty.vertices (has []) = is ∙ sym (listed-none n (has []) (λ v. refl)) ∙ ap (λ k. listed k (has [])) (sym same) in
-    ap (λ (s : VertexList). s.members) (put (has []) none) ∙ ap (λ k. side_at k order r) same
 
 -- ---- the ranges between borders
 -- a range of so many places

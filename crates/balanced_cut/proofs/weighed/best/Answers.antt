@@ -8,7 +8,8 @@ use Rattle.cactus_tree.specs.Walking.{AreBorders}
 use Rattle.cactus_tree.proofs.Once.{each_there}
 use Rattle.cut_definitions.specs.Cuts.{has}
 use Rattle.balanced_cut.specs.Ends.{IsScale, IsScaleOf, NoneGreater, range_of}
-use Rattle.balanced_cut.proofs.BestSide.{best_side, scale_of, scale_places, side_filled}
+use Rattle.cactus_tree.proofs.Elements.{side_filled}
+use Rattle.balanced_cut.proofs.BestSide.{best_side, scale_of, scale_places}
 use Rattle.balanced_cut.proofs.Moving.{best_fits, ranges_fit}
 use Rattle.balanced_cut.proofs.SomeCut.{some_side}
 use Rattle.balanced_cut.proofs.weighed.best.Goals as goal

@@ -1,4 +1,4 @@
-use Rattle.cut_listing.proofs.Balanced.{side_filled}
+use Rattle.cactus_tree.proofs.Elements.{side_filled}
 use Rattle.cut_listing.proofs.weighed.side_between.Goals as goal
 
 pub returns-clause-side : goal.returns-clause-side
