@@ -14,7 +14,7 @@ use Rattle.cactus_tree.proofs.Cycles.{cycle_cuts, cycle_cases, cycle_here, cycle
 use Rattle.cactus_tree.proofs.Layouts.{laid_out}
 use Rattle.cactus_tree.proofs.Sets.{IsIn}
 use Rattle.cactus_growth.proofs.Runs.{along, past, reached, opened, joined}
-use Rattle.cactus_growth.proofs.Within.{segment_within}
+use Rattle.cactus_tree.proofs.Within.{segment_within}
 use Rattle.cactus_growth.proofs.Without.{cycle_lacks, cycle_without, cycle_before, cycle_behind, cycle_child}
 
 -- ---- sets that have both of two vertices or neither

@@ -22,7 +22,7 @@ use Rattle.cactus_growth.specs.declared.ways.Step.{Step}
 use Rattle.cactus_growth.proofs.Counts.{count_both, count_some}
 use Rattle.cactus_growth.proofs.Opened.{blocks_listed, own_lacks, walk_part}
 use Rattle.cactus_growth.proofs.Pulled.{times_more}
-use Rattle.cactus_growth.proofs.Within.{block_within, of_lists}
+use Rattle.cactus_tree.proofs.Within.{block_within, of_lists}
 use Rattle.cactus_growth.proofs.WaysDown.{way_inside, one_of_all, below_at}
 
 -- ---- which block has a vertex below it

@@ -4,7 +4,6 @@ pub mod Making
 pub mod Below
 pub mod Counts
 pub mod Hung
-pub mod Within
 pub mod Sorted
 pub mod Around
 pub mod Without

@@ -32,7 +32,7 @@ use Rattle.cactus_growth.specs.Growth.{times, AreOnce, AreAscending, AreWide, Ar
 use Rattle.cactus_growth.proofs.Counts.{count_both, count_some}
 use Rattle.cactus_growth.proofs.Hung.{one_part, one_entered}
 use Rattle.cactus_growth.proofs.Pulled.{times_more}
-use Rattle.cactus_growth.proofs.Within.{block_within, of_lists, of_append}
+use Rattle.cactus_tree.proofs.Within.{block_within, of_lists, of_append}
 use Rattle.cactus_growth.proofs.WaysDown.{below_at}
 
 -- ---- lists with one element among others

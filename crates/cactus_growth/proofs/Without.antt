@@ -11,7 +11,7 @@ use Rattle.cactus_tree.proofs.Segments.{cycle_laid}
 use Rattle.cactus_tree.proofs.Sets.{IsIn}
 use Rattle.cactus_tree.proofs.Cycles.{cycle_cuts, cycle_cases, cycle_here, cycle_own, cycle_rest, here_above}
 use Rattle.cactus_tree.proofs.BlockLaws.{nodes_laid}
-use Rattle.cactus_growth.proofs.Within.{segment_within}
+use Rattle.cactus_tree.proofs.Within.{segment_within}
 
 -- a cut of a cycle is within what is below its children
 pub cycle_inside : (xs : List Node) (s : VertexSet) → Contains (cycle_cuts (map part xs)) s → IsIn s (all_of (belows (map part xs)))

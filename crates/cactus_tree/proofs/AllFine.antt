@@ -1,12 +1,13 @@
 -- Whether a tree is normal, node by node.
-use Rattle.std.proofs.Common.{◌≡◌, ℕ, suc, ◌+◌, inl, inr, Bool, true, false, ◌&&◌, ◌∷◌, List, [], ◌++◌, Some, length, map, take, get_or, ap, ◌∙◌, sym, refl}
+use Rattle.std.proofs.Common.{◌≡◌, ℕ, ◌+◌, inl, inr, Bool, true, false, ◌&&◌, ◌∷◌, List, [], ◌++◌, Some, length, take, get_or, ap, ◌∙◌, sym, refl}
 use Rattle.std.specs.Prelude.{nat_le, slice_get, cond}
 use Rattle.std.specs.List.{filter, list_all, flat_map}
 use Rattle.std.proofs.lemmas.List.Folds.{list_all_more, list_all_at, list_all-append}
 use Rattle.std.proofs.lemmas.Option.{get_or_from_slice_get, slice_get_within}
 use Rattle.std.specs.declared.boxed.Box.{Box}
 use Rattle.std.specs.declared.alloc.Global.{Global}
-use Rattle.cut_definitions.proofs.Bools.{and_true}
+use Rattle.std.proofs.Math.Bool.{and-false, and-true, and_assoc}
+use Rattle.cut_definitions.proofs.Bools.{four_and}
 use Rattle.cactus_tree.specs.Normal.{shape, block_shape, child_fine}
 use Rattle.cactus_tree.specs.Placed.{is_placed, is_set, placed_step}
 use Rattle.cactus_tree.specs.Trees.{blocks, nodes_in}
@@ -16,7 +17,7 @@ use Rattle.cactus_tree.specs.declared.tree.Block.{Block}
 use Rattle.cactus_tree.specs.declared.tree.Children.{Children}
 use Rattle.cactus_tree.specs.declared.tree.Block.TheVariants.{Bridge, Cycle, outs-Bridge, outs-Cycle}
 use Rattle.cactus_tree.proofs.Entries.{nodes_bridge, nodes_cycle}
-use Rattle.cactus_tree.proofs.Shapes.{bridge_shape, cycle_fine, node_fine, child_parts}
+use Rattle.cactus_tree.proofs.Shapes.{bridge_shape, cycle_fine, node_fine, child_parts, length_shapes}
 use Rattle.cactus_tree.specs.Numbers.{is_inner}
 use Rattle.cactus_tree.proofs.Tallies.{no_blocks}
 use Rattle.cactus_tree.proofs.Views.{view}
@@ -27,16 +28,6 @@ is_fine x = (shape x).fine
 
 abbrev pub all_fine : List Node → Bool
 all_fine = list_all is_fine
-
-and_assoc : (a b c : Bool) → (a && (b && c)) ≡ ((a && b) && c)
-and_assoc true b c = refl
-and_assoc false b c = refl
-
-four_and : (a b c d : Bool) → ((a && b) && (c && d)) ≡ ((a && c) && (b && d))
-four_and true true c d = refl
-four_and true false true d = refl
-four_and true false false d = refl
-four_and false b c d = refl
 
 pub child_is : (above : Bool) (x : Node) → child_fine above (shape x) ≡ (is_set above x && is_fine x)
 child_is above x = child_parts above x ∙ ap (λ b. is_set above x && b) (sym (node_fine x))
@@ -58,18 +49,14 @@ block_fine b = elim (view b) [
   | inl h ↦ (
       let x = h.0.value in
       ap (λ c. (block_shape c).fine) h.1 ∙ ap (λ s. s.fine) (bridge_shape h.0) ∙ child_is false x
-      ∙ ap (λ k. is_set false x && k) (sym (and_true (is_fine x)))
+      ∙ ap (λ k. is_set false x && k) (sym (and-true (is_fine x)))
       ∙ sym (ap (λ c. is_placed c && all_fine (nodes_of c)) h.1 ∙ ap (λ k. k && all_fine (nodes_of (Bridge h.0))) (placed_bridge h.0) ∙ ap (λ l. is_set false x && all_fine l) (nodes_bridge h.0)))
   | inr h ↦ (
       let xs = nodes_in h.0 in
       ap (λ c. (block_shape c).fine) h.1 ∙ cycle_fine h.0 ∙ ap (λ k. nat_le 2 k && list_all (λ x. child_fine true (shape x)) xs) (length_shapes xs) ∙ ap (λ k. nat_le 2 (length xs) && k) (children_are xs)
-      ∙ and_assoc (nat_le 2 (length xs)) (list_all (is_set true) xs) (all_fine xs)
+      ∙ sym (and_assoc (nat_le 2 (length xs)) (list_all (is_set true) xs) (all_fine xs))
       ∙ sym (ap (λ c. is_placed c && all_fine (nodes_of c)) h.1 ∙ ap (λ k. k && all_fine (nodes_of (Cycle h.0))) (placed_cycle h.0) ∙ ap (λ l. (nat_le 2 (length xs) && list_all (is_set true) xs) && all_fine l) (nodes_cycle h.0)))
 ]
-  where
-    length_shapes : (xs : List Node) → length (map shape xs) ≡ length xs
-    length_shapes [] = refl
-    length_shapes (x ∷ xs) = ap suc (length_shapes xs)
 
 blocks_fine : (bs : List Block) → list_all (λ b. (block_shape b).fine) bs ≡ (list_all is_placed bs && all_fine (flat_map nodes_of bs))
 blocks_fine [] = refl
@@ -92,20 +79,16 @@ inner_fine (x ∷ xs) = first (inner_fine xs) (is_inner x) refl where
 -- a node whose blocks are as they must be gives way to those below it
 pub taken_fine : (left before after : List Node) (x : Node) → before ≡ left ++ x ∷ [] → after ≡ left ++ filter is_inner (flat_map nodes_of (blocks x)) → list_all is_placed (blocks x) ≡ true → all_fine before ≡ all_fine after
 taken_fine left before after x b a h =
-    ap all_fine b ∙ list_all-append is_fine left (x ∷ []) ∙ ap (λ k. all_fine left && k) (and_true (is_fine x) ∙ fine_step x ∙ ap (λ k. k && all_fine (flat_map nodes_of (blocks x))) h)
+    ap all_fine b ∙ list_all-append is_fine left (x ∷ []) ∙ ap (λ k. all_fine left && k) (and-true (is_fine x) ∙ fine_step x ∙ ap (λ k. k && all_fine (flat_map nodes_of (blocks x))) h)
     ∙ sym (ap all_fine a ∙ list_all-append is_fine left (filter is_inner (flat_map nodes_of (blocks x))) ∙ ap (λ k. all_fine left && k) (inner_fine (flat_map nodes_of (blocks x))))
 
 -- and one whose blocks are not shows that all is not
 pub not_fine : (left before : List Node) (x : Node) → before ≡ left ++ x ∷ [] → list_all is_placed (blocks x) ≡ false → all_fine before ≡ false
 not_fine left before x b h =
-    ap all_fine b ∙ list_all-append is_fine left (x ∷ []) ∙ ap (λ k. all_fine left && k) (and_true (is_fine x) ∙ fine_step x ∙ ap (λ k. k && all_fine (flat_map nodes_of (blocks x))) h) ∙ and_false (all_fine left)
-  where
-    and_false : (a : Bool) → (a && false) ≡ false
-    and_false true = refl
-    and_false false = refl
+    ap all_fine b ∙ list_all-append is_fine left (x ∷ []) ∙ ap (λ k. all_fine left && k) (and-true (is_fine x) ∙ fine_step x ∙ ap (λ k. k && all_fine (flat_map nodes_of (blocks x))) h) ∙ and-false (all_fine left)
 
 pub begun_fine : (x : Node) → all_fine (x ∷ []) ≡ list_all (λ b. (block_shape b).fine) (blocks x)
-begun_fine x = and_true (is_fine x) ∙ node_fine x
+begun_fine x = and-true (is_fine x) ∙ node_fine x
 
 -- ---- lists that are gone through
 pub one_more : {X : Type 0} (p : X → Bool) (xs : List X) (i : ℕ) (x : X) → slice_get xs i ≡ Some x → p x ≡ true → list_all p (take i xs) ≡ true → list_all p (take (i + 1) xs) ≡ true

@@ -1,5 +1,5 @@
 -- Of the cuts of a normal cactus each set once: lists of different sets, and how many these are.
-use Rattle.std.proofs.Common.{ne_eqb, ◌≡◌, ℕ, zero, suc, ◌+◌, ◌-◌, ◌≤◌, ◌⊎◌, inl, inr, Bool, true, false, ◌||◌, ◌&&◌, ◌==◌, List, [], ◌∷◌, ◌++◌, length, map, ap, ◌∙◌, sym, refl, subst, arith, append-nil}
+use Rattle.std.proofs.Common.{ne_eqb, ◌≡◌, ℕ, suc, ◌+◌, ◌-◌, ◌≤◌, ◌⊎◌, inl, inr, Bool, true, false, ◌||◌, ◌&&◌, ◌==◌, List, [], ◌∷◌, ◌++◌, length, map, ap, ◌∙◌, sym, refl, subst, arith, append-nil}
 use Rattle.std.specs.Prelude.{if◌then◌else◌}
 use Rattle.std.specs.List.{Contains, AllByRecursion, filter, flat_map, concat, list_all, range_with_len}
 use Rattle.std.specs.declared.boxed.Box.{Box}
@@ -7,11 +7,12 @@ use Rattle.std.specs.declared.alloc.Global.{Global}
 use Rattle.std.proofs.lemmas.Bool.{or_cases, or_left, or_right, false≢true}
 use Rattle.std.proofs.lemmas.List.{length-map, length-append}
 use Rattle.std.proofs.lemmas.List.Elements.{All-contains, Contains-append_left, Contains-append_right, Contains-append_cases}
+use Rattle.std.proofs.Math.Bool.{and-false}
 use Rattle.cut_definitions.specs.Weight.{VertexSet, either}
 use Rattle.cut_definitions.specs.Cuts.{has}
 use Rattle.cut_definitions.proofs.Bridge.{has_within}
 use Rattle.cut_definitions.proofs.Lists.{Contains-here, Contains-there, Contains-cons_cases, Contains-nil, Contains-map, Contains-from_map}
-use Rattle.cut_definitions.proofs.Ascending.{has_contains, contains_has}
+use Rattle.cut_definitions.proofs.Ascending.{has_contains, length-has}
 use Rattle.cactus_tree.specs.Sides.{Part, part, block_part, nothing, all_of, belows, all_cuts, from_here}
 use Rattle.cactus_tree.specs.Trees.{vertices, blocks, nodes_in}
 use Rattle.cactus_tree.specs.Entered.{entered, entered_block}
@@ -32,8 +33,8 @@ use Rattle.cactus_tree.proofs.Cycles.{here_first, here_above, here_within, cycle
 use Rattle.cactus_tree.proofs.Views.{block_induction, each}
 use Rattle.cactus_tree.proofs.Clean.{clean_apart}
 use Rattle.cactus_tree.proofs.Covered.{node_listed, block_listed, blocks_listed, nodes_listed}
-use Rattle.cactus_tree.proofs.Fits.{IsFit, IsFitBlock, AreFitBlocks, AreFitNodes, IsSolid, IsPlaced, blocks_head, blocks_tail, nodes_head, nodes_placed, nodes_tail, node_blocks, own_apart, bridge_child, cycle_children, root_fit}
-use Rattle.cactus_tree.proofs.Tallies.{number_out, tally_bridge, tally_cycle, cycle_own_is, all_numbers}
+use Rattle.cactus_tree.proofs.Fits.{IsFit, IsFitBlock, AreFitBlocks, AreFitNodes, IsSolid, IsPlaced, blocks_head, blocks_tail, nodes_head, nodes_placed, nodes_tail, node_blocks, own_apart, bridge_child, cycle_children, root_fit, root_solid}
+use Rattle.cactus_tree.proofs.Tallies.{number_out, tally_bridge, tally_cycle, cycle_own_is, all_numbers, triangle_some}
 use Rattle.cactus_tree.proofs.Trims.{below_out, cuts_out}
 
 -- ---- lists of different sets
@@ -217,6 +218,26 @@ once_child p ps k m o one apart row q =
       many = omega (arith, length-append begun later, length-append o.members q.members, here_many p.below (belows ps), length-map ps (λ (r : Part). r.below), o.many, q.many);
     }
 
+-- ---- a node as a part
+row_one : (bs : List Block) → 1 ≤ length bs → IsRow (map block_part bs) → HasOne (all_of (belows (map block_part bs)))
+row_one [] k r = absurd (omega (arith, k))
+row_one (b ∷ bs) k r = (r.1.0, or_left ((block_part b).below r.1.0) (all_of (belows (map block_part bs)) r.1.0) r.1.1)
+
+below_at : (x : Node) (v : ℕ) → (part x).below v ≡ has (vertices x) v || all_of (belows (map block_part (blocks x))) v
+below_at x v = ap (λ (s : VertexSet). s v) (below_out x)
+
+pub placed_one : (x : Node) → IsPlaced x → IsRow (map block_part (blocks x)) → HasOne (part x).below
+placed_one x p r =
+    let later : VertexSet = all_of (belows (map block_part (blocks x))) in
+    let from_blocks : 1 ≤ length (blocks x) → HasOne (part x).below = λ k. (let w = row_one (blocks x) k r in (w.0, below_at x w.0 ∙ or_right (has (vertices x) w.0) (later w.0) w.1)) in
+    elim p [
+      | inl s ↦ elim s [
+        | inl w ↦ (w.0, below_at x w.0 ∙ or_left (has (vertices x) w.0) (later w.0) w.1)
+        | inr k ↦ from_blocks (omega (arith, k))
+      ]
+      | inr c ↦ (let one : length (blocks x) ≡ 1 = ap length c.1 in from_blocks (omega (arith, one)))
+    ]
+
 -- ---- the induction
 module _ (n : ℕ) where
   abbrev NodeOnce : Node → Type 0
@@ -261,41 +282,14 @@ module _ (n : ℕ) where
       )
 
   -- ---- a node
-  row_one : (bs : List Block) → 1 ≤ length bs → IsRow (map block_part bs) → HasOne (all_of (belows (map block_part bs)))
-  row_one [] k r = absurd (omega (arith, k))
-  row_one (b ∷ bs) k r = (r.1.0, or_left ((block_part b).below r.1.0) (all_of (belows (map block_part bs)) r.1.0) r.1.1)
-
-  below_at : (x : Node) (v : ℕ) → (part x).below v ≡ has (vertices x) v || all_of (belows (map block_part (blocks x))) v
-  below_at x v = ap (λ (s : VertexSet). s v) (below_out x)
-
-  placed_one : (x : Node) → IsPlaced x → IsRow (map block_part (blocks x)) → HasOne (part x).below
-  placed_one x p r =
-      let later : VertexSet = all_of (belows (map block_part (blocks x))) in
-      let from_blocks : 1 ≤ length (blocks x) → HasOne (part x).below = λ k. (let w = row_one (blocks x) k r in (w.0, below_at x w.0 ∙ or_right (has (vertices x) w.0) (later w.0) w.1)) in
-      elim p [
-        | inl s ↦ elim s [
-          | inl w ↦ (w.0, below_at x w.0 ∙ or_left (has (vertices x) w.0) (later w.0) w.1)
-          | inr k ↦ from_blocks (omega (arith, k))
-        ]
-        | inr c ↦ (let one : length (blocks x) ≡ 1 = ap length c.1 in from_blocks (omega (arith, one)))
-      ]
-
-  some_long : (l : List ℕ) (v : ℕ) → has l v ≡ true → 1 ≤ length l
-  some_long [] v h = absurd (false≢true h)
-  some_long (x ∷ xs) v h = omega arith
-
-  and_false : (a : Bool) → (a && false) ≡ false
-  and_false true = refl
-  and_false false = refl
-
   solid_number : (x : Node) → IsSolid x → number x ≡ all_own (map tally (blocks x)) + all_under (map tally (blocks x))
   solid_number x s =
       let ts = map tally (blocks x) in
       let vs = vertices x in
       let inner : Bool = list_all (λ (b : Tally). b.is_cycle) ts in
       let free : between vs ts ≡ false = elim s [
-        | inl w ↦ ap (λ b. b && ((length ts == 1) && inner)) (ne_eqb (length vs) 0 (λ e. omega (arith, e, some_long vs w.0 w.1)))
-        | inr k ↦ ap (λ b. (length vs == 0) && (b && inner)) (ne_eqb (length ts) 1 (λ e. omega (arith, e, k, length-map (blocks x) tally))) ∙ and_false (length vs == 0)
+        | inl w ↦ ap (λ b. b && ((length ts == 1) && inner)) (ne_eqb (length vs) 0 (λ e. omega (arith, e, length-has vs w.0 w.1)))
+        | inr k ↦ ap (λ b. (length vs == 0) && (b && inner)) (ne_eqb (length ts) 1 (λ e. omega (arith, e, k, length-map (blocks x) tally))) ∙ and-false (length vs == 0)
       ] in
       let all : number x ≡ (all_own ts - 0) + all_under ts = number_out x ∙ ap (λ b. (all_own ts - (if b then 1 else 0)) + all_under ts) free in
       omega (arith, all)
@@ -329,10 +323,6 @@ module _ (n : ℕ) where
         ];
         many = o.many ∙ sym (solid_number x s);
       }
-
-  triangle_some : (m : ℕ) → 1 ≤ m → 1 ≤ triangle m
-  triangle_some zero h = absurd (omega (arith, h))
-  triangle_some (suc m) h = omega arith
 
   alone_number : (x : Node) (nodes : Children) → blocks x ≡ Cycle nodes ∷ [] → vertices x ≡ [] → number x ≡ ((tally (Cycle nodes)).own - 1) + (tally (Cycle nodes)).under
   alone_number x nodes bs v =
@@ -426,18 +416,18 @@ module _ (n : ℕ) where
   block_once = block_induction NodeOnce BlockOnce node_case bridge_case cycle_case
 
 -- ---- from sets to lists
-abbrev AreVertices : ℕ → VertexSet → Type 0
+abbrev pub AreVertices : ℕ → VertexSet → Type 0
 AreVertices n s = (v : ℕ) → s v ≡ true → IsVertex n v
 
-listed_in : (n : ℕ) (s t : VertexSet) → AreVertices n s → filter s (range_with_len 1 n) ≡ filter t (range_with_len 1 n) → IsIn s t
+pub listed_in : (n : ℕ) (s t : VertexSet) → AreVertices n s → filter s (range_with_len 1 n) ≡ filter t (range_with_len 1 n) → IsIn s t
 listed_in n s t a e v h =
     let w : IsVertex n v = a v h in
     sym (has_within n 1 v t w.0 (omega (arith, w.1))) ∙ sym (ap (λ l. has l v) e) ∙ has_within n 1 v s w.0 (omega (arith, w.1)) ∙ h
 
-listed_same : (n : ℕ) (s t : VertexSet) → AreVertices n s → AreVertices n t → filter s (range_with_len 1 n) ≡ filter t (range_with_len 1 n) → s ≡ t
+pub listed_same : (n : ℕ) (s t : VertexSet) → AreVertices n s → AreVertices n t → filter s (range_with_len 1 n) ≡ filter t (range_with_len 1 n) → s ≡ t
 listed_same n s t a b e = same_set s t (listed_in n s t a e) (listed_in n t s b (sym e))
 
-root_vertices : (n : ℕ) (root : Node) → IsCactus n root → AreVertices n (part root).below
+pub root_vertices : (n : ℕ) (root : Node) → IsCactus n root → AreVertices n (part root).below
 root_vertices n root h v e =
     All-contains (IsVertex n) (concat (entered root)) v (all_vertices_within n root h)
     (has_contains (concat (entered root)) v (ap (λ (s : VertexSet). s v) (node_listed root) ∙ e))
@@ -459,7 +449,7 @@ number_of_sides n root h normal =
     let f : IsFit n root = root_fit n root h normal in
     let o = (once_blocks n bs (each (BlockOnce n) (block_once n) bs) (node_blocks n root f)).0 in
     let vertices_in : (s : VertexSet) → Contains o.members s → AreVertices n s =
-    λ s c v e. root_vertices n root h v (below_at n root v ∙ or_right (has (vertices root) v) (all_of (belows ps) v) (o.within s c v e)) in
+    λ s c v e. root_vertices n root h v (below_at root v ∙ or_right (has (vertices root) v) (all_of (belows ps) v) (o.within s c v e)) in
     record {
       members = map list o.members;
       different = listed_different n o.members vertices_in o.different;
@@ -471,5 +461,5 @@ number_of_sides n root h normal =
             let r = Contains-from_map list (part root).cuts l c in
             subst (λ m. Contains (map list o.members) m) r.2 (Contains-map list o.members r.0 (o.there r.0 (subst (λ cs. Contains cs r.0) (cuts_out root) r.1))))),
       );
-      many = length-map o.members list ∙ o.many ∙ sym (solid_number n root (inl (1, contains_has (vertices root) 1 h.root_has_one)));
+      many = length-map o.members list ∙ o.many ∙ sym (solid_number n root (root_solid n root h));
     }

@@ -3,6 +3,9 @@ use Rattle.std.proofs.Common.{◌≡◌, ℕ, zero, suc, ◌+◌, ◌≤◌, ◌
 use Rattle.std.specs.Prelude.{nat_le}
 use Rattle.std.proofs.Math.Seq.{take-suc}
 use Rattle.std.proofs.lemmas.Bool.{le-leb, lt-leb}
+use Rattle.std.proofs.Math.Bool.{and-true, or-false}
+use Rattle.cut_definitions.proofs.Numbers.{cases_le}
+use Rattle.cut_definitions.proofs.Bools.{or_assoc}
 use Rattle.cut_definitions.specs.Weight.{VertexSet, either, minus}
 use Rattle.cut_definitions.specs.Cuts.{has}
 use Rattle.cut_definitions.specs.Scan.{single}
@@ -42,14 +45,8 @@ elements_more xs from place h within =
     ap (λ k. drop from (take k xs)) next ∙ ap (drop from) (take-suc xs place 0 within) ∙ drop_push from (take place xs) (get_or xs place 0) few
 
 pub has_push : (xs : List ℕ) (x u : ℕ) → has (xs ++ x ∷ []) u ≡ (has xs u || (x == u))
-has_push [] x u = or_false (x == u)
-  where
-    or_false : (a : Bool) → (a || false) ≡ a
-    or_false a = grind arith
+has_push [] x u = or-false (x == u)
 has_push (y ∷ xs) x u = ap (λ b. (y == u) || b) (has_push xs x u) ∙ or_assoc (y == u) (has xs u) (x == u)
-  where
-    or_assoc : (a b c : Bool) → (a || (b || c)) ≡ ((a || b) || c)
-    or_assoc a b c = grind arith
 
 -- at the end of a loop over the places of a range
 pub elements_done : (xs : List ℕ) (from to place : ℕ) → from ≤ place → to ≤ place → place ≤ max from to → elements_at xs (range from place) ≡ elements_at xs (range from to)
@@ -79,10 +76,7 @@ one_taken n s xs from place mid new h within same is step =
     ∙ minus_or (s u) (has e u) (x == u) (has (elements_at xs (range from (place + 1))) u) (ap (λ l. has l u) (elements_more xs from place h within) ∙ has_push e x u))
 
 either_or : (a b c d : Bool) → d ≡ (b || c) → ((a || b) || c) ≡ (a || d)
-either_or a b c d h = ap_or a b c ∙ ap (λ y. a || y) (sym h)
-  where
-    ap_or : (a b c : Bool) → ((a || b) || c) ≡ (a || (b || c))
-    ap_or a b c = grind arith
+either_or a b c d h = sym (or_assoc a b c) ∙ ap (λ y. a || y) (sym h)
 
 pub one_put : (n : ℕ) (s : VertexSet) (xs : List ℕ) (from place : ℕ) (mid new : VertexList) → from ≤ place → place < length xs → mid.vertices ≡ n → mid ≡ listed n (either s (has (elements_at xs (range from place)))) →
     new ≡ listed mid.vertices (either (has mid.members) (single (get_or xs place 0))) → new ≡ listed n (either s (has (elements_at xs (range from (place + 1)))))
@@ -96,28 +90,22 @@ one_put n s xs from place mid new h within same is step =
 
 -- ---- from one range to another
 le_min : (b c p : ℕ) → nat_le (min b c) p ≡ (nat_le b p || nat_le c p)
-le_min b c p = elim (le_or b p) [
+le_min b c p = elim (cases_le b p) [
   | inl x ↦ le-leb (min b c) p (omega (arith, x)) ∙ sym (ap (λ y. y || nat_le c p) (le-leb b p x))
-  | inr x ↦ elim (le_or c p) [
+  | inr x ↦ elim (cases_le c p) [
     | inl y ↦ le-leb (min b c) p (omega (arith, y)) ∙ sym (ap (λ z. z || nat_le c p) (lt-leb b p x) ∙ le-leb c p y)
     | inr y ↦ lt-leb (min b c) p (omega (arith, x, y)) ∙ sym (ap (λ z. z || nat_le c p) (lt-leb b p x) ∙ lt-leb c p y)
   ]
 ]
-  where
-    le_or : (a b : ℕ) → (a ≤ b) ⊎ (b < a)
-    le_or a b = grind arith
 
 le_max : (a d p : ℕ) → nat_le (max a d) p ≡ (nat_le a p && nat_le d p)
-le_max a d p = elim (le_or a p) [
-  | inl x ↦ elim (le_or d p) [
+le_max a d p = elim (cases_le a p) [
+  | inl x ↦ elim (cases_le d p) [
     | inl y ↦ le-leb (max a d) p (omega (arith, x, y)) ∙ sym (ap (λ z. z && nat_le d p) (le-leb a p x) ∙ le-leb d p y)
     | inr y ↦ lt-leb (max a d) p (omega (arith, y)) ∙ sym (ap (λ z. z && nat_le d p) (le-leb a p x) ∙ lt-leb d p y)
   ]
   | inr x ↦ lt-leb (max a d) p (omega (arith, x)) ∙ sym (ap (λ z. z && nat_le d p) (lt-leb a p x))
 ]
-  where
-    le_or : (a b : ℕ) → (a ≤ b) ⊎ (b < a)
-    le_or a b = grind arith
 
 abbrev moved : Bool → Bool → Bool → Bool → Bool
 moved a b c d = ((((a && not b) && not (a && not (b || c))) && not ((a && d) && not b)) || (c && not (d || a))) || ((c && b) && not d)
@@ -144,20 +132,14 @@ moved_right false false false false = refl
 pub none_taken : (s : VertexSet) (xs : List ℕ) (from : ℕ) → s ≡ minus s (has (elements_at xs (range from from)))
 none_taken s xs from = λ i v. same v i
   where
-    and_true : (a : Bool) → a ≡ (a && true)
-    and_true a = grind arith
-
     same : (v : ℕ) → s v ≡ (s v && not (has (elements_at xs (range from from)) v))
-    same v = and_true (s v) ∙ ap (λ l. s v && not (has l v)) (sym (elements_none xs from from (omega arith)))
+    same v = sym (and-true (s v)) ∙ ap (λ l. s v && not (has l v)) (sym (elements_none xs from from (omega arith)))
 
 pub none_put : (s : VertexSet) (xs : List ℕ) (from : ℕ) → s ≡ either s (has (elements_at xs (range from from)))
 none_put s xs from = λ i v. same v i
   where
-    or_none : (a : Bool) → a ≡ (a || false)
-    or_none a = grind arith
-
     same : (v : ℕ) → s v ≡ (s v || has (elements_at xs (range from from)) v)
-    same v = or_none (s v) ∙ ap (λ l. s v || has l v) (sym (elements_none xs from from (omega arith)))
+    same v = sym (or-false (s v)) ∙ ap (λ l. s v || has l v) (sym (elements_none xs from from (omega arith)))
 
 abbrev steps : List ℕ → ℕ → ℕ → ℕ → ℕ → VertexSet
 steps xs a b c d =

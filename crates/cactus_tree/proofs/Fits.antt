@@ -9,6 +9,7 @@ use Rattle.std.proofs.lemmas.List.{length-map}
 use Rattle.cut_definitions.specs.Weight.{VertexSet}
 use Rattle.cut_definitions.specs.Cuts.{has}
 use Rattle.cut_definitions.proofs.Bridge.{has_first_of}
+use Rattle.cut_definitions.proofs.Ascending.{contains_has}
 use Rattle.cactus_tree.specs.Sides.{block_part, all_of, belows}
 use Rattle.cactus_tree.specs.Entered.{entered, entered_block}
 use Rattle.cactus_tree.specs.Rooted.{IsCactus}
@@ -111,7 +112,7 @@ nodes_tail n x xs h = record {
 }
 
 -- ---- from a node to its blocks, from a block to its nodes
-clean_node : (n : ℕ) (x : Node) → IsFit n x → IsClean n ((vertices x ∷ []) ++ flat_map entered_block (blocks x))
+pub clean_node : (n : ℕ) (x : Node) → IsFit n x → IsClean n ((vertices x ∷ []) ++ flat_map entered_block (blocks x))
 clean_node n x h = subst (IsClean n) (entered_out x) h.clean
 
 pub node_blocks : (n : ℕ) (x : Node) → IsFit n x → AreFitBlocks n (blocks x)
@@ -153,3 +154,6 @@ root_fine n root h c = sym (root_normal root 1 h.root_has_one) ∙ c
 
 pub root_fit : (n : ℕ) (root : Node) → IsCactus n root → is_normal root ≡ true → IsFit n root
 root_fit n root h c = record { clean = root_clean n root h; fine = root_fine n root h c }
+
+pub root_solid : (n : ℕ) (root : Node) → IsCactus n root → IsSolid root
+root_solid n root h = inl (1, contains_has (vertices root) 1 h.root_has_one)

@@ -1,13 +1,13 @@
 -- The number of the different sides of a normal cactus by its bridges, its cycles and its empty nodes between two cycles.
-use Rattle.std.proofs.Common.{ne_eqb, ◌≡◌, ℕ, zero, suc, ◌+◌, ◌≤◌, inl, inr, Bool, true, false, ◌&&◌, ◌==◌, List, [], ◌∷◌, ◌++◌, length, map, ap, ◌∙◌, sym, refl, arith}
+use Rattle.std.proofs.Common.{ne_eqb, ◌≡◌, ℕ, ◌+◌, ◌≤◌, inl, inr, Bool, true, false, ◌&&◌, ◌==◌, List, [], ◌∷◌, ◌++◌, length, map, ap, ◌∙◌, sym, refl, arith}
 use Rattle.std.specs.Prelude.{if◌then◌else◌}
 use Rattle.std.specs.List.{AllByRecursion, list_all}
 use Rattle.std.specs.declared.boxed.Box.{Box}
 use Rattle.std.specs.declared.alloc.Global.{Global}
-use Rattle.std.proofs.lemmas.Bool.{and_parts, false≢true}
+use Rattle.std.proofs.lemmas.Bool.{and_parts}
 use Rattle.std.proofs.lemmas.List.{length-map, map-append}
-use Rattle.cut_definitions.specs.Cuts.{has}
-use Rattle.cut_definitions.proofs.Ascending.{contains_has}
+use Rattle.std.proofs.Math.Bool.{and-false}
+use Rattle.cut_definitions.proofs.Ascending.{length-has}
 use Rattle.cactus_tree.specs.Normal.{shape, block_shape, child_fine}
 use Rattle.cactus_tree.specs.Widths.{widths, block_widths, joined}
 use Rattle.cactus_tree.specs.Trees.{vertices, blocks, nodes_in}
@@ -21,8 +21,8 @@ use Rattle.cactus_tree.proofs.Widths.{widths_out, widths_bridge, widths_cycle}
 use Rattle.cactus_tree.specs.Numbers.{Tally, number, tally, total, triangle, between, all_own, all_under}
 use Rattle.cactus_tree.specs.Formula.{BlockCensus, Census, census, block_census, alone_census, node_census, bridge_census, cycle_census, census_block_step, census_blocks_step, census_children_step, census_node_step, LawOfFormula}
 use Rattle.cactus_tree.proofs.Views.{view, block_induction, each}
-use Rattle.cactus_tree.proofs.Fits.{IsSolid, child_splits, solid_below, bridge_child_fine, cycle_children_fine, root_fine}
-use Rattle.cactus_tree.proofs.Tallies.{number_out, tally_bridge, tally_cycle, cycle_own_is, all_numbers, total_append}
+use Rattle.cactus_tree.proofs.Fits.{IsSolid, child_splits, solid_below, bridge_child_fine, cycle_children_fine, root_fine, root_solid}
+use Rattle.cactus_tree.proofs.Tallies.{number_out, tally_bridge, tally_cycle, cycle_own_is, all_numbers, total_append, triangle_some}
 
 census_out : (x : Node) → census x ≡ node_census (vertices x) (map block_census (blocks x))
 unfolding census block_census
@@ -98,17 +98,9 @@ node_even x h f =
 
 solid_free : (x : Node) → IsSolid x → bit (between (vertices x) (map tally (blocks x))) ≡ 0
 solid_free x s = ap bit (free s) where
-  some_long : (l : List ℕ) (v : ℕ) → has l v ≡ true → 1 ≤ length l
-  some_long [] v h = absurd (false≢true h)
-  some_long (y ∷ ys) v h = omega arith
-
-  and_false : (a : Bool) → (a && false) ≡ false
-  and_false true = refl
-  and_false false = refl
-
   free : IsSolid x → between (vertices x) (map tally (blocks x)) ≡ false
-  free (inl w) = ap (λ b. b && ((length (map tally (blocks x)) == 1) && list_all (λ (t : Tally). t.is_cycle) (map tally (blocks x)))) (ne_eqb (length (vertices x)) 0 (λ e. omega (arith, e, some_long (vertices x) w.0 w.1)))
-  free (inr k) = ap (λ b. (length (vertices x) == 0) && (b && list_all (λ (t : Tally). t.is_cycle) (map tally (blocks x)))) (ne_eqb (length (map tally (blocks x))) 1 (λ e. omega (arith, e, k, length-map (blocks x) tally))) ∙ and_false (length (vertices x) == 0)
+  free (inl w) = ap (λ b. b && ((length (map tally (blocks x)) == 1) && list_all (λ (t : Tally). t.is_cycle) (map tally (blocks x)))) (ne_eqb (length (vertices x)) 0 (λ e. omega (arith, e, length-has (vertices x) w.0 w.1)))
+  free (inr k) = ap (λ b. (length (vertices x) == 0) && (b && list_all (λ (t : Tally). t.is_cycle) (map tally (blocks x)))) (ne_eqb (length (map tally (blocks x))) 1 (λ e. omega (arith, e, k, length-map (blocks x) tally))) ∙ and-false (length (vertices x) == 0)
 
 bridge_even : (child : Box Node Global) → NodeEven child.value → BlockEven (Bridge child)
 bridge_even child h f =
@@ -125,10 +117,6 @@ nodes_even (x ∷ xs) h f =
     let alone : bit (census x).is_alone ≡ bit (between (vertices x) (map tally (blocks x))) = ap bit (ap (λ (c : Census). c.is_alone) (census_out x) ∙ same_place (vertices x) (blocks x)) in
     omega (arith, h.0 (child_splits true x both.0).1, alone, nodes_even xs h.1 both.1, spans_append (widths x) (joined (map widths xs)))
 
-triangle_some : (m : ℕ) → 1 ≤ m → 1 ≤ triangle m
-triangle_some zero h = absurd (omega (arith, h))
-triangle_some (suc m) h = omega arith
-
 cycle_even : (nodes : Children) → AllByRecursion NodeEven (nodes_in nodes) → BlockEven (Cycle nodes)
 cycle_even nodes h f =
     let xs = nodes_in nodes in
@@ -142,4 +130,4 @@ cycle_even nodes h f =
 pub formula : LawOfFormula
 formula n root h normal =
     let even = node_even root (each BlockEven (block_induction NodeEven BlockEven node_even bridge_even cycle_even) (blocks root)) (root_fine n root h normal) in
-    omega (arith, even, solid_free root (inl (1, contains_has (vertices root) 1 h.root_has_one)))
+    omega (arith, even, solid_free root (root_solid n root h))

@@ -63,4 +63,5 @@ pub mod Pigeons
 pub mod Placed
 pub mod RangeMasses
 pub mod BlockLaws
+pub mod Within
 pub mod Chains

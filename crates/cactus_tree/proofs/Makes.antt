@@ -5,8 +5,8 @@ use Rattle.std.specs.List.{list_all}
 use Rattle.std.proofs.lemmas.Bool.{false≢true, and_parts, eqb-true}
 use Rattle.std.proofs.lemmas.Option.{get_or_from_slice_get}
 use Rattle.std.proofs.lemmas.List.{append_assoc, append-nil, drop-drop, length-drop}
+use Rattle.std.proofs.Math.Bool.{and-true}
 use Rattle.cut_definitions.specs.Cuts.{has}
-use Rattle.cut_definitions.proofs.Bools.{and_true}
 use Rattle.cactus_tree.specs.Trees.{vertices, blocks}
 use Rattle.cactus_tree.specs.Normal.{block_shape}
 use Rattle.cactus_tree.specs.Entries.{Read, bridge_read, nothing_read, used, wanted, drawn, all_drawn, joints_of, read_entry, read_entries, left, IsReady}
@@ -51,7 +51,7 @@ above_first vs bs b r spare at e =
     e ∙ sym (ap (λ t. t && list_all (λ c. not (block_shape c).is_cycle) bs) spare ∙ one bs (and_parts (length vs == 0) (length bs == 1) spare).1 at) where
       one : (cs : List Block) → (length cs == 1) ≡ true → slice_get cs 0 ≡ Some b → list_all (λ c. not (block_shape c).is_cycle) cs ≡ not (block_shape b).is_cycle
       one [] h a = absurd (false≢true h)
-      one (c ∷ []) h a = and_true (not (block_shape c).is_cycle) ∙ ap (λ d. not (block_shape d).is_cycle) (get_or_from_slice_get (c ∷ []) 0 b b a)
+      one (c ∷ []) h a = and-true (not (block_shape c).is_cycle) ∙ ap (λ d. not (block_shape d).is_cycle) (get_or_from_slice_get (c ∷ []) 0 b b a)
       one (c ∷ (d ∷ cs)) h a = absurd (false≢true (sym (ne_eqb (length (c ∷ (d ∷ cs))) 1 (λ k. omega (arith, k))) ∙ h))
 
 pub spare_one : (vs : List ℕ) (bs : List Block) → is_spare vs bs ≡ true → length bs ≡ 1

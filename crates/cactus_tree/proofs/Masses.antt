@@ -4,6 +4,8 @@ use Rattle.std.specs.Prelude.{nat_le, if◌then◌else◌}
 use Rattle.std.specs.List.{All, concat, filter, range_with_len}
 use Rattle.std.proofs.lemmas.Bool.{cases_eq, eq-eqb, ne_eqb, false≢true, or_right, le-leb, lt-leb}
 use Rattle.std.proofs.lemmas.List.Elements.{All-get_or}
+use Rattle.std.proofs.Math.Bool.{and-false}
+use Rattle.cut_definitions.proofs.Numbers.{cases_le}
 use Rattle.cut_definitions.specs.Weight.{VertexSet}
 use Rattle.cut_definitions.specs.Cuts.{has}
 use Rattle.cut_definitions.proofs.Bools.{or_nothing}
@@ -51,19 +53,13 @@ count_put s x (suc m) low off l h = elim (cases_eq x low) [
 -- ---- the place of an element
 -- one place alone is in a range of one place
 inside_at : (to p : ℕ) → (nat_le to p && not (nat_le (to + 1) p)) ≡ true → p ≡ to
-inside_at to p h = elim (le_or to p) [
-  | inl below ↦ elim (le_or (to + 1) p) [
-    | inl above ↦ absurd (false≢true (sym (ap (λ b. nat_le to p && not b) (le-leb (to + 1) p above) ∙ and_false (nat_le to p)) ∙ h))
+inside_at to p h = elim (cases_le to p) [
+  | inl below ↦ elim (cases_le (to + 1) p) [
+    | inl above ↦ absurd (false≢true (sym (ap (λ b. nat_le to p && not b) (le-leb (to + 1) p above) ∙ and-false (nat_le to p)) ∙ h))
     | inr few ↦ omega (arith, below, few)
   ]
   | inr few ↦ absurd (false≢true (sym (ap (λ b. b && not (nat_le (to + 1) p)) (lt-leb to p few)) ∙ h))
 ]
-  where
-    le_or : (a b : ℕ) → (a ≤ b) ⊎ (b < a)
-    le_or a b = grind arith
-
-    and_false : (a : Bool) → (a && false) ≡ false
-    and_false a = grind arith
 
 -- an element is not among those at earlier places
 pub not_before : (n : ℕ) (order : List ℕ) → AreOnce n order → (from to : ℕ) → to < length order → IsVertex n (get_or order to 0) → has (elements_at order (range from to)) (get_or order to 0) ≡ false
@@ -73,10 +69,7 @@ not_before n order once from to within at =
     let here : has (elements_at order (range to (to + 1))) x ≡ true =
     ap (λ l. has l x) (elements_more order to to (omega arith) within) ∙ has_push (elements_at order (range to to)) x x ∙ or_right (has (elements_at order (range to to)) x) (x == x) (eq-eqb x x refl) in
     let place : p.0 ≡ to = inside_at to p.0 (sym (p.1 (range to (to + 1))) ∙ here) in
-    p.1 (range from to) ∙ ap (λ k. nat_le from k && not (nat_le to k)) place ∙ ap (λ b. nat_le from to && not b) (le-leb to to (omega arith)) ∙ and_false (nat_le from to)
-  where
-    and_false : (a : Bool) → (a && false) ≡ false
-    and_false a = grind arith
+    p.1 (range from to) ∙ ap (λ k. nat_le from k && not (nat_le to k)) place ∙ ap (λ b. nat_le from to && not b) (le-leb to to (omega arith)) ∙ and-false (nat_le from to)
 
 -- ---- ranges
 -- the side at a range of so many places has so many vertices

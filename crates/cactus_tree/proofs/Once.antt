@@ -4,6 +4,8 @@ use Rattle.std.specs.Prelude.{nat_le, if◌then◌else◌}
 use Rattle.std.specs.List.{All, concat, filter}
 use Rattle.std.proofs.lemmas.List.Elements.{All-nil, All-cons, All-append, All-head, All-tail}
 use Rattle.std.proofs.lemmas.Bool.{eqb-true, ne_eqb, false≢true, le-leb, lt-leb}
+use Rattle.std.proofs.Math.Bool.{and-false}
+use Rattle.cut_definitions.proofs.Numbers.{cases_le}
 use Rattle.cut_definitions.specs.Cuts.{has, IsAscendingWithin}
 use Rattle.cactus_tree.specs.Places.{AreOnce, IsVertex}
 use Rattle.cactus_tree.specs.Entered.{entered}
@@ -38,22 +40,16 @@ never v (x ∷ xs) h zero (suc to) =
 never v (x ∷ xs) h (suc from) (suc to) = never v xs (zero_if (x == v) (times v xs) h).1 from to
 
 suc_le : (a b : ℕ) → nat_le (suc a) (suc b) ≡ nat_le a b
-suc_le a b = elim (le_or a b) [
+suc_le a b = elim (cases_le a b) [
   | inl h ↦ le-leb (suc a) (suc b) (omega (arith, h)) ∙ sym (le-leb a b h)
   | inr h ↦ lt-leb (suc a) (suc b) (omega (arith, h)) ∙ sym (lt-leb a b h)
 ]
-  where
-    le_or : (a b : ℕ) → (a ≤ b) ⊎ (b < a)
-    le_or a b = grind arith
 
 abbrev inside : ℕ → ℕ → ℕ → Bool
 inside from to p = nat_le from p && not (nat_le to p)
 
 inside_none : (from p : ℕ) → inside from 0 p ≡ false
-inside_none from p = ap (λ b. nat_le from p && not b) (le-leb 0 p (omega arith)) ∙ and_false (nat_le from p)
-  where
-    and_false : (a : Bool) → (a && false) ≡ false
-    and_false a = grind arith
+inside_none from p = ap (λ b. nat_le from p && not b) (le-leb 0 p (omega arith)) ∙ and-false (nat_le from p)
 
 -- a number that stands first, and nowhere else
 here : (v x : ℕ) (xs : List ℕ) → (x == v) ≡ true → times v xs ≡ 0 → (from to : ℕ) → has (drop from (take to (x ∷ xs))) v ≡ inside from to 0

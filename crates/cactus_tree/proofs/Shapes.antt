@@ -50,7 +50,7 @@ node_empty x = ap (λ s. s.is_empty) (shape_out x)
 pub cycle_fine : (nodes : Children) → (block_shape (Cycle nodes)).fine ≡ (nat_le 2 (length (map shape (nodes_in nodes))) && list_all (λ x. child_fine true (shape x)) (nodes_in nodes))
 cycle_fine nodes = ap (λ s. s.fine) (cycle_shape nodes) ∙ ap (λ b. nat_le 2 (length (map shape (nodes_in nodes))) && b) (list_all-map (child_fine true) shape (nodes_in nodes))
 
-length_shapes : (xs : List Node) → length (map shape xs) ≡ length xs
+pub length_shapes : (xs : List Node) → length (map shape xs) ≡ length xs
 length_shapes xs = length-map xs shape
 
 -- a cycle with children enough is as they are

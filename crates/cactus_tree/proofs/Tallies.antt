@@ -10,6 +10,7 @@ use Rattle.std.proofs.lemmas.List.Concat.{flat_map-append}
 use Rattle.std.proofs.lemmas.List.Elements.{filter-append}
 use Rattle.std.specs.declared.boxed.Box.{Box}
 use Rattle.std.specs.declared.alloc.Global.{Global}
+use Rattle.std.proofs.Math.Bool.{and-true}
 use Rattle.cactus_tree.specs.Trees.{vertices, blocks, nodes_in}
 use Rattle.cactus_tree.specs.Entries.{nodes_of}
 use Rattle.cactus_tree.specs.declared.tree.Node.{Node, out-Node}
@@ -118,10 +119,7 @@ pub between_first : (vs : List ℕ) (bs : List Block) (b : Block) (r : Bool) →
 between_first (v ∷ vs) bs b r e f a h = absurd (omega (arith, e))
 between_first [] [] b r e f a h = absurd (omega (arith, f))
 between_first [] (c ∷ (d ∷ bs)) b r e f a h = absurd (omega (arith, f))
-between_first [] (c ∷ []) b r e f a h = h ∙ sym (ap (λ d. (tally d).is_cycle) (get_or_from_slice_get (c ∷ []) 0 b b a)) ∙ sym (and_true (tally c).is_cycle) where
-  and_true : (t : Bool) → (t && true) ≡ t
-  and_true true = refl
-  and_true false = refl
+between_first [] (c ∷ []) b r e f a h = h ∙ sym (ap (λ d. (tally d).is_cycle) (get_or_from_slice_get (c ∷ []) 0 b b a)) ∙ sym (and-true (tally c).is_cycle)
 
 and_no : (a b c : Bool) → (a && b) ≡ false → (a && (b && c)) ≡ false
 and_no false b c h = refl
@@ -237,3 +235,8 @@ pub top_own : (left before : List Node) (x : Node) → before ≡ left ++ x ∷ 
 top_own left before x b =
     let one : all_numbers (x ∷ []) ≡ number x + 0 = refl in
     (omega (arith, own_small x, ap all_numbers b, numbers_append left (x ∷ []), one), omega (arith, number_step x, ap all_numbers b, numbers_append left (x ∷ []), one))
+
+-- a cycle with a child has an interval
+pub triangle_some : (m : ℕ) → 1 ≤ m → 1 ≤ triangle m
+triangle_some zero h = absurd (omega (arith, h))
+triangle_some (suc m) h = omega arith

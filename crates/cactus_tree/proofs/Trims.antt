@@ -27,7 +27,8 @@ use Rattle.cactus_tree.proofs.Orders.{entered_out, entered_bridge, entered_cycle
 use Rattle.cactus_tree.proofs.Widths.{widths_out, widths_bridge, widths_cycle}
 use Rattle.cactus_tree.proofs.Shapes.{bridge_shape, cycle_shape, cycle_fine, wide_fine, child_parts}
 use Rattle.cactus_tree.proofs.Entries.{nodes_bridge}
-use Rattle.cactus_tree.specs.Trims.{SameSets, NoneEmpty, some_in, ShowsNode, ShowsChild, ShowsBlock, IsGood, IsNodeOf, IsChildOf, IsBlockOf, Each, AreChildrenOf, AreBlocksOf, is_spare, is_above_bridge}
+use Rattle.cactus_tree.specs.Trims.{SameSets, NoneEmpty, some_in, ShowsChild, ShowsBlock, IsGood, IsNodeOf, IsChildOf, IsBlockOf, Each, AreChildrenOf, AreBlocksOf, is_spare, is_above_bridge}
+use Rattle.cactus_tree.proofs.Fits.{cycles_of}
 use Rattle.cactus_tree.proofs.Views.{view}
 use Rattle.cactus_tree.proofs.Cycles.{here_first, cycle_cuts, cycle_cases, cycle_here, cycle_own, cycle_rest, cycle_whole}
 
@@ -39,9 +40,6 @@ pub cuts_out : (x : Node) → (part x).cuts ≡ all_cuts (map block_part (blocks
 cuts_out x = ap (λ (p : Part). p.cuts) (part_out x)
 
 -- ---- tests
-abbrev cycles_of : List Block → List Bool
-cycles_of bs = map (λ b. (block_shape b).is_cycle) bs
-
 pub well_many : (e above : Bool) (cs : List Bool) → 2 ≤ length cs → well_placed e (above ∷ cs) ≡ true
 well_many e above cs h =
     ap (λ b. not e || (b && (not (length (above ∷ cs) == 2) || list_all (λ c. c) (above ∷ cs)))) (le-leb 2 (length (above ∷ cs)) (omega (arith, h)))
@@ -55,13 +53,13 @@ pub none_of : (vs : List ℕ) → (length vs == 0) ≡ true → vs ≡ []
 none_of [] h = refl
 none_of (v ∷ vs) h = absurd (false≢true (sym (ne_eqb (length (v ∷ vs)) 0 (λ k. omega (arith, k))) ∙ h))
 
-placed_of : (above : Bool) (vs : List ℕ) (bs : List Block) → is_spare vs bs ≡ false → (vs ≡ [] → bs ≡ [] → ⊥) → well_placed (length vs == 0) (above ∷ cycles_of bs) ≡ true
+pub placed_of : (above : Bool) (vs : List ℕ) (bs : List Block) → is_spare vs bs ≡ false → (vs ≡ [] → bs ≡ [] → ⊥) → well_placed (length vs == 0) (above ∷ cycles_of bs) ≡ true
 placed_of above (v ∷ vs) bs stays some = well_own v vs (above ∷ cycles_of bs)
 placed_of above [] [] stays some = absurd (some refl refl)
 placed_of above [] (b ∷ []) stays some = absurd (false≢true (sym stays))
 placed_of above [] (b ∷ (d ∷ bs)) stays some = well_many true above (cycles_of (b ∷ (d ∷ bs))) (omega arith)
 
-cycle_placed : (vs : List ℕ) (bs : List Block) → is_above_bridge vs bs ≡ false → (vs ≡ [] → bs ≡ [] → ⊥) → well_placed (length vs == 0) (true ∷ cycles_of bs) ≡ true
+pub cycle_placed : (vs : List ℕ) (bs : List Block) → is_above_bridge vs bs ≡ false → (vs ≡ [] → bs ≡ [] → ⊥) → well_placed (length vs == 0) (true ∷ cycles_of bs) ≡ true
 cycle_placed (v ∷ vs) bs stays some = well_own v vs (true ∷ cycles_of bs)
 cycle_placed [] [] stays some = absurd (some refl refl)
 cycle_placed [] (b ∷ []) stays some = ap (λ c. c && true) (from_not_and (block_shape b).is_cycle stays)
@@ -94,18 +92,18 @@ same_own b c ks ls e own f = λ s. (
 )
 
 -- ---- a node without a vertex and without a block
-no_node : (r : Read) (x : Node) → ShowsNode r x → NoneEmpty (r.part.below ∷ r.part.cuts) → vertices x ≡ [] → blocks x ≡ [] → ⊥
-no_node r x s e v b =
+pub no_node : (x : Node) (below : VertexSet) (cuts : List VertexSet) → (part x).below ≡ below → NoneEmpty (below ∷ cuts) → vertices x ≡ [] → blocks x ≡ [] → ⊥
+no_node x below cuts same e v b =
     let at : (part x).below ≡ nothing =
     below_out x ∙ ap (λ l. either (has l) (all_of (belows (map block_part (blocks x))))) v ∙ ap (λ bs. either (has []) (all_of (belows (map block_part bs)))) b in
-    e (subst (λ t. Contains (t ∷ r.part.cuts) nothing) (sym at ∙ s.below) (Contains-here nothing r.part.cuts))
+    e (subst (λ t. Contains (t ∷ cuts) nothing) (sym at ∙ same) (Contains-here nothing cuts))
 
 -- ---- a bridge to a node that stays
 pub hung_kept : (r : Read) (child : Box Node Global) → is_spare (vertices child.value) (blocks child.value) ≡ false → IsNodeOf r child.value → IsBlockOf (bridge_read r) (Bridge child)
 hung_kept r child stays h e w =
     let x = child.value in
     let s = h record { cuts = e; wide = w } in
-    let placed = placed_of false (vertices x) (blocks x) stays (no_node r x s e) in
+    let placed = placed_of false (vertices x) (blocks x) stays (no_node x r.part.below r.part.cuts s.below e) in
     record {
       below = ap (λ (p : Part). p.below) (bridge_part child) ∙ s.below;
       cuts = subst (λ (p : Part). SameSets p.cuts (r.part.below ∷ r.part.cuts)) (sym (bridge_part child)) (same_cons (part x).below r.part.below (part x).cuts r.part.cuts s.below s.cuts);
@@ -148,7 +146,7 @@ hung_spare r x b spare bs h e w =
 pub trimmed_kept : (r : Read) (x : Node) → is_above_bridge (vertices x) (blocks x) ≡ false → IsNodeOf r x → IsChildOf r x
 trimmed_kept r x stays h g =
     let s = h g in
-    let placed = cycle_placed (vertices x) (blocks x) stays (no_node r x s g.cuts) in
+    let placed = cycle_placed (vertices x) (blocks x) stays (no_node x r.part.below r.part.cuts s.below g.cuts) in
     record {
       below = s.below;
       cuts = same_cons (part x).below r.part.below (part x).cuts r.part.cuts s.below s.cuts;
@@ -184,14 +182,14 @@ trimmed_below r x f b above bs nodes h g =
     ]
 
 -- ---- several
-abbrev Wide : List ℕ → Type 0
+abbrev pub Wide : List ℕ → Type 0
 Wide = All (λ k. 2 ≤ k)
 
-wide_left : (xs ys : List ℕ) → Wide (xs ++ ys) → Wide xs
+pub wide_left : (xs ys : List ℕ) → Wide (xs ++ ys) → Wide xs
 wide_left [] ys a = All-nil (λ k. 2 ≤ k)
 wide_left (x ∷ xs) ys a = All-cons (λ k. 2 ≤ k) x xs (All-head (λ k. 2 ≤ k) x (xs ++ ys) a) (wide_left xs ys (All-tail (λ k. 2 ≤ k) x (xs ++ ys) a))
 
-wide_right : (xs ys : List ℕ) → Wide (xs ++ ys) → Wide ys
+pub wide_right : (xs ys : List ℕ) → Wide (xs ++ ys) → Wide ys
 wide_right [] ys a = a
 wide_right (x ∷ xs) ys a = wide_right xs ys (All-tail (λ k. 2 ≤ k) x (xs ++ ys) a)
 
@@ -211,16 +209,16 @@ children_show (r ∷ rs) (x ∷ xs) h e w =
     (h.0 good, children_show rs xs h.1 (λ c. e (cycle_rest r.part ps nothing c)) (wide_right r.counts (counts_read rs) w))
 
 -- parts with the same vertices below them, and with these the same cuts
-abbrev Way : Part → Part → Type 0
+abbrev pub Way : Part → Part → Type 0
 Way p q = (p.below ≡ q.below) × ((t : VertexSet) → Contains (p.below ∷ p.cuts) t → Contains (q.below ∷ q.cuts) t)
 
-way_belows : (ps qs : List Part) → Each Way ps qs → belows ps ≡ belows qs
+pub way_belows : (ps qs : List Part) → Each Way ps qs → belows ps ≡ belows qs
 way_belows [] [] h = refl
 way_belows [] (q ∷ qs) h = absurd h
 way_belows (p ∷ ps) [] h = absurd h
 way_belows (p ∷ ps) (q ∷ qs) h = ap (λ b. b ∷ belows ps) h.0.0 ∙ ap (λ bs. q.below ∷ bs) (way_belows ps qs h.1)
 
-cycle_way : (ps qs : List Part) → Each Way ps qs → (t : VertexSet) → Contains (cycle_cuts ps) t → Contains (cycle_cuts qs) t
+pub cycle_way : (ps qs : List Part) → Each Way ps qs → (t : VertexSet) → Contains (cycle_cuts ps) t → Contains (cycle_cuts qs) t
 cycle_way [] [] h t c = c
 cycle_way [] (q ∷ qs) h t c = absurd h
 cycle_way (p ∷ ps) [] h t c = absurd h
@@ -235,17 +233,18 @@ cycle_way (p ∷ ps) (q ∷ qs) h t c = elim (cycle_cases p ps t c) [
   ]
 ]
 
-ways_there : (rs : List Read) (xs : List Node) → Each ShowsChild rs xs → Each Way (map part xs) (parts_read rs)
-ways_there [] [] h = tt
-ways_there [] (x ∷ xs) h = h
-ways_there (r ∷ rs) [] h = h
-ways_there (r ∷ rs) (x ∷ xs) h = ((h.0.below, (λ t. (h.0.cuts t).0)), ways_there rs xs h.1)
+-- nodes that show what was read have these ways, there and back
+pub ways_there : {shows : Read → Node → Type 0} → ((r : Read) (x : Node) → shows r x → Way (part x) r.part) → (rs : List Read) (xs : List Node) → Each shows rs xs → Each Way (map part xs) (parts_read rs)
+ways_there f [] [] h = tt
+ways_there f [] (x ∷ xs) h = h
+ways_there f (r ∷ rs) [] h = h
+ways_there f (r ∷ rs) (x ∷ xs) h = (f r x h.0, ways_there f rs xs h.1)
 
-ways_back : (rs : List Read) (xs : List Node) → Each ShowsChild rs xs → Each Way (parts_read rs) (map part xs)
-ways_back [] [] h = tt
-ways_back [] (x ∷ xs) h = h
-ways_back (r ∷ rs) [] h = h
-ways_back (r ∷ rs) (x ∷ xs) h = ((sym h.0.below, (λ t. (h.0.cuts t).1)), ways_back rs xs h.1)
+pub ways_back : {shows : Read → Node → Type 0} → ((r : Read) (x : Node) → shows r x → Way r.part (part x)) → (rs : List Read) (xs : List Node) → Each shows rs xs → Each Way (parts_read rs) (map part xs)
+ways_back f [] [] h = tt
+ways_back f [] (x ∷ xs) h = h
+ways_back f (r ∷ rs) [] h = h
+ways_back f (r ∷ rs) (x ∷ xs) h = (f r x h.0, ways_back f rs xs h.1)
 
 some_both : (ls ms : List (List ℕ)) → some_in (ls ++ ms) ≡ some_in ls ++ some_in ms
 some_both ls ms = filter-append (λ l. not (length l == 0)) ls ms
@@ -275,12 +274,12 @@ cycle_made rs nodes h e w =
     let xs = nodes_in nodes in
     let s = children_show rs xs h e (All-tail (λ k. 2 ≤ k) (length rs) (counts_read rs) w) in
     let m = children_counts rs xs s in
-    let there = ways_there rs xs s in
+    let there = ways_there {shows = ShowsChild} (λ r x h. (h.below, (λ t. (h.cuts t).0))) rs xs s in
     let wide : 2 ≤ length rs = All-head (λ k. 2 ≤ k) (length rs) (counts_read rs) w in
     record {
       below = ap (λ (p : Part). p.below) (cycle_part nodes) ∙ ap all_of (way_belows (map part xs) (parts_read rs) there);
       cuts = subst (λ (p : Part). SameSets p.cuts (cycle_cuts (parts_read rs))) (sym (cycle_part nodes))
-          (λ t. (cycle_way (map part xs) (parts_read rs) there t, cycle_way (parts_read rs) (map part xs) (ways_back rs xs s) t));
+          (λ t. (cycle_way (map part xs) (parts_read rs) there t, cycle_way (parts_read rs) (map part xs) (ways_back {shows = ShowsChild} (λ r x h. (sym h.below, (λ t. (h.cuts t).1))) rs xs s) t));
       lists = ap some_in (entered_cycle nodes) ∙ children_lists rs xs s;
       counts = widths_cycle nodes ∙ ap (λ k. k ∷ joined (map widths xs)) m.0 ∙ ap (λ l. length rs ∷ l) m.1;
       fine = wide_fine nodes (omega (arith, wide, m.0, length-map xs widths)) ∙ m.2;

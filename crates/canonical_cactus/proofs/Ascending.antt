@@ -1,10 +1,11 @@
 -- One more part at the end of a row: its least vertices, and whether they ascend.
-use Rattle.std.proofs.Common.{◌≡◌, ℕ, zero, suc, ◌+◌, ◌≤◌, ◌<◌, min, inl, inr, Bool, true, false, ◌&&◌, ◌||◌, ◌==◌, Some, List, [], ◌∷◌, ◌++◌, length, take, map, ap, ◌∙◌, sym, refl, arith, append-nil}
+use Rattle.std.proofs.Common.{◌≡◌, ℕ, zero, suc, ◌+◌, ◌≤◌, ◌<◌, min, inl, inr, true, ◌&&◌, ◌||◌, ◌==◌, Some, List, [], ◌∷◌, ◌++◌, length, take, map, ap, ◌∙◌, sym, refl, arith, append-nil}
 use Rattle.std.specs.Prelude.{nat_lt, slice_get}
 use Rattle.std.specs.List.{list_all, concat}
 use Rattle.std.proofs.lemmas.Bool.{and_parts, and_from, ltb-true, lt-ltb, cases_eq, eq-eqb, ne_eqb}
 use Rattle.std.proofs.lemmas.List.{map-append}
 use Rattle.std.proofs.lemmas.List.Folds.{list_all-append, concat-append}
+use Rattle.std.proofs.Math.Bool.{and-true}
 use Rattle.cut_definitions.specs.Cuts.{least}
 use Rattle.cut_definitions.proofs.ListLaws.{taken}
 use Rattle.cut_definitions.proofs.Bools.{same_tests}
@@ -62,11 +63,7 @@ last_more (x ∷ xs) y = last_of x xs y
     last_of x (z ∷ zs) y = last_of z zs y
 
 pub each_more : (xs : List Arranged) (a : Arranged) → list_all (λ (b : Arranged). b.in_order) (xs ++ a ∷ []) ≡ (list_all (λ (b : Arranged). b.in_order) xs && a.in_order)
-each_more xs a = list_all-append (λ (b : Arranged). b.in_order) xs (a ∷ []) ∙ ap (λ b. list_all (λ (b : Arranged). b.in_order) xs && b) (and_true a.in_order)
-  where
-    and_true : (b : Bool) → (b && true) ≡ b
-    and_true true = refl
-    and_true false = refl
+each_more xs a = list_all-append (λ (b : Arranged). b.in_order) xs (a ∷ []) ∙ ap (λ b. list_all (λ (b : Arranged). b.in_order) xs && b) (and-true a.in_order)
 
 -- ---- ascending numbers
 -- a number below all of a list is below its last

@@ -1,15 +1,15 @@
 -- Blocks make a node, and children a cycle, which show what was read off the parts that they stand for.
 use Rattle.std.proofs.Common.{◌≡◌, ℕ, ◌≤◌, inl, inr, true, List, [], ◌∷◌, ◌++◌, length, map, ap, ◌∙◌, sym, refl, subst, arith}
-use Rattle.std.specs.List.{All, Contains, list_all, flat_map}
+use Rattle.std.specs.List.{Contains, list_all, flat_map}
 use Rattle.std.specs.List.Sorted.{IsPermutation}
 use Rattle.std.proofs.lemmas.Bool.{and_from, le-leb}
 use Rattle.std.proofs.lemmas.List.{length-map}
-use Rattle.std.proofs.lemmas.List.Elements.{All-nil, All-cons, All-head, All-tail, Contains-append_left, Contains-append_right, Contains-append_cases}
+use Rattle.std.proofs.lemmas.List.Elements.{Contains-append_left, Contains-append_right, Contains-append_cases}
 use Rattle.std.proofs.lemmas.List.Folds.{list_all-map}
 use Rattle.std.proofs.lemmas.List.Sorted.{IsPermutation-map, IsPermutation-sym, length_permutation}
 use Rattle.cut_definitions.specs.Weight.{VertexSet, either}
 use Rattle.cut_definitions.specs.Cuts.{has}
-use Rattle.cut_definitions.proofs.Lists.{Contains-there, Contains-cons_cases}
+use Rattle.cut_definitions.proofs.Lists.{Contains-cons_cases}
 use Rattle.cactus_tree.specs.Sides.{Part, part, block_part, nothing, all_of, belows, all_cuts, from_here}
 use Rattle.cactus_tree.specs.Trees.{vertices, blocks, nodes_in}
 use Rattle.cactus_tree.specs.Entered.{entered, entered_block}
@@ -25,8 +25,8 @@ use Rattle.cactus_tree.proofs.Parts.{cycle_part}
 use Rattle.cactus_tree.proofs.Orders.{entered_out, entered_cycle}
 use Rattle.cactus_tree.proofs.Widths.{widths_out, widths_cycle}
 use Rattle.cactus_tree.proofs.Shapes.{wide_fine}
-use Rattle.cactus_tree.proofs.Trims.{below_out, cuts_out}
-use Rattle.cactus_tree.proofs.Cycles.{here_first, cycle_cuts, cycle_cases, cycle_here, cycle_own, cycle_rest}
+use Rattle.cactus_tree.proofs.Trims.{Wide, below_out, cuts_out, cycle_way, way_belows, ways_back, ways_there, wide_left, wide_right}
+use Rattle.cactus_tree.proofs.Cycles.{here_first, cycle_cuts, cycle_here, cycle_own, cycle_rest}
 use Rattle.canonical_cactus.specs.Canonical.{Arranged, arranged, arranged_block, ascend, leasts, rises}
 use Rattle.canonical_cactus.specs.Making.{AreWide, AreApart, SameLists, ShowsNode, ShowsChild, ShowsBlock, IsGood}
 use Rattle.canonical_cactus.proofs.Arrangement.{arranged_out, arranged_cycle}
@@ -34,17 +34,6 @@ use Rattle.canonical_cactus.proofs.Moved.{all_moved, flat_moved, passes_moved, s
 use Rattle.canonical_cactus.proofs.Spaced.{apart_left, apart_right}
 
 -- ---- what is good falls into what is good
-abbrev Wide : List ℕ → Type 0
-Wide = All (λ k. 2 ≤ k)
-
-wide_left : (xs ys : List ℕ) → Wide (xs ++ ys) → Wide xs
-wide_left [] ys a = All-nil (λ k. 2 ≤ k)
-wide_left (x ∷ xs) ys a = All-cons (λ k. 2 ≤ k) x xs (All-head (λ k. 2 ≤ k) x (xs ++ ys) a) (wide_left xs ys (All-tail (λ k. 2 ≤ k) x (xs ++ ys) a))
-
-wide_right : (xs ys : List ℕ) → Wide (xs ++ ys) → Wide ys
-wide_right [] ys a = a
-wide_right (x ∷ xs) ys a = wide_right xs ys (All-tail (λ k. 2 ≤ k) x (xs ++ ys) a)
-
 pub child_good : (r : Read) (rs : List Read) → NoneEmpty (cycle_cuts (parts_read (r ∷ rs))) → Wide (counts_read (r ∷ rs)) → AreApart (lists_read (r ∷ rs)) → IsGood (r.part.below ∷ r.part.cuts) r
 child_good r rs e w a =
     let ps = parts_read rs in
@@ -97,43 +86,6 @@ blocks_tail r rs g = (
 )
 
 -- ---- the children of a cycle
--- parts with the same vertices below them, and with these the same cuts
-abbrev Way : Part → Part → Type 0
-Way p q = (p.below ≡ q.below) × ((t : VertexSet) → Contains (p.below ∷ p.cuts) t → Contains (q.below ∷ q.cuts) t)
-
-way_belows : (ps qs : List Part) → Each Way ps qs → belows ps ≡ belows qs
-way_belows [] [] h = refl
-way_belows [] (q ∷ qs) h = absurd h
-way_belows (p ∷ ps) [] h = absurd h
-way_belows (p ∷ ps) (q ∷ qs) h = ap (λ b. b ∷ belows ps) h.0.0 ∙ ap (λ bs. q.below ∷ bs) (way_belows ps qs h.1)
-
-cycle_way : (ps qs : List Part) → Each Way ps qs → (t : VertexSet) → Contains (cycle_cuts ps) t → Contains (cycle_cuts qs) t
-cycle_way [] [] h t c = c
-cycle_way [] (q ∷ qs) h t c = absurd h
-cycle_way (p ∷ ps) [] h t c = absurd h
-cycle_way (p ∷ ps) (q ∷ qs) h t c = elim (cycle_cases p ps t c) [
-  | inl k ↦ cycle_here q qs t (subst (λ bs. Contains (from_here q.below bs) t) (way_belows ps qs h.1) (subst (λ b. Contains (from_here b (belows ps)) t) h.0.0 k))
-  | inr m ↦ elim m [
-    | inl k ↦ elim (Contains-cons_cases q.below q.cuts t (h.0.1 t (Contains-there p.below p.cuts t k))) [
-      | inl i ↦ cycle_here q qs t (subst (λ u. Contains (from_here q.below (belows qs)) u) i (here_first q.below (belows qs)))
-      | inr i ↦ cycle_own q qs t i
-    ]
-    | inr k ↦ cycle_rest q qs t (cycle_way ps qs h.1 t k)
-  ]
-]
-
-ways_there : (rs : List Read) (xs : List Node) → Each ShowsChild rs xs → Each Way (map part xs) (parts_read rs)
-ways_there [] [] h = tt
-ways_there [] (x ∷ xs) h = h
-ways_there (r ∷ rs) [] h = h
-ways_there (r ∷ rs) (x ∷ xs) h = ((h.0.below, (λ t. (h.0.cuts t).0)), ways_there rs xs h.1)
-
-ways_back : (rs : List Read) (xs : List Node) → Each ShowsChild rs xs → Each Way (parts_read rs) (map part xs)
-ways_back [] [] h = tt
-ways_back [] (x ∷ xs) h = h
-ways_back (r ∷ rs) [] h = h
-ways_back (r ∷ rs) (x ∷ xs) h = ((sym h.0.below, (λ t. (h.0.cuts t).1)), ways_back rs xs h.1)
-
 no_wide : AreWide []
 no_wide k h = absurd (omega (arith, h.1))
 
@@ -166,11 +118,11 @@ lists_show (r ∷ rs) (x ∷ xs) h =
 pub together : (rs : List Read) (xs : List Node) → Each ShowsChild rs xs → Together rs xs
 together rs xs s =
     let m = lists_show rs xs s in
-    let there = ways_there rs xs s in
+    let there = ways_there {shows = ShowsChild} (λ r x h. (h.below, (λ t. (h.cuts t).0))) rs xs s in
     record {
       many = m.0;
       belows = way_belows (map part xs) (parts_read rs) there;
-      cuts = λ t. (cycle_way (map part xs) (parts_read rs) there t, cycle_way (parts_read rs) (map part xs) (ways_back rs xs s) t);
+      cuts = λ t. (cycle_way (map part xs) (parts_read rs) there t, cycle_way (parts_read rs) (map part xs) (ways_back {shows = ShowsChild} (λ r x h. (sym h.below, (λ t. (h.cuts t).1))) rs xs s) t);
       lists = m.1;
       wide = m.2;
       fine = m.3;

@@ -1,153 +1,91 @@
 -- What a canonical cactus gives to each node and each block in it.
-use Rattle.std.proofs.Common.{◌≡◌, ℕ, ◌≤◌, ◌⊎◌, inl, inr, Bool, true, false, ◌&&◌, ◌==◌, List, [], ◌∷◌, ◌++◌, length, map, ap, ◌∙◌, sym, subst, arith, append-nil}
+use Rattle.std.proofs.Common.{◌≡◌, ℕ, ◌≤◌, ◌⊎◌, true, ◌&&◌, ◌==◌, List, [], ◌∷◌, ◌++◌, length, map, ap, ◌∙◌, sym, arith}
 use Rattle.std.specs.Prelude.{nat_le}
 use Rattle.std.specs.List.{list_all, flat_map}
 use Rattle.std.specs.declared.boxed.Box.{Box}
 use Rattle.std.specs.declared.alloc.Global.{Global}
-use Rattle.std.proofs.lemmas.Bool.{and_parts, leb-true, false≢true}
+use Rattle.std.proofs.lemmas.Bool.{and_parts, leb-true}
 use Rattle.std.proofs.lemmas.List.{length-map}
 use Rattle.std.proofs.lemmas.List.Elements.{All-head}
-use Rattle.cut_definitions.specs.Weight.{VertexSet}
-use Rattle.cut_definitions.specs.Cuts.{has, IsAscendingWithin}
-use Rattle.cut_definitions.proofs.Bridge.{has_first_of}
-use Rattle.cut_definitions.proofs.Ascending.{contains_has}
-use Rattle.cactus_tree.specs.Sides.{block_part, all_of, belows}
-use Rattle.cactus_tree.specs.Entered.{entered, entered_block}
+use Rattle.cut_definitions.specs.Cuts.{IsAscendingWithin}
+use Rattle.cactus_tree.specs.Entered.{entered_block}
 use Rattle.cactus_tree.specs.Rooted.{IsCactus}
-use Rattle.cactus_tree.specs.Normal.{shape, block_shape, child_fine, well_placed, is_normal, BlockShape}
+use Rattle.cactus_tree.specs.Normal.{is_normal}
 use Rattle.cactus_tree.specs.Trees.{vertices, blocks, nodes_in}
 use Rattle.cactus_tree.specs.declared.tree.Node.{Node}
 use Rattle.cactus_tree.specs.declared.tree.Block.{Block}
 use Rattle.cactus_tree.specs.declared.tree.Children.{Children}
 use Rattle.cactus_tree.specs.declared.tree.Block.TheVariants.{Bridge, Cycle}
-use Rattle.cactus_tree.proofs.Orders.{entered_out, entered_bridge, entered_cycle}
-use Rattle.cactus_tree.proofs.Shapes.{bridge_shape, cycle_fine, child_parts, root_normal}
 use Rattle.canonical_cactus.specs.Canonical.{Arranged, arranged, arranged_block, leasts, ascend, rises, is_canonical}
-use Rattle.cactus_tree.proofs.Sets.{HasOne, Apart}
-use Rattle.cactus_tree.proofs.Clean.{IsClean, clean_left, clean_right, clean_apart, root_clean}
-use Rattle.cactus_tree.proofs.Fits.{cycle_view}
-use Rattle.canonical_cactus.proofs.Arrangement.{arranged_out, arranged_bridge, arranged_cycle, blocks_covered}
+use Rattle.cactus_tree.proofs.Fits as Normal
+use Rattle.cactus_tree.proofs.Fits.{IsSolid, clean_node}
+use Rattle.canonical_cactus.proofs.Arrangement.{arranged_out, arranged_bridge, arranged_cycle}
 
 pub record IsFit (n : ℕ) (x : Node) : Type 0 where
-  pub clean : IsClean n (entered x)
-  pub fine : list_all (λ b. (block_shape b).fine) (blocks x) ≡ true
+  pub normal : Normal.IsFit n x
   pub in_order : (arranged x).in_order ≡ true
 
 pub record IsFitBlock (n : ℕ) (b : Block) : Type 0 where
-  pub clean : IsClean n (entered_block b)
-  pub fine : (block_shape b).fine ≡ true
+  pub normal : Normal.IsFitBlock n b
   pub in_order : (arranged_block b).in_order ≡ true
 
 pub record AreFitBlocks (n : ℕ) (bs : List Block) : Type 0 where
-  pub clean : IsClean n (flat_map entered_block bs)
-  pub fine : list_all (λ b. (block_shape b).fine) bs ≡ true
+  pub normal : Normal.AreFitBlocks n bs
   pub ascending : ascend (leasts (map arranged_block bs)) ≡ true
   pub in_order : list_all (λ (a : Arranged). a.in_order) (map arranged_block bs) ≡ true
 
 pub record AreFitNodes (n : ℕ) (xs : List Node) : Type 0 where
-  pub clean : IsClean n (flat_map entered xs)
-  pub fine : list_all (λ x. child_fine true (shape x)) xs ≡ true
+  pub normal : Normal.AreFitNodes n xs
   pub in_order : list_all (λ (a : Arranged). a.in_order) (map arranged xs) ≡ true
-
--- a node with a vertex or two blocks
-abbrev pub IsSolid : Node → Type 0
-IsSolid x = HasOne (has (vertices x)) ⊎ (2 ≤ length (blocks x))
-
--- or one above a cycle alone
-abbrev pub IsPlaced : Node → Type 0
-IsPlaced x = IsSolid x ⊎ ((nodes : Children) × (blocks x ≡ Cycle nodes ∷ []) × (vertices x ≡ []))
-
--- ---- where a node may stand
-abbrev cycles_of : List Block → List Bool
-cycles_of bs = map (λ b. (block_shape b).is_cycle) bs
-
-abbrev AtCycle : Bool → List ℕ → List Block → Type 0
-AtCycle above vs bs = (b : Block) × (bs ≡ b ∷ []) × (above ≡ true) × ((block_shape b).is_cycle ≡ true) × (vs ≡ [])
-
-place_of : (above : Bool) (vs : List ℕ) (bs : List Block) → well_placed (length vs == 0) (above ∷ cycles_of bs) ≡ true →
-    (HasOne (has vs) ⊎ (2 ≤ length bs)) ⊎ AtCycle above vs bs
-place_of above (v ∷ vs) bs h = inl (inl (v, has_first_of v vs))
-place_of above [] [] h = absurd (false≢true h)
-place_of above [] (b ∷ []) h =
-    let both = and_parts above ((block_shape b).is_cycle && true) h in
-    inr (b, (λ i. b ∷ []), both.0, (and_parts (block_shape b).is_cycle true both.1).0, (λ i. []))
-place_of above [] (b ∷ (d ∷ bs)) h = inl (inr (omega arith))
-
-child_splits : (above : Bool) (x : Node) → child_fine above (shape x) ≡ true →
-    (well_placed (length (vertices x) == 0) (above ∷ cycles_of (blocks x)) ≡ true) × (list_all (λ b. (block_shape b).fine) (blocks x) ≡ true)
-child_splits above x h = and_parts (well_placed (length (vertices x) == 0) (above ∷ cycles_of (blocks x))) (list_all (λ b. (block_shape b).fine) (blocks x)) (sym (child_parts above x) ∙ h)
 
 -- ---- one block of several, one node of several
 pub blocks_head : (n : ℕ) (b : Block) (bs : List Block) → AreFitBlocks n (b ∷ bs) → IsFitBlock n b
 blocks_head n b bs h = record {
-  clean = clean_left n (entered_block b) (flat_map entered_block bs) h.clean;
-  fine = (and_parts (block_shape b).fine (list_all (λ c. (block_shape c).fine) bs) h.fine).0;
+  normal = Normal.blocks_head n b bs h.normal;
   in_order = (and_parts (arranged_block b).in_order (list_all (λ (a : Arranged). a.in_order) (map arranged_block bs)) h.in_order).0;
 }
 
 pub blocks_tail : (n : ℕ) (b : Block) (bs : List Block) → AreFitBlocks n (b ∷ bs) → AreFitBlocks n bs
 blocks_tail n b bs h = record {
-  clean = clean_right n (entered_block b) (flat_map entered_block bs) h.clean;
-  fine = (and_parts (block_shape b).fine (list_all (λ c. (block_shape c).fine) bs) h.fine).1;
+  normal = Normal.blocks_tail n b bs h.normal;
   ascending = (and_parts _ (ascend (leasts (map arranged_block bs))) h.ascending).1;
   in_order = (and_parts (arranged_block b).in_order (list_all (λ (a : Arranged). a.in_order) (map arranged_block bs)) h.in_order).1;
 }
 
 pub nodes_head : (n : ℕ) (x : Node) (xs : List Node) → AreFitNodes n (x ∷ xs) → IsFit n x
 nodes_head n x xs h = record {
-  clean = clean_left n (entered x) (flat_map entered xs) h.clean;
-  fine = (child_splits true x (and_parts (child_fine true (shape x)) (list_all (λ y. child_fine true (shape y)) xs) h.fine).0).1;
+  normal = Normal.nodes_head n x xs h.normal;
   in_order = (and_parts (arranged x).in_order (list_all (λ (a : Arranged). a.in_order) (map arranged xs)) h.in_order).0;
 }
 
-pub nodes_placed : (n : ℕ) (x : Node) (xs : List Node) → AreFitNodes n (x ∷ xs) → IsPlaced x
-nodes_placed n x xs h =
-    elim (place_of true (vertices x) (blocks x) (child_splits true x (and_parts (child_fine true (shape x)) (list_all (λ y. child_fine true (shape y)) xs) h.fine).0).0) [
-      | inl s ↦ inl s
-      | inr c ↦ (let r = cycle_view c.0 c.3 in inr (r.0, c.1 ∙ ap (λ b. b ∷ []) r.1, c.4))
-    ]
-
 pub nodes_tail : (n : ℕ) (x : Node) (xs : List Node) → AreFitNodes n (x ∷ xs) → AreFitNodes n xs
 nodes_tail n x xs h = record {
-  clean = clean_right n (entered x) (flat_map entered xs) h.clean;
-  fine = (and_parts (child_fine true (shape x)) (list_all (λ y. child_fine true (shape y)) xs) h.fine).1;
+  normal = Normal.nodes_tail n x xs h.normal;
   in_order = (and_parts (arranged x).in_order (list_all (λ (a : Arranged). a.in_order) (map arranged xs)) h.in_order).1;
 }
 
 -- ---- from a node to its blocks, from a block to its nodes
-clean_node : (n : ℕ) (x : Node) → IsFit n x → IsClean n ((vertices x ∷ []) ++ flat_map entered_block (blocks x))
-clean_node n x h = subst (IsClean n) (entered_out x) h.clean
-
 pub node_blocks : (n : ℕ) (x : Node) → IsFit n x → AreFitBlocks n (blocks x)
 node_blocks n x h =
     let bs = map arranged_block (blocks x) in
     let both = and_parts (ascend (leasts bs)) (list_all (λ (a : Arranged). a.in_order) bs) (sym (ap (λ (a : Arranged). a.in_order) (arranged_out x)) ∙ h.in_order) in
     record {
-      clean = clean_right n (vertices x ∷ []) (flat_map entered_block (blocks x)) (clean_node n x h);
-      fine = h.fine;
+      normal = Normal.node_blocks n x h.normal;
       ascending = both.0;
       in_order = both.1;
     }
 
-pub own_apart : (n : ℕ) (x : Node) → IsFit n x → Apart (has (vertices x)) (all_of (belows (map block_part (blocks x))))
-own_apart n x h v own later =
-    clean_apart n (vertices x ∷ []) (flat_map entered_block (blocks x)) (clean_node n x h) v
-    (ap (λ l. has l v) (append-nil (vertices x)) ∙ own)
-    (ap (λ (s : VertexSet). s v) (blocks_covered (blocks x)).listed ∙ later)
-
 pub own_ascending : (n : ℕ) (x : Node) → IsFit n x → IsAscendingWithin 1 n (vertices x)
-own_ascending n x h = All-head (IsAscendingWithin 1 n) (vertices x) (flat_map entered_block (blocks x)) (clean_node n x h).ascending
+own_ascending n x h = All-head (IsAscendingWithin 1 n) (vertices x) (flat_map entered_block (blocks x)) (clean_node n x h.normal).ascending
 
 pub bridge_child : (n : ℕ) (child : Box Node Global) → IsFitBlock n (Bridge child) → IsFit n child.value × IsSolid child.value
 bridge_child n child h =
-    let x = child.value in
-    let fine = child_splits false x (sym (ap (λ (s : BlockShape). s.fine) (bridge_shape child)) ∙ h.fine) in (
+    let normal = Normal.bridge_child n child h.normal in (
       record {
-        clean = subst (IsClean n) (entered_bridge child) h.clean;
-        fine = fine.1;
+        normal = normal.0;
         in_order = sym (ap (λ (a : Arranged). a.in_order) (arranged_bridge child)) ∙ h.in_order;
       },
-      elim (place_of false (vertices x) (blocks x) fine.0) [ inl s ↦ s | inr c ↦ absurd (false≢true c.2) ],
+      normal.1,
     )
 
 pub cycle_children : (n : ℕ) (nodes : Children) → IsFitBlock n (Cycle nodes) →
@@ -155,12 +93,10 @@ pub cycle_children : (n : ℕ) (nodes : Children) → IsFitBlock n (Cycle nodes)
 cycle_children n nodes h =
     let xs = nodes_in nodes in
     let ys = map arranged xs in
-    let fine = and_parts (nat_le 2 (length (map shape xs))) (list_all (λ x. child_fine true (shape x)) xs) (sym (cycle_fine nodes) ∙ h.fine) in
     let first = and_parts (nat_le 3 (length ys)) (rises (leasts ys) && list_all (λ (a : Arranged). a.in_order) ys) (sym (ap (λ (a : Arranged). a.in_order) (arranged_cycle nodes)) ∙ h.in_order) in
     let second = and_parts (rises (leasts ys)) (list_all (λ (a : Arranged). a.in_order) ys) first.1 in (
       record {
-        clean = subst (IsClean n) (entered_cycle nodes) h.clean;
-        fine = fine.1;
+        normal = (Normal.cycle_children n nodes h.normal).0;
         in_order = second.1;
       },
       omega (arith, leb-true 3 (length ys) first.0, length-map xs arranged),
@@ -171,11 +107,4 @@ cycle_children n nodes h =
 pub root_fit : (n : ℕ) (root : Node) → IsCactus n root → is_canonical root ≡ true → IsFit n root
 root_fit n root h c =
     let both = and_parts (is_normal root) (arranged root).in_order c in
-    record {
-      clean = root_clean n root h;
-      fine = sym (root_normal root 1 h.root_has_one) ∙ both.0;
-      in_order = both.1;
-    }
-
-pub root_solid : (n : ℕ) (root : Node) → IsCactus n root → IsSolid root
-root_solid n root h = inl (1, contains_has (vertices root) 1 h.root_has_one)
+    record { normal = Normal.root_fit n root h both.0; in_order = both.1 }

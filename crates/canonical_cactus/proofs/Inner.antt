@@ -4,14 +4,14 @@ use Rattle.std.specs.Prelude.{nat_le, nat_lt, cond, slice_get}
 use Rattle.std.specs.List.{filter, flat_map, list_all}
 use Rattle.std.specs.declared.boxed.Box.{Box}
 use Rattle.std.specs.declared.alloc.Global.{Global}
-use Rattle.std.proofs.Math.Bool.{and_assoc, and_comm, and-false}
+use Rattle.std.proofs.Math.Bool.{and_assoc, and_comm, and-false, and-true}
 use Rattle.std.proofs.lemmas.Bool.{and_parts, and_from, ltb-true, lt-ltb, cases_eq, eq-eqb, ne_eqb}
 use Rattle.std.proofs.lemmas.List.{append-nil, append_assoc, map-append, map_push}
 use Rattle.std.proofs.lemmas.List.Folds.{list_all-append, list_all-map}
 use Rattle.std.proofs.lemmas.List.Elements.{filter-append}
 use Rattle.std.proofs.lemmas.Option.{get_or_from_slice_get}
 use Rattle.cut_definitions.specs.Cuts.{least}
-use Rattle.cut_definitions.proofs.Bools.{and_true, same_tests}
+use Rattle.cut_definitions.proofs.Bools.{same_tests, four_and}
 use Rattle.cut_definitions.proofs.ListLaws.{taken}
 use Rattle.cactus_tree.specs.declared.tree.Node.{Node}
 use Rattle.cactus_tree.specs.declared.tree.Block.{Block}
@@ -51,12 +51,6 @@ walk_pop before (y ∷ ys) x after w =
 abbrev pub in_order : Node → Bool
 in_order x = (arranged x).in_order
 
-four_and : (a b c d : Bool) → ((a && b) && (c && d)) ≡ ((a && c) && (b && d))
-four_and true true c d = refl
-four_and true false true d = refl
-four_and true false false d = refl
-four_and false b c d = refl
-
 pub turned_bridge : (child : Box Node Global) → is_turned (Bridge child) ≡ true
 turned_bridge child = ap turned_step (outs-Bridge child)
 
@@ -65,7 +59,7 @@ turned_cycle nodes = ap turned_step (outs-Cycle nodes)
 
 block_in_order : (b : Block) → (arranged_block b).in_order ≡ (is_turned b && list_all in_order (nodes_of b))
 block_in_order b = elim (view b) [
-  | inl h ↦ ap (λ c. (arranged_block c).in_order) h.1 ∙ ap (λ (a : Arranged). a.in_order) (arranged_bridge h.0) ∙ sym (and_true (in_order h.0.value))
+  | inl h ↦ ap (λ c. (arranged_block c).in_order) h.1 ∙ ap (λ (a : Arranged). a.in_order) (arranged_bridge h.0) ∙ sym (and-true (in_order h.0.value))
       ∙ sym (ap (λ c. is_turned c && list_all in_order (nodes_of c)) h.1 ∙ ap (λ k. k && list_all in_order (nodes_of (Bridge h.0))) (turned_bridge h.0) ∙ ap (list_all in_order) (nodes_bridge h.0))
   | inr h ↦ (
       let xs = nodes_in h.0 in
@@ -121,12 +115,12 @@ pub record Entering (root : Node) (nodes stack : List Node) : Type 0 where
 
 pub begun : (root : Node) (nodes stack : List Node) → nodes ≡ [] → stack ≡ root ∷ [] → Entering root nodes stack
 begun root nodes stack n s =
-    let start : Entering root [] (root ∷ []) = record { walk = refl; stand = and_true (in_order root) } in
+    let start : Entering root [] (root ∷ []) = record { walk = refl; stand = and-true (in_order root) } in
     subst (λ l. Entering root l stack) (sym n) (subst (Entering root []) (sym s) start)
 
 take_one : (a s l b : Bool) → ((a && (s && true)) && (l && b)) ≡ (a && (l && ((s && b) && true)))
 take_one false s l b = refl
-take_one true true true b = sym (and_true b)
+take_one true true true b = sym (and-true b)
 take_one true true false b = refl
 take_one true false true b = refl
 take_one true false false b = refl
@@ -149,7 +143,7 @@ entered root x nodes more left before after e b m a =
 pub listed : (root : Node) (nodes stack : List Node) → Entering root nodes stack → stack ≡ [] → AreInner root nodes
 listed root nodes stack e s =
     let done : Entering root nodes [] = subst (Entering root nodes) s e in
-    record { walk = done.walk; stand = sym (and_true (list_all stands nodes)) ∙ done.stand }
+    record { walk = done.walk; stand = sym (and-true (list_all stands nodes)) ∙ done.stand }
 
 -- ---- least vertices are drawn from the end
 up_to : {X : Type 0} (xs : List X) (i : ℕ) (x : X) → 0 < i → slice_get xs (i - 1) ≡ Some x → take i xs ≡ take (i - 1) xs ++ x ∷ []
@@ -283,7 +277,7 @@ rising_on all left known drawn after least x t d l s a = record {
   stack = t.rest ++ x ∷ [];
   walk = t.walk;
   least = a ∙ ap (λ k. k ++ least ∷ []) d ∙ ap (λ o. leasts_of t.rest ++ o ∷ []) l ∙ sym (map_push least_of t.rest x);
-  stand = t.stand ∙ ap (λ k. list_all stands left && (k && true)) s ∙ and_true (list_all stands left);
+  stand = t.stand ∙ ap (λ k. list_all stands left && (k && true)) s ∙ and-true (list_all stands left);
 }
 
 pub falls : (all left : List Node) (known : List (Option ℕ)) (x : Node) → Turn all left known x → stands x ≡ false → false ≡ list_all stands all

@@ -1,14 +1,10 @@
 -- Two canonical cactuses with the same sides are one tree, and have one flat cactus.
-use Rattle.std.proofs.Common.{◌≡◌, ℕ, inl, true, List, [], ◌∷◌, ◌++◌, map, ap, ◌∙◌, sym, subst, arith}
-use Rattle.std.specs.List.{Contains, filter, flat_map, concat, range_with_len}
+use Rattle.std.proofs.Common.{◌≡◌, ℕ, inl, true, List, [], ◌∷◌, ◌++◌, map, ap, ◌∙◌, sym, subst}
+use Rattle.std.specs.List.{Contains, filter, flat_map, range_with_len}
 use Rattle.std.specs.declared.boxed.Box.{Box}
 use Rattle.std.specs.declared.alloc.Global.{Global}
-use Rattle.std.proofs.lemmas.List.Elements.{All-contains}
 use Rattle.cut_definitions.specs.Weight.{VertexSet}
-use Rattle.cut_definitions.specs.Cuts.{has}
-use Rattle.cut_definitions.proofs.Bridge.{has_within}
 use Rattle.cut_definitions.proofs.Lists.{Contains-map, Contains-from_map}
-use Rattle.cut_definitions.proofs.Ascending.{has_contains}
 use Rattle.cactus_tree.specs.Sides.{part}
 use Rattle.cactus_tree.specs.Rooted.{IsCactus, sides_of}
 use Rattle.cactus_tree.specs.Different.{HaveSameSides}
@@ -23,36 +19,22 @@ use Rattle.cactus_tree.specs.declared.tree.Children.{Children}
 use Rattle.cactus_tree.specs.declared.tree.Block.TheVariants.{Bridge, Cycle, rolls-Bridge, rolls-Cycle}
 use Rattle.cactus_tree.specs.declared.tree.Block.TheOpen as Open
 use Rattle.cactus_tree.specs.declared.tree.Block.TheFolds.{fold_out-Node, fold_out-Blocks, fold_out-Children, fold-roll-Block, fold-Block}
-use Rattle.cactus_tree.proofs.Once.{all_vertices_within, each_there}
+use Rattle.cactus_tree.proofs.Once.{each_there}
 use Rattle.cactus_tree.proofs.Orders.{entered_out, entered_bridge, entered_cycle}
 use Rattle.cactus_tree.proofs.JoinsOut.{joins_out, joins_bridge, joins_cycle}
 use Rattle.canonical_cactus.specs.Canonical.{is_canonical}
 use Rattle.canonical_cactus.specs.Plain.{Tree, Branches, Ring, node, bridge, cycle, plain, plain_block, hung, ring_of, plain_block_step, plain_blocks_step, plain_children_step, plain_node_step}
 use Rattle.canonical_cactus.specs.Laws.{over, LawOfOneTree, LawOfOneFlat}
-use Rattle.cactus_tree.proofs.Sets.{IsIn, same_set}
+use Rattle.cactus_tree.proofs.Distinct.{AreVertices, listed_same, root_vertices}
+use Rattle.cactus_tree.proofs.Fits.{root_solid}
+use Rattle.cactus_tree.proofs.Sets.{same_set}
 use Rattle.cactus_tree.proofs.Trims.{with_whole}
 use Rattle.canonical_cactus.proofs.Arrangement.{node_covered}
-use Rattle.canonical_cactus.proofs.Fits.{IsFit, root_fit, root_solid}
+use Rattle.canonical_cactus.proofs.Fits.{IsFit, root_fit}
 use Rattle.canonical_cactus.proofs.Sound.{node_sound}
 use Rattle.canonical_cactus.proofs.Unique.{read_alike}
 
 -- ---- sides as lists and as sets
-abbrev AreVertices : ℕ → VertexSet → Type 0
-AreVertices n s = (v : ℕ) → s v ≡ true → IsVertex n v
-
-listed_in : (n : ℕ) (s t : VertexSet) → AreVertices n s → filter s (range_with_len 1 n) ≡ filter t (range_with_len 1 n) → IsIn s t
-listed_in n s t a e v h =
-    let w : IsVertex n v = a v h in
-    sym (has_within n 1 v t w.0 (omega (arith, w.1))) ∙ sym (ap (λ l. has l v) e) ∙ has_within n 1 v s w.0 (omega (arith, w.1)) ∙ h
-
-listed_same : (n : ℕ) (s t : VertexSet) → AreVertices n s → AreVertices n t → filter s (range_with_len 1 n) ≡ filter t (range_with_len 1 n) → s ≡ t
-listed_same n s t a b e = same_set s t (listed_in n s t a e) (listed_in n t s b (sym e))
-
-root_vertices : (n : ℕ) (root : Node) → IsCactus n root → AreVertices n (part root).below
-root_vertices n root h v e =
-    All-contains (IsVertex n) (concat (entered root)) v (all_vertices_within n root h)
-    (has_contains (concat (entered root)) v (ap (λ (s : VertexSet). s v) (node_covered root).listed ∙ e))
-
 pub root_all : (n : ℕ) (root : Node) → IsCactus n root → (v : ℕ) → IsVertex n v → (part root).below v ≡ true
 root_all n root h v w = sym (ap (λ (s : VertexSet). s v) (node_covered root).listed) ∙ each_there n root h v w.0 w.1
 

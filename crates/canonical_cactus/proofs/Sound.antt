@@ -25,25 +25,9 @@ use Rattle.cactus_tree.proofs.Views.{block_induction, each}
 use Rattle.cactus_tree.proofs.Clean.{clean_apart}
 use Rattle.cactus_tree.proofs.Trims.{cuts_out, below_out}
 use Rattle.canonical_cactus.proofs.Arrangement.{node_covered, block_covered, blocks_covered, nodes_covered}
-use Rattle.canonical_cactus.proofs.Fits.{IsFit, IsFitBlock, AreFitBlocks, AreFitNodes, IsSolid, IsPlaced, blocks_head, blocks_tail, nodes_head, nodes_placed, nodes_tail, node_blocks, own_apart, bridge_child, cycle_children}
-
--- ---- a node as a part
-row_one : (bs : List Block) → 1 ≤ length bs → IsRow (map block_part bs) → HasOne (all_of (belows (map block_part bs)))
-row_one [] k r = absurd (omega (arith, k))
-row_one (b ∷ bs) k r = (r.1.0, or_left ((block_part b).below r.1.0) (all_of (belows (map block_part bs)) r.1.0) r.1.1)
-
-pub placed_one : (x : Node) → IsPlaced x → IsRow (map block_part (blocks x)) → HasOne (part x).below
-placed_one x p r =
-    let later : VertexSet = all_of (belows (map block_part (blocks x))) in
-    let at : (v : ℕ) → (part x).below v ≡ has (vertices x) v || later v = λ v. ap (λ (s : VertexSet). s v) (below_out x) in
-    let from_blocks : 1 ≤ length (blocks x) → HasOne (part x).below = λ k. (let w = row_one (blocks x) k r in (w.0, at w.0 ∙ or_right (has (vertices x) w.0) (later w.0) w.1)) in
-    elim p [
-      | inl s ↦ elim s [
-        | inl w ↦ (w.0, at w.0 ∙ or_left (has (vertices x) w.0) (later w.0) w.1)
-        | inr k ↦ from_blocks (omega (arith, k))
-      ]
-      | inr c ↦ (let one : length (blocks x) ≡ 1 = ap length c.1 in from_blocks (omega (arith, one)))
-    ]
+use Rattle.cactus_tree.proofs.Fits.{IsSolid, IsPlaced, nodes_placed, own_apart}
+use Rattle.cactus_tree.proofs.Distinct.{placed_one}
+use Rattle.canonical_cactus.proofs.Fits.{IsFit, IsFitBlock, AreFitBlocks, AreFitNodes, blocks_head, blocks_tail, nodes_head, nodes_tail, node_blocks, bridge_child, cycle_children}
 
 -- ---- the induction
 module _ (n : ℕ) where
@@ -62,7 +46,7 @@ module _ (n : ℕ) where
       let s = h.0 (blocks_head n b bs f) in
       let r = row_of_blocks bs h.1 (blocks_tail n b bs f) in
       let apart : Apart (block_part b).below (all_of (belows (map block_part bs))) = λ v here there.
-      clean_apart n (entered_block b) (flat_map entered_block bs) f.clean v
+      clean_apart n (entered_block b) (flat_map entered_block bs) f.normal.clean v
       (ap (λ (t : VertexSet). t v) (block_covered b).listed ∙ here) (ap (λ (t : VertexSet). t v) (blocks_covered bs).listed ∙ there) in
       ((s.0, s.1, apart, r.0), (s.2, r.1))
 
@@ -71,9 +55,9 @@ module _ (n : ℕ) where
   row_of_nodes (x ∷ xs) h f =
       let s = h.0 (nodes_head n x xs f) in
       let apart : Apart (part x).below (all_of (belows (map part xs))) = λ v here there.
-      clean_apart n (entered x) (flat_map entered xs) f.clean v
+      clean_apart n (entered x) (flat_map entered xs) f.normal.clean v
       (ap (λ (t : VertexSet). t v) (node_covered x).listed ∙ here) (ap (λ (t : VertexSet). t v) (nodes_covered xs).listed ∙ there) in
-      (s.0, placed_one x (nodes_placed n x xs f) s.1, apart, row_of_nodes xs h.1 (nodes_tail n x xs f))
+      (s.0, placed_one x (nodes_placed n x xs f.normal) s.1, apart, row_of_nodes xs h.1 (nodes_tail n x xs f))
 
   node_case : (x : Node) → AllByRecursion BlockSound (blocks x) → NodeSound x
   node_case x h f =
@@ -147,8 +131,8 @@ solid_leaves_out n x f solid s t cs ct w sw tw =
       | inl o ↦ (
         o.0,
         at o.0 ∙ or_left (has (vertices x) o.0) (all_of (belows ps) o.0) o.1,
-        false_from_ne_true (s o.0) (λ e. own_apart n x f o.0 o.1 (row_within ps r s hs o.0 e)),
-        false_from_ne_true (t o.0) (λ e. own_apart n x f o.0 o.1 (row_within ps r t ht o.0 e)),
+        false_from_ne_true (s o.0) (λ e. own_apart n x f.normal o.0 o.1 (row_within ps r s hs o.0 e)),
+        false_from_ne_true (t o.0) (λ e. own_apart n x f.normal o.0 o.1 (row_within ps r t ht o.0 e)),
       )
       | inr k ↦ (
           let u = one_left_out ps r (omega (arith, k, length-map (blocks x) block_part)) s t hs ht w sw tw in

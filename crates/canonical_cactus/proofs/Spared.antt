@@ -1,13 +1,11 @@
 -- What can be spared of a node, a bridge or a child of a cycle is left out, and the rest shows the same.
-use Rattle.std.proofs.Common.{◌≡◌, ℕ, inl, inr, Bool, true, false, not, ◌&&◌, ◌==◌, List, [], ◌∷◌, ◌++◌, length, map, ap, ◌∙◌, sym, refl, subst, arith, append-nil}
-use Rattle.std.specs.List.{Contains, list_all, flat_map}
+use Rattle.std.proofs.Common.{◌≡◌, inl, inr, true, false, not, ◌&&◌, ◌==◌, [], ◌∷◌, ◌++◌, length, map, ap, ◌∙◌, sym, subst, append-nil}
+use Rattle.std.specs.List.{list_all, flat_map}
 use Rattle.std.specs.declared.boxed.Box.{Box}
 use Rattle.std.specs.declared.alloc.Global.{Global}
 use Rattle.std.proofs.lemmas.Bool.{and_parts, false≢true, and_from, not-true}
 use Rattle.cut_definitions.specs.Weight.{either}
 use Rattle.cut_definitions.specs.Cuts.{has}
-use Rattle.cut_definitions.proofs.Lists.{Contains-here}
-use Rattle.cut_definitions.proofs.Bools.{from_not_and}
 use Rattle.cut_definitions.proofs.ListLaws.{only}
 use Rattle.cactus_tree.specs.Sides.{Part, part, block_part, nothing, all_of, belows, all_cuts}
 use Rattle.cactus_tree.specs.Trees.{vertices, blocks}
@@ -15,7 +13,7 @@ use Rattle.cactus_tree.specs.Entered.{entered, entered_block}
 use Rattle.cactus_tree.specs.Widths.{widths, block_widths, joined}
 use Rattle.cactus_tree.specs.Normal.{BlockShape, block_shape, well_placed}
 use Rattle.cactus_tree.specs.Entries.{Read, bridge_read, nodes_of}
-use Rattle.cactus_tree.specs.Trims.{SameSets, NoneEmpty, is_spare, is_above_bridge}
+use Rattle.cactus_tree.specs.Trims.{SameSets, is_spare, is_above_bridge}
 use Rattle.cactus_tree.specs.declared.tree.Node.{Node}
 use Rattle.cactus_tree.specs.declared.tree.Block.{Block}
 use Rattle.cactus_tree.specs.declared.tree.Block.TheVariants.{Bridge}
@@ -24,7 +22,8 @@ use Rattle.cactus_tree.proofs.Orders.{entered_out, entered_bridge}
 use Rattle.cactus_tree.proofs.Widths.{widths_out, widths_bridge}
 use Rattle.cactus_tree.proofs.Shapes.{bridge_shape, cycle_shape, child_parts}
 use Rattle.cactus_tree.proofs.Entries.{nodes_bridge}
-use Rattle.cactus_tree.proofs.Trims.{below_out, cuts_out, none_of, well_many, well_own, bridge_to_cycle, same_cons, same_own, own_cut}
+use Rattle.cactus_tree.proofs.Trims.{below_out, cuts_out, none_of, placed_of, cycle_placed, no_node, bridge_to_cycle, same_cons, same_own, own_cut}
+use Rattle.cactus_tree.proofs.Fits.{cycles_of}
 use Rattle.cactus_tree.proofs.Views.{view}
 use Rattle.canonical_cactus.specs.Canonical.{Arranged, arranged, arranged_block, all_vertices, ascend, leasts}
 use Rattle.canonical_cactus.specs.Standing.{least_in}
@@ -33,29 +32,6 @@ use Rattle.canonical_cactus.specs.declared.parts.Placed.{Placed}
 use Rattle.canonical_cactus.specs.declared.parts.Hung.{Hung}
 use Rattle.canonical_cactus.proofs.Arrangement.{arranged_out, arranged_bridge}
 use Rattle.canonical_cactus.proofs.Moved.{same_without}
-
--- ---- tests
-abbrev cycles_of : List Block → List Bool
-cycles_of bs = map (λ b. (block_shape b).is_cycle) bs
-
-placed_of : (above : Bool) (vs : List ℕ) (bs : List Block) → is_spare vs bs ≡ false → (vs ≡ [] → bs ≡ [] → ⊥) → well_placed (length vs == 0) (above ∷ cycles_of bs) ≡ true
-placed_of above (v ∷ vs) bs stays some = well_own v vs (above ∷ cycles_of bs)
-placed_of above [] [] stays some = absurd (some refl refl)
-placed_of above [] (b ∷ []) stays some = absurd (false≢true (sym stays))
-placed_of above [] (b ∷ (d ∷ bs)) stays some = well_many true above (cycles_of (b ∷ (d ∷ bs))) (omega arith)
-
-cycle_placed : (vs : List ℕ) (bs : List Block) → is_above_bridge vs bs ≡ false → (vs ≡ [] → bs ≡ [] → ⊥) → well_placed (length vs == 0) (true ∷ cycles_of bs) ≡ true
-cycle_placed (v ∷ vs) bs stays some = well_own v vs (true ∷ cycles_of bs)
-cycle_placed [] [] stays some = absurd (some refl refl)
-cycle_placed [] (b ∷ []) stays some = ap (λ c. c && true) (from_not_and (block_shape b).is_cycle stays)
-cycle_placed [] (b ∷ (d ∷ bs)) stays some = well_many true true (cycles_of (b ∷ (d ∷ bs))) (omega arith)
-
--- ---- a node without a vertex and without a block
-no_node : (r : Read) (x : Node) → ShowsNode r x → NoneEmpty (r.part.below ∷ r.part.cuts) → vertices x ≡ [] → blocks x ≡ [] → ⊥
-no_node r x s e v b =
-    let at : (part x).below ≡ nothing =
-    below_out x ∙ ap (λ l. either (has l) (all_of (belows (map block_part (blocks x))))) v ∙ ap (λ bs. either (has []) (all_of (belows (map block_part bs)))) b in
-    e (subst (λ t. Contains (t ∷ r.part.cuts) nothing) (sym at ∙ s.below) (Contains-here nothing r.part.cuts))
 
 -- ---- a bridge to a node that stays
 pub hung_kept : (r : Read) (p : Placed) (child : Box Node Global) (h : Hung) → child.value ≡ p.node → h.block ≡ Bridge child → h.least ≡ p.least →
@@ -67,7 +43,7 @@ hung_kept r p child h e b l stays n =
       least = l ∙ n.least ∙ ap (λ (k : Arranged). least_in k.vertices) (sym a);
       shows = λ g.
           let s : ShowsNode r x = subst (ShowsNode r) (sym e) (n.shows record { cuts = g.cuts; wide = g.wide; apart = g.apart }) in
-          let placed = placed_of false (vertices x) (blocks x) (ap (λ (y : Node). is_spare (vertices y) (blocks y)) e ∙ stays) (no_node r x s g.cuts) in
+          let placed = placed_of false (vertices x) (blocks x) (ap (λ (y : Node). is_spare (vertices y) (blocks y)) e ∙ stays) (no_node x r.part.below r.part.cuts s.below g.cuts) in
           subst (ShowsBlock (bridge_read r)) (sym b) record {
             below = ap (λ (q : Part). q.below) (bridge_part child) ∙ s.below;
             cuts = subst (λ (q : Part). SameSets q.cuts (r.part.below ∷ r.part.cuts)) (sym (bridge_part child)) (same_cons (part x).below r.part.below (part x).cuts r.part.cuts s.below s.cuts);
@@ -123,7 +99,7 @@ trimmed_kept r p stays n = record {
   shows = λ g.
       let x = p.node in
       let s = n.shows g in
-      let placed = cycle_placed (vertices x) (blocks x) stays (no_node r x s g.cuts) in
+      let placed = cycle_placed (vertices x) (blocks x) stays (no_node x r.part.below r.part.cuts s.below g.cuts) in
       record {
         below = s.below;
         cuts = same_cons (part x).below r.part.below (part x).cuts r.part.cuts s.below s.cuts;

@@ -29,8 +29,10 @@ use Rattle.cactus_tree.proofs.Views.{view}
 use Rattle.cactus_tree.proofs.Clean.{least_is}
 use Rattle.cactus_tree.proofs.Trims.{below_out, cuts_out}
 use Rattle.canonical_cactus.proofs.Arrangement.{node_covered, block_covered}
-use Rattle.canonical_cactus.proofs.Fits.{IsFit, IsFitBlock, AreFitBlocks, AreFitNodes, IsPlaced, blocks_head, blocks_tail, nodes_head, nodes_placed, nodes_tail, node_blocks, own_apart, own_ascending, bridge_child, cycle_children}
-use Rattle.canonical_cactus.proofs.Sound.{placed_one, node_sound, block_sound, nodes_row, blocks_row, placed_kind, same_cuts, solid_leaves_out, cycle_is_torn, torn_or_whole}
+use Rattle.cactus_tree.proofs.Fits.{IsPlaced, nodes_placed, own_apart}
+use Rattle.cactus_tree.proofs.Distinct.{placed_one}
+use Rattle.canonical_cactus.proofs.Fits.{IsFit, IsFitBlock, AreFitBlocks, AreFitNodes, blocks_head, blocks_tail, nodes_head, nodes_tail, node_blocks, own_ascending, bridge_child, cycle_children}
+use Rattle.canonical_cactus.proofs.Sound.{node_sound, block_sound, nodes_row, blocks_row, placed_kind, same_cuts, solid_leaves_out, cycle_is_torn, torn_or_whole}
 
 at_of : (s t : VertexSet) → s ≡ t → (v : ℕ) → s v ≡ t v
 at_of s t e v = ap (λ (y : VertexSet). y v) e
@@ -75,7 +77,7 @@ first_least n b bs f w e =
     ]
 
 last_least : (n : ℕ) (x : Node) (xs : List Node) → AreFitNodes n (x ∷ xs) → IsLeast (last_part (part x) (map part xs)).below (last_from (least (arranged x).vertices) (leasts (map arranged xs)))
-last_least n x [] f = node_least n x (nodes_head n x [] f) (nodes_placed n x [] f)
+last_least n x [] f = node_least n x (nodes_head n x [] f) (nodes_placed n x [] f.normal)
 last_least n x (y ∷ ys) f = last_least n y ys (nodes_tail n x (y ∷ ys) f)
 
 -- ---- any fold over trees
@@ -135,7 +137,7 @@ module _ (n : ℕ) (A B : Type 0) (F : Node → A) (G : Block → B) (node_of : 
       let there : (part x).below v ≡ true = at_of (part x).below (either (has (vertices x)) bx) (below_out x) v ∙ or_left (has (vertices x) v) (bx v) h in
       elim (or_cases (has (vertices y) v) (by v) (sym (at_of (part y).below (either (has (vertices y)) by) (below_out y) v) ∙ sym (at_of (part x).below (part y).below e v) ∙ there)) [
         | inl k ↦ k
-        | inr k ↦ absurd (own_apart n x fx v h (at_of bx by a v ∙ k))
+        | inr k ↦ absurd (own_apart n x fx.normal v h (at_of bx by a v ∙ k))
       ]
 
   node_case : (x : Node) → AllByRecursion BlockSame (blocks x) → NodeSame x
@@ -192,7 +194,7 @@ module _ (n : ℕ) (A B : Type 0) (F : Node → A) (G : Block → B) (node_of : 
       let first : (part x).below ≡ (part y).below = heads (part x).below (part y).below (belows (map part xs)) (belows (map part ys)) e in
       let rest : belows (map part xs) ≡ belows (map part ys) = tails (part x).below (part y).below (belows (map part xs)) (belows (map part ys)) e in
       let r = cycle_head (part x) (part y) (map part xs) (map part ys) (nodes_row n (x ∷ xs) fx) (nodes_row n (y ∷ ys) fy) first s in
-      let here : F x ≡ F y = h.0 y (nodes_head n x xs fx) (nodes_head n y ys fy) (nodes_placed n x xs fx) (nodes_placed n y ys fy) first r.0 in
+      let here : F x ≡ F y = h.0 y (nodes_head n x xs fx) (nodes_head n y ys fy) (nodes_placed n x xs fx.normal) (nodes_placed n y ys fy.normal) first r.0 in
       ap (λ a. a ∷ map F xs) here ∙ ap (λ l. F y ∷ l) (nodes_same xs ys h.1 (nodes_tail n x xs fx) (nodes_tail n y ys fy) rest r.1)
 
   cycle_same : (xs ys : List Node) → 3 ≤ length xs → 3 ≤ length ys → AllByRecursion NodeSame xs → AreFitNodes n xs → AreFitNodes n ys →
@@ -214,8 +216,8 @@ module _ (n : ℕ) (A B : Type 0) (F : Node → A) (G : Block → B) (node_of : 
       let first : (part x).below ≡ (part y).below =
       first_same (part x) (part z) (part y) (part w) (map part xs) (map part ys) rowx rowy
       (λ v k. sym (at_of wx wy e v) ∙ k) (λ v k. at_of wx wy e v ∙ k) s a b a' b'
-      (node_least n x (nodes_head n x (z ∷ xs) fx) (nodes_placed n x (z ∷ xs) fx)) (last_least n z xs (nodes_tail n x (z ∷ xs) fx))
-      (node_least n y (nodes_head n y (w ∷ ys) fy) (nodes_placed n y (w ∷ ys) fy)) (last_least n w ys (nodes_tail n y (w ∷ ys) fy))
+      (node_least n x (nodes_head n x (z ∷ xs) fx) (nodes_placed n x (z ∷ xs) fx.normal)) (last_least n z xs (nodes_tail n x (z ∷ xs) fx))
+      (node_least n y (nodes_head n y (w ∷ ys) fy) (nodes_placed n y (w ∷ ys) fy.normal)) (last_least n w ys (nodes_tail n y (w ∷ ys) fy))
       (ltb-true a b rx) (ltb-true a' b' ry) in
       let rest = cycle_order (part x) (part y) (map part (z ∷ xs)) (map part (w ∷ ys)) rowx rowy first s in
       nodes_same (x ∷ (z ∷ xs)) (y ∷ (w ∷ ys)) h fx fy (ap (λ t. t ∷ belows (map part (z ∷ xs))) first ∙ ap (λ l. (part y).below ∷ l) rest) s

@@ -123,9 +123,12 @@ same_tests true b h k = sym (h refl)
 same_tests false true h k = k refl
 same_tests false false h k = refl
 
--- three tests
+-- three tests, and four
 pub or_assoc : (a b c : Bool) → (a || (b || c)) ≡ ((a || b) || c)
 or_assoc a b c = grind arith
+
+pub four_and : (a b c d : Bool) → ((a && b) && (c && d)) ≡ ((a && c) && (b && d))
+four_and a b c d = grind arith
 
 pub second_in : (a b c : Bool) → a ≡ (b || c) → c ≡ true → a ≡ true
 second_in a b c h k = grind arith

@@ -31,7 +31,7 @@ use Rattle.cactus_tree.proofs.Clean.{IsClean, count, clean_apart, root_clean}
 use Rattle.cactus_tree.proofs.Trims.{own_cut}
 use Rattle.cactus_tree.proofs.BlockLaws.{block_laid}
 use Rattle.edge_augment.proofs.Leaves.{IsLeft, none, drops, keeps, count_more, first_of, ends_once, end_sets_left}
-use Rattle.edge_augment.proofs.Within.{of_lists, block_below, blocks_within, of_left}
+use Rattle.cactus_tree.proofs.Within.{of_lists, block_below, blocks_within, of_left}
 use Rattle.edge_augment.proofs.Inside.{HasInside, AreFine, IsFull, fine_split}
 use Rattle.edge_augment.proofs.Outside.{ends_inside, ends_outside, ends_full, ends_cut, own_within}
 

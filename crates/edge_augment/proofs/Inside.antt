@@ -20,9 +20,10 @@ use Rattle.cactus_tree.specs.declared.tree.Block.{Block}
 use Rattle.cactus_tree.specs.declared.tree.Children.{Children}
 use Rattle.cactus_tree.specs.declared.tree.Block.TheVariants.{Bridge, Cycle}
 use Rattle.cactus_tree.proofs.Parts.{part_out, bridge_part, cycle_part}
-use Rattle.cactus_tree.proofs.Shapes.{bridge_shape, cycle_fine, child_parts}
+use Rattle.cactus_tree.proofs.Shapes.{bridge_shape, cycle_fine}
 use Rattle.edge_augment.specs.Ends.{leaves, block_leaves, leaves_of}
 use Rattle.edge_augment.proofs.Leaves.{leaves_out, leaves_bridge, leaves_cycle}
+use Rattle.cactus_tree.proofs.Fits.{child_splits}
 use Rattle.cactus_tree.proofs.Sets.{IsIn, HasOne}
 use Rattle.cactus_tree.proofs.Cycles.{here_above, cycle_cuts, cycle_cases}
 use Rattle.cactus_tree.proofs.Views.{block_induction, each}
@@ -33,10 +34,6 @@ HasInside ls s = (l : List ℕ) × Contains ls l × IsIn (has l) s
 
 abbrev pub AreFine : List Block → Type 0
 AreFine bs = list_all (λ b. (block_shape b).fine) bs ≡ true
-
-child_splits : (above : Bool) (x : Node) → child_fine above (shape x) ≡ true →
-    (well_placed (length (vertices x) == 0) (above ∷ map (λ b. (block_shape b).is_cycle) (blocks x)) ≡ true) × AreFine (blocks x)
-child_splits above x h = and_parts (well_placed (length (vertices x) == 0) (above ∷ map (λ b. (block_shape b).is_cycle) (blocks x))) (list_all (λ b. (block_shape b).fine) (blocks x)) (sym (child_parts above x) ∙ h)
 
 abbrev pub IsFull : List (List ℕ) → Type 0
 IsFull ls = (l : List ℕ) → Contains ls l → HasOne (has l)

@@ -1,7 +1,6 @@
 pub mod Heavier
 pub mod Raising
 pub mod Leaves
-pub mod Within
 pub mod OwnCuts
 pub mod Inside
 pub mod Outside

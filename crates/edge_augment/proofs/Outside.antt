@@ -13,12 +13,16 @@ use Rattle.cactus_tree.specs.declared.tree.Block.{Block}
 use Rattle.cactus_tree.proofs.Segments.{has_append_at}
 use Rattle.edge_augment.specs.Ends.{block_leaves, ends_of}
 use Rattle.cactus_tree.proofs.Sets.{IsIn, HasOne, Apart}
-use Rattle.cactus_tree.proofs.Clean.{IsClean, clean_right}
+use Rattle.cactus_tree.proofs.Clean.{IsClean, clean_apart, clean_right}
 use Rattle.cactus_tree.proofs.Cycles.{cycle_cuts, cycle_whole}
 use Rattle.cactus_tree.proofs.Views.{each}
-use Rattle.edge_augment.proofs.Within.{of_lists, of_left, block_within, block_below, blocks_within, apart_in}
+use Rattle.cactus_tree.proofs.Within.{Lists, of_lists, of_left, block_within, block_below, blocks_within}
 use Rattle.edge_augment.proofs.OwnCuts.{BlockOwn, block_own, own_blocks}
 use Rattle.edge_augment.proofs.Inside.{HasInside, AreFine, IsFull, block_rich, cuts_rich, leaves_full, fine_split}
+
+-- sets within two parts of a clean list are apart
+pub apart_in : (n : ℕ) (ls ms : Lists) (s t : VertexSet) → IsClean n (ls ++ ms) → IsIn s (of_lists ls) → IsIn t (of_lists ms) → Apart s t
+apart_in n ls ms s t c a b v h k = clean_apart n ls ms c v (a v h) (b v k)
 
 pub own_within : (own : List ℕ) → IsIn (has own) (of_lists (own ∷ []))
 own_within own v h = has_append_at own [] v ∙ or_left (has own v) false h

@@ -23,7 +23,7 @@ use Rattle.edge_augment.specs.NewEdges.{least_at, opposite_pairs}
 use Rattle.cactus_tree.proofs.Sets.{IsIn, HasOne, Apart}
 use Rattle.cactus_tree.proofs.Clean.{IsClean, clean_apart, clean_right, root_clean}
 use Rattle.edge_augment.proofs.Leaves.{IsLeft, none, drops, keeps, end_sets_left}
-use Rattle.edge_augment.proofs.Within.{of_lists, of_left}
+use Rattle.cactus_tree.proofs.Within.{of_lists, of_left}
 use Rattle.edge_augment.proofs.EndSets.{left_contains, inside, outside, full, end_ascending, ascending_vertex}
 
 abbrev Lists : Type 0

@@ -1,36 +1,32 @@
 -- Of the texts of an augmentation a graph has one: the end nodes of its canonical cactus stand in one order.
-use Rattle.std.proofs.Common.{◌≡◌, ℕ, inl, true, List, [], ◌∷◌, map, ap, ◌∙◌, sym, subst, refl, arith}
+use Rattle.std.proofs.Common.{◌≡◌, ℕ, inl, true, List, [], ◌∷◌, map, ap, ◌∙◌, sym, subst, refl}
 use Rattle.std.specs.BTreeSet.{BTreeSet}
 use Rattle.std.specs.Cmp.{IsTotalOrder}
-use Rattle.std.specs.List.{Contains, filter, concat, range_with_len}
+use Rattle.std.specs.List.{Contains}
 use Rattle.std.specs.List.Sorted.{IsStrictlySortedBy}
 use Rattle.std.specs.Ordering.{nat_cmp}
 use Rattle.std.specs.Prelude.{◌↔◌}
 use Rattle.std.specs.declared.cmp.Ordering.{Ordering}
 use Rattle.std.proofs.lemmas.Cmp.{nat_list_cmp_total}
-use Rattle.std.proofs.lemmas.List.Elements.{All-contains}
 use Rattle.std.proofs.lemmas.Map.Lookups.{CmpEqualImpliesEq, btree_set_from_contains, exact_bytes, exact_pairs, exact_unsigned}
 use Rattle.std.proofs.lemmas.Map.Views.{btree_set_contains_iff}
 use Rattle.cut_definitions.specs.Graph.{Graph}
 use Rattle.cut_definitions.specs.Weight.{VertexSet}
 use Rattle.cut_definitions.specs.Cuts.{has, value}
-use Rattle.cut_definitions.proofs.Bridge.{has_within}
 use Rattle.cut_definitions.proofs.Bools.{same_tests}
-use Rattle.cut_definitions.proofs.Ascending.{has_contains}
 use Rattle.cactus_tree.specs.Sides.{part}
 use Rattle.cactus_tree.specs.Rooted.{Rooted, IsCactus}
 use Rattle.cactus_tree.specs.Different.{HaveSameSides}
-use Rattle.cactus_tree.specs.Places.{IsVertex}
-use Rattle.cactus_tree.specs.Entered.{entered, in_order}
+use Rattle.cactus_tree.specs.Entered.{in_order}
 use Rattle.cactus_tree.specs.Trees.{nodes_in}
 use Rattle.cactus_tree.specs.declared.tree.Node.{Node}
-use Rattle.cactus_tree.proofs.Once.{all_vertices_within}
-use Rattle.cactus_tree.proofs.Sets.{IsIn, same_set}
+use Rattle.cactus_tree.proofs.Distinct.{root_vertices}
+use Rattle.cactus_tree.proofs.Fits.{root_solid}
+use Rattle.cactus_tree.proofs.Sets.{same_set}
 use Rattle.cactus_tree.proofs.Trims.{with_whole}
 use Rattle.canonical_cactus.specs.Canonical.{is_canonical}
 use Rattle.canonical_cactus.specs.Laws.{over}
-use Rattle.canonical_cactus.proofs.Arrangement.{node_covered}
-use Rattle.canonical_cactus.proofs.Fits.{IsFit, root_fit, root_solid}
+use Rattle.canonical_cactus.proofs.Fits.{IsFit, root_fit}
 use Rattle.canonical_cactus.proofs.Unique.{read_alike}
 use Rattle.canonical_cactus.proofs.OneTree.{root_all, cuts_over}
 use Rattle.edge_augment.specs.Ends.{block_leaves, end_sets, ends_of, leaves, leaves_of}
@@ -41,23 +37,6 @@ use Rattle.mincut_program.specs.Augmenting.{augment_text}
 use Rattle.mincut_program.specs.Jobs.{IsAugmentText, IsCactusOf}
 use Rattle.mincut_program.specs.TextLaws.{LawOfOneAugmentText}
 use Rattle.mincut_program.proofs.OneText.{same_sides}
-
--- ---- sides as lists and as sets
-abbrev AreVertices : ℕ → VertexSet → Type 0
-AreVertices n s = (v : ℕ) → s v ≡ true → IsVertex n v
-
-listed_in : (n : ℕ) (s t : VertexSet) → AreVertices n s → filter s (range_with_len 1 n) ≡ filter t (range_with_len 1 n) → IsIn s t
-listed_in n s t a e v h =
-    let w : IsVertex n v = a v h in
-    sym (has_within n 1 v t w.0 (omega (arith, w.1))) ∙ sym (ap (λ l. has l v) e) ∙ has_within n 1 v s w.0 (omega (arith, w.1)) ∙ h
-
-listed_same : (n : ℕ) (s t : VertexSet) → AreVertices n s → AreVertices n t → filter s (range_with_len 1 n) ≡ filter t (range_with_len 1 n) → s ≡ t
-listed_same n s t a b e = same_set s t (listed_in n s t a e) (listed_in n t s b (sym e))
-
-root_vertices : (n : ℕ) (root : Node) → IsCactus n root → AreVertices n (part root).below
-root_vertices n root h v e =
-    All-contains (IsVertex n) (concat (entered root)) v (all_vertices_within n root h)
-    (has_contains (concat (entered root)) v (ap (λ (s : VertexSet). s v) (node_covered root).listed ∙ e))
 
 -- ---- the end nodes
 abbrev Lists : Type 0

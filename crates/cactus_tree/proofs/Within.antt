@@ -1,5 +1,5 @@
 -- Each block has the vertices of its nodes, and its cuts are within them.
-use Rattle.std.proofs.Common.{◌≡◌, ℕ, inl, inr, Bool, true, false, ◌||◌, List, [], ◌∷◌, ◌++◌, map, refl, ap, ◌∙◌, sym}
+use Rattle.std.proofs.Common.{◌≡◌, ℕ, inl, inr, true, ◌||◌, List, [], ◌∷◌, ◌++◌, map, ap, ◌∙◌, sym}
 use Rattle.std.specs.List.{Contains, flat_map, concat}
 use Rattle.std.proofs.lemmas.Bool.{or_left, or_right}
 use Rattle.std.proofs.lemmas.List.Elements.{Contains-append_cases}
@@ -9,7 +9,7 @@ use Rattle.cut_definitions.proofs.Lists.{Contains-nil}
 use Rattle.cactus_tree.specs.Sides.{block_part, all_cuts}
 use Rattle.cactus_tree.specs.Entered.{entered_block}
 use Rattle.cactus_tree.specs.declared.tree.Block.{Block}
-use Rattle.cactus_tree.proofs.Segments.{IsSegment, has_append_at}
+use Rattle.cactus_tree.proofs.Segments.{IsSegment, has_both}
 use Rattle.cactus_tree.proofs.Sets.{IsIn}
 use Rattle.cactus_tree.proofs.BlockLaws.{block_laid}
 
@@ -21,14 +21,7 @@ abbrev pub of_lists : Lists → VertexSet
 of_lists ls = has (concat ls)
 
 pub of_append : (ls ms : Lists) (v : ℕ) → of_lists (ls ++ ms) v ≡ of_lists ls v || of_lists ms v
-of_append [] ms v = refl
-of_append (l ∷ ls) ms v =
-    has_append_at l (concat (ls ++ ms)) v ∙ ap (λ b. has l v || b) (of_append ls ms v) ∙ or_assoc (has l v) (of_lists ls v) (of_lists ms v)
-    ∙ ap (λ b. b || of_lists ms v) (sym (has_append_at l (concat ls) v))
-  where
-    or_assoc : (a b c : Bool) → a || (b || c) ≡ (a || b) || c
-    or_assoc true b c = refl
-    or_assoc false b c = refl
+of_append ls ms v = ap (λ (s : VertexSet). s v) (has_both ls ms)
 
 pub of_left : (ls ms : Lists) → IsIn (of_lists ls) (of_lists (ls ++ ms))
 of_left ls ms v h = of_append ls ms v ∙ or_left (of_lists ls v) (of_lists ms v) h
