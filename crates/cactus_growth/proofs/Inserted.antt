@@ -14,7 +14,7 @@ use Rattle.cut_definitions.proofs.Bools.{counted_out}
 use Rattle.cut_definitions.proofs.Contracted.{cut_of-zero}
 use Rattle.cactus_growth.specs.Insertion.{comes_before, same_ends, weight_there, inserted, enlarged}
 use Rattle.cactus_growth.specs.Laws.{LawOfWeights, LawOfKeptCuts, LawOfRise, LawOfConnection}
-use Rattle.cactus_growth.proofs.Heavier.{WeighsMore, value_stays, cuts_stay, value_rises}
+use Rattle.cut_definitions.proofs.Heavier.{WeighsMore, value_stays, cuts_stay, value_rises}
 
 cut_plus : (a b : Bool) (v w : ℕ) → cut_of a b (v + w) ≡ cut_of a b v + cut_of a b w
 cut_plus a b v w = grind arith

@@ -1,4 +1,3 @@
-pub mod Heavier
 pub mod Inserted
 pub mod Making
 pub mod Below

@@ -1,4 +1,3 @@
-pub mod Heavier
 pub mod Raising
 pub mod Leaves
 pub mod OwnCuts
