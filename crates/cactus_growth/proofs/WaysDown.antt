@@ -3,8 +3,8 @@ use Rattle.std.proofs.Common.{◌≡◌, ℕ, zero, suc, true, ◌||◌, List, [
 use Rattle.std.specs.Prelude.{slice_get}
 use Rattle.std.proofs.lemmas.Option.{same_Some, slice_get_within}
 use Rattle.std.proofs.lemmas.Bool.{or_left, or_right}
+use Rattle.std.proofs.Math.Bool.{or-false}
 use Rattle.cut_definitions.specs.Cuts.{has}
-use Rattle.cut_definitions.proofs.Bools.{or_none}
 use Rattle.cactus_tree.specs.Sides.{Part, part, block_part, all_of, belows}
 use Rattle.cactus_tree.specs.Trees.{vertices, blocks}
 use Rattle.cactus_tree.specs.Entries.{nodes_of}
@@ -44,7 +44,7 @@ one_of_all f (y ∷ ys) (suc i) x v a h = or_right ((f y).below v) (all_of (belo
 -- what a block has is what its nodes have
 pub block_below : (b : Block) (v : ℕ) → (block_part b).below v ≡ all_of (belows (map part (nodes_of b))) v
 block_below b v = elim (view b) [
-  | inl h ↦ ap (λ c. (block_part c).below v) h.1 ∙ ap (λ (p : Part). p.below v) (bridge_part h.0) ∙ or_none ((part h.0.value).below v) ∙ sym (ap (λ xs. all_of (belows (map part xs)) v) (ap nodes_of h.1 ∙ nodes_bridge h.0))
+  | inl h ↦ ap (λ c. (block_part c).below v) h.1 ∙ ap (λ (p : Part). p.below v) (bridge_part h.0) ∙ sym (or-false ((part h.0.value).below v)) ∙ sym (ap (λ xs. all_of (belows (map part xs)) v) (ap nodes_of h.1 ∙ nodes_bridge h.0))
   | inr h ↦ ap (λ c. (block_part c).below v) h.1 ∙ ap (λ (p : Part). p.below v) (cycle_part h.0) ∙ sym (ap (λ xs. all_of (belows (map part xs)) v) (ap nodes_of h.1 ∙ nodes_cycle h.0))
 ]
 

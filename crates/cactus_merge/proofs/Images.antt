@@ -5,9 +5,10 @@ use Rattle.std.specs.List.{list_any, filter, range_with_len}
 use Rattle.std.proofs.lemmas.Bool.{cases_eq, cases_lt, eq-eqb}
 use Rattle.std.proofs.Common.{ne_eqb}
 use Rattle.std.proofs.lemmas.Bool.Decides.{nat_tests}
+use Rattle.std.proofs.Math.Bool.{or-false}
 use Rattle.cut_definitions.specs.Weight.{VertexSet}
 use Rattle.cut_definitions.specs.Cuts.{has}
-use Rattle.cut_definitions.proofs.Bools.{or_none, or_nothing}
+use Rattle.cut_definitions.proofs.Bools.{or_nothing}
 use Rattle.cactus_tree.specs.Sides.{Part, part_by, cuts}
 use Rattle.cactus_tree.specs.Entered.{name_of, renamed}
 use Rattle.cactus_tree.specs.declared.tree.Node.{Node}
@@ -61,7 +62,7 @@ single_inside x c low (suc m) l h = ⊎_elim
     (λ e.
     ap (λ (b : Bool). (b && c low) || list_any (λ u. (x == u) && c u) (range_with_len (low + 1) m)) (eq-eqb x low e)
     ∙ ap (λ (b : Bool). c low || b) (single_absent x c (low + 1) m (omega (arith, e)))
-    ∙ sym (or_none (c low)) ∙ ap c (sym e))
+    ∙ or-false (c low) ∙ ap c (sym e))
     (λ ne.
     ap (λ (b : Bool). (b && c low) || list_any (λ u. (x == u) && c u) (range_with_len (low + 1) m)) (ne_eqb x low ne)
     ∙ single_inside x c (low + 1) m (omega (arith, l, ne)) (omega (arith, h)))

@@ -4,7 +4,7 @@ use Rattle.std.specs.Prelude.{Option, Some, None, Result, Ok, Err, if◌then◌e
 use Rattle.std.specs.List.{list_all, range_with_len}
 use Rattle.std.proofs.lemmas.List.{get_or_past}
 use Rattle.std.proofs.lemmas.List.Folds.{list_all-append}
-use Rattle.cut_definitions.proofs.Bools.{and_true}
+use Rattle.std.proofs.Math.Bool.{and-false, and-true}
 use Rattle.cut_definitions.proofs.Ranges.{range_push}
 use Rattle.cactus_tree.specs.Flat.{Flat, appended_from, appended_to_last}
 use Rattle.cactus_text.specs.declared.reading.Counts.{Counts}
@@ -27,10 +27,6 @@ bridge_none flat (Some (a ∷ [])) h = refl
 bridge_none flat (Some (a ∷ b ∷ [])) h = absurd (h (a ∷ b ∷ []) refl refl)
 bridge_none flat (Some (a ∷ b ∷ c ∷ ns)) h = refl
 
-and_false : (a : Bool) → (a && (false && true)) ≡ false
-and_false true = refl
-and_false false = refl
-
 -- where the list is too short for n not all of 1 to n are there
 pub lacks_last : (marks : List Bool) (n : ℕ) → length marks ≤ n → list_all (λ v. slice_index_or marks v false) (range_with_len 1 n) ≡ (n == 0)
 lacks_last marks zero h = refl
@@ -40,7 +36,7 @@ lacks_last marks (suc m) h =
     ap (list_all there) (range_push 1 m)
     ∙ list_all-append there (range_with_len 1 m) ((1 + m) ∷ [])
     ∙ ap (λ (b : Bool). list_all there (range_with_len 1 m) && (b && true)) lacking
-    ∙ and_false (list_all there (range_with_len 1 m))
+    ∙ and-false (list_all there (range_with_len 1 m))
     ∙ sym (ne_eqb (suc m) 0 (λ e. omega (arith, e)))
 
 pub stated_more : (k : ℕ) (counts : Counts) (flat next : Flat) (l : List ℕ) (ls : List (List ℕ)) → with_line counts flat l ≡ Some next
@@ -59,7 +55,7 @@ stated_partial k counts flat e = ap (λ (b : Bool). if b then Ok flat else Err k
 pub all_more : (there : ℕ → Bool) (m : ℕ) → list_all there (range_with_len 1 (m + 1)) ≡ (list_all there (range_with_len 1 m) && there (m + 1))
 all_more there m =
     let same : 1 + m ≡ m + 1 = omega arith in
-    let last : (b : Bool) → (b && true) ≡ b = λ b. and_true b in
+    let last : (b : Bool) → (b && true) ≡ b = λ b. and-true b in
     ap (λ k. list_all there (range_with_len 1 k)) (add-one m)
     ∙ ap (list_all there) (range_push 1 m)
     ∙ list_all-append there (range_with_len 1 m) ((1 + m) ∷ [])

@@ -3,11 +3,6 @@ use Rattle.std.proofs.Common.{◌≡◌, Bool, true, false, ◌||◌, refl, arit
 use Rattle.std.specs.Prelude.{if◌then◌else◌}
 use Rattle.std.proofs.lemmas.Bool.{false≢true, and_parts}
 
--- a test or nothing
-pub or_none : (a : Bool) → a ≡ (a || false)
-or_none true = refl
-or_none false = refl
-
 -- no test says both
 pub never_both : (b : Bool) → b ≡ true → b ≡ false → ⊥
 never_both b h k = grind arith
@@ -29,10 +24,6 @@ pub turned : (a b : Bool) → not a ≡ b → a ≡ not b
 turned a b h = grind arith
 
 -- one of the tests is a plain `true` or `false`
-pub and_true : (b : Bool) → (b && true) ≡ b
-and_true true = refl
-and_true false = refl
-
 pub not_or_true : (e : Bool) → (not e || true) ≡ true
 not_or_true true = refl
 not_or_true false = refl
@@ -40,12 +31,6 @@ not_or_true false = refl
 pub from_not_and : (a : Bool) → (not a && true) ≡ false → a ≡ true
 from_not_and true h = refl
 from_not_and false h = absurd (false≢true (sym h))
-
-pub or_false : (a : Bool) → (a || false) ≡ a
-or_false a = grind arith
-
-pub or_true : (a : Bool) → (a || true) ≡ true
-or_true a = grind arith
 
 -- a set parts two vertices where it has one of them and not the other
 pub parts_from_same : (a b : Bool) → a ≡ b → (if a then not b else b) ≡ false
@@ -107,6 +92,16 @@ no_left a b e = grind arith
 
 pub no_right : (a b : Bool) → (a || b) ≡ false → b ≡ false
 no_right a b e = grind arith
+
+-- where one test fails, either test is the other
+pub nothing_or : (a b : Bool) → a ≡ false → (a || b) ≡ b
+nothing_or a b h = grind arith
+
+pub only_first : (a b : Bool) → b ≡ false → (a || b) ≡ true → a ≡ true
+only_first a b h k = grind arith
+
+pub only_second : (a b : Bool) → a ≡ false → (a || b) ≡ true → b ≡ true
+only_second a b h k = grind arith
 
 -- tests that exclude each other, or where one follows from the other
 pub apart_at : (a b : Bool) → (a ≡ true → b ≡ false) → (a && b) ≡ false

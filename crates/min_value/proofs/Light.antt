@@ -3,7 +3,7 @@ use Rattle.std.proofs.Common.{◌≡◌, ℕ, zero, suc, ◌+◌, ◌-◌, ◌*�
 use Rattle.std.specs.Prelude.{◌≢◌, ◌⊎◌, if◌then◌else◌, slice_index_or}
 use Rattle.std.specs.List.{All, sum_by}
 use Rattle.std.proofs.Math.Nat.{mul-suc, mul-le-mul_left}
-use Rattle.std.proofs.lemmas.Bool.{cases_eq, eq-eqb, ne_eqb, eqb-true, false≢true, or_left}
+use Rattle.std.proofs.lemmas.Bool.{cases_eq, eq-eqb, ne_eqb, eqb-true, or_left, or_parts}
 use Rattle.std.proofs.lemmas.List.Elements.{All-head, All-tail}
 use Rattle.std.proofs.lemmas.List.Sums.{sum_by-cons}
 use Rattle.cut_definitions.specs.declared.edge_list.Edge.{Edge}
@@ -15,6 +15,7 @@ use Rattle.cut_definitions.proofs.ScanLaw.{insert, weight_to_insert, weight_to_n
 use Rattle.cut_definitions.proofs.Sums.{sum_by-plus, sum_by-same_on, sum_by-none}
 use Rattle.cut_definitions.proofs.WeightLaws.{join_of, join_term}
 use Rattle.cut_definitions.proofs.Singles.{out_at}
+use Rattle.cut_definitions.proofs.Bools.{nothing_or, only_first, only_second}
 use Rattle.weighted_graph.specs.declared.graph.Arc.{Arc}
 use Rattle.weighted_graph.specs.Rows.{row_of, weight_in}
 use Rattle.weighted_graph.proofs.RowLaws.{weight_to_is}
@@ -106,14 +107,11 @@ missing_one a e = ap missing e
 missing_none : (a : Bool) → a ≡ true → missing a ≡ 0
 missing_none a e = ap missing e
 
-not_first : (a b : Bool) → a ≡ false → (a || b) ≡ b
-not_first a b e = grind arith
-
 unscanned_beyond : (s : VertexSet) (x n : ℕ) → n < x → unscanned (insert x s) n ≡ unscanned s n
 unscanned_beyond s x zero l = refl
 unscanned_beyond s x (suc n) l =
     let rest = unscanned_beyond s x n (omega arith) in
-    let same : insert x s (suc n) ≡ s (suc n) = not_first (eqb x (suc n)) (s (suc n)) (ne_eqb x (suc n) (λ e. omega arith)) in
+    let same : insert x s (suc n) ≡ s (suc n) = nothing_or (eqb x (suc n)) (s (suc n)) (ne_eqb x (suc n) (λ e. omega arith)) in
     let last : missing (insert x s (suc n)) ≡ missing (s (suc n)) = ap missing same in
     omega arith
 
@@ -128,7 +126,7 @@ unscanned_more s x (suc n) one le out =
     let r : unscanned (insert x s) (suc n) + 1 ≡ unscanned s (suc n) = omega arith in r)
     (λ (ne : suc n ≢ x).
     let rest = unscanned_more s x n one (omega arith) out in
-    let same : insert x s (suc n) ≡ s (suc n) = not_first (eqb x (suc n)) (s (suc n)) (ne_eqb x (suc n) (λ e. ne (sym e))) in
+    let same : insert x s (suc n) ≡ s (suc n) = nothing_or (eqb x (suc n)) (s (suc n)) (ne_eqb x (suc n) (λ e. ne (sym e))) in
     let last : missing (insert x s (suc n)) ≡ missing (s (suc n)) = ap missing same in
     let r : unscanned (insert x s) (suc n) + 1 ≡ unscanned s (suc n) = omega arith in r)
     (cases_eq (suc n) x)
@@ -193,16 +191,9 @@ module _ (g : Graph) (old new : ScanState) (x weight : ℕ) (all : Bool) (stood 
   waited : StandsFor new g → (y : ℕ) → waits new y ≡ true → (eqb x y ≡ false) × (has old.order y ≡ false) × (waits old y ≡ true)
   waited stands y held =
       let out : has (x ∷ old.order) y ≡ false = subst (λ (order : List ℕ). has order y ≡ false) next.order (stands.apart y held) in
-      let parts = neither_of (eqb x y) (has old.order y) out in
+      let parts = or_parts (eqb x y) (has old.order y) out in
       let live : is_live old y ≡ true = sym (next.live y) ∙ or_left (waits new y) (has new.order y) held in
       (parts.0, parts.1, only_first (waits old y) (has old.order y) parts.1 live)
-    where
-      neither_of : (a b : Bool) → (a || b) ≡ false → (a ≡ false) × (b ≡ false)
-      neither_of true b e = absurd (false≢true (sym e))
-      neither_of false b e = (refl, e)
-
-      only_first : (a b : Bool) → b ≡ false → (a || b) ≡ true → a ≡ true
-      only_first a b e k = grind arith
 
 -- a limit that holds along a row holds at each vertex that the row has weight to
 row_reaches : (P : ℕ → Type 0) (row : List Arc) (y : ℕ) → All (λ (a : Arc). P a.to) row → (P y) ⊎ (weight_in row y ≡ 0)
@@ -255,6 +246,3 @@ light_end g ok s value none whole h =
     let within = h.within in
     let le : value * (length s.order - 1) ≤ value * (g.vertices - 1) = mul-le-mul_left value longer in
     omega arith
-  where
-    only_second : (a b : Bool) → a ≡ false → (a || b) ≡ true → b ≡ true
-    only_second a b e k = grind arith

@@ -7,12 +7,13 @@ use Rattle.std.specs.List.{filter, range_with_len}
 use Rattle.std.proofs.lemmas.Bool.{cases_eq, cases_lt, eq-eqb, ne_eqb, lt-ltb, le-ltb}
 use Rattle.std.proofs.lemmas.Bool.Decides.{nat_tests}
 use Rattle.std.proofs.lemmas.Nat.Bits.{bit_at-lt, bit_at_and, bit_at_or, bit_at_not, bit_at_set_same, bit_at_set_other, bit_at_clear_same, bit_at_clear_other, bit_at-zero, ones_shl, bit_at_mask_inside, bit_at_mask_below}
+use Rattle.std.proofs.Math.Bool.{or-false, or-true}
 use Rattle.cut_definitions.specs.Weight.{VertexSet, either, minus}
 use Rattle.cut_definitions.specs.Cuts.{has}
 use Rattle.cut_definitions.specs.Scan.{single}
 use Rattle.cut_definitions.proofs.ChainLists.{filter-range}
 use Rattle.cut_definitions.proofs.Bridge.{has_within}
-use Rattle.cut_definitions.proofs.Bools.{or_false, or_true, minus_same, or_same}
+use Rattle.cut_definitions.proofs.Bools.{minus_same, or_same, and_kept}
 use Rattle.vertex_set.specs.Side.{VertexList, listed, has_bit, AreWords}
 
 pub filter-same : (s t : VertexSet) (m low : ℕ) → ((v : ℕ) → low ≤ v → v < low + m → s v ≡ t v) → filter s (range_with_len low m) ≡ filter t (range_with_len low m)
@@ -70,14 +71,14 @@ has_bit-insert words v u l =
     ⊎_elim
     (λ (f : u % 64 ≡ v % 64).
     let same : v ≡ u = omega arith in
-    rw (e, f, get_or-set_same words (v / 64) new 0 l, bit_at_set_same w64 w (v % 64) k, eq-eqb v u same) (sym (or_true (eqb (bit_at w (v % 64)) 1))))
+    rw (e, f, get_or-set_same words (v / 64) new 0 l, bit_at_set_same w64 w (v % 64) k, eq-eqb v u same) (sym (or-true (eqb (bit_at w (v % 64)) 1))))
     (λ (f : u % 64 ≢ v % 64).
     let other : v ≢ u = λ q. f (ap (λ (x : ℕ). x % 64) (sym q)) in
-    rw (e, get_or-set_same words (v / 64) new 0 l, bit_at_set_other w64 w (v % 64) k (u % 64) f, ne_eqb v u other) (sym (or_false (eqb (bit_at w (u % 64)) 1))))
+    rw (e, get_or-set_same words (v / 64) new 0 l, bit_at_set_other w64 w (v % 64) k (u % 64) f, ne_eqb v u other) (sym (or-false (eqb (bit_at w (u % 64)) 1))))
     (cases_eq (u % 64) (v % 64)))
     (λ (e : u / 64 ≢ v / 64).
     let other : v ≢ u = λ q. e (ap (λ (x : ℕ). x / 64) (sym q)) in
-    rw (get_or-set_other words (v / 64) (u / 64) new 0 e, ne_eqb v u other) (sym (or_false (eqb (bit_at (get_or words (u / 64) 0) (u % 64)) 1))))
+    rw (get_or-set_other words (v / 64) (u / 64) new 0 e, ne_eqb v u other) (sym (or-false (eqb (bit_at (get_or words (u / 64) 0) (u % 64)) 1))))
     (cases_eq (u / 64) (v / 64))
 
 pub has_bit-remove : (words : List ℕ) (v u : ℕ) → v / 64 < length words →
@@ -207,9 +208,6 @@ same_ltb a b c d h =
     (λ (g : b ≤ a). le-ltb a b g ∙ sym (le-ltb c d (⊎_elim (λ (l : c < d). let x : a < b = h.1 l in absurd (omega arith)) (λ (k : d ≤ c). k) (cases_lt c d))))
     (cases_lt a b)
 
-and_true : (a b : Bool) → b ≡ true → a ≡ (a && b)
-and_true a b h = grind arith
-
 none_and : (a b c : Bool) → a ≡ false → c ≡ a → c ≡ (a && b)
 none_and a b c h k = grind arith
 
@@ -226,7 +224,7 @@ has_bit-clear_from words end k long =
     (λ (e : k / 64 ≢ end / 64).
     let same : has_bit (set words (end / 64) new) k ≡ has_bit words k = rw (get_or-set_other words (end / 64) (k / 64) new 0 e) refl in
     same ∙ ⊎_elim
-    (λ (l : k < end). and_true (has_bit words k) (ltb k end) (lt-ltb k end l))
+    (λ (l : k < end). sym (and_kept (has_bit words k) (ltb k end) (lt-ltb k end l)))
     (λ (g : end ≤ k). let none = has_bit-past words k (omega arith) in none_and (has_bit words k) (ltb k end) (has_bit words k) none refl)
     (cases_lt k end))
     (cases_eq (k / 64) (end / 64))

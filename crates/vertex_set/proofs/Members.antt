@@ -11,7 +11,7 @@ use Rattle.std.proofs.lemmas.List.Sums.{length-filter, count_by-le-length}
 use Rattle.cut_definitions.specs.Weight.{VertexSet, complement}
 use Rattle.cut_definitions.specs.Cuts.{has, IsAscendingWithin}
 use Rattle.cut_definitions.proofs.Bridge.{has_below, has_first_of, IsAscendingWithin-filter}
-use Rattle.cut_definitions.proofs.Bools.{and_first, and_second}
+use Rattle.cut_definitions.proofs.Bools.{and_first, and_second, only_first, only_second}
 use Rattle.vertex_set.specs.Side.{VertexList, listed, has_bit, AreWords, IsNextBit, IsNextFrom}
 use Rattle.vertex_set.proofs.Bits.{has-listed, listed-same, has_bit-insert, has_bit-remove, has_bit-join, has_bit-clear, has_bit-zeros, has_bit-past}
 use Rattle.vertex_set.proofs.Counted.{filter-range_append}
@@ -62,9 +62,6 @@ zeros_are_words n few = record {
 pub words-fewer : (n : ℕ) (words new : List ℕ) → AreWords n words → length new ≡ length words → ((v : ℕ) → has_bit new v ≡ true → has_bit words v ≡ true) → AreWords n new
 words-fewer n words new kept long fewer = record { few = kept.few; long = long ∙ kept.long; within = λ v is. kept.within v (fewer v is) }
 
-or_left : (a b : Bool) → b ≡ false → (a || b) ≡ true → a ≡ true
-or_left a b e h = grind arith
-
 pub words-insert : (n v : ℕ) (words : List ℕ) → AreWords n words → 1 ≤ v → v ≤ n → AreWords n (set words (v / 64) (bit_or (get_or words (v / 64) 0) (1 * 2 ^ (v % 64) % 2 ^ 64)))
 words-insert n v words kept l u =
     let new = bit_or (get_or words (v / 64) 0) (1 * 2 ^ (v % 64) % 2 ^ 64) in
@@ -73,7 +70,7 @@ words-insert n v words kept l u =
       long = length-set words (v / 64) new ∙ kept.long;
       within = λ k is. ⊎_elim
           (λ (q : v ≡ k). (omega arith, omega arith))
-          (λ (ne : v ≢ k). kept.within k (or_left (has_bit words k) (eqb v k) (ne_eqb v k ne) (sym (has_bit-insert words v k at) ∙ is)))
+          (λ (ne : v ≢ k). kept.within k (only_first (has_bit words k) (eqb v k) (ne_eqb v k ne) (sym (has_bit-insert words v k at) ∙ is)))
           (cases_eq v k);
     }
 
@@ -99,12 +96,9 @@ words-join n words others joined kept kept2 long h = record {
       let either : (has_bit words v || has_bit others v) ≡ true = sym (has_bit-join words others joined h v (omega arith)) ∙ is in
       ⊎_elim
       (λ (a : has_bit words v ≡ true). kept.within v a)
-      (λ (a : has_bit words v ≡ false). kept2.within v (or_right (has_bit words v) (has_bit others v) a either))
+      (λ (a : has_bit words v ≡ false). kept2.within v (only_second (has_bit words v) (has_bit others v) a either))
       (cases_Bool (has_bit words v));
 }
-  where
-    or_right : (a b : Bool) → a ≡ false → (a || b) ≡ true → b ≡ true
-    or_right a b e h = grind arith
 
 pub words-clear : (n : ℕ) (words others cleared : List ℕ) → AreWords n words → length cleared ≡ length words →
     ((k : ℕ) → k < length words → get_or cleared k 0 ≡ bit_and (get_or words k 0) (bit_not w64 (get_or others k 0))) → ((k : ℕ) → get_or others k 0 < 2 ^ 64) → AreWords n cleared

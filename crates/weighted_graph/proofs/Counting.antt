@@ -4,10 +4,11 @@ use Rattle.std.specs.Prelude.{◌≢◌, ◌↔◌}
 use Rattle.std.specs.List.{count_by}
 use Rattle.std.proofs.lemmas.Bool.{cases_eq, cases_Bool, eq-eqb, ne_eqb, false≢true, or_right}
 use Rattle.std.proofs.lemmas.List.{length_push}
+use Rattle.std.proofs.Math.Bool.{or-false}
 use Rattle.cut_definitions.specs.Graph.{Graph, IsGraph}
 use Rattle.cut_definitions.specs.Cuts.{has, IsAscendingWithin}
 use Rattle.cut_definitions.specs.Components.{AreJoined, HasComponents}
-use Rattle.cut_definitions.proofs.Bools.{or_nothing}
+use Rattle.cut_definitions.proofs.Bools.{or_nothing, or_assoc}
 use Rattle.cut_definitions.proofs.Ascending.{has_high}
 use Rattle.weighted_graph.specs.Searches.{is_seen, IsClosed}
 use Rattle.weighted_graph.proofs.Searched.{closed_weighs_nothing}
@@ -23,14 +24,8 @@ ascending-push low high [] l a = (l, omega arith, tt)
 ascending-push low high (x ∷ xs) l a = (a.0, omega (arith, a.1), ascending-push (x + 1) high xs (omega (arith, a.1)) a.2)
 
 has-push : (s : List ℕ) (x v : ℕ) → has (s ++ x ∷ []) v ≡ (has s v || eqb x v)
-has-push [] x v = or_none (eqb x v)
-  where
-    or_none : (b : Bool) → (b || false) ≡ (false || b)
-    or_none b = grind arith
-has-push (y ∷ ys) x v = ap (λ (b : Bool). eqb y v || b) (has-push ys x v) ∙ regroup (eqb y v) (has ys v) (eqb x v)
-  where
-    regroup : (a b c : Bool) → (a || (b || c)) ≡ ((a || b) || c)
-    regroup a b c = grind arith
+has-push [] x v = or-false (eqb x v)
+has-push (y ∷ ys) x v = ap (λ (b : Bool). eqb y v || b) (has-push ys x v) ∙ or_assoc (eqb y v) (has ys v) (eqb x v)
 
 has-push_other : (s : List ℕ) (x v : ℕ) → x ≢ v → has (s ++ x ∷ []) v ≡ has s v
 has-push_other s x v ne = has-push s x v ∙ or_nothing (has s v) (eqb x v) (ne_eqb x v ne)

@@ -5,13 +5,13 @@ use Rattle.std.specs.List.{All, Contains, fold, filter, range_with_len}
 use Rattle.std.proofs.lemmas.Bool.{cases_eq, eq-eqb, ne_eqb}
 use Rattle.std.proofs.lemmas.List.{get_or_default, get_or-map, take_more, length-map}
 use Rattle.std.proofs.lemmas.List.Elements.{All-map, All-weaker}
+use Rattle.std.proofs.Math.Bool.{or-false, or-true}
 use Rattle.cut_definitions.specs.Cuts.{has, IsAscendingWithin}
 use Rattle.cut_definitions.specs.Weight.{either}
 use Rattle.cut_definitions.specs.Scan.{single}
 use Rattle.cut_definitions.specs.Contraction.{label, classes, IsLabels, lift}
 use Rattle.cut_definitions.proofs.Lists.{Contains-nil, Contains-cons_cases, Contains-filter}
 use Rattle.cut_definitions.proofs.Bridge.{IsAscendingWithin-filter, same_ascending, has_within}
-use Rattle.cut_definitions.proofs.Bools.{or_false, or_true}
 use Rattle.cut_definitions.proofs.ListLaws.{length-filter_le}
 use Rattle.vertex_set.specs.Side.{VertexList, listed}
 use Rattle.vertex_set.proofs.Bits.{has-listed}
@@ -74,12 +74,12 @@ lift_insert labels side n v s t h l is e =
     let n_is = h.same_n in
     let same : (u : ℕ) → 1 ≤ u → u ≤ n → has t.members u ≡ f u = λ u a b. ap (λ (x : VertexList). has x.members u) e ∙ (has-listed s.vertices f u a (omega arith)) in
     let other : (u : ℕ) → 1 ≤ u → u ≤ n → v + 1 ≢ u → has t.members u ≡ has s.members u =
-    λ u a b ne. same u a b ∙ (ap (λ (x : Bool). has s.members u || x) (ne_eqb (v + 1) u ne) ∙ or_false (has s.members u)) in
+    λ u a b ne. same u a b ∙ (ap (λ (x : Bool). has s.members u || x) (ne_eqb (v + 1) u ne) ∙ or-false (has s.members u)) in
     record {
       same_n = ap (λ (x : VertexList). x.vertices) e ∙ n_is;
       ascending = subst (λ (x : VertexList). IsAscendingWithin 1 n x.members) (sym e) (rw n_is (IsAscendingWithin-filter n 1 n f (omega arith)));
       low = λ u a b. ⊎_elim
-          (λ (q : v + 1 ≡ u). same u a (omega arith) ∙ (ap (λ (x : Bool). has s.members u || x) (eq-eqb (v + 1) u q) ∙ (or_true (has s.members u) ∙ (sym is ∙ ap (λ (x : ℕ). has side (label labels x)) q))))
+          (λ (q : v + 1 ≡ u). same u a (omega arith) ∙ (ap (λ (x : Bool). has s.members u || x) (eq-eqb (v + 1) u q) ∙ (or-true (has s.members u) ∙ (sym is ∙ ap (λ (x : ℕ). has side (label labels x)) q))))
           (λ (ne : v + 1 ≢ u). other u a (omega arith) ne ∙ h.low u a (omega arith))
           (cases_eq (v + 1) u);
       high = λ u a b. other u (omega arith) b (λ q. omega arith) ∙ h.high u (omega arith) b;
