@@ -54,14 +54,14 @@ count_some v ((u ∷ us) ∷ ls) =
     ∙ ap (count v) (sym (some_cons u us ls))
 
 -- ---- no cut is empty
-pub filter_nothing : (xs : List ℕ) → filter nothing xs ≡ []
+filter_nothing : (xs : List ℕ) → filter nothing xs ≡ []
 filter_nothing [] = refl
 filter_nothing (x ∷ xs) = filter_nothing xs
 
 abbrev over : ℕ → Node → Rooted
 over n x = record { vertices = n; root = x }
 
-none_empty : (n : ℕ) (root : Node) → IsCactus n root → HasNoEmptySide (over n root) → NoneEmpty ((part root).below ∷ (part root).cuts)
+pub none_empty : (n : ℕ) (root : Node) → IsCactus n root → HasNoEmptySide (over n root) → NoneEmpty ((part root).below ∷ (part root).cuts)
 none_empty n root h some c = elim (Contains-cons_cases (part root).below (part root).cuts nothing c) [
   | inl k ↦ (
       let later : VertexSet = all_of (belows (map block_part (blocks root))) in
@@ -106,16 +106,14 @@ shown_normal n root x h s = root_normal x 1 (subst (λ l. Contains l 1) (sym (sa
 pub shown_cuts : (root x : Node) → ShowsNode (read_node has kept root) x → SameSets (part x).cuts (part root).cuts
 shown_cuts root x s = subst (λ (p : Part). SameSets (part x).cuts p.cuts) (sym (own_lists root)) s.cuts
 
-one_way : (n : ℕ) (x y : Node) → ((s : VertexSet) → Contains (part x).cuts s → Contains (part y).cuts s) → (side : List ℕ) → Contains (sides_of (over n x)) side → Contains (sides_of (over n y)) side
-one_way n x y f side h =
+sides_way : (n : ℕ) (x y : Node) → ((s : VertexSet) → Contains (part x).cuts s → Contains (part y).cuts s) → (side : List ℕ) → Contains (sides_of (over n x)) side → Contains (sides_of (over n y)) side
+sides_way n x y f side h =
     let list : VertexSet → List ℕ = λ s. filter s (range_with_len 1 n) in
     let r = Contains-from_map list (part x).cuts side h in
     subst (λ l. Contains (map list (part y).cuts) l) r.2 (Contains-map list (part y).cuts r.0 (f r.0 r.1))
 
-pub shown_sides : (n : ℕ) (root x : Node) → ShowsNode (read_node has kept root) x → HaveSameSides (over n x) (over n root)
-shown_sides n root x s =
-    let f = shown_cuts root x s in
-    λ side. (one_way n x root (λ t. (f t).0) side, one_way n root x (λ t. (f t).1) side)
+pub same_sides : (n : ℕ) (x y : Node) → SameSets (part x).cuts (part y).cuts → HaveSameSides (over n x) (over n y)
+same_sides n x y f = λ side. (sides_way n x y (λ t. (f t).0) side, sides_way n y x (λ t. (f t).1) side)
 
 -- what is known of a tree that was put together from the entries of a cactus
 pub record IsFinished (k : ℕ) (x : Node) (cactus : Rooted) : Type 0 where
@@ -129,5 +127,5 @@ finished cactus k root x h some e n f =
     record {
       is_cactus = subst (λ m. IsCactus m x) (sym n) (shown_cactus cactus.vertices cactus.root x h s);
       normal = shown_normal cactus.vertices cactus.root x h s;
-      sides = subst (λ m. HaveSameSides (over m x) cactus) (sym n) (shown_sides cactus.vertices cactus.root x s);
+      sides = subst (λ m. HaveSameSides (over m x) cactus) (sym n) (same_sides cactus.vertices x cactus.root (shown_cuts cactus.root x s));
     }

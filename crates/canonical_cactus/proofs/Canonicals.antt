@@ -1,20 +1,17 @@
 -- A tree that shows what was read off a cactus without an empty side is a canonical cactus with the same sides.
-use Rattle.std.proofs.Common.{◌≡◌, ℕ, ◌≤◌, ◌<◌, inl, inr, true, List, [], ◌∷◌, length, map, ap, ◌∙◌, sym, subst, arith}
+use Rattle.std.proofs.Common.{◌≡◌, ℕ, ◌≤◌, inl, inr, true, [], ◌∷◌, length, map, ap, ◌∙◌, sym, subst, arith}
 use Rattle.std.specs.Prelude.{slice_index_or}
-use Rattle.std.specs.List.{Contains, filter, range_with_len}
-use Rattle.std.proofs.lemmas.Bool.{false≢true, or_left, and_from}
+use Rattle.std.specs.List.{Contains, filter}
+use Rattle.std.proofs.lemmas.Bool.{and_from}
 use Rattle.std.proofs.lemmas.List.{map-id}
 use Rattle.std.proofs.lemmas.List.Elements.{All-contains}
-use Rattle.cut_definitions.specs.Weight.{VertexSet}
 use Rattle.cut_definitions.specs.Cuts.{has, IsAscendingWithin}
-use Rattle.cut_definitions.proofs.Lists.{Contains-cons_cases, Contains-map, Contains-from_map}
 use Rattle.cut_definitions.proofs.ListLaws.{All-from_each}
-use Rattle.cut_definitions.proofs.Ascending.{contains_has}
-use Rattle.cactus_tree.specs.Sides.{Part, part, block_part, nothing, all_of, belows}
-use Rattle.cactus_tree.specs.Trees.{vertices, blocks}
+use Rattle.cactus_tree.specs.Sides.{Part, part}
+use Rattle.cactus_tree.specs.Trees.{vertices}
 use Rattle.cactus_tree.specs.Entered.{entered}
 use Rattle.cactus_tree.specs.Entries.{read_node, kept}
-use Rattle.cactus_tree.specs.Rooted.{Rooted, IsCactus, sides_of}
+use Rattle.cactus_tree.specs.Rooted.{Rooted, IsCactus}
 use Rattle.cactus_tree.specs.Normal.{is_normal}
 use Rattle.cactus_tree.specs.Widths.{widths}
 use Rattle.cactus_tree.specs.Different.{HaveSameSides, HasNoEmptySide}
@@ -24,27 +21,13 @@ use Rattle.cactus_tree.proofs.Clean.{root_clean}
 use Rattle.cactus_tree.proofs.Lifts.{own_lists}
 use Rattle.cactus_tree.proofs.Orders.{entered_out}
 use Rattle.cactus_tree.proofs.Shapes.{root_normal}
-use Rattle.cactus_tree.proofs.Trims.{below_out}
-use Rattle.cactus_tree.proofs.Normals.{filter_nothing}
+use Rattle.cactus_tree.proofs.Normals.{none_empty, same_sides}
 use Rattle.canonical_cactus.specs.Canonical.{arranged, is_canonical}
 use Rattle.canonical_cactus.specs.Laws.{over}
 use Rattle.canonical_cactus.specs.Making.{AreApart, ShowsNode, IsGood, IsNodeOf}
 use Rattle.canonical_cactus.specs.declared.parts.Placed.{Placed}
 
 -- ---- no cut is empty
-none_empty : (n : ℕ) (root : Node) → IsCactus n root → HasNoEmptySide (over n root) → NoneEmpty ((part root).below ∷ (part root).cuts)
-none_empty n root h some c = elim (Contains-cons_cases (part root).below (part root).cuts nothing c) [
-  | inl k ↦ (
-      let later : VertexSet = all_of (belows (map block_part (blocks root))) in
-      let one : (part root).below 1 ≡ true = ap (λ (s : VertexSet). s 1) (below_out root) ∙ or_left (has (vertices root) 1) (later 1) (contains_has (vertices root) 1 h.root_has_one) in
-      false≢true (sym (ap (λ (s : VertexSet). s 1) k) ∙ one))
-  | inr k ↦ (
-      let list : VertexSet → List ℕ = λ s. filter s (range_with_len 1 n) in
-      let long : 0 < length (list nothing) = All-contains (λ side. 0 < length side) (map list (part root).cuts) (list nothing) some (Contains-map list (part root).cuts nothing k) in
-      let none : length (list nothing) ≡ 0 = ap length (filter_nothing (range_with_len 1 n)) in
-      omega (arith, long, none))
-]
-
 good_root : (n : ℕ) (root : Node) → IsCactus n root → HasNoEmptySide (over n root) → IsGood ((read_node has kept root).part.below ∷ (read_node has kept root).part.cuts) (read_node has kept root)
 good_root n root h some = record {
   cuts = subst (λ (p : Part). NoneEmpty (p.below ∷ p.cuts)) (own_lists root) (none_empty n root h some);
@@ -73,17 +56,6 @@ shown_canonical n root x h s = and_from (is_normal x) (arranged x).in_order (roo
 shown_cuts : (root x : Node) → ShowsNode (read_node has kept root) x → SameSets (part x).cuts (part root).cuts
 shown_cuts root x s = subst (λ (p : Part). SameSets (part x).cuts p.cuts) (sym (own_lists root)) s.cuts
 
-one_way : (n : ℕ) (x y : Node) → ((s : VertexSet) → Contains (part x).cuts s → Contains (part y).cuts s) → (side : List ℕ) → Contains (sides_of (over n x)) side → Contains (sides_of (over n y)) side
-one_way n x y f side h =
-    let list : VertexSet → List ℕ = λ s. filter s (range_with_len 1 n) in
-    let r = Contains-from_map list (part x).cuts side h in
-    subst (λ l. Contains (map list (part y).cuts) l) r.2 (Contains-map list (part y).cuts r.0 (f r.0 r.1))
-
-shown_sides : (n : ℕ) (root x : Node) → ShowsNode (read_node has kept root) x → HaveSameSides (over n x) (over n root)
-shown_sides n root x s =
-    let f = shown_cuts root x s in
-    λ side. (one_way n x root (λ t. (f t).0) side, one_way n root x (λ t. (f t).1) side)
-
 -- what is known of a tree that was put together from the entries of a cactus
 pub record IsFinished (k : ℕ) (x : Node) (cactus : Rooted) : Type 0 where
   pub is_cactus : IsCactus k x
@@ -97,5 +69,5 @@ finished cactus k root p h some e n f =
     record {
       is_cactus = subst (λ m. IsCactus m x) (sym n) (shown_cactus cactus.vertices cactus.root x h s);
       canonical = shown_canonical cactus.vertices cactus.root x h s;
-      sides = subst (λ m. HaveSameSides (over m x) cactus) (sym n) (shown_sides cactus.vertices cactus.root x s);
+      sides = subst (λ m. HaveSameSides (over m x) cactus) (sym n) (same_sides cactus.vertices x cactus.root (shown_cuts cactus.root x s));
     }

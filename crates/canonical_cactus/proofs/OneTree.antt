@@ -29,14 +29,14 @@ use Rattle.cactus_tree.proofs.Distinct.{AreVertices, listed_same, root_vertices}
 use Rattle.cactus_tree.proofs.Fits.{root_solid}
 use Rattle.cactus_tree.proofs.Sets.{same_set}
 use Rattle.cactus_tree.proofs.Trims.{with_whole}
-use Rattle.canonical_cactus.proofs.Arrangement.{node_covered}
+use Rattle.cactus_tree.proofs.Covered.{node_listed}
 use Rattle.canonical_cactus.proofs.Fits.{IsFit, root_fit}
 use Rattle.canonical_cactus.proofs.Sound.{node_sound}
 use Rattle.canonical_cactus.proofs.Unique.{read_alike}
 
 -- ---- sides as lists and as sets
 pub root_all : (n : ℕ) (root : Node) → IsCactus n root → (v : ℕ) → IsVertex n v → (part root).below v ≡ true
-root_all n root h v w = sym (ap (λ (s : VertexSet). s v) (node_covered root).listed) ∙ each_there n root h v w.0 w.1
+root_all n root h v w = sym (ap (λ (s : VertexSet). s v) (node_listed root)) ∙ each_there n root h v w.0 w.1
 
 pub cuts_over : (n : ℕ) (c d : Node) → IsCactus n c → IsCactus n d → IsFit n c → IsFit n d →
     ((side : List ℕ) → Contains (sides_of (over n c)) side → Contains (sides_of (over n d)) side) → (s : VertexSet) → Contains (part c).cuts s → Contains (part d).cuts s

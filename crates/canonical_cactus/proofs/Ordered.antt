@@ -21,6 +21,7 @@ use Rattle.cactus_tree.specs.declared.tree.Children.{Children}
 use Rattle.cactus_tree.specs.declared.tree.Block.TheVariants.{Cycle}
 use Rattle.cactus_tree.proofs.Cycles.{cycle_cuts}
 use Rattle.cactus_tree.proofs.Trims.{own_cut}
+use Rattle.cactus_tree.proofs.Covered.{block_listed, node_listed}
 use Rattle.canonical_cactus.specs.Canonical.{Arranged, arranged, arranged_block, all_vertices, ascend, leasts, rises}
 use Rattle.canonical_cactus.specs.Standing.{least_in, lesser_of, or_zero}
 use Rattle.canonical_cactus.specs.Making.{AreApart, ShowsChild, ShowsBlock, IsGood, IsNodeOf, IsChildOf, IsBlockOf, AreBlocksOf, AreChildrenOf, key_of, last_of, ends_rise, faced}
@@ -73,7 +74,7 @@ module _ {X : Type 0} (f : X → Arranged) (least_of : X → Option ℕ) where
 -- ---- the blocks of a node
 block_some : (r : Read) (b : Block) → IsGood r.part.cuts r → ShowsBlock r b → (arranged_block b).vertices ≡ [] → ⊥
 block_some r b g s e =
-    g.cuts (subst (λ t. Contains r.part.cuts t) (sym (block_covered b).arranged ∙ ap has e) ((s.cuts (block_part b).below).0 (own_cut b s.fine)))
+    g.cuts (subst (λ t. Contains r.part.cuts t) (sym (block_covered b) ∙ ap has e) ((s.cuts (block_part b).below).0 (own_cut b s.fine)))
 
 blocks_some : (rs : List Read) (hs : List Hung) → AreBlocksOf rs hs → GoodBlocks rs → (h : Hung) → Contains hs h → (arranged_block h.block).vertices ≡ [] → ⊥
 blocks_some [] [] a g h k = absurd (Contains-nil h k)
@@ -111,7 +112,7 @@ node_finished own rs hs ks p moves sorted v bs l a =
           let together = beside rs (map block_in hs) shown in
           let moved : IsPermutation (map block_in hs) (blocks x) = subst (IsPermutation (map block_in hs)) (sym bs) (IsPermutation-map block_in hs ks moves) in
           let apart : AreApart (flat_map (λ (h : Hung). entered_block h.block) ks) = moved_apart hs ks moves (subst AreApart (flat_map-map entered_block block_in hs) (λ n. subst (λ m. m ≤ 1) (sym (together.lists.often n)) (g.2 n))) in
-          let up : ascend (map key_of ks) ≡ true = ascends f (λ (h : Hung). entered_block h.block) (λ h. (block_covered h.block).arranged ∙ sym (block_covered h.block).listed) key_of ks sorted
+          let up : ascend (map key_of ks) ≡ true = ascends f (λ (h : Hung). entered_block h.block) (λ h. block_covered h.block ∙ sym (block_listed h.block)) key_of ks sorted
           (λ h k. ap or_zero (right h k) ∙ zero_least (f h).vertices)
           (λ h k. blocks_some rs hs a g h (Contains-permutation ks hs h (IsPermutation-sym hs ks moves) k))
           apart in
@@ -126,7 +127,7 @@ node_finished own rs hs ks p moves sorted v bs l a =
 -- ---- the children of a cycle
 child_some : (r : Read) (x : Node) → IsGood (r.part.below ∷ r.part.cuts) r → ShowsChild r x → (arranged x).vertices ≡ [] → ⊥
 child_some r x g s e =
-    g.cuts (subst (λ t. Contains (t ∷ r.part.cuts) nothing) (sym (ap has e) ∙ (node_covered x).arranged ∙ s.below) (Contains-here nothing r.part.cuts))
+    g.cuts (subst (λ t. Contains (t ∷ r.part.cuts) nothing) (sym (ap has e) ∙ node_covered x ∙ s.below) (Contains-here nothing r.part.cuts))
 
 children_some : (rs : List Read) (ps : List Placed) → AreChildrenOf rs ps → GoodChildren rs → (p : Placed) → Contains ps p → (arranged p.node).vertices ≡ [] → ⊥
 children_some [] [] a g p k = absurd (Contains-nil p k)
@@ -182,7 +183,7 @@ ends_differ rs p (q ∷ qs) a g some e =
     let shown : Each ShowsChild rs (map node_in all) = each_shows (λ (r : Read). IsGood (r.part.below ∷ r.part.cuts) r) IsChildOf ShowsChild node_in GoodChildren children_head children_tail (λ r w n. n.shows) rs all a g in
     let apart : AreApart (flat_map (λ (w : Placed). entered w.node) all) = subst AreApart (flat_map-map entered node_in all) (λ n. subst (λ m. m ≤ 1) (sym ((together rs (map node_in all) shown).lists.often n)) (g.2 n)) in
     let key : (w : Placed) → Contains all w → place_key w ≡ least (f w).vertices = λ w k. ap or_zero (children_right rs all a w k) ∙ zero_least (f w).vertices in
-    differ f (λ (w : Placed). entered w.node) (λ w. (node_covered w.node).arranged ∙ sym (node_covered w.node).listed) p (q ∷ qs) z apart
+    differ f (λ (w : Placed). entered w.node) (λ w. node_covered w.node ∙ sym (node_listed w.node)) p (q ∷ qs) z apart
     (children_some rs all a g p (Contains-here p (q ∷ qs))) (children_some rs all a g z (Contains-there p (q ∷ qs) z inside)) inside
     (sym (key p (Contains-here p (q ∷ qs))) ∙ e ∙ key z (Contains-there p (q ∷ qs) z inside))
 

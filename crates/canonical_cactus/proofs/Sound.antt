@@ -24,9 +24,9 @@ use Rattle.canonical_cactus.proofs.Turns.{IsTorn, cycle_torn}
 use Rattle.cactus_tree.proofs.Views.{block_induction, each}
 use Rattle.cactus_tree.proofs.Clean.{clean_apart}
 use Rattle.cactus_tree.proofs.Trims.{cuts_out, below_out}
-use Rattle.canonical_cactus.proofs.Arrangement.{node_covered, block_covered, blocks_covered, nodes_covered}
 use Rattle.cactus_tree.proofs.Fits.{IsSolid, IsPlaced, nodes_placed, own_apart}
 use Rattle.cactus_tree.proofs.Distinct.{placed_one}
+use Rattle.cactus_tree.proofs.Covered.{node_listed, block_listed, blocks_listed, nodes_listed}
 use Rattle.canonical_cactus.proofs.Fits.{IsFit, IsFitBlock, AreFitBlocks, AreFitNodes, blocks_head, blocks_tail, nodes_head, nodes_tail, node_blocks, bridge_child, cycle_children}
 
 -- ---- the induction
@@ -47,7 +47,7 @@ module _ (n : ℕ) where
       let r = row_of_blocks bs h.1 (blocks_tail n b bs f) in
       let apart : Apart (block_part b).below (all_of (belows (map block_part bs))) = λ v here there.
       clean_apart n (entered_block b) (flat_map entered_block bs) f.normal.clean v
-      (ap (λ (t : VertexSet). t v) (block_covered b).listed ∙ here) (ap (λ (t : VertexSet). t v) (blocks_covered bs).listed ∙ there) in
+      (ap (λ (t : VertexSet). t v) (block_listed b) ∙ here) (ap (λ (t : VertexSet). t v) (blocks_listed bs) ∙ there) in
       ((s.0, s.1, apart, r.0), (s.2, r.1))
 
   row_of_nodes : (xs : List Node) → AllByRecursion NodeSound xs → AreFitNodes n xs → IsRow (map part xs)
@@ -56,7 +56,7 @@ module _ (n : ℕ) where
       let s = h.0 (nodes_head n x xs f) in
       let apart : Apart (part x).below (all_of (belows (map part xs))) = λ v here there.
       clean_apart n (entered x) (flat_map entered xs) f.normal.clean v
-      (ap (λ (t : VertexSet). t v) (node_covered x).listed ∙ here) (ap (λ (t : VertexSet). t v) (nodes_covered xs).listed ∙ there) in
+      (ap (λ (t : VertexSet). t v) (node_listed x) ∙ here) (ap (λ (t : VertexSet). t v) (nodes_listed xs) ∙ there) in
       (s.0, placed_one x (nodes_placed n x xs f.normal) s.1, apart, row_of_nodes xs h.1 (nodes_tail n x xs f))
 
   node_case : (x : Node) → AllByRecursion BlockSound (blocks x) → NodeSound x

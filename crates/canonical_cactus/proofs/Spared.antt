@@ -1,5 +1,5 @@
 -- What can be spared of a node, a bridge or a child of a cycle is left out, and the rest shows the same.
-use Rattle.std.proofs.Common.{◌≡◌, inl, inr, true, false, not, ◌&&◌, ◌==◌, [], ◌∷◌, ◌++◌, length, map, ap, ◌∙◌, sym, subst, append-nil}
+use Rattle.std.proofs.Common.{◌≡◌, inl, inr, true, false, not, ◌==◌, [], ◌∷◌, ◌++◌, length, map, ap, ◌∙◌, sym, subst, append-nil}
 use Rattle.std.specs.List.{list_all, flat_map}
 use Rattle.std.specs.declared.boxed.Box.{Box}
 use Rattle.std.specs.declared.alloc.Global.{Global}
@@ -7,7 +7,7 @@ use Rattle.std.proofs.lemmas.Bool.{and_parts, false≢true, and_from, not-true}
 use Rattle.cut_definitions.specs.Weight.{either}
 use Rattle.cut_definitions.specs.Cuts.{has}
 use Rattle.cut_definitions.proofs.ListLaws.{only}
-use Rattle.cactus_tree.specs.Sides.{Part, part, block_part, nothing, all_of, belows, all_cuts}
+use Rattle.cactus_tree.specs.Sides.{Part, part, block_part, all_of, belows, all_cuts}
 use Rattle.cactus_tree.specs.Trees.{vertices, blocks}
 use Rattle.cactus_tree.specs.Entered.{entered, entered_block}
 use Rattle.cactus_tree.specs.Widths.{widths, block_widths, joined}

@@ -53,10 +53,10 @@ tails x y xs ys e = ap tail_of e
 
 -- ---- least vertices
 block_least : (n : ℕ) (b : Block) → IsFitBlock n b → IsLeast (block_part b).below (least (arranged_block b).vertices)
-block_least n b f = least_is (block_part b).below (arranged_block b).vertices (block_covered b).arranged (block_sound n b f).1
+block_least n b f = least_is (block_part b).below (arranged_block b).vertices (block_covered b) (block_sound n b f).1
 
 node_least : (n : ℕ) (x : Node) → IsFit n x → IsPlaced x → IsLeast (part x).below (least (arranged x).vertices)
-node_least n x f p = least_is (part x).below (arranged x).vertices (node_covered x).arranged (placed_one x p (node_sound n x f).1)
+node_least n x f p = least_is (part x).below (arranged x).vertices (node_covered x) (placed_one x p (node_sound n x f).1)
 
 later_least : (n u : ℕ) (bs : List Block) → AreFitBlocks n bs → list_all (nat_lt u) (leasts (map arranged_block bs)) ≡ true → (w : ℕ) → all_of (belows (map block_part bs)) w ≡ true → u ≤ w
 later_least n u [] f h w e = absurd (false≢true e)
