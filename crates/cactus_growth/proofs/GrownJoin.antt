@@ -4,6 +4,7 @@ use Rattle.std.specs.List.{Contains, flat_map}
 use Rattle.std.proofs.lemmas.List.{map-append, append_assoc}
 use Rattle.std.proofs.lemmas.List.Concat.{flat_map-append}
 use Rattle.std.proofs.lemmas.List.Elements.{All-append, All-cons, All-head, All-tail, Contains-append_left, Contains-append_right, Contains-append_cases}
+use Rattle.std.proofs.lemmas.Bool.{or_left, or_right}
 use Rattle.cut_definitions.specs.Weight.{VertexSet, either}
 use Rattle.cut_definitions.specs.Cuts.{has, IsAscendingWithin}
 use Rattle.cut_definitions.proofs.ListLaws.{All-front, All-back}
@@ -93,18 +94,11 @@ module _ (u v : ℕ) (old top far x : Node) (front xs ms ys : List Node) (near n
   old_below : (w : ℕ) → all_of (belows (map part walk)) w ≡ (all_of (belows (map part xs)) w || ((part near).below w || (all_of (belows (map part ms)) w || ((part far).below w || all_of (belows (map part ys)) w))))
   old_below w = ap (λ l. all_of (belows (map part l)) w) whole ∙ below_both xs (near ∷ (ms ++ far ∷ ys)) w ∙ ap (λ z. all_of (belows (map part xs)) w || ((part near).below w || z)) (below_both ms (far ∷ ys) w)
 
-  or_in : (a b : Bool) → b ≡ true → (a || b) ≡ true
-  or_in true b h = refl
-  or_in false b h = h
-
-  or_first : (a b : Bool) → a ≡ true → (a || b) ≡ true
-  or_first a b h = ap (λ z. z || b) h
-
   walk_u : all_of (belows (map part walk)) u ≡ true
-  walk_u = old_below u ∙ or_in (all_of (belows (map part xs)) u) _ (or_first ((part near).below u) _ near_u)
+  walk_u = old_below u ∙ or_right (all_of (belows (map part xs)) u) _ (or_left ((part near).below u) _ near_u)
 
   walk_v : all_of (belows (map part walk)) v ≡ true
-  walk_v = old_below v ∙ or_in (all_of (belows (map part xs)) v) _ (or_in ((part near).below v) _ (or_in (all_of (belows (map part ms)) v) _ (or_first ((part far).below v) _ far_v)))
+  walk_v = old_below v ∙ or_right (all_of (belows (map part xs)) v) _ (or_right ((part near).below v) _ (or_right (all_of (belows (map part ms)) v) _ (or_left ((part far).below v) _ far_v)))
 
   j_below_at : (w : ℕ) → (part j).below w ≡ (((part near).below w || (part far).below w) || all_of (belows (map part ms)) w)
   j_below_at w = ap (λ (q : Part). q.below w) arc.part_is ∙ ap (λ z. z || all_of (belows (map part ms)) w) (ab.below w ∙ ap (λ z. z || (part f2).below w) (pn.below w) ∙ ap (λ z. (part near).below w || z) (pf.below w))

@@ -4,6 +4,7 @@ use Rattle.std.specs.List.{All, Contains, flat_map}
 use Rattle.std.proofs.lemmas.Bool.{false_from_ne_true}
 use Rattle.std.proofs.lemmas.List.{map-append}
 use Rattle.std.proofs.lemmas.List.Elements.{All-append, All-cons, Contains-append_left, Contains-append_right, Contains-append_cases}
+use Rattle.std.proofs.Math.Bool.{or-true}
 use Rattle.cut_definitions.specs.Weight.{VertexSet}
 use Rattle.cut_definitions.specs.Cuts.{has, IsAscendingWithin}
 use Rattle.cut_definitions.proofs.ListLaws.{All-front, All-back}
@@ -40,18 +41,10 @@ module _ (old top child : Node) (before after : List Node) (o : IsOpened old top
 
 pub among_below : (before after : List Node) (child : Node) (v : ℕ) → (part child).below v ≡ true → all_of (belows (map part (before ++ child ∷ after))) v ≡ true
 among_below before after child v h =
-    below_both before (child ∷ after) v ∙ ap (λ k. all_of (belows (map part before)) v || (k || all_of (belows (map part after)) v)) h ∙ or_true (all_of (belows (map part before)) v)
-  where
-    or_true : (a : _) → (a || true) ≡ true
-    or_true true = refl
-    or_true false = refl
+    below_both before (child ∷ after) v ∙ ap (λ k. all_of (belows (map part before)) v || (k || all_of (belows (map part after)) v)) h ∙ or-true (all_of (belows (map part before)) v)
 
 pub opened_inside : (old top child : Node) (before after : List Node) (v : ℕ) → IsOpened old top before child after → (part child).below v ≡ true → (part old).below v ≡ true
-opened_inside old top child before after v o h = o.below v ∙ ap (λ k. (part top).below v || k) (among_below before after child v h) ∙ or_true ((part top).below v)
-  where
-    or_true : (a : _) → (a || true) ≡ true
-    or_true true = refl
-    or_true false = refl
+opened_inside old top child before after v o h = o.below v ∙ ap (λ k. (part top).below v || k) (among_below before after child v h) ∙ or-true ((part top).below v)
 
 -- ---- the node of the walk that has both vertices below it was put back without the cuts that part them
 module _ (u v : ℕ) (old top child y x : Node) (before after : List Node) (o : IsOpened old top before child after) (once : AreOnce (entered old)) (has_u : (part child).below u ≡ true) (has_v : (part child).below v ≡ true)

@@ -5,6 +5,7 @@ use Rattle.std.proofs.lemmas.Bool.{false≢true, false_from_ne_true}
 use Rattle.std.proofs.lemmas.List.{map-append}
 use Rattle.std.proofs.lemmas.List.Concat.{flat_map-append}
 use Rattle.std.proofs.lemmas.List.Elements.{All-nil, All-append, All-cons, All-head, All-tail, Contains-append_left, Contains-append_right, Contains-append_cases}
+use Rattle.std.proofs.Math.Bool.{or-false}
 use Rattle.cut_definitions.specs.Weight.{VertexSet}
 use Rattle.cut_definitions.specs.Cuts.{has, IsAscendingWithin}
 use Rattle.cut_definitions.proofs.Lists.{Contains-nil}
@@ -145,11 +146,7 @@ bare_lists node bare e f = entered_out bare ∙ ap (λ bs. vertices bare ∷ fla
 
 pub bare_below : (node bare : Node) (w : ℕ) → vertices bare ≡ vertices node → blocks bare ≡ [] → (part bare).below w ≡ has (vertices node) w
 bare_below node bare w e f =
-    below_at bare w ∙ ap (λ bs. has (vertices bare) w || all_of (belows (map block_part bs)) w) f ∙ or_false (has (vertices bare) w) ∙ ap (λ l. has l w) e
-  where
-    or_false : (a : Bool) → (a || false) ≡ a
-    or_false true = refl
-    or_false false = refl
+    below_at bare w ∙ ap (λ bs. has (vertices bare) w || all_of (belows (map block_part bs)) w) f ∙ or-false (has (vertices bare) w) ∙ ap (λ l. has l w) e
 
 pub bare_cuts : (bare : Node) → blocks bare ≡ [] → (s : VertexSet) → Contains (part bare).cuts s → ⊥
 bare_cuts bare f s c = Contains-nil s (subst (λ l. Contains l s) (cuts_out bare ∙ ap (λ bs. all_cuts (map block_part bs)) f) c)

@@ -101,10 +101,6 @@ visited_block v x b depth i old cur new a h k =
     subst (λ (l : List Node). AreVisited v x depth l old new) (sym more) (visited_both v x depth (flat_map nodes_of (take i (blocks x))) (nodes_of b) old cur new h k)
 
 -- ---- what the nodes on the stack have below them
-or_assoc : (a b c : Bool) → ((a || b) || c) ≡ (a || (b || c))
-or_assoc true b c = refl
-or_assoc false b c = refl
-
 blocks_below : (bs : List Block) (v : ℕ) → all_of (belows (map block_part bs)) v ≡ all_of (belows (map part (flat_map nodes_of bs))) v
 blocks_below [] v = refl
 blocks_below (b ∷ bs) v =

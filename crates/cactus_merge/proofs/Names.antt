@@ -2,11 +2,11 @@
 use Rattle.std.proofs.Common.{◌≡◌, ℕ, Bool, true, false, cond, ◌+◌, ◌-◌, ◌≤◌, ◌<◌, ◌==◌, ◌||◌, zero, suc, List, [], ◌∷◌, length, map, drop, get_or, refl, sym, ◌∙◌, ap, subst, arith, ⊎_elim, ne_eqb}
 use Rattle.std.specs.Prelude.{if◌then◌else◌, nat_lt}
 use Rattle.std.specs.List.{All, filter}
-use Rattle.std.proofs.lemmas.Bool.{cases_Bool, cases_eq, cases_lt, eq-eqb, lt-ltb, le-ltb}
+use Rattle.std.proofs.lemmas.Bool.{cases_Bool, cases_eq, cases_lt, eq-eqb, lt-ltb, le-ltb, or_right}
 use Rattle.std.proofs.lemmas.List.Elements.{All-head}
 use Rattle.cut_definitions.specs.Cuts.{has, IsAscendingWithin}
 use Rattle.cut_definitions.proofs.Bridge.{has_low}
-use Rattle.cut_definitions.proofs.Bools.{never_both}
+use Rattle.cut_definitions.proofs.Bools.{never_both, no_left, no_right}
 use Rattle.cut_definitions.proofs.ListLaws.{All-back}
 use Rattle.cactus_tree.specs.Entered.{name_of, renamed}
 use Rattle.cactus_merge.specs.Assembled.{names_by, inserted}
@@ -63,18 +63,12 @@ has_inserted x (y ∷ ys) v = ⊎_elim
 pub inserted_ascends : (low high x : ℕ) (l : List ℕ) → IsAscendingWithin low high l → low ≤ x → x ≤ high → Lacks x l → IsAscendingWithin low high (inserted x l)
 inserted_ascends low high x [] a p q h = (p, q, tt)
 inserted_ascends low high x (y ∷ ys) a p q h = ⊎_elim
-    (λ lt. subst (λ (b : Bool). IsAscendingWithin low high (if b then y ∷ inserted x ys else x ∷ y ∷ ys)) (sym (lt-ltb y x lt)) (a.0, a.1, inserted_ascends (y + 1) high x ys a.2 (omega (arith, lt)) q (second (y == x) (has ys x) h)))
+    (λ lt. subst (λ (b : Bool). IsAscendingWithin low high (if b then y ∷ inserted x ys else x ∷ y ∷ ys)) (sym (lt-ltb y x lt)) (a.0, a.1, inserted_ascends (y + 1) high x ys a.2 (omega (arith, lt)) q (no_right (y == x) (has ys x) h)))
     (λ ge. subst (λ (b : Bool). IsAscendingWithin low high (if b then y ∷ inserted x ys else x ∷ y ∷ ys)) (sym (le-ltb y x ge)) (p, q, (omega (arith, ge, differ), a.1, a.2)))
     (cases_lt y x)
   where
-    second : (b c : Bool) → (b || c) ≡ false → c ≡ false
-    second b c e = grind arith
-
-    first_no : (b c : Bool) → (b || c) ≡ false → b ≡ false
-    first_no b c e = grind arith
-
     differ : y ≡ x → ⊥
-    differ e = never_both (y == x) (eq-eqb y x e) (first_no (y == x) (has ys x) h)
+    differ e = never_both (y == x) (eq-eqb y x e) (no_left (y == x) (has ys x) h)
 
 -- ---- names
 module _ (n : ℕ) (own : List ℕ) (k : ℕ) (asc : IsAscendingWithin 1 n own) (more : k ≡ length own + 1) where
@@ -133,10 +127,7 @@ place_of (x ∷ l) v h = ⊎_elim
 pub has_at : (l : List ℕ) (i v : ℕ) → i < length l → get_or l i 0 ≡ v → has l v ≡ true
 has_at [] i v h e = absurd (omega (arith, h))
 has_at (x ∷ l) zero v h e = ap (λ (b : Bool). b || has l v) (eq-eqb x v e)
-has_at (x ∷ l) (suc i) v h e = either_true (x == v) (has l v) (has_at l i v (omega (arith, h)) e)
-  where
-    either_true : (a b : Bool) → b ≡ true → (a || b) ≡ true
-    either_true a b d = grind arith
+has_at (x ∷ l) (suc i) v h e = or_right (x == v) (has l v) (has_at l i v (omega (arith, h)) e)
 
 -- ---- counts of lists that have a vertex
 abbrev pub count_of : List (List ℕ) → ℕ → ℕ

@@ -8,6 +8,7 @@ use Rattle.cut_definitions.specs.Cuts.{has, IsAscendingWithin}
 use Rattle.cut_definitions.proofs.Bridge.{has_low}
 use Rattle.cut_definitions.proofs.Ascending.{has_high, contains_has}
 use Rattle.cut_definitions.proofs.ListLaws.{All-front, All-back}
+use Rattle.cut_definitions.proofs.Bools.{no_left, no_right}
 use Rattle.cactus_tree.specs.Sides.{Part, cuts, together, block_part}
 use Rattle.cactus_tree.specs.Trees.{vertices, blocks}
 use Rattle.cactus_tree.specs.Entered.{entered, entered_block}
@@ -28,13 +29,7 @@ Lacks v l = has l v ≡ false
 pub lacks_append : (v : ℕ) (xs ys : List ℕ) → Lacks v xs → Lacks v ys → Lacks v (xs ++ ys)
 lacks_append v [] ys h k = k
 lacks_append v (x ∷ xs) ys h k =
-    or_from (x == v) (has (xs ++ ys) v) (left_no (x == v) (has xs v) h) (lacks_append v xs ys (right_no (x == v) (has xs v) h) k)
-  where
-    left_no : (a b : Bool) → (a || b) ≡ false → a ≡ false
-    left_no a b e = grind arith
-
-    right_no : (a b : Bool) → (a || b) ≡ false → b ≡ false
-    right_no a b e = grind arith
+    or_from (x == v) (has (xs ++ ys) v) (no_left (x == v) (has xs v) h) (lacks_append v xs ys (no_right (x == v) (has xs v) h) k)
 
 pub all_lack : (v : ℕ) (ls : List (List ℕ)) → All (Lacks v) ls → Lacks v (concat ls)
 all_lack v [] h = refl

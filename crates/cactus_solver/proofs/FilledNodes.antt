@@ -8,6 +8,7 @@ use Rattle.std.specs.declared.boxed.Box.{Box}
 use Rattle.std.specs.declared.alloc.Global.{Global}
 use Rattle.std.proofs.lemmas.Bool.{and_from}
 use Rattle.cut_definitions.proofs.ListLaws.{All-back, All-front}
+use Rattle.cut_definitions.proofs.Bools.{and_second}
 use Rattle.cactus_tree.specs.declared.tree.Node.{Node}
 use Rattle.cactus_tree.specs.declared.tree.Block.{Block}
 use Rattle.cactus_tree.specs.declared.tree.Children.{Children}
@@ -81,10 +82,7 @@ cycle_is_fine nodes h filled wide =
 pub filled_normal : (x : Node) → Contains (vertices x) 1 → AreFilled (entered x) → AreWide (widths x) → is_normal x ≡ true
 filled_normal x one filled wide =
     let fine : child_fine true (shape x) ≡ true = tree_induction NodeIsFine BlockIsFine node_is_fine bridge_is_fine cycle_is_fine x filled wide true in
-    root_normal x 1 one ∙ last_of_both _ _ (sym (child_parts true x) ∙ fine)
-  where
-    last_of_both : (a b : Bool) → (a && b) ≡ true → b ≡ true
-    last_of_both a b h = grind arith
+    root_normal x 1 one ∙ and_second _ _ (sym (child_parts true x) ∙ fine)
 
 -- ---- the nodes of a tree that is being made
 pub filled_placed : (n : ℕ) (homes : ℕ → ℕ) (k : ℕ) (xs : List Node) → AreFrom (IsPlaced n homes) k xs → All IsFilled xs → AreFilled (flat_map entered xs)

@@ -5,9 +5,9 @@ use Rattle.cut_definitions.specs.declared.edge_list.Edge.{Edge}
 use Rattle.cut_definitions.specs.Graph.{Graph, IsGraph}
 use Rattle.cut_definitions.specs.Weight.{VertexSet, weight, between, complement, either}
 use Rattle.cut_definitions.specs.Chain.{IsMinimumInterval, one_part, first_parts}
-use Rattle.cut_definitions.proofs.WeightLaws.{cut_term, weight-apart, weight-complement, join_term}
+use Rattle.cut_definitions.proofs.WeightLaws.{cut_term, weight-apart, weight-complement}
 use Rattle.cut_definitions.proofs.Sums.{sum_by-le_each}
-use Rattle.cut_definitions.proofs.Running.{cut_of-le, join_of-le}
+use Rattle.cut_definitions.proofs.Running.{cut_of-le, between_small}
 use Rattle.cut_definitions.proofs.Bridge.{weight-agree}
 use Rattle.cut_definitions.proofs.Numbers.{apart_later}
 use Rattle.cactus_solver.specs.declared.tree.Hanging.{Hanging}
@@ -42,9 +42,6 @@ part_weight g region t count part ok ch i two lt =
 
 pub weight_small : (g : Graph) → IsGraph g → (s : VertexSet) → weight g s ≤ 2 ^ 61
 weight_small g ok s = omega (arith, sum_by-le_each (cut_term s) (λ (e : Edge). e.w) (λ e. cut_of-le (s e.u) (s e.v) e.w) g.edges, ok.total)
-
-between_small : (g : Graph) → IsGraph g → (s t : VertexSet) → between g s t ≤ 2 ^ 61
-between_small g ok s t = omega (arith, sum_by-le_each (join_term s t) (λ (e : Edge). e.w) (λ e. join_of-le (s e.u) (s e.v) (t e.u) (t e.v) e.w) g.edges, ok.total)
 
 half_small : (w b : ℕ) → w ≡ 2 * b → w ≤ 2 ^ 61 → b ≤ 2 ^ 60
 half_small w b h k = omega arith

@@ -1,15 +1,16 @@
 -- The vertices and classes of a region, and what a share is while others enter.
-use Rattle.std.proofs.Common.{◌≡◌, ℕ, suc, ◌+◌, ◌-◌, ◌<◌, ◌≤◌, ◌⊎◌, inl, inr, ⊎_elim, Bool, true, false, ◌||◌, eqb, List, [], ◌∷◌, ◌++◌, append_assoc, length, map, max, get_or, refl, sym, ◌∙◌, ap, subst, arith}
+use Rattle.std.proofs.Common.{◌≡◌, ℕ, ◌+◌, ◌-◌, ◌<◌, ◌≤◌, ◌⊎◌, inl, inr, ⊎_elim, Bool, true, false, ◌||◌, eqb, List, [], ◌∷◌, ◌++◌, append_assoc, length, map, get_or, refl, sym, ◌∙◌, ap, subst, arith}
 use Rattle.std.specs.Prelude.{◌≢◌, if◌then◌else◌}
-use Rattle.std.specs.List.{All, AllPairs, fold}
+use Rattle.std.specs.List.{All, AllPairs}
 use Rattle.std.proofs.lemmas.Bool.{cases_eq, cases_lt, cases_Bool, eq-eqb, eqb-true, ne_eqb}
 use Rattle.std.proofs.lemmas.List.Elements.{All-push}
 use Rattle.std.proofs.lemmas.List.Quantifiers.{all_pairs_push}
 use Rattle.std.proofs.lemmas.List.{append-nil, get_or-map, get_or_append_left, get_or_push, get_or_default, length-append, length-map, map-append}
+use Rattle.std.proofs.Math.Bool.{or-true}
 use Rattle.cut_definitions.specs.Graph.{Graph}
 use Rattle.cut_definitions.specs.Contraction.{label, classes, relabel, IsLabels}
 use Rattle.cut_definitions.specs.Cuts.{has}
-use Rattle.cut_definitions.proofs.ListLaws.{All-back, All-front, label_at}
+use Rattle.cut_definitions.proofs.ListLaws.{All-back, All-front, label_at, fold_max-bound}
 use Rattle.cactus_solver.specs.declared.shares.Share.{Share}
 use Rattle.cactus_solver.specs.Flat.{AddsNode, TreeLinks, is_follower}
 use Rattle.cactus_solver.specs.Grafted.{IsGrafted, IsRegionGraph, grafted_at}
@@ -130,12 +131,6 @@ classes_step labels region upto own own' classes classes' is_own h test adds = �
 
 -- ---- the labels
 
-fold_max_upto : (xs : List ℕ) (a m : ℕ) → a ≤ m → ((i : ℕ) → i < length xs → get_or xs i 0 ≤ m) → fold max a xs ≤ m
-fold_max_upto [] a m le all = le
-fold_max_upto (x ∷ xs) a m le all =
-    let first : x ≤ m = all 0 (omega arith) in
-    fold_max_upto xs (max a x) m (omega arith) (λ i l. all (suc i) (omega arith))
-
 module _ (labels : List ℕ) (region n : ℕ) (own list : List ℕ) (h : AreClasses labels region n own list) where
   -- a class is one of 1 to one more than there are vertices in the region
   class_between : (v : ℕ) → 1 ≤ v → v ≤ n → (1 ≤ label list v) × (label list v ≤ length own + 1)
@@ -151,7 +146,7 @@ module _ (labels : List ℕ) (region n : ℕ) (own list : List ℕ) (h : AreClas
       record {
         from_one = λ i d l. omega (arith, (entry i l).0, label_at list i, get_or_default list i d 0 l);
         used = λ c from to.
-            let most : classes list ≤ length own + 1 = fold_max_upto list 0 (length own + 1) (omega arith) (λ i l. omega (arith, (entry i l).1, label_at list i)) in
+            let most : classes list ≤ length own + 1 = fold_max-bound list 0 (length own + 1) (omega arith) (λ i l. omega (arith, (entry i l).1, label_at list i)) in
             ⊎_elim
             (λ (e : c ≡ 1).
             let l : 0 < length list = omega (arith, one, h.long) in
@@ -339,7 +334,7 @@ left_more labels labels' labels'' regions region before left v =
     (λ (there : has regions x ≡ true).
     let z : get_or labels' v 0 ≡ 0 = before v ∙ ap (λ (b : Bool). if b then 0 else x) there in
     let stays : get_or labels'' v 0 ≡ 0 = ⊎_elim (λ kept. kept.1 ∙ z) (λ moved. moved.1) (left_cases labels' labels'' region v left) in
-    stays ∙ sym (ap (λ (b : Bool). if b then 0 else x) (ap (λ (b : Bool). eqb region x || b) there ∙ or_true (eqb region x))))
+    stays ∙ sym (ap (λ (b : Bool). if b then 0 else x) (ap (λ (b : Bool). eqb region x || b) there ∙ or-true (eqb region x))))
     (λ (not_there : has regions x ≡ false).
     let same : get_or labels' v 0 ≡ x = before v ∙ ap (λ (b : Bool). if b then 0 else x) not_there in
     ⊎_elim
@@ -351,10 +346,6 @@ left_more labels labels' labels'' regions region before left v =
     moved.1 ∙ sym (ap (λ (b : Bool). if b then 0 else x) (ap (λ (b : Bool). b || has regions x) own)))
     (left_cases labels' labels'' region v left))
     (cases_Bool (has regions x))
-  where
-    or_true : (b : Bool) → (b || true) ≡ true
-    or_true true = refl
-    or_true false = refl
 
 -- the regions of some shares have been left, all but the first ones
 pub record HaveLeftBehind (labels : List ℕ) (shares first : List Share) (labels' : List ℕ) : Type 0 where

@@ -1,7 +1,8 @@
 -- Trees of minima: how one is built, and how the least number of a range is found from level to level.
 use Rattle.std.proofs.Common.{◌≡◌, ℕ, ◌+◌, ◌-◌, ◌*◌, ◌/◌, ◌<◌, ◌≤◌, ◌⊎◌, inl, inr, ⊎_elim, List, length, get_or, set, min, refl, sym, subst, ap, ◌∙◌, arith, get_or-set_same, get_or-set_other}
 use Rattle.std.specs.Prelude.{◌≢◌}
-use Rattle.std.proofs.lemmas.Bool.{cases_eq, cases_lt}
+use Rattle.std.proofs.lemmas.Bool.{cases_eq}
+use Rattle.cut_definitions.proofs.Values.{min_cases}
 use Rattle.canonical_cactus.specs.Minima.{IsLeast, IsMinTree}
 use Rattle.canonical_cactus.specs.declared.minima.Minima.{Minima}
 
@@ -58,16 +59,10 @@ climb_start m first last low high = record {
 
 -- the lesser of two numbers is one of them
 lesser_one : (tree : List ℕ) (first last v w : ℕ) → IsOneOf tree first last v → IsOneOf tree first last w → IsOneOf tree first last (min v w)
-lesser_one tree first last v w a b = elim (which v w) [
+lesser_one tree first last v w a b = elim (min_cases v w) [
   | inl e ↦ subst (IsOneOf tree first last) (sym e) a
   | inr e ↦ subst (IsOneOf tree first last) (sym e) b
 ]
-  where
-    which : (v w : ℕ) → (min v w ≡ v) ⊎ (min v w ≡ w)
-    which v w = elim (cases_lt v w) [
-      | inl l ↦ inl (omega (arith, l))
-      | inr l ↦ inr (omega (arith, l))
-    ]
 
 even_or_odd : (i : ℕ) → (i ≡ 2 * (i / 2)) ⊎ (i ≡ 2 * (i / 2) + 1)
 even_or_odd i = elim (cases_eq i (2 * (i / 2))) [

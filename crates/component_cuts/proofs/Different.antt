@@ -1,6 +1,5 @@
 -- Lists without repeats.
-use Rattle.std.proofs.Common.{◌≡◌, ℕ, ◌≤◌, inl, inr, ⊎_elim, Bool, true, false, List, [], ◌∷◌, ◌++◌, length, length-append, map, refl, sym, ◌∙◌, ap, subst, arith}
-use Rattle.std.specs.declared.cmp.Ordering.TheVariants.{Less}
+use Rattle.std.proofs.Common.{◌≡◌, ℕ, ◌≤◌, inl, inr, ⊎_elim, Bool, true, false, List, [], ◌∷◌, ◌++◌, length, length-append, map, sym, ◌∙◌, ap, subst, arith}
 use Rattle.std.specs.Ordering.{nat_cmp, eq_by_cmp}
 use Rattle.std.specs.Cmp.Lexicographic.{slice_cmp}
 use Rattle.std.specs.List.{Contains, IsDistinct}
@@ -8,10 +7,10 @@ use Rattle.std.specs.List.Sorted.{IsPermutation}
 use Rattle.std.proofs.lemmas.Bool.{cases_Bool, false≢true}
 use Rattle.std.proofs.lemmas.Cmp.{nat_list_cmp_total, eq_by_cmp_equiv}
 use Rattle.std.proofs.lemmas.List.Elements.{All-contains, All-contains_itself, All-weaker, All-from_recursion, recursion_from_All, Contains-append_left, Contains-append_right, Contains-append_cases}
-use Rattle.std.proofs.lemmas.Map.Keys.{IsDistinct-from_sorted, IsDistinct-cons, IsDistinct-head, IsDistinct-tail, IsDistinct-IsPermutation, sorted_head, sorted_tail}
+use Rattle.std.proofs.lemmas.Map.Keys.{IsDistinct-from_sorted, IsDistinct-cons, IsDistinct-head, IsDistinct-tail, IsDistinct-IsPermutation}
 use Rattle.std.proofs.lemmas.Map.Lookups.{exact_bytes}
 use Rattle.cut_definitions.proofs.Lists.{Contains-here, Contains-there, Contains-nil, Contains-cons_cases, Contains-from_map}
-use Rattle.cut_definitions.proofs.Orderings.{less_itself, from_is_eq}
+use Rattle.cut_definitions.proofs.Orderings.{from_is_eq}
 use Rattle.component_cuts.specs.Doubling.{AreDifferent, IsAscending}
 
 abbrev Lists : Type 0
@@ -91,31 +90,3 @@ no_more (x ∷ xs) ys h to =
       ]
     ]) in
     omega (arith, ap length r.whole, length-append r.before (x ∷ r.after), length-append r.before r.after)
-
--- ---- two ascending lists with the same members are equal
-
-after_head : (x : List ℕ) (xs : Lists) (s : List ℕ) → IsAscending (x ∷ xs) → Contains xs s → slice_cmp nat_cmp x s ≡ Less
-after_head x xs s h c = All-contains (λ y. slice_cmp nat_cmp x y ≡ Less) xs s (All-from_recursion (λ y. slice_cmp nat_cmp x y ≡ Less) xs (sorted_head (slice_cmp nat_cmp) x xs h)) c
-
-tail_in_tail : (x y : List ℕ) (xs ys : Lists) → y ≡ x → IsAscending (x ∷ xs) → ((s : List ℕ) → Contains (x ∷ xs) s → Contains (y ∷ ys) s)
-    → (s : List ℕ) → Contains xs s → Contains ys s
-tail_in_tail x y xs ys same up to s c = elim (Contains-cons_cases y ys s (to s (Contains-there x xs s c))) [
-  | inl e ↦ absurd (less_itself x (subst (λ t. slice_cmp nat_cmp x t ≡ Less) (sym e ∙ same) (after_head x xs s up c)))
-  | inr d ↦ d
-]
-
-pub only_ascending : (xs ys : List (List ℕ)) → IsAscending xs → IsAscending ys → ((s : List ℕ) → Contains xs s → Contains ys s) → ((s : List ℕ) → Contains ys s → Contains xs s) → xs ≡ ys
-only_ascending [] [] up rise to from = refl
-only_ascending [] (y ∷ ys) up rise to from = absurd (Contains-nil y (from y (Contains-here y ys)))
-only_ascending (x ∷ xs) [] up rise to from = absurd (Contains-nil x (to x (Contains-here x xs)))
-only_ascending (x ∷ xs) (y ∷ ys) up rise to from =
-    let heads : y ≡ x = elim (Contains-cons_cases y ys x (to x (Contains-here x xs))) [
-      | inl same ↦ same
-      | inr c ↦ elim (Contains-cons_cases x xs y (from y (Contains-here y ys))) [
-        | inl same ↦ sym same
-        | inr d ↦ absurd (less_itself x (nat_list_cmp_total.trans x y x (after_head x xs y up d) (after_head y ys x rise c)))
-      ]
-    ] in
-    ap (λ z. z ∷ xs) (sym heads)
-    ∙ ap (λ zs. y ∷ zs)
-    (only_ascending xs ys (sorted_tail (slice_cmp nat_cmp) x xs up) (sorted_tail (slice_cmp nat_cmp) y ys rise) (tail_in_tail x y xs ys heads up to) (tail_in_tail y x ys xs (sym heads) rise from))

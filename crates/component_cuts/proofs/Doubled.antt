@@ -10,6 +10,8 @@ use Rattle.std.proofs.lemmas.List.{length-map}
 use Rattle.std.proofs.lemmas.List.Elements.{Contains-append_left, Contains-append_right, Contains-append_cases}
 use Rattle.std.proofs.lemmas.List.Kept.{IsStrictlySortedBy-filter}
 use Rattle.std.proofs.lemmas.List.Sums.{AllPass-from_list_all, list_all-from_AllPass}
+use Rattle.std.proofs.lemmas.Cmp.{nat_list_cmp_total}
+use Rattle.std.proofs.lemmas.Map.Lookups.{exact_bytes}
 use Rattle.cut_definitions.specs.Weight.{either}
 use Rattle.cut_definitions.specs.Cuts.{has, least, sides, IsAscendingWithin, IsSide}
 use Rattle.cut_definitions.proofs.Lists.{Contains-here, Contains-nil, Contains-cons_cases, Contains-map, Contains-from_map, Contains-filter, Contains-from_filter}
@@ -18,11 +20,12 @@ use Rattle.cut_definitions.proofs.Bridge.{has_none, has_low, has_within, same_as
 use Rattle.cut_definitions.proofs.Order.{sides_sorted}
 use Rattle.cut_definitions.proofs.Bools.{in_minus, minus_first, minus_second, put_back, same_tests, minus_same, or_same}
 use Rattle.cut_definitions.proofs.Ascending.{least_has, member_within}
+use Rattle.cut_definitions.proofs.Orderings.{one_listed}
 use Rattle.component_cuts.specs.Parts.{Parts, part_at, keeps, unions, IsPart, IsDivision}
 use Rattle.component_cuts.specs.Doubling.{union_of, AreDifferent, IsAscending}
 use Rattle.component_cuts.specs.Laws.{LawOfNumber}
 use Rattle.component_cuts.proofs.Weightless.{all_parts, one_part, keeps_two, keeps_from, first_has_one, ascending_from_two, all_unions}
-use Rattle.component_cuts.proofs.Different.{different_append, different_map, different_ascending, no_more, only_ascending}
+use Rattle.component_cuts.proofs.Different.{different_append, different_map, different_ascending, no_more}
 
 -- a nonempty union of the parts 2 to k
 pub record IsUnionTo (p : Parts) (k : ℕ) (s : List ℕ) : Type 0 where
@@ -328,7 +331,7 @@ unions_ascend p = IsStrictlySortedBy-filter (slice_cmp nat_cmp) (λ side. list_a
 pub unions_sorted : (p : Parts) → IsDivision p → (list sorted : List (List ℕ)) → AreUnionsTo p (length p.parts) list → IsAscending sorted →
     ((s : List ℕ) → Contains sorted s → Contains list s) → ((s : List ℕ) → Contains list s → Contains sorted s) → sorted ≡ unions p
 unions_sorted p h list sorted are up to from =
-    only_ascending sorted (unions p) up (unions_ascend p) (λ s c. union_to p h s (are.each s (to s c))) (λ s c. from s (are.all s (union_from p h s c)))
+    one_listed nat_list_cmp_total exact_bytes sorted (unions p) up (unions_ascend p) (λ s. ((λ c. union_to p h s (are.each s (to s c))), (λ c. from s (are.all s (union_from p h s c)))))
 
 some_list : (p : Parts) → IsDivision p → (m : ℕ) → m + 1 ≤ length p.parts → (list : List (List ℕ)) × AreUnionsTo p (m + 1) list
 some_list p h zero le = ([], unions_start p h)

@@ -2,12 +2,11 @@
 use Rattle.std.proofs.Common.{◌≡◌, ℕ, suc, false, List, [], ◌∷◌, get_or, refl, sym, ◌∙◌, ap, subst, arith, true≢false}
 use Rattle.std.specs.declared.cmp.Ordering.{Ordering}
 use Rattle.std.specs.declared.cmp.Ordering.TheVariants.{Less, Equal, Greater}
-use Rattle.std.specs.Ordering.{nat_cmp, is_lt, ordering_then, ordering_reverse}
-use Rattle.std.specs.Cmp.{IsTotalOrder}
+use Rattle.std.specs.Ordering.{nat_cmp, is_lt, ordering_reverse}
 use Rattle.std.specs.Cmp.Lexicographic.{slice_cmp}
 use Rattle.std.specs.List.{All, AllPairs, Contains}
 use Rattle.std.specs.List.Sorted.{IsPermutation, IsSorted, IsStrictlySortedBy}
-use Rattle.std.proofs.lemmas.Cmp.{nat_list_cmp_total, nat_cmp_total, then_total, on_total}
+use Rattle.std.proofs.lemmas.Cmp.{nat_list_cmp_total}
 use Rattle.std.proofs.lemmas.List.{get_or_default}
 use Rattle.std.proofs.lemmas.List.Elements.{All-head, All-tail, All-map, recursion_from_All}
 use Rattle.std.proofs.lemmas.List.Sorted.{All-permutation, Contains-permutation, IsPermutation-sym, IsPermutation-map, ranks_by, sorted_far}
@@ -15,15 +14,9 @@ use Rattle.std.proofs.lemmas.Map.Lookups.{exact_bytes}
 use Rattle.cut_definitions.proofs.Lists.{Contains-map}
 use Rattle.cut_definitions.proofs.Orderings.{then_same}
 use Rattle.vertex_set.specs.Side.{VertexList}
+use Rattle.vertex_set.proofs.Compared.{side_cmp, side_total}
 use Rattle.component_cuts.specs.Doubling.{members_of, AreDifferent, IsAscending}
 use Rattle.component_cuts.proofs.Different.{different_permuted}
-
--- what `Side::compare` answers
-abbrev pub side_cmp : VertexList → VertexList → Ordering
-side_cmp x y = ordering_then (slice_cmp nat_cmp x.members y.members) (nat_cmp x.vertices y.vertices)
-
-pub side_total : IsTotalOrder side_cmp
-side_total = then_total (on_total (λ (s : VertexList). s.members) nat_list_cmp_total) (on_total (λ (s : VertexList). s.vertices) nat_cmp_total)
 
 -- over one n the members alone decide
 reversed_less : (o : Ordering) → is_lt o ≡ false → (o ≡ Equal → Less ≡ Equal) → ordering_reverse o ≡ Less

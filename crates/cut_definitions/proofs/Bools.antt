@@ -1,5 +1,5 @@
 -- Small laws on tests, which many proofs use: what std has is not here.
-use Rattle.std.proofs.Common.{◌≡◌, Bool, true, false, ◌||◌, refl, arith, sym, ◌∙◌, not, ◌&&◌, ◌⊎◌, inl, inr, ℕ, ◌≤◌}
+use Rattle.std.proofs.Common.{◌≡◌, Bool, true, false, ◌||◌, refl, arith, sym, ◌∙◌, not, ◌&&◌, ◌⊎◌, inl, inr, ℕ, ◌≤◌, ◌+◌}
 use Rattle.std.specs.Prelude.{if◌then◌else◌}
 use Rattle.std.proofs.lemmas.Bool.{false≢true, and_parts}
 
@@ -15,6 +15,9 @@ never_with_not a h k = grind arith
 
 pub not_then_never : (q : Bool) → not q ≡ true → q ≡ true → ⊥
 not_then_never q h k = grind arith
+
+pub never_apart : (a b : Bool) → a ≡ b → a ≡ true → not b ≡ true → ⊥
+never_apart a b e h k = grind arith
 
 -- twice turned
 pub twice_not : (b : Bool) → b ≡ true → not (not b) ≡ true
@@ -168,6 +171,12 @@ counted_in b m h = grind arith
 
 pub counted_out : (b : Bool) (m : ℕ) → b ≡ false → (if b then m else 0) ≡ 0
 counted_out b m h = grind arith
+
+pub counted_none : (b : Bool) (m : ℕ) → m ≡ 0 → (if b then m else 0) ≡ 0
+counted_none b m h = grind arith
+
+pub counted_sum : (b : Bool) (m k : ℕ) → (if b then m + k else 0) ≡ (if b then m else 0) + (if b then k else 0)
+counted_sum b m k = grind arith
 
 pub at_most_one : (b : Bool) (k : ℕ) → k ≡ (if b then 1 else 0) → k ≤ 1
 at_most_one b k e = grind arith

@@ -12,7 +12,7 @@ use Rattle.cut_definitions.proofs.Bridge.{Contains-mincuts_side_of}
 use Rattle.cut_definitions.proofs.Vertices.{within_or_minus, IsMinimumCut-agree}
 use Rattle.cut_definitions.proofs.ChainLaws.{IsPair, IsPair-joined, nesting}
 use Rattle.cut_definitions.proofs.ChainLists.{kept_in, kept_s, set_with_minimum, first_parts_side}
-use Rattle.cut_definitions.proofs.Bools.{in_minus, one_parts}
+use Rattle.cut_definitions.proofs.Bools.{in_minus, one_parts, same_tests}
 
 -- the first parts of a numbering, but for all of them, are just the sets of the entries
 record AreNumbered (n s t : ℕ) (set : List ℕ → VertexSet) (entries : List (List ℕ)) (count : ℕ) (part : ℕ → ℕ) : Type 0 where
@@ -280,17 +280,12 @@ with_one_more n s t set entries new pair xs xt nested old =
     p : IsPlaced n count part x
     p = placed n s t set entries count part pair a x xt
 
-    alike : (b c : Bool) → (b ≡ true → c ≡ true) → (c ≡ true → b ≡ true) → b ≡ c
-    alike true c h k = sym (h refl)
-    alike false true h k = k refl
-    alike false false h k = refl
-
     there : IsWithin n x (first_parts part p.last) → IsFirstParts n count part x
     there w = record {
       last = p.last;
       from_one = omega (arith, a.s_first, leb-true (part s) p.last (w s pair.s_from_one pair.s_to_n xs));
       below_count = p.below_count;
-      same = λ v l u. alike (x v) (first_parts part p.last v) (w v l u) (p.inside v l u);
+      same = λ v l u. same_tests (x v) (first_parts part p.last v) (w v l u) (p.inside v l u);
     }
 
 numbered : (n s t : ℕ) (set : List ℕ → VertexSet) → IsPair n s t → (entries : List (List ℕ)) →

@@ -1,6 +1,6 @@
 -- Small laws on lists, which many proofs use.
-use Rattle.std.proofs.Common.{ℕ, ◌≤◌, Bool, true, false, cond, List, ◌∷◌, length, arith, ◌≡◌, ◌<◌, refl, [], get_or, suc, map, ap, ◌+◌, ◌++◌, take, ⊎_elim, set, ◌∙◌, ◌-◌, drop, ◌⊎◌, inl, inr, sym, subst, Option, Some, zero}
-use Rattle.std.specs.List.{filter, Contains, All, AllPairs, sum_by}
+use Rattle.std.proofs.Common.{ℕ, max, ◌≤◌, Bool, true, false, cond, List, ◌∷◌, length, arith, ◌≡◌, ◌<◌, refl, [], get_or, suc, map, ap, ◌+◌, ◌++◌, take, ⊎_elim, set, ◌∙◌, ◌-◌, drop, ◌⊎◌, inl, inr, sym, subst, Option, Some, zero}
+use Rattle.std.specs.List.{filter, Contains, All, AllPairs, sum_by, fold}
 use Rattle.std.specs.Prelude.{option_to_list, slice_get}
 use Rattle.std.proofs.Math.Seq.{take-append_seam, drop-append_seam}
 use Rattle.std.proofs.lemmas.Bool.{cases_lt, cases_eq}
@@ -116,3 +116,10 @@ taken (y ∷ ys) zero x e =
 taken (y ∷ ys) (suc i) x e =
     let next : suc i + 1 ≡ suc (i + 1) = omega arith in
     ap (λ k. take k (y ∷ ys)) next ∙ ap (λ l. y ∷ l) (taken ys i x e)
+
+-- the greatest of some numbers is at most what each is at most
+pub fold_max-bound : (xs : List ℕ) (a m : ℕ) → a ≤ m → ((k : ℕ) → k < length xs → get_or xs k 0 ≤ m) → fold max a xs ≤ m
+fold_max-bound [] a m le all = le
+fold_max-bound (x ∷ xs) a m le all =
+    let first : x ≤ m = all 0 (omega arith) in
+    fold_max-bound xs (max a x) m (omega arith) (λ k l. all (suc k) (omega arith))

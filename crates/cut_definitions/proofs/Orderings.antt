@@ -1,12 +1,19 @@
 -- Small laws on orderings and on the order of lists of numbers.
 use Rattle.std.proofs.Common.{◌≡◌, ℕ, List, sym, ◌∙◌, ap, ◌<◌, ◌∷◌, refl, true≢false, subst, true}
-use Rattle.std.specs.Cmp.{nat_cmp_is}
+use Rattle.std.specs.Cmp.{nat_cmp_is, IsTotalOrder}
 use Rattle.std.specs.Cmp.Lexicographic.{slice_cmp}
 use Rattle.std.specs.Ordering.{nat_cmp, is_eq, ordering_then, is_lt}
 use Rattle.std.specs.declared.cmp.Ordering.{Ordering}
 use Rattle.std.specs.declared.cmp.Ordering.TheVariants.{Less, Equal, Greater}
 use Rattle.std.proofs.lemmas.Bool.{false≢true}
 use Rattle.std.proofs.lemmas.Cmp.{nat_list_cmp_total, eq_by_cmp_equiv, nat_cmp_total, tied_itself}
+use Rattle.std.specs.BTreeSet.{BTreeSet}
+use Rattle.std.specs.List.{Contains}
+use Rattle.std.specs.List.Sorted.{IsStrictlySortedBy}
+use Rattle.std.specs.Prelude.{◌↔◌}
+use Rattle.std.proofs.lemmas.Map.Lookups.{CmpEqualImpliesEq, btree_set_from_contains}
+use Rattle.std.proofs.lemmas.Map.Views.{btree_set_contains_iff}
+use Rattle.cut_definitions.proofs.Bools.{same_tests}
 
 -- no list is less than itself, and the first entries decide
 pub less_itself : (x : List ℕ) → slice_cmp nat_cmp x x ≡ Less → ⊥
@@ -33,3 +40,15 @@ pub from_is_eq : (o : Ordering) → is_eq o ≡ true → o ≡ Equal
 from_is_eq Less e = absurd (true≢false (sym e))
 from_is_eq Equal e = refl
 from_is_eq Greater e = absurd (true≢false (sym e))
+
+-- two lists in strict order with the same members are one
+pub one_listed : {K : Type 0} {R : K → K → Ordering} → IsTotalOrder R → CmpEqualImpliesEq R → (xs ys : List K) → IsStrictlySortedBy R xs → IsStrictlySortedBy R ys →
+    ((k : K) → Contains xs k ↔ Contains ys k) → xs ≡ ys
+one_listed {K} {R} o exact xs ys a b h =
+    let s : BTreeSet K = record { keys = xs } in
+    let t : BTreeSet K = record { keys = ys } in
+    btree_set_from_contains o s t a b
+    (λ q. same_tests _ _
+    (λ e. (btree_set_contains_iff o exact t q).1 ((h q).0 ((btree_set_contains_iff o exact s q).0 e)))
+    (λ e. (btree_set_contains_iff o exact s q).1 ((h q).1 ((btree_set_contains_iff o exact t q).0 e))))
+    exact

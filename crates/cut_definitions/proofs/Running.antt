@@ -1,9 +1,9 @@
 -- No weight is above the sum of the weights of all edges, and a running one fits.
-use Rattle.std.proofs.Common.{ℕ, ◌+◌, ◌<◌, ◌≤◌, Bool, List, length, take, get_or, arith}
+use Rattle.std.proofs.Common.{ℕ, ◌+◌, ◌^◌, ◌<◌, ◌≤◌, Bool, List, length, take, get_or, arith}
 use Rattle.std.specs.List.{sum_by}
 use Rattle.std.proofs.lemmas.List.Sums.{sum_by_more_le_part}
 use Rattle.cut_definitions.specs.declared.edge_list.Edge.{Edge}
-use Rattle.cut_definitions.specs.Graph.{Graph}
+use Rattle.cut_definitions.specs.Graph.{Graph, IsGraph}
 use Rattle.cut_definitions.specs.Weight.{VertexSet, weight, between}
 use Rattle.cut_definitions.proofs.Sums.{sum_by-le_each}
 use Rattle.cut_definitions.proofs.WeightLaws.{cut_of, cut_term, join_of, join_term}
@@ -29,3 +29,6 @@ weight-le_total g s = sum_by-le_each (cut_term s) (λ (e : Edge). e.w) (λ e. cu
 pub between-le_total : (g : Graph) (s t : VertexSet) → between g s t ≤ sum_by (λ (e : Edge). e.w) g.edges
 between-le_total g s t =
     sum_by-le_each (join_term s t) (λ (e : Edge). e.w) (λ e. join_of-le (s e.u) (s e.v) (t e.u) (t e.v) e.w) g.edges
+
+pub between_small : (g : Graph) → IsGraph g → (s t : VertexSet) → between g s t ≤ 2 ^ 61
+between_small g ok s t = omega (arith, between-le_total g s t, ok.total)

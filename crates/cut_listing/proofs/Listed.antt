@@ -12,7 +12,7 @@ use Rattle.std.proofs.lemmas.List.Elements.{All-nil, All-take, All-weaker, All-c
 use Rattle.std.proofs.lemmas.Map.Keys.{sorted_head, sorted_tail}
 use Rattle.std.proofs.lemmas.Map.Lookups.{exact_bytes}
 use Rattle.cut_definitions.proofs.Lists.{Contains-here, Contains-there, Contains-cons_cases, Contains-nil}
-use Rattle.cut_definitions.proofs.Orderings.{less_itself}
+use Rattle.cut_definitions.proofs.Orderings.{one_listed}
 use Rattle.cactus_tree.specs.Different.{AreDifferent}
 use Rattle.cut_listing.specs.Listings.{IsAscending, IsListing, put, put_by, different}
 
@@ -54,29 +54,6 @@ pub ascending_take : (count : ℕ) (xs : Lists) → IsAscending xs → IsAscendi
 ascending_take zero xs h = ascending_nil
 ascending_take (suc count) [] h = ascending_nil
 ascending_take (suc count) (x ∷ xs) h = ascending_cons x (take count xs) (All-take (λ y. cmp x y ≡ Less) count xs (all_after x xs h)) (ascending_take count xs (sorted_tail cmp x xs h))
-
--- ---- two ascending lists with the same members are equal
-tail_in_tail : (x y : List ℕ) (xs ys : Lists) → y ≡ x → IsAscending (x ∷ xs) → ((s : List ℕ) → Contains (x ∷ xs) s → Contains (y ∷ ys) s)
-    → (s : List ℕ) → Contains xs s → Contains ys s
-tail_in_tail x y xs ys same up to s c = elim (Contains-cons_cases y ys s (to s (Contains-there x xs s c))) [
-  | inl e ↦ absurd (less_itself x (subst (λ t. cmp x t ≡ Less) (sym e ∙ same) (after_head x xs s up c)))
-  | inr d ↦ d
-]
-
-pub only_listing : (xs ys : List (List ℕ)) → IsAscending xs → IsAscending ys → ((s : List ℕ) → Contains xs s → Contains ys s) → ((s : List ℕ) → Contains ys s → Contains xs s) → xs ≡ ys
-only_listing [] [] up rise to from = refl
-only_listing [] (y ∷ ys) up rise to from = absurd (Contains-nil y (from y (Contains-here y ys)))
-only_listing (x ∷ xs) [] up rise to from = absurd (Contains-nil x (to x (Contains-here x xs)))
-only_listing (x ∷ xs) (y ∷ ys) up rise to from =
-    let heads : y ≡ x = elim (Contains-cons_cases y ys x (to x (Contains-here x xs))) [
-      | inl same ↦ same
-      | inr c ↦ elim (Contains-cons_cases x xs y (from y (Contains-here y ys))) [
-        | inl same ↦ sym same
-        | inr d ↦ absurd (less_itself x (less_on x y x (after_head x xs y up d) (after_head y ys x rise c)))
-      ]
-    ] in
-    ap (λ z. z ∷ xs) (sym heads)
-    ∙ ap (λ zs. y ∷ zs) (only_listing xs ys (sorted_tail cmp x xs up) (sorted_tail cmp y ys rise) (tail_in_tail x y xs ys heads up to) (tail_in_tail y x ys xs (sym heads) rise from))
 
 -- ---- putting a list into a listing
 at_order_of : (P : Lists → Type 0) (x y : List ℕ) (ys more : Lists) (o : Ordering) → cmp x y ≡ o
@@ -165,7 +142,7 @@ different_is_listing xs = record { ascending = different_ascending xs; same = λ
 
 -- an ascending list with the same members is the listing
 pub is_different : (xs ys : List (List ℕ)) → IsAscending ys → ((s : List ℕ) → Contains ys s → Contains xs s) → ((s : List ℕ) → Contains xs s → Contains ys s) → ys ≡ different xs
-is_different xs ys up from to = only_listing ys (different xs) up (different_ascending xs) (λ s c. different_to xs s (from s c)) (λ s c. to s (different_from xs s c))
+is_different xs ys up from to = one_listed nat_list_cmp_total exact_bytes ys (different xs) up (different_ascending xs) (λ s. ((λ c. different_to xs s (from s c)), (λ c. to s (different_from xs s c))))
 
 pub different_itself : (xs : List (List ℕ)) → IsAscending xs → different xs ≡ xs
 different_itself xs up = sym (is_different xs xs up (λ s c. c) (λ s c. c))

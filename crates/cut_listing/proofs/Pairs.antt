@@ -6,6 +6,7 @@ use Rattle.std.proofs.lemmas.Bool.{and_parts, cases_Bool, eq-eqb, leb-true, lt-l
 use Rattle.std.proofs.lemmas.List.Elements.{All-contains}
 use Rattle.std.proofs.lemmas.List.FromFn.{get_or-range_with_len, length-range_with_len}
 use Rattle.std.proofs.lemmas.List.Sums.{get_or-le-sum_by, sum_by-cons}
+use Rattle.std.proofs.Math.Bool.{or-true}
 use Rattle.cut_definitions.specs.Balance.{mass, mass_of}
 use Rattle.cut_definitions.specs.Cuts.{has, IsAscendingWithin}
 use Rattle.cut_definitions.specs.Weight.{VertexSet, complement, parts}
@@ -68,7 +69,7 @@ module _ (n u v : ℕ) (masses : List ℕ) (are : ArePairMasses n u v masses) (u
         le-leb 1 (mass masses s) (omega (arith, one, own_mass masses s u u_from (omega (arith, u_to, are.many)) held)) ∙ sym (ap (λ b. b || s v) held)
     | inr lacks ↦ elim (cases_Bool (s v)) [
       | inl held ↦
-          let one : mass_of masses v ≡ 1 = are.ones v v_from v_to ∙ ap (λ b. if (v == u) || b then 1 else 0) (eq-eqb v v refl) ∙ ap (λ b. if b then 1 else 0) (or_yes (v == u)) in
+          let one : mass_of masses v ≡ 1 = are.ones v v_from v_to ∙ ap (λ b. if (v == u) || b then 1 else 0) (eq-eqb v v refl) ∙ ap (λ b. if b then 1 else 0) (or-true (v == u)) in
           le-leb 1 (mass masses s) (omega (arith, one, own_mass masses s v v_from (omega (arith, v_to, are.many)) held)) ∙ sym (ap (λ b. b || s v) lacks ∙ held)
       | inr out ↦
           let none : mass masses s ≡ 0 = no_mass masses s (λ w l h there. are.ones w l (omega (arith, h, are.many))
@@ -77,10 +78,6 @@ module _ (n u v : ℕ) (masses : List ℕ) (are : ArePairMasses n u v masses) (u
           lt-leb 1 (mass masses s) (omega (arith, none)) ∙ sym (ap (λ b. b || s v) lacks ∙ out)
     ]
   ]
-    where
-      or_yes : (a : Bool) → (a || true) ≡ true
-      or_yes true = refl
-      or_yes false = refl
 
   -- a balance of 1 or more parts the two
   pub balanced_parts : (side : List ℕ) → is_balanced masses 1 side ≡ parts (has side) u v

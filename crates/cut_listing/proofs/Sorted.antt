@@ -1,14 +1,12 @@
 -- Sides over one n, sorted, are their listing, where they are different.
 use Rattle.std.proofs.Common.{◌≡◌, ℕ, suc, ◌≤◌, Bool, cond, inl, inr, List, [], ◌∷◌, length, get_or, refl, sym, ◌∙◌, ap, subst, arith}
-use Rattle.std.specs.declared.cmp.Ordering.{Ordering}
 use Rattle.std.specs.declared.cmp.Ordering.TheVariants.{Less, Equal}
-use Rattle.std.specs.Ordering.{nat_cmp, eq_by_cmp, ordering_then}
-use Rattle.std.specs.Cmp.{IsTotalOrder}
+use Rattle.std.specs.Ordering.{nat_cmp, eq_by_cmp}
 use Rattle.std.specs.Cmp.Lexicographic.{slice_cmp}
 use Rattle.std.specs.List.{All, Contains, dedup, dedup_from}
 use Rattle.std.proofs.lemmas.Bool.{cases_Bool}
 use Rattle.std.specs.List.Sorted.{IsStrictlySortedBy, IsPermutation, IsSorted}
-use Rattle.std.proofs.lemmas.Cmp.{nat_list_cmp_total, nat_cmp_total, then_total, on_total, eq_by_cmp_equiv}
+use Rattle.std.proofs.lemmas.Cmp.{eq_by_cmp_equiv}
 use Rattle.std.proofs.lemmas.List.{length-map}
 use Rattle.std.proofs.lemmas.List.Elements.{All-head, All-tail, All-map, All-from_recursion}
 use Rattle.std.proofs.lemmas.List.Filters.{All-dedup}
@@ -19,16 +17,10 @@ use Rattle.std.proofs.lemmas.Map.Lookups.{exact_bytes, exact_unsigned}
 use Rattle.cut_definitions.proofs.Lists.{Contains-map, Contains-from_map}
 use Rattle.cut_definitions.proofs.Orderings.{then_parts, then_same, from_is_eq}
 use Rattle.vertex_set.specs.Side.{VertexList}
+use Rattle.vertex_set.proofs.Compared.{side_cmp, side_total}
 use Rattle.cactus_tree.specs.Different.{AreDifferent}
 use Rattle.cut_listing.specs.Listings.{IsAscending, members_of, different}
 use Rattle.cut_listing.proofs.Listed.{all_different, ascending_cons, ascending_nil, is_different}
-
--- what `Side::compare` answers
-abbrev pub side_cmp : VertexList → VertexList → Ordering
-side_cmp x y = ordering_then (slice_cmp nat_cmp x.members y.members) (nat_cmp x.vertices y.vertices)
-
-pub side_total : IsTotalOrder side_cmp
-side_total = then_total (on_total (λ (s : VertexList). s.members) nat_list_cmp_total) (on_total (λ (s : VertexList). s.vertices) nat_cmp_total)
 
 equal_sides : (x y : VertexList) → x.members ≡ y.members → x.vertices ≡ y.vertices → x ≡ y
 equal_sides x y e f = λ i. record { vertices = f i; members = e i }

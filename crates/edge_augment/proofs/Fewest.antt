@@ -7,6 +7,7 @@ use Rattle.std.proofs.lemmas.List.Elements.{All-contains}
 use Rattle.cut_definitions.specs.Cuts.{has, side_of}
 use Rattle.cut_definitions.proofs.Bridge.{has-side_of}
 use Rattle.cut_definitions.proofs.Lists.{Contains-here, Contains-there, Contains-cons_cases, Contains-nil, Contains-from_filter}
+use Rattle.cut_definitions.proofs.Bools.{not_then_never}
 use Rattle.cactus_tree.specs.Places.{IsVertex}
 use Rattle.edge_augment.specs.Ends.{end_sets}
 use Rattle.edge_augment.specs.Laws.{LawOfFewest}
@@ -44,13 +45,9 @@ IsHit ends l = (w : ℕ) × Contains ends w × (has l w ≡ true)
 
 hit_rest : (w : ℕ) (ws l : List ℕ) → not (has l w) ≡ true → IsHit (w ∷ ws) l → IsHit ws l
 hit_rest w ws l n h = elim (Contains-cons_cases w ws h.0 h.1) [
-  | inl e ↦ absurd (no (has l w) n (subst (λ v. has l v ≡ true) (sym e) h.2))
+  | inl e ↦ absurd (not_then_never (has l w) n (subst (λ v. has l v ≡ true) (sym e) h.2))
   | inr k ↦ (h.0, k, h.2)
 ]
-  where
-    no : (b : Bool) → not b ≡ true → b ≡ true → ⊥
-    no true n h = false≢true n
-    no false n h = false≢true h
 
 -- lists that share no number, each with one of the numbers, are no more than these
 hit_count : (ends : List ℕ) (xs : Lists) → ((v : ℕ) → count v xs ≤ 1) → ((l : List ℕ) → Contains xs l → IsHit ends l) → length xs ≤ length ends

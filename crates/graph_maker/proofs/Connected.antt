@@ -1,11 +1,12 @@
 -- The made graph is connected: a set of weight 0 has all of its vertices or none.
 use Rattle.std.proofs.Common.{◌≡◌, ℕ, zero, suc, ◌+◌, ◌-◌, ◌*◌, ◌/◌, ◌<◌, ◌≤◌, ⊎_elim, Bool, true, false, not, cond, get_or, refl, sym, ap, subst, ◌∙◌, arith}
 use Rattle.std.specs.List.{Contains}
-use Rattle.std.proofs.lemmas.Bool.{cases_eq, cases_lt, false≢true}
+use Rattle.std.proofs.lemmas.Bool.{cases_eq, cases_lt}
 use Rattle.std.proofs.lemmas.List.Sums.{get_or-le-sum_by}
 use Rattle.cut_definitions.specs.declared.edge_list.Edge.{Edge}
 use Rattle.cut_definitions.specs.Graph.{Graph}
 use Rattle.cut_definitions.specs.Weight.{VertexSet, parts, weight, IsCut}
+use Rattle.cut_definitions.proofs.Bools.{never_apart}
 use Rattle.graph_maker.specs.Made.{double, five_edges, made_graph, LawOfConnectedMaking}
 use Rattle.graph_maker.proofs.Making.{making, first_of_five, second_of_five, third_of_five, fifth_of_five, link_on}
 
@@ -77,11 +78,6 @@ pub connected_making : LawOfConnectedMaking
 unfolding made_graph
 connected_making number low high = record { some_vertex = omega arith; each_cut = λ s cut. far s cut }
   where
-    apart : (a b : Bool) → a ≡ b → a ≡ true → not b ≡ true → ⊥
-    apart true true e p q = false≢true q
-    apart true false e p q = false≢true (sym e)
-    apart false b e p q = false≢true p
-
     far : (s : VertexSet) → IsCut (made_graph number).vertices s → 1 ≤ weight (made_graph number) s
     far s cut =
         let p = cut.some_in in
@@ -91,6 +87,6 @@ connected_making number low high = record { some_vertex = omega arith; each_cut 
         let none : weight (made_graph number) s ≡ 0 = omega (arith, less) in
         let at_p : s 1 ≡ s p.vertex = same_all number low high s none p.vertex p.from_one p.to_n in
         let at_q : s 1 ≡ s q.vertex = same_all number low high s none q.vertex q.from_one q.to_n in
-        absurd (apart (s p.vertex) (s q.vertex) (sym at_p ∙ at_q) p.is_in q.is_in))
+        absurd (never_apart (s p.vertex) (s q.vertex) (sym at_p ∙ at_q) p.is_in q.is_in))
         (λ (far : 1 ≤ weight (made_graph number) s). far)
         (cases_lt (weight (made_graph number) s) 1)

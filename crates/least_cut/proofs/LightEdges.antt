@@ -3,7 +3,7 @@ use Rattle.std.proofs.Common.{◌≡◌, ℕ, zero, suc, ◌+◌, ◌*◌, ◌<�
 use Rattle.std.specs.Prelude.{◌≢◌, if◌then◌else◌}
 use Rattle.std.specs.List.{All, AllPairs, filter, range_with_len, sum_by}
 use Rattle.std.proofs.Math.Nat.{mul_assoc, mul_comm, mul-suc, suc-mul, mul-le-mul_left}
-use Rattle.std.proofs.lemmas.Bool.{cases_eq, cases_lt, ne_eqb}
+use Rattle.std.proofs.lemmas.Bool.{cases_eq, cases_lt}
 use Rattle.std.proofs.lemmas.List.Elements.{All-head, All-tail, All-weaker}
 use Rattle.std.proofs.lemmas.List.Filters.{length-filter_both}
 use Rattle.std.proofs.lemmas.List.FromFn.{length-range_with_len}
@@ -21,6 +21,7 @@ use Rattle.weighted_graph.specs.declared.graph.Arc.{Arc}
 use Rattle.weighted_graph.specs.RowLaws.{no_edge, IsArcAt}
 use Rattle.weighted_graph.specs.Rows.{row_of, weight_in}
 use Rattle.weighted_graph.proofs.RowLaws.{row_arcs, row_ascends, to_term, to_term-le, weight_to_is}
+use Rattle.weighted_graph.proofs.RowSearch.{term_elsewhere}
 use Rattle.least_cut.specs.Sweep.{AreLight, HasDegrees}
 use Rattle.least_cut.proofs.Even.{alone}
 
@@ -33,15 +34,12 @@ more_degrees g low v before here u one l =
 
 -- ---- the weight from a vertex to a list of vertices: at most the heaviest edge for each of these
 
-off : (u : ℕ) (a : Arc) → u ≢ a.to → to_term u a ≡ 0
-off u a ne = rw (ne_eqb u a.to ne) refl
-
 -- arcs that all lead to greater vertices
 later_none : (u : ℕ) (row : List Arc) → All (λ (a : Arc). u < a.to) row → weight_in row u ≡ 0
 later_none u [] after = refl
 later_none u (a ∷ row) after =
     let l : u < a.to = All-head (λ (b : Arc). u < b.to) a row after in
-    omega (arith, sum_by-cons (to_term u) a row, off u a (λ e. omega (arith, e, l)), later_none u row (All-tail (λ (b : Arc). u < b.to) a row after))
+    omega (arith, sum_by-cons (to_term u) a row, term_elsewhere u a (λ e. omega (arith, e, l)), later_none u row (All-tail (λ (b : Arc). u < b.to) a row after))
 
 weight_in-le : (heavy u : ℕ) (row : List Arc) → AllPairs (λ (a b : Arc). a.to < b.to) row → All (λ (a : Arc). a.weight ≤ heavy) row → weight_in row u ≤ heavy
 weight_in-le heavy u [] pairs light = omega arith
@@ -53,7 +51,7 @@ weight_in-le heavy u (a ∷ row) pairs light =
     (λ (ne : u ≢ a.to). omega (
       arith,
       sum_by-cons (to_term u) a row,
-      off u a ne,
+      term_elsewhere u a ne,
       weight_in-le heavy u row (AllPairs-rest (λ (b c : Arc). b.to < c.to) a row pairs) (All-tail (λ (b : Arc). b.weight ≤ heavy) a row light),
     ))
     (cases_eq u a.to)

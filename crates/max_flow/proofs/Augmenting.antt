@@ -1,6 +1,6 @@
 -- A flow after one more path, and where no path is left.
-use Rattle.std.proofs.Common.{◌≡◌, ℕ, ◌+◌, ◌^◌, ◌<◌, ◌≤◌, Bool, true, false, List, map, length, refl, sym, ◌∙◌, arith}
-use Rattle.std.specs.Prelude.{◌≢◌, if◌then◌else◌}
+use Rattle.std.proofs.Common.{◌≡◌, ℕ, ◌+◌, ◌^◌, ◌<◌, ◌≤◌, true, false, List, map, length, refl, sym, ◌∙◌, arith}
+use Rattle.std.specs.Prelude.{◌≢◌}
 use Rattle.std.proofs.lemmas.Bool.{eq-eqb, ne_eqb}
 use Rattle.std.proofs.lemmas.List.{get_or-map, length-map}
 use Rattle.cut_definitions.specs.declared.edge_list.Edge.{Edge}
@@ -9,6 +9,7 @@ use Rattle.cut_definitions.specs.Weight.{VertexSet, parts}
 use Rattle.cut_definitions.specs.Scan.{single}
 use Rattle.cut_definitions.proofs.Running.{weight-le_total}
 use Rattle.cut_definitions.proofs.Numbers.{positive_yes}
+use Rattle.cut_definitions.proofs.Bools.{counted_sum}
 use Rattle.max_flow.specs.declared.search.Step.{Step}
 use Rattle.max_flow.specs.Residual.{out, counted, IsResidual, IsFlow, IsLeastBetween}
 use Rattle.max_flow.specs.Closed.{IsSourceSide}
@@ -30,16 +31,13 @@ flow_of_nothing g s t =
 -- ---- one more path
 
 -- two amounts are counted as their sum
-counted-sum : (b : Bool) (f d : ℕ) → (if b then f + d else 0) ≡ (if b then f else 0) + (if b then d else 0)
-counted-sum b f d = grind arith
-
 -- a push from s to t makes a flow greater by the amount pushed
 pub flow_more : (g : Graph) (s t total amount : ℕ) (old new : List ℕ) → IsFlow g s t total old → IsResidual g new →
     ((side : VertexSet) → out g.edges new side + counted side s amount ≡ out g.edges old side + counted side t amount) →
     IsFlow g s t (total + amount) new
 flow_more g s t total amount old new h r pushed = record {
   residual = r;
-  balance = λ side. omega (arith, h.balance side, pushed side, counted-sum (side s) total amount, counted-sum (side t) total amount);
+  balance = λ side. omega (arith, h.balance side, pushed side, counted_sum (side s) total amount, counted_sum (side t) total amount);
 }
 
 -- a flow is at most the weight of its first vertex alone

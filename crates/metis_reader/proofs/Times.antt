@@ -8,6 +8,7 @@ use Rattle.std.proofs.lemmas.List.{get_or_default}
 use Rattle.std.proofs.lemmas.List.Sums.{sum_by-cons}
 use Rattle.cut_definitions.specs.declared.edge_list.Edge.{Edge}
 use Rattle.cut_definitions.specs.Graph.{IsBefore}
+use Rattle.cut_definitions.proofs.Ascending.{IsBefore-irreflexive}
 use Rattle.metis_reader.specs.declared.mates.End.{End}
 use Rattle.metis_reader.specs.declared.mates.End.TheVariants.{Lesser, Greater}
 use Rattle.metis_reader.specs.Mates.{IsAscending, end_of, is_pair, times, Repeats, IsOnce, RepeatsAt, IsOnceAt, IsAtMost, IsLesserOf, IsLesserOfBoth}
@@ -144,10 +145,7 @@ steps_none end xs n found le steps = strict_all xs n found le (strict_from end x
 
 -- between two equal pairs of an ascending list all pairs are equal
 not_after : (xs : List Edge) → IsAscending xs → (gap i : ℕ) (d : Edge) → i + gap < length xs → IsBefore (get_or xs (i + gap) d) (get_or xs i d) → ⊥
-not_after xs up zero i d lt h = let e : i + 0 ≡ i = omega arith in irreflexive (get_or xs i d) (subst (λ k. IsBefore (get_or xs k d) (get_or xs i d)) e h)
-  where
-    irreflexive : (e : Edge) → IsBefore e e → ⊥
-    irreflexive e h = grind arith
+not_after xs up zero i d lt h = let e : i + 0 ≡ i = omega arith in IsBefore-irreflexive (get_or xs i d) (subst (λ k. IsBefore (get_or xs k d) (get_or xs i d)) e h)
 not_after xs up (suc gap) i d lt h =
     let e : i + suc gap ≡ (i + gap) + 1 = omega arith in
     further (get_or xs i d) (get_or xs (i + gap) d) (get_or xs (i + gap + 1) d) (not_after xs up gap i d (omega arith)) (up (i + gap) d (omega arith)) (subst (λ k. IsBefore (get_or xs k d) (get_or xs i d)) e h)

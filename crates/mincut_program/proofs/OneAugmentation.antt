@@ -1,19 +1,14 @@
 -- Of the texts of an augmentation a graph has one: the end nodes of its canonical cactus stand in one order.
 use Rattle.std.proofs.Common.{◌≡◌, ℕ, inl, true, List, [], ◌∷◌, map, ap, ◌∙◌, sym, subst, refl}
-use Rattle.std.specs.BTreeSet.{BTreeSet}
-use Rattle.std.specs.Cmp.{IsTotalOrder}
 use Rattle.std.specs.List.{Contains}
-use Rattle.std.specs.List.Sorted.{IsStrictlySortedBy}
 use Rattle.std.specs.Ordering.{nat_cmp}
 use Rattle.std.specs.Prelude.{◌↔◌}
-use Rattle.std.specs.declared.cmp.Ordering.{Ordering}
 use Rattle.std.proofs.lemmas.Cmp.{nat_list_cmp_total}
-use Rattle.std.proofs.lemmas.Map.Lookups.{CmpEqualImpliesEq, btree_set_from_contains, exact_bytes, exact_pairs, exact_unsigned}
-use Rattle.std.proofs.lemmas.Map.Views.{btree_set_contains_iff}
+use Rattle.std.proofs.lemmas.Map.Lookups.{exact_bytes, exact_pairs, exact_unsigned}
 use Rattle.cut_definitions.specs.Graph.{Graph}
 use Rattle.cut_definitions.specs.Weight.{VertexSet}
 use Rattle.cut_definitions.specs.Cuts.{has, value}
-use Rattle.cut_definitions.proofs.Bools.{same_tests}
+use Rattle.cut_definitions.proofs.Orderings.{one_listed}
 use Rattle.cactus_tree.specs.Sides.{part}
 use Rattle.cactus_tree.specs.Rooted.{Rooted, IsCactus}
 use Rattle.cactus_tree.specs.Different.{HaveSameSides}
@@ -71,18 +66,6 @@ ends_over m n c d e hc hd kc kd =
 one_ends : (g : Graph) (c d : Rooted) → IsCactusOf g c → IsCactusOf g d → end_sets c.root ≡ end_sets d.root
 one_ends g c d a b =
     ends_over c.vertices d.vertices c.root d.root (a.over ∙ sym b.over) a.is_cactus b.is_cactus a.canonical b.canonical (same_sides g c d a b)
-
--- ---- two lists in strict order with the same members are one
-one_listed : {K : Type 0} {R : K → K → Ordering} → IsTotalOrder R → CmpEqualImpliesEq R → (xs ys : List K) → IsStrictlySortedBy R xs → IsStrictlySortedBy R ys →
-    ((k : K) → Contains xs k ↔ Contains ys k) → xs ≡ ys
-one_listed {K} {R} o exact xs ys a b h =
-    let s : BTreeSet K = record { keys = xs } in
-    let t : BTreeSet K = record { keys = ys } in
-    btree_set_from_contains o s t a b
-    (λ q. same_tests _ _
-    (λ e. (btree_set_contains_iff o exact t q).1 ((h q).0 ((btree_set_contains_iff o exact s q).0 e)))
-    (λ e. (btree_set_contains_iff o exact s q).1 ((h q).1 ((btree_set_contains_iff o exact t q).0 e))))
-    exact
 
 -- ---- the text
 module _ (g : Graph) (t u : List ℕ) (a : IsAugmentText g t) (b : IsAugmentText g u) where

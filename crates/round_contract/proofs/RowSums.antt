@@ -15,7 +15,6 @@ use Rattle.cut_definitions.specs.Graph.{Graph, IsEdgeList, IsEdgeWithin, IsGraph
 use Rattle.cut_definitions.specs.Weight.{VertexSet, between}
 use Rattle.cut_definitions.specs.Scan.{single}
 use Rattle.cut_definitions.specs.Contraction.{label, classes, class, relabel}
-use Rattle.cut_definitions.proofs.Running.{between-le_total}
 use Rattle.cut_definitions.proofs.Sums.{sum_by-plus, sum_by-none, sum_by-same, sum_by-same_on}
 use Rattle.cut_definitions.proofs.WeightLaws.{join_of, join_term}
 use Rattle.cut_definitions.proofs.Ranges.{range_push}
@@ -134,9 +133,6 @@ module _ (g : Graph) (labels : List ℕ) (c b from v : ℕ) (l : c < b) (f : IsF
 -- the arcs of a vertex to a class weigh what lies between them
 pub toward_is : (g : Graph) → IsGraph g → (labels : List ℕ) (b v : ℕ) → toward labels b (row_of g v) ≡ between g (single v) (class labels b)
 toward_is g ok labels b v = (law_of_rows g ok v).weight_to (class labels b)
-
-pub light : (g : Graph) → IsGraph g → (s t : VertexSet) → between g s t ≤ 2 ^ 61
-light g ok s t = omega (arith, between-le_total g s t, ok.total)
 
 none_joined : (l m : Bool) (u v : ℕ) (c d : Bool) (w : ℕ) → 1 ≤ u → 1 ≤ v → join_of (l && ltb u 1) (m && ltb v 1) c d w ≡ 0
 none_joined l m u v c d w a b = grind (arith, nat_tests)

@@ -7,6 +7,7 @@ use Rattle.cut_definitions.specs.Weight.{VertexSet, weight, IsCut}
 use Rattle.cut_definitions.specs.Cuts.{has, IsAscendingWithin}
 use Rattle.cut_definitions.proofs.Bridge.{same_ascending}
 use Rattle.cut_definitions.specs.Components.{IsConnected, AreJoined, HasComponents}
+use Rattle.cut_definitions.proofs.Bools.{never_apart}
 use Rattle.weighted_graph.specs.Components.{LawOfOneComponent}
 
 -- vertex 1 is the first of its component
@@ -52,11 +53,6 @@ has_vertex g count h is = first_within g.vertices h.firsts h.ascending (sym h.co
 connected_from_one : (g : Graph) (count : ℕ) (h : HasComponents g count) → 1 ≤ g.vertices → count ≡ 1 → IsConnected g
 connected_from_one g count h one is = record { some_vertex = one; each_cut = λ s cut. far s cut }
   where
-    apart : (a b : Bool) → a ≡ b → a ≡ true → not b ≡ true → ⊥
-    apart true true e p q = false≢true q
-    apart true false e p q = false≢true (sym e)
-    apart false b e p q = false≢true p
-
     far : (s : VertexSet) → IsCut g.vertices s → 1 ≤ weight g s
     far s cut =
         let p = cut.some_in in
@@ -67,7 +63,7 @@ connected_from_one g count h one is = record { some_vertex = one; each_cut = λ 
         let none : weight g s ≡ 0 = omega arith in
         let at_p : s 1 ≡ s p.vertex = joined p.vertex p.to_n p.from_one p.to_n s none in
         let at_q : s 1 ≡ s q.vertex = joined q.vertex q.to_n q.from_one q.to_n s none in
-        absurd (apart (s p.vertex) (s q.vertex) (sym at_p ∙ at_q) p.is_in q.is_in))
+        absurd (never_apart (s p.vertex) (s q.vertex) (sym at_p ∙ at_q) p.is_in q.is_in))
         (λ (g : 1 ≤ weight g s). g)
         (cases_lt (weight g s) 1)
 

@@ -1,5 +1,5 @@
 -- The merged edges between the classes are those of the contracted graph.
-use Rattle.std.proofs.Common.{◌≡◌, ℕ, ◌+◌, ◌<◌, ◌≤◌, ⊎_elim, Bool, ◌&&◌, eqb, ltb, min, max, List, [], ◌∷◌, map, length, sym, ◌∙◌, ap, arith, length-append}
+use Rattle.std.proofs.Common.{◌≡◌, ℕ, ◌+◌, ◌<◌, ◌≤◌, ⊎_elim, ◌&&◌, eqb, ltb, min, max, List, [], ◌∷◌, map, length, sym, ◌∙◌, ap, arith, length-append}
 use Rattle.std.specs.Prelude.{◌≢◌, if◌then◌else◌}
 use Rattle.std.specs.List.{sum_by, All, flat_map}
 use Rattle.std.specs.List.Sorted.{IsPermutation}
@@ -16,6 +16,7 @@ use Rattle.cut_definitions.proofs.Sums.{sum_by-same, sum_by-le_each}
 use Rattle.cut_definitions.proofs.WeightLaws.{join_of, join_term}
 use Rattle.cut_definitions.proofs.Contracted.{sum_by-map, sum_by-filter, sum_by-flat_map, sum_by-pairs_one}
 use Rattle.cut_definitions.proofs.Numbers.{not_positive}
+use Rattle.cut_definitions.proofs.Bools.{counted_none}
 use Rattle.weighted_graph.specs.ContractionLaws.{IsLabelled}
 use Rattle.weighted_graph.specs.Merging.{pair_term, pair_weight, between_classes}
 use Rattle.weighted_graph.proofs.Contraction.{law_of_contracted_graph}
@@ -106,14 +107,11 @@ unfolding relabel
 relabel_pair g labels a b one ab bk =
     let k = classes labels in
     let make : ℕ × ℕ → Edge = λ p. record { u = p.0; v = p.1; w = between g (class labels p.0) (class labels p.1) } in
-    sum_by-filter (pair_term a b) (λ e. ltb 0 e.w) (λ e h. zero_either (eqb e.u a && eqb e.v b) e.w (not_positive e.w h)) (map make (pairs k))
+    sum_by-filter (pair_term a b) (λ e. ltb 0 e.w) (λ e h. counted_none (eqb e.u a && eqb e.v b) e.w (not_positive e.w h)) (map make (pairs k))
     ∙ (sum_by-map (pair_term a b) make (pairs k)
     ∙ (sum_by-pairs_one (λ p. pair_term a b (make p)) k a b one ab bk
     (λ i j l ne. pair_term-other i j a b (between g (class labels i) (class labels j)) (λ p q. ⊎_elim (λ (u : i ≢ a). u p) (λ (u : j ≢ b). u q) ne))
     ∙ pair_term-same a b (between g (class labels a) (class labels b))))
-  where
-    zero_either : (c : Bool) (w : ℕ) → w ≡ 0 → (if c then w else 0) ≡ 0
-    zero_either c w z = grind arith
 
 pub merged_is_relabel : (g : Graph) → IsGraph g → (labels : List ℕ) → IsLabelled g labels → (sorted : List Edge) (merged : Graph) →
     IsPermutation (flat_map (between_classes labels) g.edges) sorted → merged.vertices ≡ classes labels → IsEdgeList merged →

@@ -37,7 +37,7 @@ Ascends row = AllPairs (λ (a b : Arc). a.to < b.to) row
 term_here : (v : ℕ) (a : Arc) → a.to ≡ v → to_term v a ≡ a.weight
 term_here v a e = rw (eq-eqb v a.to (sym e)) refl
 
-term_elsewhere : (v : ℕ) (a : Arc) → v ≢ a.to → to_term v a ≡ 0
+pub term_elsewhere : (v : ℕ) (a : Arc) → v ≢ a.to → to_term v a ≡ 0
 term_elsewhere v a ne = rw (ne_eqb v a.to ne) refl
 
 -- an arc of a row weighs what the row has to its other end

@@ -2,7 +2,8 @@ use Rattle.std.proofs.Common.{◌≡◌, rules}
 use Rattle.std.specs.Ordering.{is_lt}
 use Rattle.std.proofs.lemmas.List.Sorted.{All-permutation, ranks_by, answers_always}
 use Rattle.vertex_set.specs.Side.{VertexList}
-use Rattle.component_cuts.proofs.Sorted.{side_cmp, side_total, sorted_ascends, same_members}
+use Rattle.vertex_set.proofs.Compared.{side_cmp, side_total}
+use Rattle.component_cuts.proofs.Sorted.{sorted_ascends, same_members}
 use Rattle.component_cuts.proofs.unions.sort_sides.Goals as goal
 
 pub returns-clause-over_n : goal.returns-clause-over_n

@@ -2,7 +2,8 @@ use Rattle.std.proofs.Common.{◌≡◌, rules}
 use Rattle.std.specs.Ordering.{is_lt}
 use Rattle.std.proofs.lemmas.List.Sorted.{All-permutation, ranks_by, answers_always}
 use Rattle.vertex_set.specs.Side.{VertexList}
-use Rattle.cut_listing.proofs.Sorted.{side_cmp, side_total, all_sorted}
+use Rattle.vertex_set.proofs.Compared.{side_cmp, side_total}
+use Rattle.cut_listing.proofs.Sorted.{all_sorted}
 use Rattle.cut_listing.proofs.sorting.sort_sides.Goals as goal
 
 pub returns-clause-over_n : goal.returns-clause-over_n

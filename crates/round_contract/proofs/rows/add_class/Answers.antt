@@ -1,8 +1,9 @@
 use Rattle.std.proofs.Common.{ℕ, ◌+◌, ◌≤◌, ◌∙◌, subst, sym, get_or, arith}
 use Rattle.cut_definitions.specs.Contraction.{class}
+use Rattle.cut_definitions.proofs.Running.{between_small}
 use Rattle.weighted_graph.proofs.Searched.{row_within}
 use Rattle.round_contract.specs.Rows.{IsFirst, IsNext, members_before}
-use Rattle.round_contract.proofs.RowSums.{first_of, light, members_all, members_none, more_weight, none_of}
+use Rattle.round_contract.proofs.RowSums.{first_of, members_all, members_none, more_weight, none_of}
 use Rattle.round_contract.proofs.rows.add_class.Goals as goal
 use Rattle.round_contract.proofs.rows.add_class.Goals.{After-row}
 
@@ -42,7 +43,7 @@ add_row-requires-clause-small c = λ b l u.
     omega (
       arith,
       more_weight g ok labels c.args.lesser b i.0 v (get_or c.loop-v.sums b 0) c.row.result.now l (there d) c.row.ensures.value (i.1.sums b l u),
-      light g ok (members_before labels c.args.lesser (v + 1)) (class labels b),
+      between_small g ok (members_before labels c.args.lesser (v + 1)) (class labels b),
     )
 
 pub loop-v-preserved : goal.loop-v-preserved
