@@ -8,6 +8,7 @@ use Rattle.cut_definitions.specs.Graph.{Graph, IsGraph}
 use Rattle.region_flow.specs.Inflow.{IsStopReached}
 use Rattle.region_flow.specs.Regions.{RegionState, IsRegionFlow, IsOpenAt}
 use Rattle.cactus_solver.specs.declared.splitter.Splitter.{Splitter}
+use Rattle.cactus_solver.specs.declared.supply.Supply.{Supply}
 use Rattle.cactus_solver.specs.declared.surplus.Surplus.{Surplus}
 use Rattle.cactus_solver.specs.declared.sweep.Sweep.{Sweep}
 use Rattle.cactus_solver.specs.Covered.{IsRefined}
@@ -73,6 +74,27 @@ flowed g s f t h opened flow same less = record {
 -- nothing that holds between two steps is said of the surplus
 pub another_surplus : (g : Graph) (s : Sweep) (surplus : Surplus) → IsUnderWay g s → IsUnderWay g (record s { surplus = surplus })
 another_surplus g s surplus h = record {
+  flow = h.flow;
+  sweeping = h.sweeping;
+  first = h.first;
+  numbered = h.numbered;
+  fed = h.fed;
+  covered = h.covered;
+  ready = h.ready;
+  room = record {
+    vertices = h.room.vertices;
+    numbers = h.room.numbers;
+    entered = h.room.entered;
+    regions = h.room.regions;
+    nodes = h.room.nodes;
+    later = h.room.later;
+    next = h.room.next;
+  };
+}
+
+-- nor of the supply
+pub another_supply : (g : Graph) (s : Sweep) (supply : Supply) → IsUnderWay g s → IsUnderWay g (record s { supply = supply })
+another_supply g s supply h = record {
   flow = h.flow;
   sweeping = h.sweeping;
   first = h.first;

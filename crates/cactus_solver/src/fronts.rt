@@ -3,6 +3,7 @@
 ghost use Rattle.std.specs.Prelude.{◌≡◌, ◌≢◌, ◌+◌, ◌-◌, ◌<◌, ◌≤◌, ◌^◌, ◌++◌, ◌∷◌, [], ℕ, IfOk, IfSome, OnOk, OnErr, IsTrue, IsFalse, length, take, slice_get, slice_index, slice_set};
 ghost use Rattle.std.specs.List.{All, Contains};
 ghost use Rattle.cut_definitions.specs.Components.{IsConnected};
+ghost use Rattle.weighted_graph.specs.RowLaws.{IsArcAt};
 ghost use Rattle.region_flow.specs.Regions.{IsOpenAt};
 ghost use Rattle.cactus_solver.specs.Open.{IsShutAt};
 ghost use Rattle.cactus_solver.specs.Fronts.{FrontsState, list_at, lists_of, IsCovered, KeepsAll, KeepsFronts, HasEnds, AreFew, AreApart, IsAtFront, taken_out};
@@ -11,7 +12,7 @@ use cut_definitions::NoMemory;
 use region_flow::RegionFlow;
 use std::alloc::Global;
 use std::marker::Model;
-use weighted_graph::Graph;
+use weighted_graph::{Arc, Graph};
 
 /// For each label the vertices that were found open under it. A vertex whose label has changed since may stand there still.
 ///
@@ -56,6 +57,24 @@ fn is_open(graph: &Graph, flow: &RegionFlow, v: u32) -> bool
         }
     }
     false
+}
+
+/// The first arc of a vertex to an open vertex of its region; none where no open vertex of the region is beside it.
+pub fn open_beside(graph: &Graph, flow: &RegionFlow, v: u32) -> Option<Arc>
+    requires to_n { v ≤ graph.now.vertices }
+    requires labels { length flow.now.labels ≡ graph.now.vertices + 1 }
+    ensures arc { IfSome result (IsArcAt graph.now v) }
+    ensures region { IfSome result (λ a. slice_index flow.now.labels a.to ≡ slice_index flow.now.labels v) }
+    ensures open { IfSome result (λ a. IsOpenAt graph.now flow.now.labels a.to) }
+{
+    let region = flow.label(v);
+    let row = graph.row(v);
+    for arc in row {
+        if flow.label(arc.to) == region && is_open(graph, flow, arc.to) {
+            return Some(*arc);
+        }
+    }
+    None
 }
 
 /// Lists without an entry.

@@ -41,6 +41,7 @@ mod side_listing;
 mod solver;
 mod split;
 mod splitter;
+mod supply;
 mod surplus;
 mod sweep;
 pub mod tree;

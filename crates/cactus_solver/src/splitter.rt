@@ -1,6 +1,6 @@
 //! What a split works with, and how it takes what searches found into the lists of the two sides.
 
-ghost use Rattle.std.specs.Prelude.{◌≡◌, ◌||◌, ◌+◌, ◌<◌, ◌≤◌, ℕ, [], true, false, nat_lt, IfOk, OnOk, length, slice_index};
+ghost use Rattle.std.specs.Prelude.{◌≡◌, ◌||◌, ◌+◌, ◌<◌, ◌≤◌, ℕ, [], true, false, nat_lt, IfOk, OnOk, length, take, slice_index};
 ghost use Rattle.std.specs.List.{Contains};
 ghost use Rattle.weighted_graph.specs.Searches.{is_seen};
 ghost use Rattle.region_flow.specs.Regions.{IsRegionFlow};
@@ -67,6 +67,13 @@ impl Splitter {
     {
         unmark(self.good.as_mut_slice(), self.touched.as_slice());
         self.touched.clear();
+    }
+
+    /// How many vertices the last search of a hub found.
+    pub(crate) fn reach(&self) -> usize
+        ensures { result ≡ length (take self.now.hub.search.count self.now.hub.search.order) }
+    {
+        self.hub.found().len()
     }
 
     /// Whether a vertex is listed, from either side.

@@ -11,13 +11,14 @@ ghost use Rattle.cactus_solver.specs.Listed.{AreListed, IsPartList, part_in, par
 ghost use Rattle.cactus_solver.specs.Parted.{AreLightParts};
 ghost use Rattle.cactus_solver.specs.UnderWay.{IsLeastWeight, IsUnderWay};
 
-use crate::fronts::Fronts;
+use crate::fronts::{Fronts, open_beside};
 use crate::hang_parts::hang_parts;
 use crate::homed_tree::HomedTree;
 use crate::homes::Homes;
 use crate::parts::Parts;
 use crate::regroup::regroup;
 use crate::splitter::Splitter;
+use crate::supply::Supply;
 use crate::surplus::Surplus;
 use crate::tree::FlatTree;
 use crate::weights::weigh_parts;
@@ -48,6 +49,7 @@ pub struct Sweep {
     // no region had this label yet, nor a greater one
     fresh: u32,
     surplus: Surplus,
+    supply: Supply,
 }
 
 /// Puts the open ends of the rows of all vertices that are listed.
@@ -103,6 +105,7 @@ impl Sweep {
             next,
             fresh: 2,
             surplus: Surplus::new(),
+            supply: Supply::new(),
         })
     }
 
@@ -126,6 +129,39 @@ impl Sweep {
         }
         self.splitter
             .split(graph, &self.flow, &mut self.fronts, t, &mut self.parts)
+    }
+
+    /// Brings some of what the region of `t` is fed to an open vertex beside `t`. Answers whether there is one.
+    fn feed_beside(&mut self, graph: &Graph, t: u32) -> bool
+        requires under_way { IsUnderWay graph.now self.old }
+        requires open { IsOpenAt graph.now self.old.flow.labels t }
+        ensures under_way { IsUnderWay graph.now self.new }
+        ensures labels { self.new.flow.labels ≡ self.old.flow.labels }
+    {
+        let most = self.supply.most();
+        let Some(arc) = open_beside(graph, &self.flow, t) else {
+            return false;
+        };
+        self.flow.feed_beside(graph, t, &arc, 1, most);
+        true
+    }
+
+    /// Feeds `t` the value and a vertex beside it a little, where what its region is fed lies far away.
+    ///
+    /// So the searches for parts need not go there, nor for those after it. No answer rests on it.
+    fn feed_near(&mut self, graph: &Graph, t: u32, value: u64)
+        requires under_way { IsUnderWay graph.now self.old }
+        requires open { IsOpenAt graph.now self.old.flow.labels t }
+        ensures under_way { IsUnderWay graph.now self.new }
+        ensures labels { self.new.flow.labels ≡ self.old.flow.labels }
+    {
+        if !self.supply.is_far() {
+            return;
+        }
+        let _fed = self.flow.flow(graph, t, value);
+        if self.feed_beside(graph, t) {
+            self.supply = self.supply.after_feeding();
+        }
     }
 
     /// Feeds a vertex more than the value, where no set around it in its region weighs the value.
@@ -219,7 +255,9 @@ impl Sweep {
         ensures entered { OnOk result (slice_index self.new.flow.labels t ≡ 0) }
         ensures stay { OnOk result ((v : ℕ) → slice_index self.old.flow.labels v ≡ 0 → slice_index self.new.flow.labels v ≡ 0) }
     {
+        self.feed_near(graph, t, value);
         if self.find_parts(graph, t, value)? {
+            self.supply = self.supply.after_split(self.splitter.reach());
             self.split_region(graph, t, value)?;
             return Ok(true);
         }

@@ -2,13 +2,14 @@
 
 ghost use Rattle.std.specs.Prelude.{◌≡◌, ◌≢◌, ◌↔◌, ◌+◌, ◌-◌, ◌^◌, ◌<◌, ◌≤◌, ◌⊎◌, ℕ, None, IfOk, IfSome, length, slice_index, slice_set};
 ghost use Rattle.std.specs.List.{All, AllPairs};
+ghost use Rattle.weighted_graph.specs.RowLaws.{IsArcAt};
 ghost use Rattle.max_flow.specs.Outcome.{IfBest};
 ghost use Rattle.region_flow.specs.Regions.{RegionState, IsRegionFlow, IsOpenAt};
 ghost use Rattle.region_flow.specs.Inflow.{IsStopReached, ShowsLeast};
 ghost use Rattle.region_flow.specs.CutOff.{MayBeCutOff, relabelled};
 
 use crate::cutting::cut_off;
-use crate::searching::search;
+use crate::searching::{search, search_beside};
 use crate::task::Task;
 use crate::tree::{SearchTree, clear};
 use cut_definitions::NoMemory;
@@ -16,7 +17,7 @@ use max_flow::Outcome;
 use max_flow::residual::start;
 use std::alloc::Global;
 use std::marker::Model;
-use weighted_graph::Graph;
+use weighted_graph::{Arc, Graph};
 
 /// A flow from a source that grows, with the vertices outside in regions, and the memory for searches.
 ///
@@ -222,5 +223,32 @@ impl RegionFlow {
             // without a limit this does not come
             None => Outcome::AtLeast,
         }
+    }
+
+    /// Brings the vertex at the other end of an arc of `t`, in the region of `t`, what others there are fed, as far as its
+    /// stop, by one search that passes `t` over. It ends where it went along rows of more arcs than `most`.
+    ///
+    /// No other vertex is fed more than before. It moves feed inside the region alone, and takes no memory.
+    pub fn feed_beside(&mut self, graph: &Graph, t: u32, arc: &Arc, stop: u64, most: usize)
+        requires flow { IsRegionFlow graph.now self.old }
+        requires to_n { t ≤ graph.now.vertices }
+        requires outside { 1 ≤ slice_index self.old.labels t }
+        requires arc { IsArcAt graph.now t arc.now }
+        requires region { slice_index self.old.labels arc.now.to ≡ slice_index self.old.labels t }
+        ensures flow { IsRegionFlow graph.now self.new }
+        ensures labels { self.new.labels ≡ self.old.labels }
+        ensures others { (v : ℕ) → v ≢ arc.now.to → slice_index self.new.feed v ≤ slice_index self.old.feed v }
+    {
+        let _n = graph.n();
+        let task = Task {
+            graph,
+            labels: self.labels.as_slice(),
+            stop,
+        };
+        let feed = self.feed.as_mut_slice();
+        let toward = self.toward.as_mut_slice();
+        let tree = &mut self.tree;
+        search_beside(task, feed, toward, tree, t, arc, most);
+        clear(tree.marks.as_mut_slice(), tree.order.as_slice());
     }
 }

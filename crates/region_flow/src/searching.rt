@@ -157,3 +157,49 @@ pub fn search(
     }
     work
 }
+
+/// Searches from the other end of an arc of `t`, inside its region, as `search` does, but with `t` in the tree from the start:
+/// what is found is pulled through `t` maybe, and `t` itself is passed over. It ends once that vertex is fed the stop, or where
+/// the rows that it went along are longer than `most`.
+pub fn search_beside(
+    task: Task<'_>,
+    feed: &mut [u64],
+    toward: &mut [u64],
+    tree: &mut SearchTree,
+    t: u32,
+    arc: &Arc,
+    most: usize,
+)
+    requires flow { IsFlowIn task.graph.now task.labels.now feed.old toward.old }
+    requires ready { IsReady (task.graph.now.vertices + 1) tree.old }
+    requires to_n { t ≤ task.graph.now.vertices }
+    requires outside { 1 ≤ slice_index task.labels.now t }
+    requires arc { IsArcAt task.graph.now t arc.now }
+    requires region { slice_index task.labels.now arc.now.to ≡ slice_index task.labels.now t }
+    ensures flow { IsFlowIn task.entry.graph.now task.entry.labels.now feed.new toward.new }
+    ensures tree { IsTreeIn task.entry.graph.now task.entry.labels.now tree.new }
+    ensures others { (v : ℕ) → v ≢ arc.now.to → slice_index feed.new v ≤ slice_index feed.old v }
+{
+    // known by this call: the graph is an edge list
+    let _n = task.graph.n();
+    let root = arc.to;
+    tree.plant(root);
+    tree.put(
+        t,
+        Link {
+            parent: 0,
+            arc: *arc,
+        },
+    );
+    let mut work = 0usize;
+    let mut place = 0;
+    'places: while (place as usize) < tree.order.len()
+        && feed[root as usize] < task.stop
+        && work <= most
+    {
+        let v = tree.places().order[place as usize];
+        work = work.saturating_add(task.graph.row(v).len());
+        expand(task, feed, toward, tree, place);
+        place += 1;
+    }
+}

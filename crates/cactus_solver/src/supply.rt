@@ -1,0 +1,91 @@
+//! Whether what a region is fed lies far from where the sweep goes on.
+
+ghost use Rattle.std.specs.Prelude.{◌≡◌, ◌↔◌, ◌<◌, ◌≤◌, ◌-◌, ◌*◌, ◌^◌, min, true, false, IsTrue, IsFalse};
+
+/// How many vertices a search from what is fed may find before that is called far.
+const NEAR: usize = 64;
+
+/// How many splits are passed over once it was in vain to feed a vertex beside.
+const PAUSE: u32 = 3;
+
+/// How far the searches of splits went to what the region is fed, and whether it helps to feed a vertex beside the next one.
+///
+/// On a long closed band in which each vertex is a minimum cut alone, what a region is fed comes to lie at the other end of the
+/// band, and a search from there goes halfway round at each split. A little that is brought near once stays near. Where that
+/// was in vain, some splits are passed over before it is tried again.
+#[derive(Clone, Copy)]
+pub struct Supply {
+    // how many vertices the search from what is fed found in the last split
+    reach: usize,
+    // whether a vertex beside was fed since
+    tried: bool,
+    // how many splits are still passed over
+    pause: u32,
+}
+
+impl Supply {
+    /// Before the first split.
+    pub fn new() -> Supply
+        ensures reach { result.reach ≡ 0 }
+        ensures tried { result.tried ≡ false }
+        ensures pause { result.pause ≡ 0 }
+    {
+        Supply {
+            reach: 0,
+            tried: false,
+            pause: 0,
+        }
+    }
+
+    /// Whether a vertex beside the next one is to be fed.
+    pub fn is_far(self) -> bool
+        ensures { IsTrue result ↔ ((64 < self.reach) × (self.tried ≡ false) × (self.pause ≡ 0)) }
+    {
+        self.reach > NEAR && !self.tried && self.pause == 0
+    }
+
+    /// How many arcs that may take: some more than the rows of what the last search found.
+    pub fn most(self) -> usize
+        ensures { result ≡ min (self.reach * 16) (2 ^ 64 - 1) }
+    {
+        self.reach.saturating_mul(16)
+    }
+
+    /// After a vertex beside was fed.
+    pub fn after_feeding(self) -> Supply
+        ensures { result ≡ record self { tried = true } }
+    {
+        Supply {
+            tried: true,
+            ..self
+        }
+    }
+
+    /// After a split whose search from what is fed found so many vertices.
+    pub fn after_split(self, reach: usize) -> Supply
+        ensures reach { result.reach ≡ reach }
+        ensures tried { result.tried ≡ false }
+        ensures vain { self.tried ≡ true → 64 < reach → result.pause ≡ 3 }
+        ensures helped { self.tried ≡ true → reach ≤ 64 → result.pause ≡ self.pause - 1 }
+        ensures other { self.tried ≡ false → result.pause ≡ self.pause - 1 }
+    {
+        let was_in_vain = self.tried && reach > NEAR;
+        Supply {
+            reach,
+            tried: false,
+            pause: pause_after(was_in_vain, self.pause),
+        }
+    }
+}
+
+/// How many splits are passed over from there on.
+fn pause_after(was_in_vain: bool, pause: u32) -> u32
+    ensures vain { IsTrue was_in_vain → result ≡ 3 }
+    ensures other { IsFalse was_in_vain → result ≡ pause - 1 }
+{
+    if was_in_vain {
+        PAUSE
+    } else {
+        pause.saturating_sub(1)
+    }
+}
