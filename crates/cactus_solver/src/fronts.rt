@@ -59,7 +59,11 @@ fn is_open(graph: &Graph, flow: &RegionFlow, v: u32) -> bool
     false
 }
 
-/// The first arc of a vertex to an open vertex of its region; none where no open vertex of the region is beside it.
+/// How long the rows may be that are looked at for an open vertex beside another.
+const LONG_ROW: usize = 32;
+
+/// The first arc of a vertex to an open vertex of its region; none where no open vertex of the region is beside it, or only such
+/// as have a long row, or where its own row is long.
 pub fn open_beside(graph: &Graph, flow: &RegionFlow, v: u32) -> Option<Arc>
     requires to_n { v ≤ graph.now.vertices }
     requires labels { length flow.now.labels ≡ graph.now.vertices + 1 }
@@ -69,8 +73,14 @@ pub fn open_beside(graph: &Graph, flow: &RegionFlow, v: u32) -> Option<Arc>
 {
     let region = flow.label(v);
     let row = graph.row(v);
+    if row.len() > LONG_ROW {
+        return None;
+    }
     for arc in row {
-        if flow.label(arc.to) == region && is_open(graph, flow, arc.to) {
+        if flow.label(arc.to) == region
+            && graph.row(arc.to).len() <= LONG_ROW
+            && is_open(graph, flow, arc.to)
+        {
             return Some(*arc);
         }
     }

@@ -16,3 +16,8 @@ is_open-requires-clause-to_n c =
 
 pub returns-then-is_open-clause-arc : goal.returns-then-is_open-clause-arc
 returns-then-is_open-clause-arc c = row_arc c.args.graph.now c.row-row.result.now _ c.loop-arc.arc-index c.row-row.ensures.value c.loop-arc-test.true
+
+pub row-requires : goal.row-requires
+row-requires c =
+    let at = row_arc c.args.graph.now c.row-row.result.now _ c.loop-arc.arc-index c.row-row.ensures.value c.loop-arc-test.true in
+    (arc_within c.args.graph.now c.row-row.ensures.edge_list.is_graph c.args.v _ at).1
