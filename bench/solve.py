@@ -209,6 +209,14 @@ def prism(n, rng):
     return 2 * k + 1, shuffled(2 * k + 1, edges, rng), {'value': 2, 'count': 1, 'shape': (2, 1, 0), 'balance': 1}
 
 
+def ring_lattice(n, rng):
+    """A ring in which each vertex is joined to the two nearest on either side, numbered at random: each vertex alone is a minimum cut,
+    and there is no other."""
+    n = max(n, 7)
+    edges = ring_edges(range(1, n + 1)) + [(v, (v + 1) % n + 1, 1) for v in range(1, n + 1)]
+    return n, shuffled(n, edges, rng), {'value': 4, 'count': n, 'shape': (n + 1, n, 0), 'balance': 1}
+
+
 # Each family with its number of vertices for a number of edges.
 FAMILIES = {
     'ring': (ring, lambda m: m),
@@ -218,6 +226,7 @@ FAMILIES = {
     'torus': (torus, lambda m: m // 2),
     'thick_ring': (thick_ring, lambda m: m),
     'prism': (prism, lambda m: m * 2 // 3),
+    'ring_lattice': (ring_lattice, lambda m: m // 2),
     'path': (path, lambda m: m + 1),
     'star': (star, lambda m: m + 1),
     'tree': (tree, lambda m: m + 1),
