@@ -1,6 +1,6 @@
 //! Whether what a region is fed lies far from where the sweep goes on.
 
-ghost use Rattle.std.specs.Prelude.{◌≡◌, ◌↔◌, ◌<◌, ◌≤◌, ◌-◌, ◌*◌, ◌^◌, min, true, false, IsTrue, IsFalse};
+ghost use Rattle.std.specs.Prelude.{◌≡◌, ◌↔◌, ◌<◌, ◌≤◌, ◌-◌, ◌*◌, ◌/◌, ◌^◌, max, min, true, false, IsTrue, IsFalse};
 
 /// How many vertices a search from what is fed may find before that is called far.
 const NEAR: usize = 64;
@@ -11,11 +11,12 @@ const PAUSE: u32 = 3;
 /// How far the searches of splits went to what the region is fed, and whether it helps to feed a vertex beside the next one.
 ///
 /// On a long closed band in which each vertex is a minimum cut alone, what a region is fed comes to lie at the other end of the
-/// band, and a search from there goes halfway round at each split. A little that is brought near once stays near. Where that
-/// was in vain, some splits are passed over before it is tried again.
+/// band, and a search from there goes halfway round at each split, or at each second or third. A little that is brought near
+/// once stays near. So a far search is remembered for a while. Where feeding was in vain, some splits are passed over before it
+/// is tried again.
 #[derive(Clone, Copy)]
 pub struct Supply {
-    // how many vertices the search from what is fed found in the last split
+    // how many vertices the searches from what is fed found in the last splits: a sixteenth is forgotten at each
     reach: usize,
     // whether a vertex beside was fed since
     tried: bool,
@@ -44,7 +45,7 @@ impl Supply {
         self.reach > NEAR && !self.tried && self.pause == 0
     }
 
-    /// How many arcs that may take: some more than the rows of what the last search found.
+    /// How many arcs that may take: some more than the rows of what these searches found.
     pub fn most(self) -> usize
         ensures { result ≡ min (self.reach * 16) (2 ^ 64 - 1) }
     {
@@ -62,16 +63,16 @@ impl Supply {
     }
 
     /// After a split whose search from what is fed found so many vertices.
-    pub fn after_split(self, reach: usize) -> Supply
-        ensures reach { result.reach ≡ reach }
+    pub fn after_split(self, found: usize) -> Supply
+        ensures reach { result.reach ≡ max found (self.reach - self.reach / 16) }
         ensures tried { result.tried ≡ false }
-        ensures vain { self.tried ≡ true → 64 < reach → result.pause ≡ 3 }
-        ensures helped { self.tried ≡ true → reach ≤ 64 → result.pause ≡ self.pause - 1 }
+        ensures vain { self.tried ≡ true → 64 < found → result.pause ≡ 3 }
+        ensures helped { self.tried ≡ true → found ≤ 64 → result.pause ≡ self.pause - 1 }
         ensures other { self.tried ≡ false → result.pause ≡ self.pause - 1 }
     {
-        let was_in_vain = self.tried && reach > NEAR;
+        let was_in_vain = self.tried && found > NEAR;
         Supply {
-            reach,
+            reach: found.max(self.reach - self.reach / 16),
             tried: false,
             pause: pause_after(was_in_vain, self.pause),
         }
