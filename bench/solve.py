@@ -217,6 +217,13 @@ def ring_lattice(n, rng):
     return n, shuffled(n, edges, rng), {'value': 4, 'count': n, 'shape': (n + 1, n, 0), 'balance': 1}
 
 
+def narrow_torus(n, rng):
+    """A torus of four by many, numbered at random: each vertex alone is a minimum cut, and there is no other."""
+    k = max(n // 4, 5)
+    edges = mesh(4, k, True)
+    return 4 * k, shuffled(4 * k, edges, rng), {'value': 4, 'count': 4 * k, 'shape': (4 * k + 1, 4 * k, 0), 'balance': 1}
+
+
 # Each family with its number of vertices for a number of edges.
 FAMILIES = {
     'ring': (ring, lambda m: m),
@@ -227,6 +234,7 @@ FAMILIES = {
     'thick_ring': (thick_ring, lambda m: m),
     'prism': (prism, lambda m: m * 2 // 3),
     'ring_lattice': (ring_lattice, lambda m: m // 2),
+    'narrow_torus': (narrow_torus, lambda m: m // 2),
     'path': (path, lambda m: m + 1),
     'star': (star, lambda m: m + 1),
     'tree': (tree, lambda m: m + 1),
