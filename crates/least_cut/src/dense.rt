@@ -76,8 +76,11 @@ fn degrees_of(alloc: Global, list: &EdgeList) -> Result<Vec<u64>, NoMemory>
     Ok(degrees)
 }
 
-/// The least degree of a vertex.
-fn least_degree(alloc: Global, list: &EdgeList) -> Result<u64, NoMemory>
+/// The least degree of a vertex, which is the weight of a cut.
+///
+/// It goes once over the list of edges and takes 8 bytes of memory for each vertex and 8 more; want of memory is its only
+/// refusal.
+pub fn least_degree(alloc: Global, list: &EdgeList) -> Result<u64, NoMemory>
     requires { 2 ≤ list.now.vertices }
     ensures { IfOk result (IsLeastDegree list.now) }
 {

@@ -15,7 +15,7 @@ ghost use Rattle.weighted_graph.specs.Rows.{row_of, weight_in};
 
 use crate::components::count_components;
 use crate::labels::Labels;
-use crate::relabel::merged_edges;
+use crate::relabel::relabel_list;
 use crate::row_index::RowIndex;
 use cut_definitions::{Edge, EdgeList, NoMemory};
 use std::alloc::Global;
@@ -186,7 +186,7 @@ impl Graph {
         requires { length labels.now ≡ self.now.vertices }
         ensures { IfOk result (λ g. g ≡ relabel self.now labels.now) }
     {
-        let merged = merged_edges(alloc, self, labels)?;
+        let merged = relabel_list(alloc, &self.list, labels)?;
         Graph::from_list(alloc, merged)
     }
 }

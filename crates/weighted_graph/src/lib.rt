@@ -15,3 +15,4 @@ mod row_index;
 
 pub use graph::{Arc, Graph};
 pub use labels::Labels;
+pub use relabel::relabel_list;

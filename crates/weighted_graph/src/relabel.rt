@@ -1,4 +1,4 @@
-//! Contraction of the edges of a graph: mapped to classes, sorted by their ends, and merged.
+//! Contraction of a list of edges: mapped to classes, sorted by their ends, and merged.
 
 ghost use Rattle.std.specs.Prelude.{◌≡◌, ℕ, ◌↔◌, IsTrue, ◌≤◌, ◌^◌, All, IfOk, length};
 ghost use Rattle.std.specs.List.{sum_by, flat_map};
@@ -8,7 +8,6 @@ ghost use Rattle.cut_definitions.specs.declared.edge_list.Edge.{Edge};
 ghost use Rattle.cut_definitions.specs.Graph.{IsEdgeWithin, IsEdgeList};
 ghost use Rattle.weighted_graph.specs.Merging.{between_classes, pair_weight, AscendByEnds, IsSortedByEnds};
 
-use crate::graph::Graph;
 use crate::labels::Labels;
 use cut_definitions::{Edge, EdgeList, NoMemory};
 use std::alloc::Global;
@@ -77,17 +76,15 @@ fn merge(alloc: Global, n: u32, sorted: &[Edge]) -> Result<EdgeList, NoMemory>
     Ok(merged)
 }
 
-/// The edges of the graph on the classes of labels. What is taken on the way is given back.
-pub(crate) fn merged_edges(
-    alloc: Global,
-    graph: &Graph,
-    labels: &Labels,
-) -> Result<EdgeList, NoMemory>
-    requires { length labels.now ≡ graph.now.vertices }
-    ensures { IfOk result (λ l. l ≡ relabel graph.now labels.now) }
+/// The edges of the graph on the classes of labels, one for each vertex: the weight between two classes is the sum over the
+/// edges between their vertices, and edges inside a class are gone. The edges between classes are copied and sorted once, in
+/// O(m log m). It is refused only where memory is wanting.
+pub fn relabel_list(alloc: Global, list: &EdgeList, labels: &Labels) -> Result<EdgeList, NoMemory>
+    requires { length labels.now ≡ list.now.vertices }
+    ensures { IfOk result (λ l. l ≡ relabel list.now labels.now) }
 {
     let classes = labels.classes();
-    let mut between = class_edges(alloc, graph.edge_list(), labels)?;
+    let mut between = class_edges(alloc, list.edges(), labels)?;
     let sorted = between.as_mut_slice();
     sort_by_ends(sorted);
     let merged = merge(alloc, classes, sorted)?;
