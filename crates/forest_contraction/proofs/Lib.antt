@@ -1,0 +1,5 @@
+mod Joining
+mod Levels
+mod Numbered
+pub mod Lessening
+mod Tied

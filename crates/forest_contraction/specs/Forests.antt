@@ -1,0 +1,39 @@
+-- Classes that light cuts do not part.
+use Rattle.std.specs.Prelude.{ℕ, ◌≡◌, ◌+◌, ◌*◌, ◌<◌, ◌≤◌, List, [], length, slice_index_or, if◌then◌else◌}
+use Rattle.std.specs.List.{All, sum_by}
+use Rattle.cut_definitions.specs.declared.edge_list.Edge.{Edge}
+use Rattle.cut_definitions.specs.Weight.{VertexSet, parts}
+use Rattle.forest_contraction.specs.Classes.{AreJoined, Respects, HasSameClasses}
+
+-- what an edge weighs across a set
+abbrev pub cut_term : VertexSet → Edge → ℕ
+cut_term s e = if parts s e.u e.v then e.w else 0
+
+-- what the edges with exactly one end in a set weigh
+abbrev pub cut_weight : List Edge → VertexSet → ℕ
+cut_weight edges s = sum_by (cut_term s) edges
+
+-- no set that weighs less than a bound parts a class
+abbrev pub AreTied : List Edge → ℕ → List ℕ → Type 0
+AreTied edges bound parents = (s : VertexSet) → cut_weight edges s < bound → Respects parents s
+
+-- the classes of a level
+abbrev pub level : List (List ℕ) → ℕ → List ℕ
+level levels l = slice_index_or levels l []
+
+-- the classes of each level are tied for as many steps of weight as there are levels up to it
+abbrev pub AreForests : List Edge → ℕ → List (List ℕ) → Type 0
+AreForests edges step levels = (l : ℕ) → l < length levels → AreTied edges ((l + 1) * step) (level levels l)
+
+-- each level has classes of so many numbers
+abbrev pub AreOver : ℕ → List (List ℕ) → Type 0
+AreOver size levels = (l : ℕ) → l < length levels → length (level levels l) ≡ size
+
+-- the same classes in each level
+pub record HasSameLevels (old new : List (List ℕ)) : Type 0 where
+  pub count : length new ≡ length old
+  pub each : (l : ℕ) → l < length old → HasSameClasses (level old l) (level new l)
+
+-- the ends of each edge that weighs the bound are in one class
+abbrev pub JoinsHeavy : List Edge → ℕ → List ℕ → Type 0
+JoinsHeavy edges bound parents = All (λ (e : Edge). bound ≤ e.w → AreJoined parents e.u e.v) edges

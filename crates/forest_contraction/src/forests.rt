@@ -1,0 +1,99 @@
+//! Forests, each over the vertices that the one before has joined.
+
+ghost use Rattle.std.specs.Prelude.{◌≡◌, ◌⊎◌, ◌+◌, ◌*◌, ◌^◌, ◌<◌, ◌≤◌, ℕ, [], ◌∷◌, ◌++◌, IfOk, List, length};
+ghost use Rattle.std.specs.List.{All, sum_by};
+ghost use Rattle.cut_definitions.specs.declared.edge_list.Edge.{Edge};
+ghost use Rattle.cut_definitions.specs.Weight.{VertexSet};
+ghost use Rattle.forest_contraction.specs.Classes.{AreJoined, HasJoined, Respects};
+ghost use Rattle.forest_contraction.specs.Forests.{cut_term, cut_weight, level, AreForests, AreOver, AreTied, HasSameLevels};
+
+use crate::classes::Classes;
+use cut_definitions::{Edge, NoMemory};
+use std::alloc::Global;
+
+/// How many levels from the first on join two vertices, by bisection: what a level joins, those below it join too.
+fn count_joined(levels: &mut [Classes], u: u32, v: u32) -> usize
+    requires first { (l : ℕ) → l < length levels.old → u < length (level levels.old l) }
+    requires second { (l : ℕ) → l < length levels.old → v < length (level levels.old l) }
+    ensures same { HasSameLevels levels.old levels.new }
+    ensures within { result ≤ length levels.old }
+    ensures joined { (l : ℕ) → l + 1 ≡ result → AreJoined (level levels.old l) u v }
+{
+    let mut low = 0;
+    let mut high = levels.len();
+    while low < high {
+        let middle = low + (high - low) / 2;
+        if levels[middle].are_joined(u, v) {
+            low = middle + 1;
+        } else {
+            high = middle;
+        }
+    }
+    low
+}
+
+/// Joins two vertices in the levels from one on and before another.
+fn join_levels(levels: &mut [Classes], first: usize, end: usize, u: u32, v: u32)
+    requires ordered { first ≤ end }
+    requires end { end ≤ length levels.old }
+    requires first { (l : ℕ) → l < length levels.old → u < length (level levels.old l) }
+    requires second { (l : ℕ) → l < length levels.old → v < length (level levels.old l) }
+    ensures count { length levels.new ≡ length levels.old }
+    ensures inside { (l : ℕ) → first ≤ l → l < end → HasJoined (level levels.old l) (level levels.new l) u v }
+    ensures outside { (l : ℕ) → (l < first) ⊎ (end ≤ l) → level levels.new l ≡ level levels.old l }
+{
+    for l in first..end {
+        levels[l].join(u, v);
+    }
+}
+
+/// Puts an edge into the levels after those that join its ends, one for each step of its weight, as far as there are levels.
+fn put_edge(levels: &mut [Classes], joined: usize, edge: Edge, step: u64)
+    requires positive { 1 ≤ step }
+    requires within { joined ≤ length levels.old }
+    requires first { (l : ℕ) → l < length levels.old → edge.u < length (level levels.old l) }
+    requires second { (l : ℕ) → l < length levels.old → edge.v < length (level levels.old l) }
+    ensures count { length levels.new ≡ length levels.old }
+    ensures over { (size : ℕ) → AreOver size levels.old → AreOver size levels.new }
+    ensures forests { (es : List Edge) → AreForests es step levels.old → ((l : ℕ) → l + 1 ≡ joined → AreJoined (level levels.old l) edge.u edge.v)
+        → AreForests (es ++ edge ∷ []) step levels.new }
+{
+    let room = levels.len() - joined;
+    if room == 0 {
+        return;
+    }
+    let count = room.min((edge.w / step) as usize);
+    join_levels(levels, joined, joined + count, edge.u, edge.v);
+}
+
+/// Puts an edge into the levels, and makes its ends one in the classes that are tied for a bound, where the steps of the
+/// levels that joined them before and its own weight reach that.
+pub(crate) fn tie_edge(
+    levels: &mut [Classes],
+    tied: &mut Classes,
+    edge: Edge,
+    bound: u64,
+    step: u64,
+)
+    requires positive { 1 ≤ step }
+    requires light { edge.w ≤ 2 ^ 61 }
+    requires few { length levels.old * step ≤ 2 ^ 62 }
+    requires first { edge.u < length tied.old }
+    requires second { edge.v < length tied.old }
+    requires over { AreOver (length tied.old) levels.old }
+    ensures count { length levels.new ≡ length levels.old }
+    ensures over { AreOver (length tied.old) levels.new }
+    ensures long { length tied.new ≡ length tied.old }
+    ensures forests { (es : List Edge) → AreForests es step levels.old → AreForests (es ++ edge ∷ []) step levels.new }
+    ensures kept { (s : VertexSet) → Respects tied.new s → Respects tied.old s }
+    ensures no_other { (s : VertexSet) → Respects tied.old s → s edge.u ≡ s edge.v → Respects tied.new s }
+    ensures heavy { bound ≤ edge.w → AreJoined tied.new edge.u edge.v }
+    ensures tied { (es whole : List Edge) → AreForests es step levels.old → AreTied whole bound tied.old
+        → ((s : VertexSet) → cut_weight es s + cut_term s edge ≤ cut_weight whole s) → AreTied whole bound tied.new }
+{
+    let joined = count_joined(levels, edge.u, edge.v);
+    if joined as u64 * step + edge.w >= bound {
+        tied.join(edge.u, edge.v);
+    }
+    put_edge(levels, joined, edge, step);
+}

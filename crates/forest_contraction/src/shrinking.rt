@@ -1,0 +1,235 @@
+//! Contraction of a list of edges, as long as it makes the list shorter.
+
+ghost use Rattle.std.specs.Prelude.{◌≡◌, ◌^◌, ◌<◌, ◌≤◌, ℕ, IfOk, IfSome, IsTrue, MatchOption, if◌then◌else◌, min, nat_lt};
+ghost use Rattle.cut_definitions.specs.Cuts.{value};
+ghost use Rattle.forest_contraction.specs.Left.{IsContracted, IsLesser, IsLowered};
+
+use crate::tying::tied_classes;
+use cut_definitions::{EdgeList, NoMemory};
+use least_cut::least_degree;
+use std::alloc::Global;
+use weighted_graph::relabel_list;
+
+/// A list of at most so many edges is left as it is.
+const FEW_EDGES: usize = 1024;
+
+/// Below this bound no lighter cut is looked for: flows find one as soon.
+const LOW_BOUND: u64 = 6;
+
+/// Whether there are at most nine tenths of so many.
+fn is_a_tenth_less(few: u32, many: u32) -> bool
+    requires { 1 ≤ many }
+    ensures { IsTrue result → few < many }
+{
+    u64::from(few) * 10 <= u64::from(many) * 9
+}
+
+/// Whether all edges weigh the same, and forests of less than the bound together can hold them all, a forest being one edge
+/// for each vertex but one: then mostly next to nothing is tied. No answer rests on it.
+fn are_held(list: &EdgeList, bound: u64) -> bool {
+    let edges = list.edges();
+    if edges.is_empty() {
+        return true;
+    }
+    let weight = edges[0].w;
+    for edge in edges {
+        if edge.w != weight {
+            return false;
+        }
+    }
+    let forests = bound.saturating_sub(1) / weight.max(1);
+    let most = forests.saturating_mul(u64::from(list.n()).saturating_sub(1));
+    edges.len() as u64 <= most
+}
+
+/// The list with the classes that are tied for a bound made one, where these are a tenth fewer than the vertices.
+fn shrunk(alloc: Global, list: &EdgeList, bound: u64) -> Result<Option<EdgeList>, NoMemory>
+    requires enough { 2 ≤ list.now.vertices }
+    requires fits { bound ≤ 2 ^ 61 }
+    ensures less { IfOk result (λ found. IfSome found (λ small. small.vertices < list.now.vertices)) }
+    ensures left { IfOk result (λ found. IfSome found (IsLesser (min bound (value list.now)) bound)) }
+    ensures above { IfOk result (λ found. IfSome found (λ small. 2 ≤ small.vertices → value list.now ≤ value small)) }
+{
+    if are_held(list, bound) {
+        return Ok(None);
+    }
+    let labels = tied_classes(alloc, list, bound)?;
+    if !is_a_tenth_less(labels.classes(), list.n()) {
+        return Ok(None);
+    }
+    let small = relabel_list(alloc, list, &labels)?;
+    Ok(Some(small))
+}
+
+/// The lesser of a bound and the least degree, which is the weight of a cut where there are two or more vertices.
+fn lowered(alloc: Global, list: &EdgeList, bound: u64) -> Result<u64, NoMemory>
+    ensures { IfOk result (IsLowered list.now bound) }
+{
+    if list.n() < 2 {
+        return Ok(bound);
+    }
+    let least = least_degree(alloc, list)?;
+    Ok(least.min(bound))
+}
+
+/// A bound and a list of edges that tell together what another list told.
+#[derive(Drop)]
+struct Left {
+    bound: u64,
+    list: EdgeList,
+}
+
+/// Contraction at a bound, which falls with the degrees.
+fn contract_at(alloc: Global, list: EdgeList, bound: u64) -> Result<Left, NoMemory>
+    requires { bound ≤ 2 ^ 61 }
+    ensures left { (whole : ℕ) → IsLesser whole bound list → IfOk result (λ c. IsLesser whole c.bound c.list) }
+    ensures at_most { IfOk result (λ c. c.bound ≤ bound) }
+{
+    let mut low = bound;
+    let mut small = list;
+    'passes: while small.n() >= 2 && small.len() > FEW_EDGES && low > 0 {
+        let Some(smaller) = shrunk(alloc, &small, low)? else {
+            break;
+        };
+        low = lowered(alloc, &smaller, low)?;
+        small = smaller;
+    }
+    Ok(Left {
+        bound: low,
+        list: small,
+    })
+}
+
+/// What contraction leaves of a graph: a bound, and the edges between the classes, or none where it left the list as it is.
+#[derive(Drop)]
+pub struct Contracted {
+    pub bound: u64,
+    pub list: Option<EdgeList>,
+}
+
+/// A bound that is lighter, if contraction for half of it comes upon a cut that is, and else the bound. The vertices of a
+/// cluster are joined more heavily than that, so the clusters are made one before what parts them, and their degrees are the
+/// weights of cuts. Where the cut weighs at most the half, what is left is good for it too.
+fn lighter(alloc: Global, list: &EdgeList, bound: u64) -> Result<Contracted, NoMemory>
+    requires enough { 2 ≤ list.now.vertices }
+    requires fits { bound ≤ 2 ^ 61 }
+    ensures { IfOk result (IsContracted list.now bound) }
+{
+    let half = bound.div_ceil(2);
+    let Some(mut small) = shrunk(alloc, list, half)? else {
+        return Ok(Contracted { bound, list: None });
+    };
+    let mut low = lowered(alloc, &small, bound)?;
+    'trials: while low >= bound && small.n() >= 2 {
+        let Some(smaller) = shrunk(alloc, &small, half)? else {
+            return Ok(Contracted { bound, list: None });
+        };
+        low = lowered(alloc, &smaller, bound)?;
+        small = smaller;
+    }
+    if low > half {
+        return Ok(Contracted {
+            bound: low,
+            list: None,
+        });
+    }
+    Ok(Contracted {
+        bound: low,
+        list: Some(small),
+    })
+}
+
+/// One pass of contraction.
+fn pass(alloc: Global, list: &EdgeList, bound: u64) -> Result<Contracted, NoMemory>
+    requires enough { 2 ≤ list.now.vertices }
+    requires fits { bound ≤ 2 ^ 61 }
+    ensures { IfOk result (IsContracted list.now bound) }
+{
+    let Some(small) = shrunk(alloc, list, bound)? else {
+        return Ok(Contracted { bound, list: None });
+    };
+    let low = lowered(alloc, &small, bound)?;
+    Ok(Contracted {
+        bound: low,
+        list: Some(small),
+    })
+}
+
+/// The first pass; where it comes to nothing, one at a lower bound, if there is one.
+fn first_pass(alloc: Global, list: &EdgeList, bound: u64) -> Result<Contracted, NoMemory>
+    requires enough { 2 ≤ list.now.vertices }
+    requires fits { bound ≤ 2 ^ 61 }
+    ensures { IfOk result (IsContracted list.now bound) }
+{
+    let made = pass(alloc, list, bound)?;
+    if made.list.is_some() || bound < LOW_BOUND {
+        return Ok(made);
+    }
+    let found = lighter(alloc, list, bound)?;
+    if found.list.is_some() || found.bound >= bound {
+        return Ok(found);
+    }
+    let again = pass(alloc, list, found.bound)?;
+    Ok(again)
+}
+
+/// Further passes, at bounds that fall, as long as the list gets shorter.
+fn contract_further(alloc: Global, list: EdgeList, bound: u64) -> Result<Left, NoMemory>
+    requires { bound ≤ 2 ^ 61 }
+    ensures { (whole : ℕ) → IsLesser whole bound list → IfOk result (λ left. IsLesser whole left.bound left.list) }
+{
+    let mut left = contract_at(alloc, list, bound)?;
+    let mut shrinks = true;
+    'bounds: while shrinks
+        && left.list.n() >= 2
+        && left.list.len() > FEW_EDGES
+        && left.bound >= LOW_BOUND
+    {
+        let before = left.list.n();
+        let Contracted {
+            bound,
+            list: smaller,
+        } = lighter(alloc, &left.list, left.bound)?;
+        if bound >= left.bound {
+            break;
+        }
+        let Left { list, .. } = left;
+        left = contract_at(alloc, smaller.unwrap_or(list), bound)?;
+        shrinks = left.list.n() < before;
+    }
+    Ok(left)
+}
+
+/// A bound, and perhaps a smaller graph, from which the value of a graph of two or more vertices can be told: it is the lesser
+/// of the bound and the value of the smaller graph, or the bound where that has one vertex. Where there is no smaller graph
+/// the value is at most the bound. How small it is is free.
+///
+/// The bound begins at the least degree. Classes that no cut parts which weighs less are contracted, again and again while
+/// that takes away a tenth of the vertices, and where it no longer does, contraction for half the bound is tried for a cut
+/// that is lighter. A list of at most 1,024 edges is left as it is. A pass takes O(m log n) steps; each is over at most nine
+/// tenths of the vertices of the one before, or for a lower bound. It takes memory for the classes and the edges between
+/// them, and is refused only where memory is wanting.
+pub fn contract_list(alloc: Global, list: &EdgeList) -> Result<Contracted, NoMemory>
+    requires { 2 ≤ list.now.vertices }
+    ensures { IfOk result (λ c. MatchOption c.list (value list.now ≤ c.bound)
+        (λ small. value list.now ≡ (if nat_lt small.vertices 2 then c.bound else min c.bound (value small)))) }
+{
+    // known by this call: it is an edge list
+    let _n = list.n();
+    let least = least_degree(alloc, list)?;
+    if list.len() <= FEW_EDGES || least == 0 {
+        return Ok(Contracted {
+            bound: least,
+            list: None,
+        });
+    }
+    let Contracted { bound, list: found } = first_pass(alloc, list, least)?;
+    let Some(small) = found else {
+        return Ok(Contracted { bound, list: None });
+    };
+    let Left { bound, list: left } = contract_further(alloc, small, bound)?;
+    Ok(Contracted {
+        bound,
+        list: Some(left),
+    })
+}
