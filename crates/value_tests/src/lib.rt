@@ -8,6 +8,8 @@ mod certificates;
 #[cfg(test)]
 mod flows;
 #[cfg(test)]
+mod forests;
+#[cfg(test)]
 mod graph_calls;
 #[cfg(test)]
 mod graphs;

@@ -1,0 +1,62 @@
+//! The value by the list of edges, where that can be made shorter before a graph has rows.
+
+ghost use Rattle.std.specs.Prelude.{◌≡◌, ◌≤◌, IfOk, IfSome, if◌then◌else◌, min, nat_lt};
+ghost use Rattle.cut_definitions.specs.Cuts.{value};
+
+use crate::values::value as least_weight;
+use cut_definitions::{EdgeList, NoMemory};
+use forest_contraction::{Contracted, contract_list};
+use least_cut::value_of_dense;
+use outside::Gate;
+use std::alloc::Global;
+use std::thread::Threads;
+use weighted_graph::Graph;
+
+/// The lesser of a bound and the value of a list that is taken over, or the bound where that has fewer than two vertices.
+fn value_below<R: Threads + Sync, G: Gate>(
+    rt: &R,
+    alloc: Global,
+    list: EdgeList,
+    bound: u64,
+    workers: u32,
+    gate: &G,
+) -> Result<u64, NoMemory>
+    requires workers { (1 ≤ workers) × (workers ≤ 64) }
+    ensures { IfOk result (λ weight. weight ≡ (if nat_lt list.vertices 2 then bound else min bound (value list))) }
+{
+    if list.n() < 2 {
+        return Ok(bound);
+    }
+    let graph = Graph::from_list(alloc, list)?;
+    let weight = least_weight(rt, alloc, &graph, workers, gate)?;
+    Ok(weight.min(bound))
+}
+
+/// The value of a graph of two or more vertices by its list of edges, if that can be told without rows for the whole graph:
+/// where the graph is dense, or the list can be made shorter by forests. None where neither comes to anything; the value is
+/// `value` of the graph with rows then.
+///
+/// It is worth its time on a list of more than 1,024 edges, and answers none for a shorter one that is not dense. The number
+/// of workers is 1 to 64. It takes memory O(n + m), for most graphs a few bytes for each vertex beside the list, and is refused
+/// only where that is wanting.
+pub fn value_by_list<R: Threads + Sync, G: Gate>(
+    rt: &R,
+    alloc: Global,
+    list: &EdgeList,
+    workers: u32,
+    gate: &G,
+) -> Result<Option<u64>, NoMemory>
+    requires enough { 2 ≤ list.now.vertices }
+    requires workers { (1 ≤ workers) × (workers ≤ 64) }
+    ensures { IfOk result (λ found. IfSome found (λ weight. weight ≡ value list.now)) }
+{
+    if let Some(weight) = value_of_dense(alloc, list)? {
+        return Ok(Some(weight));
+    }
+    let Contracted { bound, list: found } = contract_list(alloc, list)?;
+    let Some(small) = found else {
+        return Ok(None);
+    };
+    let weight = value_below(rt, alloc, small, bound, workers, gate)?;
+    Ok(Some(weight))
+}
