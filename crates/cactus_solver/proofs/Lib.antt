@@ -43,6 +43,7 @@ pub mod Refining
 pub mod Stepping
 pub mod UnderWay
 pub mod Leaving
+mod ByClasses
 pub mod Members
 pub mod Walked
 pub mod SideLists

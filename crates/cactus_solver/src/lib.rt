@@ -9,7 +9,8 @@
 //! several workers are to share the work: of two or more large parts that are listed at once each is then made a graph in
 //! which one vertex stands for all else, these are solved side by side, and their trees are grafted on the tree.
 //! Where what is left after contraction is a tree whose edges all have the value, each edge is a minimum cut and there is no
-//! other, and no sweep is made.
+//! other, and no sweep is made. `solve_at` does so for a value that is known, and `solve_by_list` by the list of edges, where
+//! forests make that shorter before a graph has rows.
 //!
 //! The parts are the chain across an edge of Karzanov and Timofeev (1986) and of Nagamochi, Nakao and Ibaraki (2000), as
 //! closed sets of a flow (Picard and Queyranne, 1980); the source that grows is that of Hao and Orlin (1994).
@@ -17,6 +18,7 @@
 
 mod between;
 mod branches;
+mod by_list;
 mod fronts;
 mod halts;
 mod hang_parts;
@@ -48,4 +50,5 @@ pub mod tree;
 mod way;
 mod weights;
 
-pub use solver::{Solved, solve};
+pub use by_list::solve_by_list;
+pub use solver::{Solved, solve, solve_at};

@@ -76,7 +76,7 @@ fn tree_by_kernel<R: Threads + Sync>(
 }
 
 /// The tree of the minimum cuts of a graph whose value is given: by a smaller graph, where edges can be contracted.
-fn tree_at_value<R: Threads + Sync, G: Gate>(
+pub(crate) fn tree_at_value<R: Threads + Sync, G: Gate>(
     rt: &R,
     alloc: Global,
     graph: &Graph,
@@ -96,14 +96,42 @@ fn tree_at_value<R: Threads + Sync, G: Gate>(
     }
 }
 
+/// The cactus of the minimum cuts of a connected graph of two or more vertices whose value is given, in its normal form.
+///
+/// Scans or rounds contract edges that lie in no minimum cut, where there are some. What is left is mostly a tree whose edges
+/// all have the value where that is 1; else the sweep over regions makes the tree of its minimum cuts. Each vertex of the graph
+/// is put into the node of its class, and the cactus is made of that, once all else is given back, and made normal where a node
+/// has no vertex. Memory is in proportion to n + m. The runtime, the workers and the gate are handed to the rounds; and the
+/// workers share the large regions, where the sweep lists two or more of them at once. It is refused only where memory is
+/// wanting.
+pub fn solve_at<R: Threads + Sync, G: Gate>(
+    rt: &R,
+    alloc: Global,
+    graph: &Graph,
+    value: u64,
+    workers: u32,
+    gate: &G,
+) -> Result<Solved, NoMemory>
+    requires connected { IsConnected graph.now }
+    requires enough { 2 ≤ graph.now.vertices }
+    requires value { value ≡ least_value graph.now }
+    requires workers { (1 ≤ workers) × (workers ≤ 64) }
+    ensures value { IfOk result (λ s. s.value ≡ least_value graph.now) }
+    ensures n { IfOk result (λ s. s.cactus.vertices ≡ graph.now.vertices) }
+    ensures sides { IfOk result (λ s. SameMembers (sides_of s.cactus) (mincuts graph.now)) }
+    ensures normal { IfOk result (λ s. is_normal s.cactus.root ≡ true) }
+{
+    let n = graph.n();
+    let tree = tree_at_value(rt, alloc, graph, value, workers, gate)?;
+    let made = cactus_of_tree(alloc, tree, n)?;
+    let cactus = normal_form(alloc, made)?;
+    Ok(Solved { value, cactus })
+}
+
 /// The value of a connected graph of two or more vertices, and the cactus of its minimum cuts, in its normal form.
 ///
-/// The value comes from rounds of contraction and a sweep of flows. Then scans or rounds contract edges that lie in no
-/// minimum cut, where there are some. What is left is mostly a tree whose edges all have the value where that is 1; else the
-/// sweep over regions makes the tree of its minimum cuts. Each vertex of the graph is put into the node of its class, and the
-/// cactus is made of that, once all else is given back, and made normal where a node has no vertex. Memory is in proportion
-/// to n + m. The runtime, the workers and the gate are handed to the search for the value and to the rounds; and the workers
-/// share the large regions, where the sweep lists two or more of them at once. It is refused only where memory is wanting.
+/// The value comes from rounds of contraction and a sweep of flows, the cactus is `solve_at` of it. The runtime, the workers
+/// and the gate are handed to both. Memory is in proportion to n + m. It is refused only where that is wanting.
 pub fn solve<R: Threads + Sync, G: Gate>(
     rt: &R,
     alloc: Global,
@@ -119,10 +147,7 @@ pub fn solve<R: Threads + Sync, G: Gate>(
     ensures sides { IfOk result (λ s. SameMembers (sides_of s.cactus) (mincuts graph.now)) }
     ensures normal { IfOk result (λ s. is_normal s.cactus.root ≡ true) }
 {
-    let n = graph.n();
     let value = least_weight(rt, alloc, graph, workers, gate)?;
-    let tree = tree_at_value(rt, alloc, graph, value, workers, gate)?;
-    let made = cactus_of_tree(alloc, tree, n)?;
-    let cactus = normal_form(alloc, made)?;
-    Ok(Solved { value, cactus })
+    let solved = solve_at(rt, alloc, graph, value, workers, gate)?;
+    Ok(solved)
 }
