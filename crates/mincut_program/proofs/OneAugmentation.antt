@@ -2,12 +2,11 @@
 use Rattle.std.proofs.Common.{◌≡◌, ℕ, inl, true, List, [], ◌∷◌, map, ap, ◌∙◌, sym, subst, refl}
 use Rattle.std.specs.List.{Contains}
 use Rattle.std.specs.Ordering.{nat_cmp}
-use Rattle.std.specs.Prelude.{◌↔◌}
 use Rattle.std.proofs.lemmas.Cmp.{nat_list_cmp_total}
 use Rattle.std.proofs.lemmas.Map.Lookups.{exact_bytes, exact_pairs, exact_unsigned}
 use Rattle.cut_definitions.specs.Graph.{Graph}
 use Rattle.cut_definitions.specs.Weight.{VertexSet}
-use Rattle.cut_definitions.specs.Cuts.{has, value}
+use Rattle.cut_definitions.specs.Cuts.{value}
 use Rattle.cut_definitions.proofs.Orderings.{one_listed}
 use Rattle.cactus_tree.specs.Sides.{part}
 use Rattle.cactus_tree.specs.Rooted.{Rooted, IsCactus}

@@ -17,3 +17,4 @@ pub mod Growth
 pub mod Intake
 pub mod Answers
 pub mod TextLaws
+pub mod ReadGraphs

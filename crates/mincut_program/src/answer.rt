@@ -1,9 +1,11 @@
 //! From the graph to what is written.
 
 ghost use Rattle.std.specs.Prelude.{◌≡◌, ◌≤◌, IfOk, IfErr, IfSome, IsNone, length, true, false};
-ghost use Rattle.cut_definitions.specs.Cuts.{value};
+ghost use Rattle.cut_definitions.specs.Components.{IsConnected};
+ghost use Rattle.cut_definitions.specs.Cuts.{value, value as least_value};
 ghost use Rattle.cut_definitions.specs.Graph.{IsEdgeList};
 ghost use Rattle.mincut_program.specs.Jobs.{AreInRange, AsksCuts, IsAnswerOf, IsFirstOutside, IsInRange, IsOutside, IsOutsidePair, IsStopFor, IsVertex};
+ghost use Rattle.mincut_program.specs.Solving.{IsSolved};
 ghost use Rattle.mincut_program.specs.Replies.{text_of, IsPrintable};
 ghost use Rattle.mincut_program.specs.Texts.{no_cut_line, value_line};
 ghost use Rattle.mincut_program.specs.Words.{IsMakeable, IsReading};
@@ -13,13 +15,13 @@ use crate::command::{Command, Job};
 use crate::cuts::cuts_reply;
 use crate::growth::grow_reply;
 use crate::insertions::Insertions;
+use crate::read_graph::ReadGraph;
 use crate::reply::Reply;
 use crate::stop::Stop;
-use cactus_solver::solve;
+use cactus_solver::{Solved, solve, solve_at, solve_by_list};
 use cut_definitions::{EdgeList, VertexWeights};
-use least_cut::value_of_dense;
 use metis_reader::MetisGraph;
-use min_value::value as least_weight;
+use min_value::{value as least_weight, value_by_list};
 use outside::{Gate, NoMemory};
 use std::alloc::Global;
 use std::thread::Threads;
@@ -51,7 +53,7 @@ fn value_text(alloc: Global, value: u64) -> Result<Reply, NoMemory>
     Ok(Reply::Text(text))
 }
 
-// The line of the job `value`. A dense graph needs no rows for it.
+// The line of the job `value`. The whole graph gets rows only where its list of edges does not tell the value.
 fn value_reply<R: Threads + Sync, G: Gate>(
     rt: &R,
     alloc: Global,
@@ -64,7 +66,7 @@ fn value_reply<R: Threads + Sync, G: Gate>(
     ensures text { IfOk result (λ reply. text_of reply ≡ value_line (value list)) }
     ensures printable { IfOk result IsPrintable }
 {
-    if let Some(value) = value_of_dense(alloc, &list)? {
+    if let Some(value) = value_by_list(rt, alloc, &list, workers, gate)? {
         return value_text(alloc, value);
     }
     let graph = with_rows(alloc, list)?;
@@ -118,8 +120,8 @@ fn first_outside(job: &Job, n: u32) -> Option<u64>
     }
 }
 
-// The answer of a job on the cuts themselves.
-fn reply_on_cuts<R: Threads + Sync, G: Gate>(
+// The answer of a job on the cuts themselves, by the graph with rows.
+fn reply_by_rows<R: Threads + Sync, G: Gate>(
     rt: &R,
     alloc: Global,
     command: Command,
@@ -142,6 +144,61 @@ fn reply_on_cuts<R: Threads + Sync, G: Gate>(
         return apart_reply(alloc, command, &graph, components, weights);
     }
     let solved = solve(rt, alloc, &graph, command.workers, gate)?;
+    let graph = ReadGraph::with_rows(graph);
+    cuts_reply(alloc, command, &graph, weights, solved)
+}
+
+// The minimum cuts of a connected graph whose value is given, and the graph as it is kept.
+fn solved_at<R: Threads + Sync, G: Gate>(
+    rt: &R,
+    alloc: Global,
+    list: EdgeList,
+    value: u64,
+    workers: u32,
+    gate: &G,
+) -> Result<(ReadGraph, Solved), NoMemory>
+    requires enough { 2 ≤ list.vertices }
+    requires connected { IsConnected list }
+    requires value { value ≡ least_value list }
+    requires workers { (1 ≤ workers) × (workers ≤ 64) }
+    ensures graph { IfOk result (λ r. r.0 ≡ list) }
+    ensures solved { IfOk result (λ r. IsSolved list r.1) }
+{
+    if let Some(found) = solve_by_list(rt, alloc, &list, value, workers, gate)? {
+        return Ok((ReadGraph::of_list(list), found));
+    }
+    let graph = with_rows(alloc, list)?;
+    let solved = solve_at(rt, alloc, &graph, value, workers, gate)?;
+    Ok((ReadGraph::with_rows(graph), solved))
+}
+
+// The answer of a job on the cuts themselves. A graph whose value is above 0 is connected, and where its list of edges tells
+// the value, the whole graph gets rows only where the list does not tell the cuts.
+fn reply_on_cuts<R: Threads + Sync, G: Gate>(
+    rt: &R,
+    alloc: Global,
+    command: Command,
+    list: EdgeList,
+    weights: &VertexWeights,
+    gate: &G,
+) -> Result<Reply, Stop>
+    requires enough { 2 ≤ list.vertices }
+    requires weighed { length weights.now ≡ list.vertices }
+    requires in_range { IsInRange command.job list.vertices }
+    requires job { AsksCuts command.job }
+    requires workers { (1 ≤ command.workers) × (command.workers ≤ 64) }
+    ensures text { IfOk result (λ reply. IsAnswerOf command weights.now list (text_of reply)) }
+    ensures printable { IfOk result IsPrintable }
+    ensures stop { IfErr result (IsStopFor command weights.now list) }
+{
+    // known by this call: it is an edge list
+    let _n = list.n();
+    let found = value_by_list(rt, alloc, &list, command.workers, gate)?;
+    let value = found.unwrap_or(0);
+    if value == 0 {
+        return reply_by_rows(rt, alloc, command, list, weights, gate);
+    }
+    let (graph, solved) = solved_at(rt, alloc, list, value, command.workers, gate)?;
     cuts_reply(alloc, command, &graph, weights, solved)
 }
 

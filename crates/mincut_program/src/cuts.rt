@@ -1,10 +1,11 @@
 //! From a solved graph to what is written.
 
-ghost use Rattle.std.specs.Prelude.{◌≡◌, ◌≢◌, ◌≤◌, ◌^◌, ℕ, IfOk, IfErr, length};
+ghost use Rattle.std.specs.Prelude.{◌≡◌, ◌≢◌, ◌≤◌, ◌^◌, ℕ, IfOk, IfErr, length, true};
 ghost use Rattle.cut_definitions.specs.Components.{HasComponents};
 ghost use Rattle.cut_definitions.specs.Cuts.{mincuts, value};
 ghost use Rattle.cut_definitions.specs.Graph.{Graph as EdgeGraph};
 ghost use Rattle.cactus_tree.specs.Different.{HasNoEmptySide};
+ghost use Rattle.cactus_tree.specs.Normal.{is_normal};
 ghost use Rattle.mincut_program.specs.Jobs.{asked_of, AsksCuts, IsAnswerOf, IsInRange, IsStopFor, IsCactusOf, IsCactusText, IsBalancedText, IsAugmentText};
 ghost use Rattle.mincut_program.specs.Listings.{count_text};
 ghost use Rattle.mincut_program.specs.Solving.{cuts_for, IsSolved, IsListReply, IsListStop};
@@ -13,6 +14,7 @@ ghost use Rattle.cut_listing.specs.Listings.{IsList, IsRefusal};
 ghost use Rattle.mincut_program.specs.Replies.{text_of, IsPrintable};
 
 use crate::command::{Command, Job};
+use crate::read_graph::ReadGraph;
 use crate::reply::Reply;
 use crate::stop::Stop;
 use balanced_cut::balance_of;
@@ -26,10 +28,9 @@ use edge_augment::augment;
 use edge_augment::laws::augmentation;
 use std::alloc::Global;
 use vertex_set::Side;
-use weighted_graph::Graph;
 
 // All minimum cuts, by their sides in order, or their number where they are too many.
-fn all_sides(alloc: Global, graph: &Graph, solved: &Solved) -> Result<Vec<Side>, ListRefusal>
+fn all_sides(alloc: Global, graph: &ReadGraph, solved: &Solved) -> Result<Vec<Side>, ListRefusal>
     requires { IsSolved graph.now solved.now }
     ensures list { IfOk result (λ sides. IsList (2 ^ 30) graph.now.vertices Ask.All solved.now.cactus sides.items) }
     ensures refusal { IfErr result (IsRefusal (2 ^ 30) graph.now.vertices Ask.All solved.now.cactus) }
@@ -46,7 +47,7 @@ fn parting_sides(
     alloc: Global,
     u: u32,
     v: u32,
-    graph: &Graph,
+    graph: &ReadGraph,
     solved: &Solved,
 ) -> Result<Vec<Side>, ListRefusal>
     requires solved { IsSolved graph.now solved.now }
@@ -81,7 +82,7 @@ fn balanced_sides(
     alloc: Global,
     least: u64,
     weights: &VertexWeights,
-    graph: &Graph,
+    graph: &ReadGraph,
     solved: &Solved,
 ) -> Result<Vec<Side>, ListRefusal>
     requires solved { IsSolved graph.now solved.now }
@@ -106,7 +107,7 @@ fn balanced_sides(
 fn asked_sides(
     alloc: Global,
     ask: Ask,
-    graph: &Graph,
+    graph: &ReadGraph,
     solved: &Solved,
 ) -> Result<Vec<Side>, ListRefusal>
     requires solved { IsSolved graph.now solved.now }
@@ -122,7 +123,7 @@ fn asked_sides(
 }
 
 // The list of the minimum cuts that are asked for.
-fn listing_reply(alloc: Global, ask: Ask, graph: &Graph, solved: Solved) -> Result<Reply, Stop>
+fn listing_reply(alloc: Global, ask: Ask, graph: &ReadGraph, solved: Solved) -> Result<Reply, Stop>
     requires solved { IsSolved graph.now solved }
     requires within { IsAskWithin graph.now.vertices ask }
     ensures text { IfOk result (λ reply. IsListReply ask.entry graph.now (text_of reply)) }
@@ -142,24 +143,25 @@ fn listing_reply(alloc: Global, ask: Ask, graph: &Graph, solved: Solved) -> Resu
 }
 
 /// The number of all minimum cuts of a solved graph, from the tree of its cactus: one step for each node and block.
-pub fn count_of_cuts(alloc: Global, graph: &Graph, solved: &Solved) -> Result<u64, NoMemory>
-    requires { IsSolved graph.now solved.now }
-    ensures { IfOk result (λ count. count ≡ length (mincuts graph.now)) }
+pub fn count_of_cuts(alloc: Global, solved: &Solved) -> Result<u64, NoMemory>
+    requires few { solved.now.cactus.vertices ≤ 4194304 }
+    requires normal { is_normal solved.now.cactus.root ≡ true }
+    ensures { (g : EdgeGraph) → IsSolved g solved.now → IfOk result (λ count. count ≡ length (mincuts g)) }
 {
     number_of_minimum_cuts();
-    // known by this call: the graph has at most 4,194,304 vertices
-    let _n = graph.n();
     solved.cactus.count_within(alloc)
 }
 
 // The number of all minimum cuts.
-fn count_reply(alloc: Global, graph: &Graph, solved: &Solved) -> Result<Reply, NoMemory>
+fn count_reply(alloc: Global, graph: &ReadGraph, solved: &Solved) -> Result<Reply, NoMemory>
     requires solved { IsSolved graph.now solved.now }
     ensures text { IfOk result (λ reply. text_of reply ≡ count_text (value graph.now) (length (mincuts graph.now))) }
     ensures printable { IfOk result IsPrintable }
 {
+    // known by this call: the graph has at most 4,194,304 vertices
+    let _n = graph.n();
     let value = solved.value;
-    let count = count_of_cuts(alloc, graph, solved)?;
+    let count = count_of_cuts(alloc, solved)?;
     let text = format!(in alloc; "value {value}\ncount {count}\n")?;
     Ok(Reply::Text(text))
 }
@@ -167,7 +169,7 @@ fn count_reply(alloc: Global, graph: &Graph, solved: &Solved) -> Result<Reply, N
 // The first of the most balanced minimum cuts, in the order of lists.
 fn balanced_reply(
     alloc: Global,
-    graph: &Graph,
+    graph: &ReadGraph,
     weights: &VertexWeights,
     solved: Solved,
 ) -> Result<Reply, NoMemory>
@@ -201,7 +203,7 @@ pub fn ask_of(least: Option<u64>, weights: &VertexWeights) -> Ask
 pub fn cuts_reply(
     alloc: Global,
     command: Command,
-    graph: &Graph,
+    graph: &ReadGraph,
     weights: &VertexWeights,
     solved: Solved,
 ) -> Result<Reply, Stop>
@@ -238,7 +240,7 @@ pub fn canonical_of(alloc: Global, solved: Solved) -> Result<Cactus, NoMemory>
 }
 
 // All minimum cuts.
-fn cactus_reply(alloc: Global, graph: &Graph, solved: Solved) -> Result<Reply, NoMemory>
+fn cactus_reply(alloc: Global, graph: &ReadGraph, solved: Solved) -> Result<Reply, NoMemory>
     requires enough { 2 ≤ graph.now.vertices }
     requires solved { IsSolved graph.now solved }
     ensures text { IfOk result (λ reply. IsCactusText graph.now (text_of reply)) }
@@ -254,7 +256,7 @@ fn cactus_reply(alloc: Global, graph: &Graph, solved: Solved) -> Result<Reply, N
 }
 
 // The fewest unit edges that raise the value.
-fn augment_reply(alloc: Global, graph: &Graph, solved: Solved) -> Result<Reply, NoMemory>
+fn augment_reply(alloc: Global, graph: &ReadGraph, solved: Solved) -> Result<Reply, NoMemory>
     requires enough { 2 ≤ graph.now.vertices }
     requires solved { IsSolved graph.now solved }
     ensures text { IfOk result (λ reply. IsAugmentText graph.now (text_of reply)) }

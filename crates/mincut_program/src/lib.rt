@@ -18,6 +18,7 @@ mod notice;
 mod number;
 mod pages;
 mod program;
+mod read_graph;
 mod reply;
 mod status;
 mod stop;

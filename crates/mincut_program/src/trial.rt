@@ -45,7 +45,9 @@ fn describe(alloc: Global, graph: &Graph, solved: &Solved) -> Result<String, NoM
     requires solved { IsSolved graph.now solved.now }
     ensures { IfOk result (λ text. IsFactsText graph.now (string_bytes text)) }
 {
-    let count = count_of_cuts(alloc, graph, solved)?;
+    // known by this call: the graph has at most 4,194,304 vertices
+    let _n = graph.n();
+    let count = count_of_cuts(alloc, solved)?;
     let weights = masses_of_one(alloc, graph)?;
     let side = best(alloc, &solved.cactus, &weights)?;
     let balance = balance_of(&side, &weights);

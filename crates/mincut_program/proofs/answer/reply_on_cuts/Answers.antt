@@ -1,26 +1,18 @@
-use Rattle.std.proofs.Common.{◌≤◌, subst, sym, IfOk, arith, rules}
-use Rattle.std.specs.Prelude.{IfErr}
-use Rattle.cut_definitions.specs.Graph.{Graph}
-use Rattle.mincut_program.specs.Jobs.{IsAnswerOf, IsStopFor}
-use Rattle.mincut_program.specs.Replies.{text_of}
-use Rattle.mincut_program.proofs.Graphs.{connected_of, one_component}
+-- A graph whose value is above 0 is connected.
+use Rattle.std.proofs.Common.{◌≡◌, ◌∙◌, arith}
+use Rattle.std.specs.Option.{unwrap_or}
+use Rattle.cut_definitions.specs.Components.{IsConnected}
+use Rattle.cut_definitions.specs.Cuts.{value}
+use Rattle.mincut_program.proofs.Connected.{connected_by_value, one_of_connected, found_value}
 use Rattle.mincut_program.proofs.answer.reply_on_cuts.Goals as goal
 
-pub solve-requires-clause-connected : goal.solve-requires-clause-connected
-solve-requires-clause-connected g c κs lives =
-    connected_of c.in_ok-graph.graph (one_component c.in_ok-graph.graph c.in_ok-components.components (subst (λ (l : Graph). 2 ≤ l.vertices) (sym c.in_ok-graph.ensures) c.requires.enough)
-    c.in_ok-components.ensures.counted c.in_ok-components.ensures.none (omega (arith, c.if-components-ge2.false)))
+pub solved_at-requires-clause-connected : goal.solved_at-requires-clause-connected
+solved_at-requires-clause-connected g c = λ κs lives.
+    let is : unwrap_or c.in_ok-found.found 0 ≡ value c.args.list = found_value c.in_ok-found.found (value c.args.list) c.in_ok-found.ensures (λ e. c.if-value-eq0.false (c.unwrap_or-value.ensures ∙ e)) in
+    connected_by_value c.args.list c.n-n.ensures.edge_list.is_graph c.requires.enough (omega (arith, is, c.unwrap_or-value.ensures, c.if-value-eq0.false))
 
 pub cuts_reply-requires-clause-one : goal.cuts_reply-requires-clause-one
 cuts_reply-requires-clause-one g c =
-    one_component c.in_ok-graph.graph c.in_ok-components.components (subst (λ (l : Graph). 2 ≤ l.vertices) (sym c.in_ok-graph.ensures) c.requires.enough)
-    c.in_ok-components.ensures.counted c.in_ok-components.ensures.none (omega (arith, c.if-components-ge2.false))
-
-pub returns-clause-text : goal.returns-clause-text
-returns-clause-text g c = subst (λ (l : Graph). IfOk c.cuts_reply.result (λ reply. IsAnswerOf c.args.command c.args.weights.now l (text_of reply))) c.in_ok-graph.ensures c.cuts_reply.ensures.text
-
-pub returns-clause-stop : goal.returns-clause-stop
-returns-clause-stop g c = subst (λ (l : Graph). IfErr c.cuts_reply.result (IsStopFor c.args.command c.args.weights.now l)) c.in_ok-graph.ensures c.cuts_reply.ensures.stop
-
-pub apart_reply-requires-clause-components : goal.apart_reply-requires-clause-components
-apart_reply-requires-clause-components g c = search rules
+    let is : unwrap_or c.in_ok-found.found 0 ≡ value c.args.list = found_value c.in_ok-found.found (value c.args.list) c.in_ok-found.ensures (λ e. c.if-value-eq0.false (c.unwrap_or-value.ensures ∙ e)) in
+    let connected : IsConnected c.args.list = connected_by_value c.args.list c.n-n.ensures.edge_list.is_graph c.requires.enough (omega (arith, is, c.unwrap_or-value.ensures, c.if-value-eq0.false)) in
+    rw c.in_ok-graph.ensures.graph (one_of_connected c.args.list connected)

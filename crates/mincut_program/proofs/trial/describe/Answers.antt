@@ -1,9 +1,12 @@
-use Rattle.std.proofs.Common.{◌≡◌, ◌∙◌, ap, length, string_bytes, sym}
+use Rattle.std.proofs.Common.{◌≡◌, ◌∙◌, ap, length, string_bytes, sym, arith}
 use Rattle.std.proofs.lemmas.List.{length-replicate}
 use Rattle.cut_definitions.proofs.Results.{if_ok_more}
 use Rattle.mincut_program.specs.Trials.{trial_text, IsFactsText}
 use Rattle.mincut_program.proofs.Graphs.{facts_known, has_block}
 use Rattle.mincut_program.proofs.trial.describe.Goals as goal
+
+pub count_of_cuts-requires-clause-few : goal.count_of_cuts-requires-clause-few
+count_of_cuts-requires-clause-few c = omega (arith, c.requires.solved.over, c.n-n.ensures.edge_list.few_vertices)
 
 pub best-requires-clause-some : goal.best-requires-clause-some
 best-requires-clause-some c = has_block c.args.graph.now c.args.solved.now c.requires.enough c.requires.solved
@@ -19,5 +22,5 @@ returns c =
     if_ok_more (λ text. string_bytes text ≡ trial_text c.n.result c.edges.result c.args.solved.now.value c.in_ok-count.count c.balance_of-balance.result)
     (λ text. IsFactsText c.args.graph.now (string_bytes text)) c.facts_text.result
     (λ text is. facts_known c.args.graph.now c.args.solved.now c.in_ok-weights.weights c.in_ok-side.side.members c.n.result c.edges.result c.in_ok-count.count c.balance_of-balance.result c.requires.solved
-    c.in_ok-weights.ensures c.in_ok-side.ensures.best c.n.ensures.value c.edges.ensures c.in_ok-count.ensures c.balance_of-balance.ensures (string_bytes text) is)
+    c.in_ok-weights.ensures c.in_ok-side.ensures.best c.n.ensures.value c.edges.ensures (c.in_ok-count.ensures c.args.graph.now c.requires.solved) c.balance_of-balance.ensures (string_bytes text) is)
     c.facts_text.ensures
