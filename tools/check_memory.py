@@ -23,10 +23,28 @@ TRIANGLE = '3 3\n2 3\n1 3\n1 2\n'
 MASSES = '4 3 10\n9 2\n1 1 3\n1 2 4\n1 3\n'
 TWO_CYCLES = '6 8 1\n2 2 4 1 6 1\n1 2 3 2\n2 2 4 1 6 1\n1 1 3 1 5 2\n4 2 6 2\n1 1 3 1 5 2\n'
 
+
+def ring_of_cliques(count, size):
+    """A file with so many cliques of so many vertices in a ring, with more edges than are left to rounds and rows alone."""
+    rows = [[] for _ in range(count * size)]
+    for c in range(count):
+        first = c * size
+        for i in range(size):
+            rows[first + i] += [first + j for j in range(size) if j != i]
+        after = (first + size) % (count * size)
+        rows[first + size - 1].append(after)
+        rows[after].append(first + size - 1)
+    edges = sum(map(len, rows)) // 2
+    return f'{len(rows)} {edges}\n' + ''.join(' '.join(str(v + 1) for v in sorted(row)) + '\n' for row in rows)
+
+
+CLIQUES = ring_of_cliques(20, 12)
+
 CASES = [(['value'], TRIANGLE), (['cuts'], TRIANGLE), (['cactus'], TRIANGLE), (['cuts'], TWO_CYCLES), (['cactus'], TWO_CYCLES),
          (['count'], TWO_CYCLES), (['part', '2', '5'], TWO_CYCLES), (['balanced'], TWO_CYCLES),
          (['cuts', '--least', '2'], MASSES), (['augment'], TWO_CYCLES),
-         (['grow', '1', '3', '1', '2', '5', '2'], TWO_CYCLES), (['trial', '1000'], '')]
+         (['grow', '1', '3', '1', '2', '5', '2'], TWO_CYCLES), (['trial', '1000'], ''),
+         (['value'], CLIQUES), (['cactus'], CLIQUES)]
 
 SHIM = r'''
 #define _GNU_SOURCE
