@@ -23,7 +23,8 @@ use Rattle.cactus_tree.proofs.Segments.{has_append_at}
 use Rattle.cactus_tree.proofs.Layouts.{laid_out}
 use Rattle.cactus_merge.specs.declared.part.PartCactus.{PartCactus}
 use Rattle.cactus_merge.specs.Joined.{IsRuns, IsWide, SameSets, joined_cuts, run_cuts, run_parts, tails, held, has_some}
-use Rattle.cactus_merge.specs.Assembled.{ArePartsOf, AreNodesOf, IsNodeOf, SameMembers, assembled_sides, chain_sides, run_sides, part_sides, set_list}
+use Rattle.cut_definitions.specs.Members.{SameMembers}
+use Rattle.cactus_merge.specs.Assembled.{ArePartsOf, AreNodesOf, IsNodeOf, assembled_sides, chain_sides, run_sides, part_sides, set_list}
 use Rattle.cactus_merge.proofs.Names.{count_of, count_yes, count_no}
 use Rattle.cactus_merge.proofs.Numbered.{AreNumbered, rest_numbered, tails_sides, interval_list}
 use Rattle.cactus_merge.proofs.Within.{all_lack, none_counted}

@@ -1,5 +1,5 @@
 -- The sides of a chain with the cactuses of its parts.
-use Rattle.std.specs.Prelude.{ℕ, Bool, not, ◌≡◌, ◌==◌, ◌↔◌, ◌+◌, ◌-◌, ◌<◌, ◌≤◌, ◌&&◌, ◌||◌, if◌then◌else◌, nat_lt, List, [], ◌∷◌, ◌++◌, length, map, slice_index_or}
+use Rattle.std.specs.Prelude.{ℕ, Bool, not, ◌≡◌, ◌==◌, ◌+◌, ◌-◌, ◌<◌, ◌≤◌, ◌&&◌, ◌||◌, if◌then◌else◌, nat_lt, List, [], ◌∷◌, ◌++◌, length, map, slice_index_or}
 use Rattle.std.specs.List.{All, Contains, filter, flat_map, list_any, range_with_len}
 use Rattle.cut_definitions.specs.Weight.{VertexSet}
 use Rattle.cut_definitions.specs.Cuts.{has, IsAscendingWithin}
@@ -50,10 +50,6 @@ part_sides n p = map (lifted_side n p.own) (sides_of p.cactus)
 -- the sides of the chain, of the intervals inside its runs, and of the cactuses of its parts
 abbrev pub assembled_sides : ChainView → List PartCactus → List (List ℕ)
 assembled_sides c parts = chain_sides c ++ (flat_map (run_sides c) c.runs ++ flat_map (part_sides (length c.numbers)) parts)
-
--- two lists have the same members
-abbrev pub SameMembers : List (List ℕ) → List (List ℕ) → Type 0
-SameMembers k l = (x : List ℕ) → Contains k x ↔ Contains l x
 
 -- whether a vertex is in a part, and is no end of the chain
 abbrev pub is_own : ChainView → ℕ → VertexSet

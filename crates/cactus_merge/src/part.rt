@@ -2,7 +2,8 @@
 
 ghost use Rattle.std.specs.Prelude.{◌≡◌, ℕ, ◌≤◌, ◌<◌, [], ◌∷◌, ◌++◌, length, map, IfOk};
 ghost use Rattle.cactus_tree.specs.Rooted.{sides_of};
-ghost use Rattle.cactus_merge.specs.Assembled.{ArePartsOf, AreNodesOf, SameMembers, assembled_sides};
+ghost use Rattle.cut_definitions.specs.Members.{SameMembers};
+ghost use Rattle.cactus_merge.specs.Assembled.{ArePartsOf, AreNodesOf, assembled_sides};
 ghost use Rattle.residual_chain.specs.Chain.{IsChainShape};
 ghost use Rattle.cactus_tree.specs.Trees.{nodes_in};
 

@@ -8,3 +8,4 @@ pub mod Components
 pub mod Balance
 pub mod Safe
 pub mod Laws
+pub mod Members

@@ -114,6 +114,13 @@ impl Graph {
         self.list.edges()
     }
 
+    /// The list of edges of which the graph was made, lent without a copy.
+    pub fn list(&self) -> &EdgeList
+        ensures { result.now ≡ self.now }
+    {
+        &self.list
+    }
+
     /// The edges at a vertex, ascending by the other end, lent without a copy. The row of 0 is empty.
     pub fn row(&self, v: u32) -> &[Arc]
         requires { v ≤ self.now.vertices }

@@ -5,7 +5,8 @@ use Rattle.cactus_tree.specs.Trees.{nodes_in}
 use Rattle.cactus_tree.specs.Sides.{cuts, part}
 use Rattle.cactus_tree.specs.Rooted.{IsCactus, Rooted, sides_of}
 use Rattle.cactus_merge.specs.Joined.{SameSets, joined_cuts}
-use Rattle.cactus_merge.specs.Assembled.{SameMembers, assembled_sides}
+use Rattle.cut_definitions.specs.Members.{SameMembers}
+use Rattle.cactus_merge.specs.Assembled.{assembled_sides}
 use Rattle.cactus_merge.proofs.Finals.{cactus_is, sides_are, all_wide}
 use Rattle.cactus_merge.proofs.part.assemble.Goals as goal
 
