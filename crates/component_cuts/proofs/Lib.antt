@@ -1,7 +1,6 @@
-pub mod Marked
-pub mod Numbered
 pub mod Divided
 pub mod Weightless
+pub mod Numbered
 pub mod Different
 pub mod Doubled
 pub mod Sorted

@@ -1,205 +1,112 @@
--- The components numbered so far, vertex by vertex.
-use Rattle.std.proofs.Common.{◌≡◌, ℕ, ◌+◌, ◌<◌, ◌≤◌, ⊎_elim, Bool, true, false, not, ◌&&◌, eqb, List, length, get_or, refl, sym, ◌∙◌, ap, subst, arith}
-use Rattle.std.specs.Prelude.{◌≢◌}
-use Rattle.std.proofs.lemmas.Bool.{cases_eq, eq-eqb, eqb-true, ne_eqb, false≢true}
+-- The components as classes that the edges join, and their numbers.
+use Rattle.std.proofs.Common.{◌≡◌, ℕ, zero, suc, ◌+◌, ◌-◌, ◌<◌, ◌≤◌, ⊎_elim, List, ◌∷◌, length, get_or, refl, sym, ◌∙◌, ap, subst, arith}
+use Rattle.std.specs.Prelude.{◌≢◌, ◌↔◌}
+use Rattle.std.proofs.lemmas.Bool.{cases_eq, cases_lt}
+use Rattle.std.proofs.lemmas.List.{get_or_past}
+use Rattle.std.proofs.lemmas.List.Elements.{All-from_get_or}
+use Rattle.cut_definitions.specs.declared.edge_list.Edge.{Edge}
 use Rattle.cut_definitions.specs.Graph.{Graph, IsGraph}
-use Rattle.cut_definitions.specs.Weight.{VertexSet, weight, minus}
-use Rattle.cut_definitions.specs.Components.{AreJoined}
-use Rattle.cut_definitions.proofs.Bridge.{weight-agree}
-use Rattle.cut_definitions.proofs.WeightLaws.{weight-minus-minus}
-use Rattle.cut_definitions.proofs.Bools.{not_in_minus, in_minus}
-use Rattle.weighted_graph.specs.Searches.{is_seen, IsClosed}
-use Rattle.weighted_graph.proofs.Searched.{closed_weighs_nothing}
-use Rattle.component_cuts.specs.Parts.{AreComponents, IsFirst, IsNumbering, divided}
-use Rattle.component_cuts.specs.Numbers.{marks, AreNumbered}
-use Rattle.component_cuts.proofs.Marked.{seen_from_number, unseen_from_none}
+use Rattle.cut_definitions.specs.Weight.{VertexSet, weight}
+use Rattle.cut_definitions.specs.Contraction.{label, classes}
+use Rattle.cut_definitions.proofs.Sums.{sum_by-same_on, sum_by-none}
+use Rattle.cut_definitions.proofs.WeightLaws.{cut_term}
+use Rattle.weighted_graph.specs.RowLaws.{no_edge, edge_at}
+use Rattle.weighted_graph.proofs.Contraction.{fold_max-get_or, label_from_one}
+use Rattle.weighted_graph.proofs.Labelling.{classes_le}
+use Rattle.weighted_graph.proofs.Searched.{ends_joined, cut_same}
+use Rattle.vertex_classes.specs.Classes.{no_vertex, AreNumbersOf, HasJoined, Respects}
+use Rattle.vertex_classes.proofs.Numbered.{zero_out}
+use Rattle.component_cuts.specs.Parts.{AreComponents, IsNumbering, divided}
 use Rattle.component_cuts.proofs.Divided.{in_part, numbering_divides}
 
--- the vertices of a number
-abbrev of_number : List ℕ → ℕ → VertexSet
-of_number part_of i v = eqb (get_or part_of v 0) i
+-- the sets that respect classes are those that part none of the first edges
+abbrev pub AreOfEdgesBefore : List Edge → ℕ → List ℕ → Type 0
+AreOfEdgesBefore edges count parents = (s : VertexSet) → Respects parents s ↔ ((i : ℕ) → i < count → s (get_or edges i no_edge).u ≡ s (get_or edges i no_edge).v)
 
--- the numbers up to a vertex: each is that of a whole component, and they come up in their order
-pub record IsNumberedTo (g : Graph) (v count : ℕ) (part_of : List ℕ) : Type 0 where
-  pub long : length part_of ≡ g.vertices + 1
-  pub few : count ≤ v
-  pub closed : IsClosed g (is_seen (marks part_of))
-  pub reached : (u : ℕ) → 1 ≤ u → u ≤ v → 1 ≤ get_or part_of u 0
-  pub to_count : (u : ℕ) → get_or part_of u 0 ≤ count
-  pub first : (i : ℕ) → 1 ≤ i → i ≤ count → (x : ℕ) × IsFirst v part_of i x
-  pub joined : (u w : ℕ) → 1 ≤ get_or part_of u 0 → get_or part_of u 0 ≡ get_or part_of w 0 → AreJoined g u w
-  pub whole : (i : ℕ) → 1 ≤ i → i ≤ count → weight g (of_number part_of i) ≡ 0
+pub of_no_edges : (edges : List Edge) (parents : List ℕ) → ((s : VertexSet) → Respects parents s) → AreOfEdgesBefore edges 0 parents
+of_no_edges edges parents alone s = (λ r i l. absurd (omega (arith, l)), λ h. alone s)
 
-pub numbered_start : (g : Graph) (part_of : List ℕ) → length part_of ≡ g.vertices + 1 → ((u : ℕ) → get_or part_of u 0 ≡ 0) → IsNumberedTo g 0 0 part_of
-numbered_start g part_of long none = record {
-  long = long;
-  few = omega arith;
-  closed = λ v is. absurd (false≢true (sym (unseen_from_none part_of v (none v)) ∙ is));
-  reached = λ u one le. absurd (omega arith);
-  to_count = λ u. omega (arith, none u);
-  first = λ i one le. absurd (omega arith);
-  joined = λ u w one e. absurd (omega (arith, none u));
-  whole = λ i one le. absurd (omega arith);
-}
+pub of_one_edge : (edges : List Edge) (count : ℕ) (old new : List ℕ) → AreOfEdgesBefore edges count old → HasJoined old new (get_or edges count no_edge).u (get_or edges count no_edge).v → AreOfEdgesBefore edges (count + 1) new
+of_one_edge edges count old new h joined s = (
+  λ r i l.
+      let p = (joined.respected s).0 r in
+      ⊎_elim
+      (λ (e : i ≡ count). subst (λ (k : ℕ). s (get_or edges k no_edge).u ≡ s (get_or edges k no_edge).v) (sym e) p.1)
+      (λ (ne : i ≢ count). (h s).0 p.0 i (omega (arith, l, ne)))
+      (cases_eq i count),
+  λ parts. (joined.respected s).1 ((h s).1 (λ i l. parts i (omega (arith, l))), parts count (omega arith)),
+)
 
-first_later : (v : ℕ) (part_of : List ℕ) (i x : ℕ) → IsFirst v part_of i x → IsFirst (v + 1) part_of i x
-first_later v part_of i x h = record { from_one = h.from_one; to_n = omega (arith, h.to_n); is_of = h.is_of; lesser = h.lesser }
+-- a set that parts no edge weighs nothing, and so the other way round
+pub of_all_edges : (g : Graph) → IsGraph g → (parents : List ℕ) → AreOfEdgesBefore g.edges (length g.edges) parents → (s : VertexSet) → Respects parents s ↔ (weight g s ≡ 0)
+of_all_edges g ok parents h s = (
+  λ r.
+      sum_by-same_on (cut_term s) (λ (e : Edge). 0) g.edges
+      (All-from_get_or (λ e. cut_term s e ≡ 0) g.edges no_edge (λ i l. cut_same (s (edge_at g i).u) (s (edge_at g i).v) (edge_at g i).w ((h s).0 r i l)))
+      ∙ sum_by-none (λ (e : Edge). 0) (λ e. refl) g.edges,
+  λ none. (h s).1 (λ i l. ends_joined g ok i l s none),
+)
 
--- the next vertex has a number
-pub numbered_old : (g : Graph) (v count : ℕ) (part_of : List ℕ) → IsNumberedTo g v count part_of → get_or part_of (v + 1) 0 ≢ 0 → IsNumberedTo g (v + 1) count part_of
-numbered_old g v count part_of h ne = record {
-  long = h.long;
-  few = omega (arith, h.few);
-  closed = h.closed;
-  reached = λ u one le. ⊎_elim
-      (λ (e : u ≡ v + 1). let q : get_or part_of u 0 ≢ 0 = subst (λ (x : ℕ). get_or part_of x 0 ≢ 0) (sym e) ne in omega arith)
-      (λ (d : u ≢ v + 1). h.reached u one (omega arith))
-      (cases_eq u (v + 1));
-  to_count = h.to_count;
-  first = λ i one le. let f = h.first i one le in (f.0, first_later v part_of i f.0 f.1);
-  joined = h.joined;
-  whole = h.whole;
-}
+-- the number 0 alone weighs nothing
+pub zero_alone : (g : Graph) → IsGraph g → (parents : List ℕ) → ((s : VertexSet) → Respects parents s ↔ (weight g s ≡ 0)) → Respects parents no_vertex
+zero_alone g ok parents h = (h no_vertex).1 (
+    sum_by-same_on (cut_term no_vertex) (λ (e : Edge). 0) g.edges
+    (All-from_get_or (λ e. cut_term no_vertex e ≡ 0) g.edges no_edge
+    (λ i l.
+    let at = ok.in_range i no_edge l in
+    cut_same (no_vertex (edge_at g i).u) (no_vertex (edge_at g i).v) (edge_at g i).w (zero_out (edge_at g i).u at.0 ∙ sym (zero_out (edge_at g i).v (omega (arith, at.0, at.1))))))
+    ∙ sum_by-none (λ (e : Edge). 0) (λ e. refl) g.edges
+    )
 
--- ---- a new number
+-- the number of a vertex is its label
+number_is : (labels part_of : List ℕ) → part_of ≡ 0 ∷ labels → (v : ℕ) → 1 ≤ v → get_or part_of v 0 ≡ label labels v
+number_is labels part_of is v one =
+    let e : v ≡ suc (v - 1) = omega (arith, one) in
+    ap (λ (l : List ℕ). get_or l v 0) is ∙ ap (λ (k : ℕ). get_or (0 ∷ labels) k 0) e
 
-same_old : (number i a b : ℕ) → 1 ≤ i → i < number → a ≡ 0 → b ≡ number → eqb b i ≡ eqb a i
-same_old number i a b one l ea eb = ne_eqb b i (λ e. omega arith) ∙ sym (ne_eqb a i (λ e. omega arith))
+label_most : (labels : List ℕ) (k : ℕ) → get_or labels k 0 ≤ classes labels
+label_most labels k = ⊎_elim
+    (λ (l : k < length labels). fold_max-get_or labels 0 k l)
+    (λ (past : length labels ≤ k). let none : get_or labels k 0 ≡ 0 = get_or_past labels k 0 past in omega (arith, none))
+    (cases_lt k (length labels))
 
--- the vertices of a lesser number stay
-same_lesser : (number : ℕ) (old new : List ℕ) → AreNumbered number old new → (i v : ℕ) → 1 ≤ i → i < number → of_number new i v ≡ of_number old i v
-same_lesser number old new h i v one l =
-    let same = λ (a b : ℕ) (e : a ≡ b). ap (λ (k : ℕ). eqb k i) e in
-    ⊎_elim
-    (λ (e : get_or old v 0 ≡ 0). ⊎_elim
-    (λ z. same (get_or new v 0) (get_or old v 0) (z ∙ sym e))
-    (λ z. same_old number i (get_or old v 0) (get_or new v 0) one l e z)
-    (h.given v e))
-    (λ (ne : get_or old v 0 ≢ 0). same (get_or new v 0) (get_or old v 0) (h.kept v ne))
-    (cases_eq (get_or old v 0) 0)
+number_most : (labels : List ℕ) (v : ℕ) → get_or (0 ∷ labels) v 0 ≤ classes labels
+number_most labels zero = omega arith
+number_most labels (suc k) = label_most labels k
 
-seen_before : (a b : Bool) → b ≡ true → (a && not b) ≡ false
-seen_before a b p = grind arith
-
--- the vertices of the new number are those that are marked now and were not
-new_marks : (number count : ℕ) (old new : List ℕ) → AreNumbered number old new → ((u : ℕ) → get_or old u 0 ≤ count) → count < number → (v : ℕ) → of_number new number v ≡ minus (is_seen (marks new)) (is_seen (marks old)) v
-new_marks number count old new h most l v =
-    let a = is_seen (marks new) v in
-    let b = is_seen (marks old) v in
-    ⊎_elim
-    (λ (e : get_or old v 0 ≡ 0). ⊎_elim
-    (λ z. ne_eqb (get_or new v 0) number (λ q. omega arith) ∙ sym (not_in_minus a b (unseen_from_none new v z)))
-    (λ z. eq-eqb (get_or new v 0) number z ∙ sym (in_minus a b (seen_from_number new v (λ q. omega arith)) (unseen_from_none old v e)))
-    (h.given v e))
-    (λ (ne : get_or old v 0 ≢ 0).
-    let few : get_or old v 0 ≤ count = most v in
-    let same : get_or new v 0 ≡ get_or old v 0 = h.kept v ne in
-    ne_eqb (get_or new v 0) number (λ q. omega arith) ∙ sym (seen_before a b (seen_from_number old v ne)))
-    (cases_eq (get_or old v 0) 0)
-
-new_whole : (g : Graph) → IsGraph g → (number count : ℕ) (old new : List ℕ) → AreNumbered number old new → ((u : ℕ) → get_or old u 0 ≤ count) → count < number →
-    IsClosed g (is_seen (marks old)) → IsClosed g (is_seen (marks new)) → weight g (of_number new number) ≡ 0
-new_whole g ok number count old new h most l was is =
-    let s = is_seen (marks new) in
-    let t = is_seen (marks old) in
-    let agree : weight g (of_number new number) ≡ weight g (minus s t) = weight-agree g ok (of_number new number) (minus s t) (λ v a b. new_marks number count old new h most l v) in
-    omega (arith, weight-minus-minus g s t, closed_weighs_nothing g ok s is, closed_weighs_nothing g ok t was)
-
-first_kept : (number v : ℕ) (old new : List ℕ) (i x : ℕ) → AreNumbered number old new → ((u : ℕ) → 1 ≤ u → u ≤ v → 1 ≤ get_or old u 0) → 1 ≤ i → IsFirst v old i x → IsFirst (v + 1) new i x
-first_kept number v old new i x h reached one f =
-    let own : get_or old x 0 ≡ i = f.is_of in
-    record {
-      from_one = f.from_one;
-      to_n = omega (arith, f.to_n);
-      is_of = h.kept x (λ e. omega arith) ∙ own;
-      lesser = λ u low l.
-          let was : get_or old u 0 < i = f.lesser u low l in
-          let some : 1 ≤ get_or old u 0 = reached u low (omega (arith, f.to_n)) in
-          let same : get_or new u 0 ≡ get_or old u 0 = h.kept u (λ e. omega arith) in
-          omega arith;
-    }
-
-pub numbered_new : (g : Graph) → IsGraph g → (v count : ℕ) (old new : List ℕ) → IsNumberedTo g v count old → get_or old (v + 1) 0 ≡ 0 → AreNumbered (count + 1) old new → get_or new (v + 1) 0 ≡ count + 1 →
-    ((u : ℕ) → is_seen (marks old) u ≡ false → is_seen (marks new) u ≡ true → AreJoined g (v + 1) u) → IsClosed g (is_seen (marks new)) → IsNumberedTo g (v + 1) (count + 1) new
-numbered_new g ok v count old new h none given root joined closed =
-    let number = count + 1 in
-    let kept = λ (u : ℕ) (some : 1 ≤ get_or old u 0). let q : get_or new u 0 ≡ get_or old u 0 = given.kept u (λ e. omega arith) in q in
-    let fresh = λ (u : ℕ) (is : get_or new u 0 ≡ number).
-    let was : get_or old u 0 ≡ 0 = ⊎_elim
-    (λ (e : get_or old u 0 ≡ 0). e)
-    (λ (ne : get_or old u 0 ≢ 0). let same : get_or new u 0 ≡ get_or old u 0 = given.kept u ne in absurd (omega (arith, h.to_count u)))
-    (cases_eq (get_or old u 0) 0) in
-    let to : AreJoined g (v + 1) u = joined u (unseen_from_none old u was) (seen_from_number new u (λ e. omega arith)) in
-    to in
-    let lesser = λ (u : ℕ) (one : 1 ≤ get_or new u 0) (less : get_or new u 0 ≢ number).
-    let q : get_or old u 0 ≡ get_or new u 0 = ⊎_elim
-    (λ (e : get_or old u 0 ≡ 0). ⊎_elim (λ (z : get_or new u 0 ≡ 0). absurd (omega arith)) (λ (z : get_or new u 0 ≡ number). absurd (less z)) (given.given u e))
-    (λ (ne : get_or old u 0 ≢ 0). sym (given.kept u ne))
-    (cases_eq (get_or old u 0) 0) in q in
-    record {
-      long = given.same_length ∙ h.long;
-      few = omega (arith, h.few);
-      closed = closed;
-      reached = λ u one le. ⊎_elim
-          (λ (e : u ≡ v + 1). let q : get_or new u 0 ≡ number = ap (λ (x : ℕ). get_or new x 0) e ∙ root in omega arith)
-          (λ (d : u ≢ v + 1). let some : 1 ≤ get_or old u 0 = h.reached u one (omega arith) in omega (arith, kept u some))
-          (cases_eq u (v + 1));
-      to_count = λ u. ⊎_elim
-          (λ (e : get_or old u 0 ≡ 0). ⊎_elim (λ (z : get_or new u 0 ≡ 0). omega arith) (λ (z : get_or new u 0 ≡ number). omega arith) (given.given u e))
-          (λ (ne : get_or old u 0 ≢ 0). omega (arith, given.kept u ne, h.to_count u))
-          (cases_eq (get_or old u 0) 0);
-      first = λ i one le. ⊎_elim
-          (λ (e : i ≡ number). (
-            v + 1,
-            record {
-              from_one = omega arith;
-              to_n = omega arith;
-              is_of = root ∙ sym e;
-              lesser = λ u low l.
-                  let some : 1 ≤ get_or old u 0 = h.reached u low (omega arith) in
-                  omega (arith, kept u some, h.to_count u);
-            },
-          ))
-          (λ (ne : i ≢ number). let f = h.first i one (omega arith) in (f.0, first_kept number v old new i f.0 given h.reached one f.1))
-          (cases_eq i number);
-      joined = λ u w one e. ⊎_elim
-          (λ (is : get_or new u 0 ≡ number). λ s z. sym (fresh u is s z) ∙ fresh w (sym e ∙ is) s z)
-          (λ (ne : get_or new u 0 ≢ number).
-          let at_u : get_or old u 0 ≡ get_or new u 0 = lesser u one ne in
-          let at_w : get_or old w 0 ≡ get_or new w 0 = lesser w (omega arith) (λ q. ne (e ∙ q)) in
-          h.joined u w (omega arith) (at_u ∙ (e ∙ sym at_w)))
-          (cases_eq (get_or new u 0) number);
-      whole = λ i one le. ⊎_elim
-          (λ (e : i ≡ number). subst (λ (k : ℕ). weight g (of_number new k) ≡ 0) (sym e) (new_whole g ok number count old new given h.to_count (omega arith) h.closed closed))
-          (λ (ne : i ≢ number). weight-agree g ok (of_number new i) (of_number old i) (λ u a b. same_lesser number old new given i u one (omega arith)) ∙ h.whole i one (omega arith))
-          (cases_eq i number);
-    }
-
--- ---- all vertices
-
-pub numbering_end : (g : Graph) (v count : ℕ) (part_of : List ℕ) → g.vertices ≤ 4194304 → IsNumberedTo g v count part_of → v ≡ g.vertices → IsNumbering g.vertices count part_of
-numbering_end g v count part_of few h e = record {
+pub numbering_of : (g : Graph) (parents labels part_of : List ℕ) → g.vertices ≤ 4194304 → length parents ≡ g.vertices + 1 → AreNumbersOf parents labels → part_of ≡ 0 ∷ labels → IsNumbering g.vertices (classes labels) part_of
+numbering_of g parents labels part_of few long h is = record {
   few = few;
-  few_numbers = omega (arith, h.few);
-  long = h.long;
-  from_one = λ u one le. h.reached u one (omega arith);
-  to_count = h.to_count;
-  first = λ i one le. let f = h.first i one le in (f.0, record { from_one = f.1.from_one; to_n = omega (arith, f.1.to_n); is_of = f.1.is_of; lesser = f.1.lesser });
+  few_numbers = omega (arith, classes_le labels h.are_labels, long, h.long);
+  long = omega (arith, ap length is, long, h.long);
+  from_one = λ v one le. omega (arith, number_is labels part_of is v one, label_from_one labels h.are_labels v one (omega (arith, le, long, h.long)));
+  to_count = λ v. subst (λ (l : List ℕ). get_or l v 0 ≤ classes labels) (sym is) (number_most labels v);
+  first = λ i one le.
+      let k = h.least i one le in (
+        k.0,
+        record {
+          from_one = k.1.from_one;
+          to_n = omega (arith, k.1.within, long, h.long);
+          is_of = number_is labels part_of is k.0 k.1.from_one ∙ k.1.there;
+          lesser = λ u u1 l. omega (arith, number_is labels part_of is u u1, k.1.before u u1 l);
+        },
+      );
 }
 
-pub components_end : (g : Graph) (v count : ℕ) (part_of : List ℕ) → g.vertices ≤ 4194304 → IsNumberedTo g v count part_of → v ≡ g.vertices → AreComponents g (divided g.vertices count part_of)
-components_end g v count part_of few h e =
-    let n = g.vertices in record {
+pub components_of : (g : Graph) (parents labels part_of : List ℕ) → g.vertices ≤ 4194304 → length parents ≡ g.vertices + 1 → ((s : VertexSet) → Respects parents s ↔ (weight g s ≡ 0)) → AreNumbersOf parents labels → part_of ≡ 0 ∷ labels →
+    AreComponents g (divided g.vertices (classes labels) part_of)
+components_of g parents labels part_of few long of_graph h is =
+    let n = g.vertices in
+    let count = classes labels in record {
       same_vertices = refl;
-      division = numbering_divides n count part_of (numbering_end g v count part_of few h e);
-      joined = λ i j u w is js a b.
-          let at_u = in_part n count part_of i u is a in
-          let at_w = in_part n count part_of j w js b in
-          let u_is : get_or part_of u 0 ≡ i = at_u.2 in
-          let w_is : get_or part_of w 0 ≡ j = at_w.2 in
-          let one : 1 ≤ i = is.0 in (
-            λ same. h.joined u w (omega arith) (u_is ∙ (same ∙ sym w_is)),
-            λ together. sym (eqb-true (get_or part_of w 0) i
-                (sym (together (of_number part_of i) (h.whole i one (omega (arith, h.to_count u)))) ∙ eq-eqb (get_or part_of u 0) i u_is)) ∙ w_is,
+      division = numbering_divides n count part_of (numbering_of g parents labels part_of few long h is);
+      joined = λ i j u w part part' a b.
+          let at_u = in_part n count part_of i u part a in
+          let at_w = in_part n count part_of j w part' b in
+          let u_is : label labels u ≡ i = sym (number_is labels part_of is u at_u.0) ∙ at_u.2 in
+          let w_is : label labels w ≡ j = sym (number_is labels part_of is w at_w.0) ∙ at_w.2 in
+          let both = h.joined u w at_u.0 (omega (arith, long, at_u.1)) at_w.0 (omega (arith, long, at_w.1)) in (
+            λ same s none. both.0 (u_is ∙ (same ∙ sym w_is)) s ((of_graph s).1 none),
+            λ together. sym u_is ∙ (both.1 (λ s r. together s ((of_graph s).0 r)) ∙ w_is),
           );
     }

@@ -1,5 +1,4 @@
 pub mod Parts
-pub mod Numbers
 pub mod Doubling
 pub mod Laws
 pub mod Sums

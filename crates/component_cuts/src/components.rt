@@ -9,12 +9,13 @@ ghost use Rattle.cut_definitions.specs.Balance.{mass, IsBest};
 ghost use Rattle.vertex_set.specs.Side.{VertexList};
 
 use crate::best_refusal::BestRefusal;
-use crate::search::number_parts;
+use crate::joining::{join_ends, numbers_of};
 use crate::sums::{best_sum, choose, fill_rows, mass_by_number, total_mass};
 use crate::unions::{chosen_side, double, sort_sides};
 use cut_definitions::{NoMemory, VertexWeights};
 use std::alloc::Global;
 use std::marker::Model;
+use vertex_classes::Classes;
 use vertex_set::Side;
 use weighted_graph::Graph;
 
@@ -44,16 +45,17 @@ impl Model for Components {
 }
 
 impl Components {
-    /// The components of a graph. Breadth-first search (Moore, 1959) from each vertex that no earlier search reached, in
-    /// O(n + m). It takes 8 bytes a vertex, of which 4 are kept, and is refused only where memory is wanting.
+    /// The components of a graph: the ends of one edge after another are made one (Galler and Fischer, 1964), in
+    /// O(m log(n) + n) steps. It takes 12 bytes a vertex, of which 4 are kept, and is refused only where memory is wanting.
     pub fn of(alloc: Global, graph: &Graph) -> Result<Components, NoMemory>
         ensures { IfOk result (AreComponents graph.now) }
     {
         let n = graph.n();
-        let places = n as usize + 1;
-        let mut part_of = vec![in alloc; 0u32; places]?;
-        let mut queue = vec![in alloc; 0u32; places]?;
-        let count = number_parts(graph, &mut part_of, &mut queue);
+        let mut classes = Classes::new(alloc, n)?;
+        join_ends(graph, &mut classes);
+        let labels = classes.labels(alloc)?;
+        let part_of = numbers_of(alloc, &labels)?;
+        let count = labels.classes();
         Ok(Components { n, count, part_of })
     }
 

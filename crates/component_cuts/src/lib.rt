@@ -7,8 +7,8 @@
 
 mod best_refusal;
 mod components;
+mod joining;
 pub mod laws;
-mod search;
 mod sums;
 mod unions;
 

@@ -1,7 +1,7 @@
 //! Contraction of a graph by its marked edges.
 //!
-//! The classes are the vertices that marked edges join, in one step or several. They are found by breadth-first search
-//! along marked edges (Moore, 1959); then the edges are mapped to the classes and sorted once, or, in a dense graph that
+//! The classes are the vertices that marked edges join, in one step or several: the ends of one marked edge after another
+//! are made one (Galler and Fischer, 1964); then the edges are mapped to the classes and sorted once, or, in a dense graph that
 //! becomes little smaller, added up along the rows of each class. With m edges that costs O(m log m), and memory in
 //! proportion to n + m.
 #![tactic(auto)]
@@ -12,4 +12,4 @@ mod rows;
 
 pub use classes::classes_of_marks;
 pub use contracting::contract;
-pub use rows::contracted;
+pub use rows::{contracted, contracted_list};

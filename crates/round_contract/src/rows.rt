@@ -8,7 +8,7 @@ ghost use Rattle.round_contract.specs.Rows.{AreFirst, AreNext, IsNext, edges_by,
 
 use cut_definitions::{Edge, EdgeList, NoMemory};
 use std::alloc::Global;
-use weighted_graph::{Arc, Graph, Labels};
+use weighted_graph::{Arc, Graph, Labels, relabel_list};
 
 /// The greatest number of classes for which rows are added up: each two of them may be joined by an edge.
 const MANY_CLASSES: u32 = 4096;
@@ -116,17 +116,16 @@ fn edges_of_classes(alloc: Global, graph: &Graph, labels: &Labels) -> Result<Vec
     Ok(edges)
 }
 
-/// The graph on a few classes, by the rows of each class.
-fn relabel_by_rows(alloc: Global, graph: &Graph, labels: &Labels) -> Result<Graph, NoMemory>
+/// The list of edges of the graph on a few classes, by the rows of each class.
+fn list_by_rows(alloc: Global, graph: &Graph, labels: &Labels) -> Result<EdgeList, NoMemory>
     requires labels { length labels.now ≡ graph.now.vertices }
     requires few { classes labels.now ≤ 4096 }
-    ensures { IfOk result (λ g. g ≡ relabel graph.now labels.now) }
+    ensures { IfOk result (λ l. l ≡ relabel graph.now labels.now) }
 {
     // known by this call: the graph is an edge list
     let _n = graph.n();
     let edges = edges_of_classes(alloc, graph, labels)?;
-    let list = EdgeList::from_edges(labels.classes(), edges);
-    Graph::from_list(alloc, list)
+    Ok(EdgeList::from_edges(labels.classes(), edges))
 }
 
 /// Whether so many edges of the graph may be left between classes that each two classes can be looked at.
@@ -142,17 +141,27 @@ fn is_dense(graph: &Graph, labels: &Labels) -> bool
     is_little_smaller && pairs / 8 <= graph.edges() as u64
 }
 
-/// The graph on the classes of labels, one for each vertex, as `Graph::relabel` makes it.
+/// The list of edges of the graph on the classes of labels, one for each vertex, as `relabel_list` makes it.
 ///
 /// A dense graph that becomes little smaller is not sorted: with k classes it costs O(n + m + k^2), where k^2 is at most in
 /// proportion to m, and memory in proportion to n + m. All others cost O(m log m). It is refused only where memory is
 /// wanting.
+pub fn contracted_list(alloc: Global, graph: &Graph, labels: &Labels) -> Result<EdgeList, NoMemory>
+    requires { length labels.now ≡ graph.now.vertices }
+    ensures { IfOk result (λ l. l ≡ relabel graph.now labels.now) }
+{
+    if is_dense(graph, labels) {
+        return list_by_rows(alloc, graph, labels);
+    }
+    let list = relabel_list(alloc, graph.list(), labels)?;
+    Ok(list)
+}
+
+/// The graph on the classes of labels, one for each vertex, with rows: that of `contracted_list`. It costs as much.
 pub fn contracted(alloc: Global, graph: &Graph, labels: &Labels) -> Result<Graph, NoMemory>
     requires { length labels.now ≡ graph.now.vertices }
     ensures { IfOk result (λ g. g ≡ relabel graph.now labels.now) }
 {
-    if is_dense(graph, labels) {
-        return relabel_by_rows(alloc, graph, labels);
-    }
-    graph.relabel(alloc, labels)
+    let list = contracted_list(alloc, graph, labels)?;
+    Graph::from_list(alloc, list)
 }

@@ -1,0 +1,53 @@
+-- The first of a class, found from any number of it by as many steps as there are numbers.
+use Rattle.std.proofs.Common.{◌≡◌, ℕ, zero, suc, ◌<◌, ◌≤◌, ⊎_elim, eqb, List, length, get_or, refl, sym, ◌∙◌, ap, arith}
+use Rattle.std.specs.Prelude.{◌≢◌}
+use Rattle.std.proofs.lemmas.Bool.{cases_eq, eq-eqb, eqb-true}
+use Rattle.cut_definitions.specs.Weight.{VertexSet}
+use Rattle.vertex_classes.specs.Classes.{AreJoined, AreParents, Respects}
+
+-- so many steps from a number to its parent
+climbed : List ℕ → ℕ → ℕ → ℕ
+climbed parents zero v = v
+climbed parents (suc k) v = climbed parents k (get_or parents v 0)
+
+climbed-first : (parents : List ℕ) (k v : ℕ) → get_or parents v 0 ≡ v → climbed parents k v ≡ v
+unfolding climbed
+climbed-first parents zero v first = refl
+climbed-first parents (suc k) v first = ap (climbed parents k) first ∙ climbed-first parents k v first
+
+climbed-parent : (parents : List ℕ) (k v : ℕ) → climbed parents k (get_or parents v 0) ≡ climbed parents (suc k) v
+unfolding climbed
+climbed-parent parents k v = refl
+
+-- one step more changes nothing where there were enough
+climbed-more : (parents : List ℕ) → AreParents parents → (k v : ℕ) → v < length parents → v ≤ k → climbed parents (suc k) v ≡ climbed parents k v
+unfolding climbed
+climbed-more parents up zero v l low =
+    let le = up v l in
+    let first : get_or parents v 0 ≡ v = omega arith in
+    first
+climbed-more parents up (suc k) v l low =
+    let le = up v l in
+    ⊎_elim
+    (λ (first : get_or parents v 0 ≡ v). climbed-first parents (suc (suc k)) v first ∙ sym (climbed-first parents (suc k) v first))
+    (λ (ne : get_or parents v 0 ≢ v). climbed-more parents up k (get_or parents v 0) (omega (arith, le, l)) (omega (arith, le, ne, low)))
+    (cases_eq (get_or parents v 0) v)
+
+-- the numbers whose first is this one
+of_first : List ℕ → ℕ → VertexSet
+of_first parents a v = eqb (climbed parents (length parents) v) a
+
+of_first-respects : (parents : List ℕ) (a : ℕ) → AreParents parents → Respects parents (of_first parents a)
+unfolding of_first
+of_first-respects parents a up v l = ap (λ (r : ℕ). eqb r a) (climbed-parent parents (length parents) v ∙ climbed-more parents up (length parents) v l (omega arith))
+
+of_first-own : (parents : List ℕ) (a v : ℕ) → get_or parents v 0 ≡ v → of_first parents a v ≡ eqb v a
+unfolding of_first
+of_first-own parents a v first = ap (λ (r : ℕ). eqb r a) (climbed-first parents (length parents) v first)
+
+-- different firsts are not joined
+pub firsts_apart : (parents : List ℕ) (a b : ℕ) → AreParents parents → get_or parents a 0 ≡ a → get_or parents b 0 ≡ b → a ≢ b → ¬ AreJoined parents a b
+firsts_apart parents a b up own other ne joined =
+    let both = joined (of_first parents a) (of_first-respects parents a up) in
+    let here = of_first-own parents a a own ∙ eq-eqb a a refl in
+    ne (sym (eqb-true b a (sym (of_first-own parents a b other) ∙ (sym both ∙ here))))
