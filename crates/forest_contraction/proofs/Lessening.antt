@@ -26,21 +26,20 @@ tied_none g labels bound tied less k d l u v u1 un v1 vn same =
     let is = IsSide-from_mincuts g side (All-contains_itself (mincuts g) k d l) in
     parts-none (has side) u v (tied (has side) (omega (arith, is.1)) u v u1 un v1 vn same)
 
-pub shrunk_left : (g : Graph) → IsGraph g → (labels : List ℕ) (bound : ℕ) → 2 ≤ g.vertices → IsLabelled g labels → ((s : VertexSet) → weight g s < bound → RespectsClasses g.vertices labels s) →
+pub shrunk_left : (g : Graph) → IsGraph g → (labels : List ℕ) (bound : ℕ) → 2 ≤ g.vertices → IsLabelled g labels → (value g < bound → PartsNoClass g labels) →
     IsLesser (min bound (value g)) bound (relabel g labels)
 unfolding relabel
-shrunk_left g ok labels bound two h tied =
+shrunk_left g ok labels bound two h none =
     let r = value (relabel g labels) in
     let best = value_is_weight g two in
     let some = Contains-mincuts g best.0 best.1 best.2 in
     pick (classes labels) bound r (min bound (value g))
     (λ one. ⊎_elim
-    (λ (l : value g < bound). absurd (omega (arith, kept_classes g ok labels h (tied_none g labels bound tied l) best.0 some)))
+    (λ (l : value g < bound). absurd (omega (arith, kept_classes g ok labels h (none l) best.0 some)))
     (λ (e : bound ≤ value g). omega arith)
     (cases_lt (value g) bound))
     (λ many. ⊎_elim
-    (λ (l : value g < bound).
-    let same : r ≡ value g = (law_of_contracted_minimum_cuts g ok labels h two (tied_none g labels bound tied l)).same_value in omega arith)
+    (λ (l : value g < bound). let same : r ≡ value g = (law_of_contracted_minimum_cuts g ok labels h two (none l)).same_value in omega arith)
     (λ (e : bound ≤ value g). let low : value g ≤ r = value-le-contracted g ok labels h many in omega arith)
     (cases_lt (value g) bound))
 

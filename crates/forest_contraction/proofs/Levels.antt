@@ -5,9 +5,9 @@ use Rattle.std.proofs.lemmas.Bool.{cases_eq, cases_lt}
 use Rattle.std.proofs.Math.Seq.{get_or-append_seam}
 use Rattle.std.proofs.lemmas.List.{get_or_default, get_or_append_left}
 use Rattle.cut_definitions.specs.Weight.{VertexSet}
-use Rattle.forest_contraction.specs.Classes.{AreJoined, Respects, HasSameClasses, HasJoined}
+use Rattle.vertex_classes.specs.Classes.{AreJoined, Respects, HasSameClasses, HasJoined}
 use Rattle.forest_contraction.specs.Forests.{level, AreOver, HasSameLevels}
-use Rattle.forest_contraction.proofs.Joining.{same_classes, same_classes-more, joined_before}
+use Rattle.vertex_classes.proofs.Joining.{same_classes, same_classes-more, joined_before}
 
 pub same_levels : (levels : List (List ℕ)) → HasSameLevels levels levels
 same_levels levels = record { count = refl; each = λ l h. same_classes (level levels l) }

@@ -1,5 +1,4 @@
-mod Joining
 mod Levels
-mod Numbered
 pub mod Lessening
 mod Tied
+mod Hubs

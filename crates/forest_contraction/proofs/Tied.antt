@@ -5,7 +5,7 @@ use Rattle.std.proofs.lemmas.Bool.{cases_Bool, cases_lt}
 use Rattle.std.proofs.lemmas.List.Sums.{sum_by-cons, sum_by-append}
 use Rattle.cut_definitions.specs.declared.edge_list.Edge.{Edge}
 use Rattle.cut_definitions.specs.Weight.{VertexSet, parts}
-use Rattle.forest_contraction.specs.Classes.{Respects, AreJoined, HasJoined}
+use Rattle.vertex_classes.specs.Classes.{Respects, AreJoined, HasJoined}
 use Rattle.forest_contraction.specs.Forests.{cut_term, cut_weight, level, AreForests, AreTied, HasSameLevels}
 use Rattle.forest_contraction.proofs.Levels.{HaveJoined}
 

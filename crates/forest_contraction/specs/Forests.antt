@@ -3,7 +3,7 @@ use Rattle.std.specs.Prelude.{ℕ, ◌≡◌, ◌+◌, ◌*◌, ◌<◌, ◌≤�
 use Rattle.std.specs.List.{All, sum_by}
 use Rattle.cut_definitions.specs.declared.edge_list.Edge.{Edge}
 use Rattle.cut_definitions.specs.Weight.{VertexSet, parts}
-use Rattle.forest_contraction.specs.Classes.{AreJoined, Respects, HasSameClasses}
+use Rattle.vertex_classes.specs.Classes.{AreJoined, Respects, HasSameClasses}
 
 -- what an edge weighs across a set
 abbrev pub cut_term : VertexSet → Edge → ℕ

@@ -1,3 +1,3 @@
-pub mod Classes
 pub mod Forests
 pub mod Left
+pub mod Leaning

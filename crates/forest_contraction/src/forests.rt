@@ -4,12 +4,12 @@ ghost use Rattle.std.specs.Prelude.{◌≡◌, ◌⊎◌, ◌+◌, ◌*◌, ◌^
 ghost use Rattle.std.specs.List.{All, sum_by};
 ghost use Rattle.cut_definitions.specs.declared.edge_list.Edge.{Edge};
 ghost use Rattle.cut_definitions.specs.Weight.{VertexSet};
-ghost use Rattle.forest_contraction.specs.Classes.{AreJoined, HasJoined, Respects};
+ghost use Rattle.vertex_classes.specs.Classes.{AreJoined, HasJoined, Respects};
 ghost use Rattle.forest_contraction.specs.Forests.{cut_term, cut_weight, level, AreForests, AreOver, AreTied, HasSameLevels};
 
-use crate::classes::Classes;
 use cut_definitions::{Edge, NoMemory};
 use std::alloc::Global;
+use vertex_classes::Classes;
 
 /// How many levels from the first on join two vertices, by bisection: what a level joins, those below it join too.
 fn count_joined(levels: &mut [Classes], u: u32, v: u32) -> usize

@@ -8,9 +8,8 @@
 //! Schulz and Strash, 2018) in kind: pairs are contracted that are probably on one side.
 #![tactic(auto)]
 
-mod classes;
 mod forests;
-mod numbering;
+mod leaning;
 mod shrinking;
 mod tying;
 

@@ -1,14 +1,17 @@
 //! Contraction of a list of edges, as long as it makes the list shorter.
 
-ghost use Rattle.std.specs.Prelude.{◌≡◌, ◌^◌, ◌<◌, ◌≤◌, ℕ, IfOk, IfSome, IsTrue, MatchOption, if◌then◌else◌, min, nat_lt};
+ghost use Rattle.std.specs.Prelude.{◌≡◌, ◌^◌, ◌<◌, ◌≤◌, ℕ, IfOk, IfSome, IsTrue, MatchOption, if◌then◌else◌, length, min, nat_lt};
 ghost use Rattle.cut_definitions.specs.Cuts.{value};
+ghost use Rattle.cut_definitions.specs.Graph.{Graph};
+ghost use Rattle.weighted_graph.specs.ContractionLaws.{PartsNoClass};
 ghost use Rattle.forest_contraction.specs.Left.{IsContracted, IsLesser, IsLowered};
 
+use crate::leaning::leaning_classes;
 use crate::tying::tied_classes;
 use cut_definitions::{EdgeList, NoMemory};
 use least_cut::least_degree;
 use std::alloc::Global;
-use weighted_graph::relabel_list;
+use weighted_graph::{Labels, relabel_list};
 
 /// A list of at most so many edges is left as it is.
 const FEW_EDGES: usize = 1024;
@@ -42,6 +45,26 @@ fn are_held(list: &EdgeList, bound: u64) -> bool {
     edges.len() as u64 <= most
 }
 
+/// The list with each class made one, where these are a tenth fewer than the vertices.
+fn between_classes(
+    alloc: Global,
+    list: &EdgeList,
+    labels: &Labels,
+) -> Result<Option<EdgeList>, NoMemory>
+    requires enough { 2 ≤ list.now.vertices }
+    requires long { length labels.now ≡ list.now.vertices }
+    ensures less { IfOk result (λ found. IfSome found (λ small. small.vertices < list.now.vertices)) }
+    ensures left { (bound : ℕ) → (value list.now < bound → PartsNoClass list.now labels.now) →
+        IfOk result (λ found. IfSome found (IsLesser (min bound (value list.now)) bound)) }
+    ensures above { IfOk result (λ found. IfSome found (λ small. 2 ≤ small.vertices → value list.now ≤ value small)) }
+{
+    if !is_a_tenth_less(labels.classes(), list.n()) {
+        return Ok(None);
+    }
+    let small = relabel_list(alloc, list, labels)?;
+    Ok(Some(small))
+}
+
 /// The list with the classes that are tied for a bound made one, where these are a tenth fewer than the vertices.
 fn shrunk(alloc: Global, list: &EdgeList, bound: u64) -> Result<Option<EdgeList>, NoMemory>
     requires enough { 2 ≤ list.now.vertices }
@@ -54,11 +77,16 @@ fn shrunk(alloc: Global, list: &EdgeList, bound: u64) -> Result<Option<EdgeList>
         return Ok(None);
     }
     let labels = tied_classes(alloc, list, bound)?;
-    if !is_a_tenth_less(labels.classes(), list.n()) {
-        return Ok(None);
-    }
-    let small = relabel_list(alloc, list, &labels)?;
-    Ok(Some(small))
+    between_classes(alloc, list, &labels)
+}
+
+/// The same with the classes of vertices that lean on one another.
+fn leaned(alloc: Global, list: &EdgeList, bound: u64) -> Result<Option<EdgeList>, NoMemory>
+    requires { 2 ≤ list.now.vertices }
+    ensures { IfOk result (λ found. IfSome found (IsLesser (min bound (value list.now)) bound)) }
+{
+    let labels = leaning_classes(alloc, list, bound)?;
+    between_classes(alloc, list, &labels)
 }
 
 /// The lesser of a bound and the least degree, which is the weight of a cut where there are two or more vertices.
@@ -139,13 +167,11 @@ fn lighter(alloc: Global, list: &EdgeList, bound: u64) -> Result<Contracted, NoM
     })
 }
 
-/// One pass of contraction.
-fn pass(alloc: Global, list: &EdgeList, bound: u64) -> Result<Contracted, NoMemory>
-    requires enough { 2 ≤ list.now.vertices }
-    requires fits { bound ≤ 2 ^ 61 }
-    ensures { IfOk result (IsContracted list.now bound) }
+/// What a pass of contraction leaves.
+fn after_pass(alloc: Global, found: Option<EdgeList>, bound: u64) -> Result<Contracted, NoMemory>
+    ensures { (g : Graph) → 2 ≤ g.vertices → IfSome found (IsLesser (min bound (value g)) bound) → IfOk result (IsContracted g bound) }
 {
-    let Some(small) = shrunk(alloc, list, bound)? else {
+    let Some(small) = found else {
         return Ok(Contracted { bound, list: None });
     };
     let low = lowered(alloc, &small, bound)?;
@@ -155,8 +181,18 @@ fn pass(alloc: Global, list: &EdgeList, bound: u64) -> Result<Contracted, NoMemo
     })
 }
 
-/// The first pass; where it comes to nothing, one at a lower bound, if there is one.
-fn first_pass(alloc: Global, list: &EdgeList, bound: u64) -> Result<Contracted, NoMemory>
+/// One pass of contraction by forests.
+fn pass(alloc: Global, list: &EdgeList, bound: u64) -> Result<Contracted, NoMemory>
+    requires enough { 2 ≤ list.now.vertices }
+    requires fits { bound ≤ 2 ^ 61 }
+    ensures { IfOk result (IsContracted list.now bound) }
+{
+    let found = shrunk(alloc, list, bound)?;
+    after_pass(alloc, found, bound)
+}
+
+/// The first pass by forests; where it comes to nothing, one at a lower bound, if there is one.
+fn pass_by_forests(alloc: Global, list: &EdgeList, bound: u64) -> Result<Contracted, NoMemory>
     requires enough { 2 ≤ list.now.vertices }
     requires fits { bound ≤ 2 ^ 61 }
     ensures { IfOk result (IsContracted list.now bound) }
@@ -171,6 +207,20 @@ fn first_pass(alloc: Global, list: &EdgeList, bound: u64) -> Result<Contracted, 
     }
     let again = pass(alloc, list, found.bound)?;
     Ok(again)
+}
+
+/// The first pass: by forests, or where these come to nothing by vertices that lean on one another.
+fn first_pass(alloc: Global, list: &EdgeList, bound: u64) -> Result<Contracted, NoMemory>
+    requires enough { 2 ≤ list.now.vertices }
+    requires fits { bound ≤ 2 ^ 61 }
+    ensures { IfOk result (IsContracted list.now bound) }
+{
+    let made = pass_by_forests(alloc, list, bound)?;
+    if made.list.is_some() {
+        return Ok(made);
+    }
+    let found = leaned(alloc, list, made.bound)?;
+    after_pass(alloc, found, made.bound)
 }
 
 /// Further passes, at bounds that fall, as long as the list gets shorter.
@@ -206,7 +256,8 @@ fn contract_further(alloc: Global, list: EdgeList, bound: u64) -> Result<Left, N
 ///
 /// The bound begins at the least degree. Classes that no cut parts which weighs less are contracted, again and again while
 /// that takes away a tenth of the vertices, and where it no longer does, contraction for half the bound is tried for a cut
-/// that is lighter. A list of at most 1,024 edges is left as it is. A pass takes O(m log n) steps; each is over at most nine
+/// that is lighter. Where forests show no such classes, local tests of the edges are tried for vertices that no minimum cut
+/// parts. A list of at most 1,024 edges is left as it is. A pass takes O(m log n) steps; each is over at most nine
 /// tenths of the vertices of the one before, or for a lower bound. It takes memory for the classes and the edges between
 /// them, and is refused only where memory is wanting.
 pub fn contract_list(alloc: Global, list: &EdgeList) -> Result<Contracted, NoMemory>

@@ -6,14 +6,13 @@ ghost use Rattle.cut_definitions.specs.declared.edge_list.Edge.{Edge};
 ghost use Rattle.cut_definitions.specs.Contraction.{label, RespectsClasses};
 ghost use Rattle.cut_definitions.specs.Graph.{IsEdgeWithin};
 ghost use Rattle.cut_definitions.specs.Weight.{VertexSet, weight};
-ghost use Rattle.forest_contraction.specs.Classes.{no_vertex, Respects};
+ghost use Rattle.vertex_classes.specs.Classes.{no_vertex, Respects};
 ghost use Rattle.forest_contraction.specs.Forests.{level, AreForests, AreOver, AreTied, JoinsHeavy};
 
-use crate::classes::Classes;
 use crate::forests::tie_edge;
-use crate::numbering::labels_of;
 use cut_definitions::{Edge, EdgeList, NoMemory};
 use std::alloc::Global;
+use vertex_classes::Classes;
 use weighted_graph::Labels;
 
 /// At most so many forests are made, and at most three for each edge at a vertex: a forest takes 4 bytes for each vertex.
@@ -108,6 +107,6 @@ pub fn tied_classes(alloc: Global, list: &EdgeList, bound: u64) -> Result<Labels
     let mut levels = bare_levels(alloc, n, measure.levels)?;
     let mut tied = Classes::new(alloc, n)?;
     tie_edges(&mut levels, &mut tied, list.edges(), bound, measure.step);
-    let labels = labels_of(alloc, &tied)?;
+    let labels = tied.labels(alloc)?;
     Ok(labels)
 }

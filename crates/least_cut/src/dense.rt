@@ -66,8 +66,9 @@ fn least_after_first(numbers: &[u64]) -> u64
     least
 }
 
-/// The degrees of all vertices, each in the place of its number, from one pass over the edges.
-fn degrees_of(alloc: Global, list: &EdgeList) -> Result<Vec<u64>, NoMemory>
+/// The degrees of all vertices, each in the place of its number, from one pass over the edges; 0 in the place 0. It takes 8
+/// bytes of memory for each vertex and 8 more; want of memory is its only refusal.
+pub fn degrees_of(alloc: Global, list: &EdgeList) -> Result<Vec<u64>, NoMemory>
     ensures long { IfOk result (λ degrees. length degrees.items ≡ list.now.vertices + 1) }
     ensures each { IfOk result (λ degrees. (v : ℕ) → slice_index degrees.items v ≡ weight list.now (single v)) }
 {

@@ -16,5 +16,5 @@ pub mod dense;
 mod front;
 pub mod sweep;
 
-pub use dense::{least_degree, value_of_dense};
+pub use dense::{degrees_of, least_degree, value_of_dense};
 pub use sweep::{Swept, least_weight, least_weight_below, least_weight_within};

@@ -1,15 +1,34 @@
 -- What is left to be known of a value.
-use Rattle.std.specs.Prelude.{ℕ, ◌≡◌, ◌*◌, ◌≤◌, nat_lt, min, if◌then◌else◌, Option, MatchOption}
+use Rattle.std.specs.Prelude.{ℕ, ◌≡◌, ◌+◌, ◌*◌, ◌≤◌, ◌^◌, min, Option, None, Some, MatchOption}
 use Rattle.cut_definitions.specs.Graph.{Graph}
 use Rattle.cut_definitions.specs.Cuts.{value}
-
--- a number is the lesser of a bound and the value of a graph, or the bound where that has one vertex or none
-abbrev pub IsLeft : ℕ → ℕ → Graph → Type 0
-IsLeft whole bound small = whole ≡ (if nat_lt small.vertices 2 then bound else min bound (value small))
+use Rattle.forest_contraction.specs.Left.{IsLesser}
+use Rattle.least_cut.specs.declared.sweep.Swept.{Swept}
+use Rattle.least_cut.specs.declared.sweep.Swept.TheVariants.{Whole, Part}
 
 -- what a step on a graph leaves of the lesser of a bound and its value: a lesser bound, and either the same graph or one
 -- that is a tenth smaller
 pub record IsShrunk (g : Graph) (bound best : ℕ) (smaller : Option Graph) : Type 0 where
   pub at_most : best ≤ bound
-  pub left : MatchOption smaller (min bound (value g) ≡ min best (value g)) (IsLeft (min bound (value g)) best)
+  pub left : MatchOption smaller (min bound (value g) ≡ min best (value g)) (IsLesser (min bound (value g)) best)
   pub less : MatchOption smaller (Unit {0}) (λ (h : Graph). h.vertices * 10 ≤ g.vertices * 9)
+
+-- what a step leaves a number to be: the least weight that is known, or what that and a smaller graph leave
+abbrev pub IsToTell : ℕ → ℕ → Option Graph → Type 0
+IsToTell whole best smaller = MatchOption smaller (best ≡ whole) (IsLesser whole best)
+
+-- a step that tells the lesser of a bound and the value of a graph, or leaves it to a graph that is a tenth smaller
+pub record IsScanned (g : Graph) (bound best : ℕ) (smaller : Option Graph) : Type 0 where
+  pub at_most : best ≤ bound
+  pub told : IsToTell (min bound (value g)) best smaller
+  pub less : MatchOption smaller (Unit {0}) (λ (h : Graph). h.vertices * 10 ≤ g.vertices * 9)
+
+-- how many vertices are left, and one more; 0 where nothing is left to look at
+abbrev pub count_left : Option Graph → ℕ
+count_left None = 0
+count_left (Some g) = g.vertices + 1
+
+-- the value itself, or a bound on it
+abbrev pub TellsValue : Graph → Swept → Type 0
+TellsValue g (Whole weight) = weight ≡ value g
+TellsValue g (Part weight) = (value g ≤ weight) × (weight ≤ 2 ^ 62)

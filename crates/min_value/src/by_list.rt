@@ -3,7 +3,7 @@
 ghost use Rattle.std.specs.Prelude.{◌≡◌, ◌≤◌, IfOk, IfSome, if◌then◌else◌, min, nat_lt};
 ghost use Rattle.cut_definitions.specs.Cuts.{value};
 
-use crate::values::value as least_weight;
+use crate::values::value_away;
 use cut_definitions::{EdgeList, NoMemory};
 use forest_contraction::{Contracted, contract_list};
 use least_cut::value_of_dense;
@@ -28,7 +28,7 @@ fn value_below<R: Threads + Sync, G: Gate>(
         return Ok(bound);
     }
     let graph = Graph::from_list(alloc, list)?;
-    let weight = least_weight(rt, alloc, &graph, workers, gate)?;
+    let weight = value_away(rt, alloc, graph, workers, gate)?;
     Ok(weight.min(bound))
 }
 
@@ -59,4 +59,27 @@ pub fn value_by_list<R: Threads + Sync, G: Gate>(
     };
     let weight = value_below(rt, alloc, small, bound, workers, gate)?;
     Ok(Some(weight))
+}
+
+/// The value of a graph of two or more vertices, whose list of edges is taken over: that of `value_by_list`, and where that is
+/// none, the value by rows.
+///
+/// No two graphs have rows at a time. It takes memory O(n + m), and is refused only where that is wanting; the list is gone
+/// then.
+pub fn value_of_list<R: Threads + Sync, G: Gate>(
+    rt: &R,
+    alloc: Global,
+    list: EdgeList,
+    workers: u32,
+    gate: &G,
+) -> Result<u64, NoMemory>
+    requires enough { 2 ≤ list.vertices }
+    requires workers { (1 ≤ workers) × (workers ≤ 64) }
+    ensures { IfOk result (λ weight. weight ≡ value list) }
+{
+    if let Some(weight) = value_by_list(rt, alloc, &list, workers, gate)? {
+        return Ok(weight);
+    }
+    let graph = Graph::from_list(alloc, list)?;
+    value_away(rt, alloc, graph, workers, gate)
 }

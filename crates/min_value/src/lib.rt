@@ -1,5 +1,5 @@
 //! The value of a graph, by sweeps of flows, by scans, and by rounds that contract safe edges; and its kernel. `value_by_list`
-//! tells it by the list of edges alone, where forests make that shorter.
+//! tells it by the list of edges alone, where that can be made shorter, and `value_of_list` takes the list over.
 //!
 //! The contractions are those of Padberg and Rinaldi (1990) and of Nagamochi, Ono and Ibaraki (1994), the sweep that of Hao
 //! and Orlin (1994). All memory is O(n + m).
@@ -13,7 +13,7 @@ mod kernels;
 mod scans;
 mod values;
 
-pub use by_list::value_by_list;
+pub use by_list::{value_by_list, value_of_list};
 pub use kept_graph::Kernel;
 pub use kernels::{kernel, reduce};
 pub use values::value;

@@ -4,22 +4,22 @@ ghost use Rattle.std.specs.Prelude.{◌≡◌, ◌*◌, ◌≤◌, ◌^◌, ℕ,
 ghost use Rattle.cut_definitions.specs.Cuts.{has, value};
 ghost use Rattle.weighted_graph.specs.Marks.{MarksAreSafe};
 ghost use Rattle.scan_forest.specs.Scan.{StandsFor};
-ghost use Rattle.min_value.specs.Left.{IsShrunk};
+ghost use Rattle.min_value.specs.Left.{IsScanned, IsShrunk, IsToTell};
 
-use cut_definitions::NoMemory;
+use cut_definitions::{EdgeList, NoMemory};
 use least_cut::least_weight_below;
 use mark_board::Marks;
-use round_contract::{classes_of_marks, contracted};
+use round_contract::{classes_of_marks, contracted_list};
 use round_workers::{lowered, mark_links};
 use scan_forest::Scan;
 use std::alloc::Global;
 use weighted_graph::Graph;
 
-/// What a scan leaves: the least weight that is known, and the contracted graph, if it is a tenth smaller.
+/// What a scan leaves: the least weight that is known, and the edges of the contracted graph, if it is a tenth smaller.
 #[derive(Drop)]
-struct Shrunk {
+pub(crate) struct Shrunk {
     best: u64,
-    smaller: Option<Graph>,
+    smaller: Option<EdgeList>,
 }
 
 /// Scans the graph from vertex 1 with a bound as the cap, and marks by links. It answers the lesser of the bound and the
@@ -64,37 +64,61 @@ fn scan_once(alloc: Global, graph: &Graph, bound: u64) -> Result<Shrunk, NoMemor
             smaller: None,
         });
     }
-    let smaller = contracted(alloc, graph, &labels)?;
+    let smaller = contracted_list(alloc, graph, &labels)?;
     Ok(Shrunk {
         best,
         smaller: Some(smaller),
     })
 }
 
-/// The lesser of a bound and the value of a graph of two or more vertices.
-///
-/// Scans contract what their links show safe, as long as each takes away a tenth of the vertices; what is left is swept by
-/// flows. There are O(log n) scans (Nagamochi, Ono and Ibaraki, 1994), each of O((n + m) log n). It is refused only where
-/// memory is wanting.
-pub fn value_by_scans(alloc: Global, graph: &Graph, bound: u64) -> Result<u64, NoMemory>
+/// One scan, or where that takes away less than a tenth of the vertices a sweep by flows, after which the weight that is known
+/// is the lesser of the bound and the value.
+pub(crate) fn scan_or_sweep(alloc: Global, graph: &Graph, bound: u64) -> Result<Shrunk, NoMemory>
     requires enough { 2 ≤ graph.now.vertices }
     requires bound { bound ≤ 2 ^ 62 }
-    ensures { IfOk result (λ weight. weight ≡ min bound (value graph.now)) }
+    ensures { IfOk result (λ s. IsScanned graph.now bound s.best s.smaller) }
 {
-    let first = scan_once(alloc, graph, bound)?;
-    let mut best = first.best;
-    let Some(mut small) = first.smaller else {
-        let weight = least_weight_below(alloc, graph, best)?;
-        return Ok(weight);
-    };
-    'scans: while small.n() >= 2 {
-        let next = scan_once(alloc, &small, best)?;
+    let shrunk = scan_once(alloc, graph, bound)?;
+    if shrunk.smaller.is_some() {
+        return Ok(shrunk);
+    }
+    let best = least_weight_below(alloc, graph, shrunk.best)?;
+    Ok(Shrunk {
+        best,
+        smaller: None,
+    })
+}
+
+/// The same for a graph that is given back before the contracted one gets its rows.
+pub(crate) fn scan_away(alloc: Global, graph: Graph, bound: u64) -> Result<Shrunk, NoMemory>
+    requires enough { 2 ≤ graph.vertices }
+    requires bound { bound ≤ 2 ^ 62 }
+    ensures { IfOk result (λ s. IsScanned graph bound s.best s.smaller) }
+{
+    scan_or_sweep(alloc, &graph, bound)
+}
+
+/// The number that a scan left to be told.
+///
+/// Scans contract what their links show safe, as long as each takes away a tenth of the vertices; what is left is swept by
+/// flows. There are O(log n) scans (Nagamochi, Ono and Ibaraki, 1994), each of O((n + m) log n). Only one graph has rows at a
+/// time. It is refused only where memory is wanting.
+pub(crate) fn value_of_shrunk(alloc: Global, shrunk: Shrunk) -> Result<u64, NoMemory>
+    requires { shrunk.best ≤ 2 ^ 62 }
+    ensures { (whole : ℕ) → IsToTell whole shrunk.best shrunk.smaller → IfOk result (λ weight. weight ≡ whole) }
+{
+    let Shrunk {
+        mut best,
+        mut smaller,
+    } = shrunk;
+    'scans: while let Some(list) = smaller {
+        if list.n() < 2 {
+            return Ok(best);
+        }
+        let graph = Graph::from_list(alloc, list)?;
+        let next = scan_away(alloc, graph, best)?;
         best = next.best;
-        let Some(smaller) = next.smaller else {
-            let weight = least_weight_below(alloc, &small, best)?;
-            return Ok(weight);
-        };
-        small = smaller;
+        smaller = next.smaller;
     }
     Ok(best)
 }

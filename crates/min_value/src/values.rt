@@ -3,9 +3,10 @@
 ghost use Rattle.std.specs.Prelude.{◌≡◌, ◌≤◌, ℕ, IfOk, if◌then◌else◌, min, nat_lt};
 ghost use Rattle.cut_definitions.specs.Cuts.{value};
 ghost use Rattle.cut_definitions.specs.Safe.{IsFair};
-ghost use Rattle.min_value.specs.Left.{IsLeft};
+ghost use Rattle.forest_contraction.specs.Left.{IsLesser};
+ghost use Rattle.min_value.specs.Left.{TellsValue};
 
-use crate::scans::value_by_scans;
+use crate::scans::{scan_away, scan_or_sweep, value_of_shrunk};
 use cut_definitions::NoMemory;
 use least_cut::{Swept, least_weight_below, least_weight_within};
 use outside::Gate;
@@ -42,7 +43,7 @@ fn contract_once<R: Threads + Sync, G: Gate>(
 ) -> Result<(u64, Graph), NoMemory>
     requires enough { 2 ≤ graph.now.vertices }
     requires workers { (1 ≤ workers) × (workers ≤ 64) }
-    ensures { IfOk result (λ r. IsLeft (value graph.now) r.0 r.1) }
+    ensures { IfOk result (λ r. IsLesser (value graph.now) r.0 r.1) }
 {
     // known by this call: the graph is an edge list
     let _n = graph.n();
@@ -81,26 +82,68 @@ fn value_by_rounds<R: Threads + Sync, G: Gate>(
     Ok(weight)
 }
 
-/// The value by a sweep of flows, which are local on most graphs. Where they go along each row more than four times on the
-/// average, scans contract the graph first. A vertex without edges is a cut of weight 0, and no flow is needed then.
-fn value_by_sweep(alloc: Global, graph: &Graph) -> Result<u64, NoMemory>
+/// A sweep of flows, which are local on most graphs. It is cut short where they go along each row more than four times on the
+/// average. A vertex without edges is a cut of weight 0, and no flow is needed then.
+fn sweep(alloc: Global, graph: &Graph) -> Result<Swept, NoMemory>
     requires { 2 ≤ graph.now.vertices }
-    ensures { IfOk result (λ weight. weight ≡ value graph.now) }
+    ensures { IfOk result (TellsValue graph.now) }
 {
     // known by this call: the graph is an edge list, so no weight is above 2^61
     let _n = graph.n();
     let bound = least_degree(graph);
     if bound == 0 {
-        return Ok(0);
+        return Ok(Swept::Whole(0));
     }
     let swept = least_weight_within(alloc, graph, bound, graph.edges().saturating_mul(8))?;
+    Ok(swept)
+}
+
+/// The value by a sweep, and where that is cut short by scans, which contract the graph.
+fn value_by_sweep(alloc: Global, graph: &Graph) -> Result<u64, NoMemory>
+    requires { 2 ≤ graph.now.vertices }
+    ensures { IfOk result (λ weight. weight ≡ value graph.now) }
+{
+    let swept = sweep(alloc, graph)?;
     match swept {
         Swept::Whole(weight) => Ok(weight),
         Swept::Part(best) => {
-            let weight = value_by_scans(alloc, graph, best)?;
-            Ok(weight)
+            let shrunk = scan_or_sweep(alloc, graph, best)?;
+            value_of_shrunk(alloc, shrunk)
         }
     }
+}
+
+/// The same for a graph that is given back before a smaller one gets its rows.
+fn value_by_sweep_away(alloc: Global, graph: Graph) -> Result<u64, NoMemory>
+    requires { 2 ≤ graph.vertices }
+    ensures { IfOk result (λ weight. weight ≡ value graph) }
+{
+    let swept = sweep(alloc, &graph)?;
+    match swept {
+        Swept::Whole(weight) => Ok(weight),
+        Swept::Part(best) => {
+            let shrunk = scan_away(alloc, graph, best)?;
+            value_of_shrunk(alloc, shrunk)
+        }
+    }
+}
+
+/// The value of a graph as `value` tells it, but that the graph is given back as soon as a smaller one is known.
+pub(crate) fn value_away<R: Threads + Sync, G: Gate>(
+    rt: &R,
+    alloc: Global,
+    graph: Graph,
+    workers: u32,
+    gate: &G,
+) -> Result<u64, NoMemory>
+    requires enough { 2 ≤ graph.vertices }
+    requires workers { (1 ≤ workers) × (workers ≤ 64) }
+    ensures { IfOk result (λ weight. weight ≡ value graph) }
+{
+    if graph.edges() <= FEW_EDGES {
+        return value_by_rounds(rt, alloc, &graph, workers, gate);
+    }
+    value_by_sweep_away(alloc, graph)
 }
 
 /// The value of a graph of two or more vertices: the least weight of a cut.

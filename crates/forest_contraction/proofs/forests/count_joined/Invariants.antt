@@ -1,6 +1,6 @@
 -- The level before the lower end joins the two.
 use Rattle.std.proofs.Common.{◌≡◌, ℕ, ◌+◌, ◌-◌, ◌≤◌, length}
-use Rattle.forest_contraction.specs.Classes.{AreJoined}
+use Rattle.vertex_classes.specs.Classes.{AreJoined}
 use Rattle.forest_contraction.specs.Forests.{level, HasSameLevels}
 use Rattle.forest_contraction.proofs.forests.count_joined.Given as goal
 

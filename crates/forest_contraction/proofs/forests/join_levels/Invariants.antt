@@ -1,7 +1,7 @@
 -- The levels so far have joined the two.
 use Rattle.std.proofs.Common.{◌≡◌, ℕ, ◌<◌, ◌≤◌, length}
 use Rattle.std.specs.Prelude.{◌⊎◌}
-use Rattle.forest_contraction.specs.Classes.{HasJoined}
+use Rattle.vertex_classes.specs.Classes.{HasJoined}
 use Rattle.forest_contraction.specs.Forests.{level}
 use Rattle.forest_contraction.proofs.forests.join_levels.Given as goal
 

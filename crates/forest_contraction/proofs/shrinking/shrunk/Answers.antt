@@ -1,28 +1,5 @@
--- The classes are tied, and a tenth fewer.
-use Rattle.std.proofs.Common.{arith}
-use Rattle.cut_definitions.specs.Contraction.{relabel}
-use Rattle.weighted_graph.specs.ContractionLaws.{IsLabelled}
-use Rattle.weighted_graph.proofs.Contraction.{value-le-contracted}
-use Rattle.forest_contraction.proofs.Lessening.{shrunk_left}
+use Rattle.forest_contraction.proofs.Lessening.{tied_none}
 use Rattle.forest_contraction.proofs.shrinking.shrunk.Goals as goal
 
-pub returns-clause-less : goal.returns-clause-less
-unfolding relabel
-returns-clause-less c =
-    let less = c.is_a_tenth_less.ensures c.if-not-is_a_tenth_less.false in
-    rw c.in_ok-small.ensures (omega (arith, less, c.classes.ensures.value, c.n.ensures.value))
-
 pub returns-clause-left : goal.returns-clause-left
-returns-clause-left c =
-    let g = c.args.list.now in
-    let labels = c.in_ok-labels.labels in
-    let h : IsLabelled g labels = record { are_labels = c.classes.ensures.labels; long = c.in_ok-labels.ensures.long } in
-    rw c.in_ok-small.ensures (shrunk_left g c.n.ensures.edge_list.is_graph labels c.args.bound c.requires.enough h c.in_ok-labels.ensures.tied)
-
-pub returns-clause-above : goal.returns-clause-above
-unfolding relabel
-returns-clause-above c =
-    let g = c.args.list.now in
-    let labels = c.in_ok-labels.labels in
-    let h : IsLabelled g labels = record { are_labels = c.classes.ensures.labels; long = c.in_ok-labels.ensures.long } in
-    rw c.in_ok-small.ensures (λ many. value-le-contracted g c.n.ensures.edge_list.is_graph labels h many)
+returns-clause-left c = c.between_classes.ensures.left c.args.bound (tied_none c.args.list.now c.in_ok-labels.labels c.args.bound c.in_ok-labels.ensures.tied)

@@ -1,7 +1,7 @@
 -- In each level so far every vertex is alone.
 use Rattle.std.proofs.Common.{◌≡◌, ℕ, ◌+◌, ◌<◌, length}
 use Rattle.cut_definitions.specs.Weight.{VertexSet}
-use Rattle.forest_contraction.specs.Classes.{Respects}
+use Rattle.vertex_classes.specs.Classes.{Respects}
 use Rattle.forest_contraction.specs.Forests.{level, AreOver}
 use Rattle.forest_contraction.proofs.tying.bare_levels.Given as goal
 

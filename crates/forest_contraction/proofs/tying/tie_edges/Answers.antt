@@ -6,8 +6,8 @@ use Rattle.cut_definitions.specs.declared.edge_list.Edge.{Edge}
 use Rattle.cut_definitions.specs.Graph.{IsEdgeWithin}
 use Rattle.std.proofs.lemmas.List.{take_all, take_more}
 use Rattle.cut_definitions.proofs.Running.{cut_part_le}
-use Rattle.forest_contraction.specs.Classes.{no_vertex, AreJoined}
-use Rattle.forest_contraction.proofs.Numbered.{zero_out}
+use Rattle.vertex_classes.specs.Classes.{no_vertex, AreJoined}
+use Rattle.vertex_classes.proofs.Numbered.{zero_out}
 use Rattle.forest_contraction.specs.Forests.{cut_term, AreForests, JoinsHeavy}
 use Rattle.weighted_graph.proofs.Rows.{no_edge}
 use Rattle.forest_contraction.proofs.tying.tie_edges.Goals as goal

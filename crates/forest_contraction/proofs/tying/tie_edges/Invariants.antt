@@ -1,6 +1,6 @@
 -- The levels hold the edges so far, and what is tied is tied by all edges.
 use Rattle.std.proofs.Common.{◌≡◌, length, take}
-use Rattle.forest_contraction.specs.Classes.{no_vertex, Respects}
+use Rattle.vertex_classes.specs.Classes.{no_vertex, Respects}
 use Rattle.forest_contraction.specs.Forests.{AreForests, AreOver, AreTied, JoinsHeavy}
 use Rattle.forest_contraction.proofs.tying.tie_edges.Given as goal
 

@@ -13,7 +13,7 @@ returns-clause-tied c = λ s light u v u1 un v1 vn same.
     let n = c.n-n.ensures.value in
     let over = c.in_ok-tied.ensures.long in
     let tied : AreTied c.args.list.now.edges c.args.bound c.tie_edges.new.tied = rw (← c.edges.ensures.value) c.tie_edges.ensures.tied in
-    c.in_ok-labels.ensures.joined u v u1 (omega (arith, long, n, over)) v1 (omega (arith, long, n, over)) same s (tied s light)
+    (c.in_ok-labels.ensures.joined u v u1 (omega (arith, long, n, over)) v1 (omega (arith, long, n, over))).0 same s (tied s light)
 
 pub returns-clause-heavy : goal.returns-clause-heavy
 returns-clause-heavy c = λ k d l le.
@@ -23,4 +23,7 @@ returns-clause-heavy c = λ k d l le.
     let n = c.n-n.ensures.value in
     let over = c.in_ok-tied.ensures.long in
     let heavy : JoinsHeavy c.args.list.now.edges c.args.bound c.tie_edges.new.tied = rw (← c.edges.ensures.value) c.tie_edges.ensures.heavy in
-    c.in_ok-labels.ensures.same c.tie_edges.ensures.apart e.u e.v ends.0 (omega (arith, long, n, over, ends.1, ends.2)) (omega (arith, ends.0, ends.1)) (omega (arith, long, n, over, ends.2)) (heavy k d l le)
+    (c.in_ok-labels.ensures.joined e.u e.v ends.0 (omega (arith, long, n, over, ends.1, ends.2)) (omega (arith, ends.0, ends.1)) (omega (arith, long, n, over, ends.2))).1 (heavy k d l le)
+
+pub returns-clause-long : goal.returns-clause-long
+returns-clause-long c = omega (arith, c.in_ok-labels.ensures.long, c.tie_edges.ensures.long, c.n-n.ensures.value, c.in_ok-tied.ensures.long)

@@ -1,8 +1,10 @@
-use Rattle.std.proofs.Common.{◌≡◌, ◌∙◌, arith}
+use Rattle.std.proofs.Common.{◌≡◌, ◌∙◌, ap, arith}
+use Rattle.cut_definitions.specs.Graph.{Graph}
 use Rattle.cut_definitions.specs.Cuts.{has}
 use Rattle.cut_definitions.specs.Contraction.{classes}
+use Rattle.cut_definitions.proofs.ContractionLaws.{vertices-relabel}
 use Rattle.weighted_graph.specs.ContractionLaws.{IsLabelled}
-use Rattle.min_value.proofs.Scanned.{left_marks, relabelled_vertices}
+use Rattle.min_value.proofs.Scanned.{left_marks}
 use Rattle.min_value.proofs.scans.scan_once.Goals as goal
 
 pub returns : goal.returns
@@ -15,7 +17,7 @@ returns c =
     let labelled : IsLabelled g labels = record { are_labels = c.classes.ensures.labels; long = c.in_ok-labels.ensures.vertices } in
     let number : c.from.result ≡ classes labels = c.from.ensures ∙ c.classes.ensures.value in
     let vertices : c.from-2.result ≡ g.vertices = c.from-2.ensures ∙ c.n-n.ensures.value in
-    let few : small.vertices ≡ classes labels = relabelled_vertices g labels small c.in_ok-smaller.ensures in
+    let few : small.vertices ≡ classes labels = ap (λ (h : Graph). h.vertices) c.in_ok-smaller.ensures ∙ vertices-relabel g labels in
     record {
       at_most = scan.at_most;
       left = left_marks g c.n-n.ensures.edge_list.is_graph (has c.mark_by_links-best.new.marks.marked) labels c.args.bound best small c.requires.enough scan.at_most scan.at_least scan.safe labelled c.in_ok-labels.ensures.classes c.in_ok-smaller.ensures;

@@ -1,6 +1,6 @@
 use Rattle.std.proofs.Common.{sym, ◌∙◌, subst, ℕ, arith}
 use Rattle.cut_definitions.specs.Cuts.{value}
-use Rattle.min_value.specs.Left.{IsLeft}
+use Rattle.forest_contraction.specs.Left.{IsLesser}
 use Rattle.min_value.proofs.Contracted.{left_more, left_none, left_some, fewer_left}
 use Rattle.min_value.proofs.values.value_by_rounds.Goals as goal
 
@@ -11,7 +11,7 @@ rounds-smaller g c =
 
 pub rounds-preserved : goal.rounds-preserved
 rounds-preserved g c =
-    subst (λ (k : ℕ). IsLeft (value c.args.graph.now) k c.in_ok-low.smaller) (sym c.min-best.ensures)
+    subst (λ (k : ℕ). IsLesser (value c.args.graph.now) k c.in_ok-low.smaller) (sym c.min-best.ensures)
     (left_more (value c.args.graph.now) c.rounds.best c.in_ok-low.low c.rounds.small c.in_ok-low.smaller (omega (arith, c.if-n-ge2.true, c.n.ensures.value)) c.rounds.invariant c.in_ok-low.ensures)
 
 pub returns-then-n-lt2 : goal.returns-then-n-lt2
