@@ -16,23 +16,12 @@ use Rattle.cut_definitions.proofs.Bools.{same_tests}
 use Rattle.weighted_graph.specs.ContractionLaws.{IsLabelled}
 use Rattle.weighted_graph.proofs.Contraction.{label_to_classes, fold_max-get_or}
 use Rattle.min_value.specs.Kernels.{KeepsAllMinimumCuts, IsKept}
-use Rattle.cactus_solver.specs.declared.homed_tree.HomedTree.{HomedTree}
-use Rattle.cactus_solver.specs.Finished.{IsFinished, IsTreeOfAll, arrays_of}
-use Rattle.cactus_solver.specs.Flat.{NodeArrays, AreNodes, TreeLinks, sets_of, is_below, is_follower}
-use Rattle.cactus_solver.specs.TreeSets.{IsTreeSide, IsUnder}
-use Rattle.cactus_solver.proofs.Hanging.{under_one, under_after}
-use Rattle.cactus_solver.proofs.Members.{filtered, side_lacks_one}
-
--- a set of what is under several nodes
-pub some_set : (n : ℕ) (under : ℕ → VertexSet) (first more : ℕ) → (x : VertexSet) × IsUnder n under first (first + more) x
-some_set n under first zero =
-    let e : first ≡ first + 0 = omega arith in
-    (under first, subst (λ (k : ℕ). IsUnder n under first k (under first)) e (under_one n under first (under first) (λ v a b. refl)))
-some_set n under first (suc more) =
-    let rest = some_set n under first more in
-    let e : first + more + 1 ≡ first + suc more = omega arith in
-    let x = either rest.0 (under (first + more + 1)) in
-    (x, subst (λ (k : ℕ). IsUnder n under first k x) e (under_after n under first (first + more) x rest.0 (under (first + more + 1)) rest.1 (λ v a b. refl) (omega arith) (λ v. refl)))
+use Rattle.node_tree.specs.declared.homed_tree.HomedTree.{HomedTree}
+use Rattle.node_tree.specs.Finished.{IsFinished, IsTreeOfAll, arrays_of}
+use Rattle.node_tree.specs.Flat.{NodeArrays, AreNodes, TreeLinks, sets_of, is_below, is_follower}
+use Rattle.node_tree.specs.TreeSets.{IsTreeSide, IsUnder}
+use Rattle.region_sweep.proofs.Members.{filtered, side_lacks_one}
+use Rattle.region_sweep.proofs.SomeSets.{some_set}
 
 module _ (g small : Graph) (labels : List ℕ) (a b : NodeArrays) (ok : IsGraph g) (small_ok : IsGraph small) (h : IsLabelled g labels) (one : 1 ≤ g.vertices) (counted : classes labels ≡ small.vertices)
     (keeps : KeepsAllMinimumCuts g small labels) (tree : IsTreeOfAll small a) (nodes : AreNodes b) (links : b.links ≡ a.links)

@@ -6,14 +6,13 @@ ghost use Rattle.cut_definitions.specs.Cuts.{value as least_value, mincuts};
 ghost use Rattle.cactus_tree.specs.Normal.{is_normal};
 ghost use Rattle.cactus_tree.specs.Rooted.{sides_of};
 ghost use Rattle.min_value.specs.Kernels.{IsKept};
-ghost use Rattle.cactus_solver.specs.Finished.{IsFinished};
-ghost use Rattle.cactus_solver.specs.Solved.{SameMembers};
+ghost use Rattle.node_tree.specs.Finished.{IsFinished};
+ghost use Rattle.cut_definitions.specs.Members.{SameMembers};
 
-use crate::homed_tree::HomedTree;
-use crate::into_cactus::{cactus_of_tree, normal_form};
 use crate::solver::{Solved, tree_at_value};
 use cut_definitions::{EdgeList, NoMemory};
 use forest_contraction::tied_classes;
+use node_tree::{HomedTree, cactus_of_tree, normal_form};
 use outside::Gate;
 use std::alloc::Global;
 use std::thread::Threads;

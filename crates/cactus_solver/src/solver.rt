@@ -6,17 +6,15 @@ ghost use Rattle.cut_definitions.specs.Cuts.{value, value as least_value, mincut
 ghost use Rattle.cactus_tree.specs.Normal.{is_normal};
 ghost use Rattle.cactus_tree.specs.Rooted.{sides_of};
 ghost use Rattle.min_value.specs.Kernels.{IsKept};
-ghost use Rattle.cactus_solver.specs.Finished.{IsFinished};
-ghost use Rattle.cactus_solver.specs.Solved.{SameMembers};
+ghost use Rattle.node_tree.specs.Finished.{IsFinished};
+ghost use Rattle.cut_definitions.specs.Members.{SameMembers};
 
-use crate::branches::tree_of_branches;
-use crate::homed_tree::HomedTree;
-use crate::into_cactus::{cactus_of_tree, normal_form};
-use crate::sweep::tree_by_workers;
 use cactus_tree::Cactus;
 use cut_definitions::NoMemory;
 use min_value::{Kernel, reduce, value as least_weight};
+use node_tree::{HomedTree, cactus_of_tree, normal_form, tree_of_branches};
 use outside::Gate;
+use region_sweep::tree_by_workers;
 use std::alloc::Global;
 use std::thread::Threads;
 use weighted_graph::Graph;

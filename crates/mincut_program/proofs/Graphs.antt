@@ -19,7 +19,7 @@ use Rattle.cactus_tree.specs.Flattened.{flat_of}
 use Rattle.cactus_tree.specs.FlatLaws.{LawOfFlatForm, LawOfFlatSides}
 use Rattle.canonical_cactus.specs.Canonical.{is_canonical}
 use Rattle.canonical_cactus.specs.FirstBest.{IsFirstBest}
-use Rattle.cactus_solver.specs.Solved.{SameMembers}
+use Rattle.cut_definitions.specs.Members.{SameMembers}
 use Rattle.cactus_text.specs.Text.{cactus_text, line}
 use Rattle.mincut_program.specs.Jobs.{AsksCuts, StandsFor, IsCactusOf, IsCactusText, IsBalancedText, IsTextFor, IsListed, IsListWithin, IsInRange, IsAnswerOf, IsStopFor, IsWithin, KeepsLimit, asked_cuts}
 use Rattle.mincut_program.specs.Solving.{IsSolved, IsListReply, IsListStop, cuts_for}

@@ -22,7 +22,7 @@ use Rattle.cactus_tree.specs.Rooted.{Rooted, sides_of}
 use Rattle.cactus_growth.specs.Insertion.{edge_between}
 use Rattle.cactus_growth.specs.After.{IsKept}
 use Rattle.cactus_growth.specs.Laws.{KeepsSome, LawOfKeptCuts, LawOfWeights}
-use Rattle.cactus_solver.specs.Solved.{SameMembers}
+use Rattle.cut_definitions.specs.Members.{SameMembers}
 use Rattle.cactus_solver.specs.declared.solver.Solved.{Solved}
 use Rattle.mincut_program.specs.Growth.{HasGrown, IsGrowing, IsGrowReply, IsGrowStop}
 use Rattle.mincut_program.specs.Insertions.{Insertion, grown, step_of, steps_of, with_insertion, IsFirstBeyond, IsInsertion, StaysWithin}

@@ -10,7 +10,7 @@ use Rattle.cactus_tree.specs.Flat.{Flat}
 use Rattle.cactus_tree.specs.FlatCuts.{IsWellFormed, HasSides}
 use Rattle.cactus_tree.specs.Flattened.{flat_of}
 use Rattle.cactus_tree.specs.Rooted.{Rooted, IsCactus, sides_of}
-use Rattle.cactus_solver.specs.Solved.{SameMembers}
+use Rattle.cut_definitions.specs.Members.{SameMembers}
 use Rattle.cactus_text.specs.Text.{cactus_text}
 use Rattle.canonical_cactus.specs.Canonical.{is_canonical}
 use Rattle.canonical_cactus.specs.FirstBest.{IsFirstBest}

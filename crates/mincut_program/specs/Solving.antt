@@ -5,7 +5,7 @@ use Rattle.cut_definitions.specs.Graph.{Graph}
 use Rattle.cut_definitions.specs.Cuts.{value, mincuts}
 use Rattle.cactus_tree.specs.Normal.{is_normal}
 use Rattle.cactus_tree.specs.Rooted.{sides_of}
-use Rattle.cactus_solver.specs.Solved.{SameMembers}
+use Rattle.cut_definitions.specs.Members.{SameMembers}
 use Rattle.cactus_solver.specs.declared.solver.Solved.{Solved}
 use Rattle.cut_listing.specs.Asks.{lets}
 use Rattle.cut_listing.specs.declared.ask.Ask.{Ask}

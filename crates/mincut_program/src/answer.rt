@@ -21,7 +21,7 @@ use crate::stop::Stop;
 use cactus_solver::{Solved, solve, solve_at, solve_by_list};
 use cut_definitions::{EdgeList, VertexWeights};
 use metis_reader::MetisGraph;
-use min_value::{value as least_weight, value_by_list};
+use min_value::{value_by_list, value_of_list};
 use outside::{Gate, NoMemory};
 use std::alloc::Global;
 use std::thread::Threads;
@@ -53,7 +53,7 @@ fn value_text(alloc: Global, value: u64) -> Result<Reply, NoMemory>
     Ok(Reply::Text(text))
 }
 
-// The line of the job `value`. The whole graph gets rows only where its list of edges does not tell the value.
+// The line of the job `value`.
 fn value_reply<R: Threads + Sync, G: Gate>(
     rt: &R,
     alloc: Global,
@@ -66,11 +66,7 @@ fn value_reply<R: Threads + Sync, G: Gate>(
     ensures text { IfOk result (λ reply. text_of reply ≡ value_line (value list)) }
     ensures printable { IfOk result IsPrintable }
 {
-    if let Some(value) = value_by_list(rt, alloc, &list, workers, gate)? {
-        return value_text(alloc, value);
-    }
-    let graph = with_rows(alloc, list)?;
-    let value = least_weight(rt, alloc, &graph, workers, gate)?;
+    let value = value_of_list(rt, alloc, list, workers, gate)?;
     value_text(alloc, value)
 }
 

@@ -3,9 +3,9 @@ use Rattle.std.proofs.Common.{subst, sym, ◌∙◌, arith}
 use Rattle.cut_definitions.specs.Graph.{Graph}
 use Rattle.cut_definitions.proofs.Results.{if_both}
 use Rattle.min_value.specs.Kernels.{IsKept}
-use Rattle.cactus_solver.specs.Finished.{IsFinished}
+use Rattle.node_tree.specs.Finished.{IsFinished}
 use Rattle.cactus_solver.proofs.Lifting.{classes_within, lifted_finished}
-use Rattle.cactus_solver.proofs.Members.{still_connected}
+use Rattle.cactus_solver.proofs.Finishing.{still_connected}
 use Rattle.cactus_solver.proofs.by_list.tree_by_classes.Goals as goal
 
 pub tree_at_value-requires-clause-connected : goal.tree_at_value-requires-clause-connected

@@ -1,7 +1,7 @@
 use Rattle.std.proofs.Common.{◌∙◌, arith}
 use Rattle.cactus_tree.specs.Rooted.{sides_of}
-use Rattle.cactus_solver.proofs.Members.{finished, no_empty_side, same_through}
-use Rattle.cactus_solver.specs.Finished.{arrays_of}
+use Rattle.cactus_solver.proofs.Finishing.{finished, no_empty_side, same_through}
+use Rattle.node_tree.specs.Finished.{arrays_of}
 use Rattle.cactus_solver.proofs.solver.solve_at.Goals as goal
 
 pub normal_form-requires-clause-sides : goal.normal_form-requires-clause-sides

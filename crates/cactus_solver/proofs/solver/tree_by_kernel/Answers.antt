@@ -1,9 +1,9 @@
 -- The smaller graph is connected too, and its minimum cuts are those of the graph.
 use Rattle.std.proofs.Common.{arith}
 use Rattle.cut_definitions.proofs.Results.{if_both}
-use Rattle.cactus_solver.specs.Finished.{IsFinished}
+use Rattle.node_tree.specs.Finished.{IsFinished}
 use Rattle.cactus_solver.proofs.Lifting.{classes_within, lifted_finished}
-use Rattle.cactus_solver.proofs.Members.{still_connected}
+use Rattle.cactus_solver.proofs.Finishing.{still_connected}
 use Rattle.cactus_solver.proofs.solver.tree_by_kernel.Goals as goal
 
 pub tree_of_cuts-requires-clause-connected : goal.tree_of_cuts-requires-clause-connected

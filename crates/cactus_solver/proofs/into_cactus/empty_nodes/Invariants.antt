@@ -1,9 +1,0 @@
-use Rattle.std.proofs.Common.{◌≡◌, ℕ, length}
-use Rattle.cactus_solver.specs.Forest.{AreFrom, IsPlaced}
-use Rattle.cactus_solver.proofs.into_cactus.empty_nodes.Given as goal
-
-abbrev pub invariant-nodes : goal.invariant-nodes
-invariant-nodes l = record {
-  len : length l.nodes.items ≡ l.i;
-  empty : (homes : ℕ → ℕ) → AreFrom (IsPlaced 0 homes) 0 l.nodes.items;
-}

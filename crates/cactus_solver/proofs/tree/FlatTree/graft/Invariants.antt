@@ -1,8 +1,0 @@
--- The nodes before the next one are grafted.
-use Rattle.std.proofs.Common.{◌≡◌}
-use Rattle.std.specs.Prelude.{length}
-use Rattle.cactus_solver.proofs.ShareLaws.{IsGraftedTo}
-use Rattle.cactus_solver.proofs.tree.FlatTree.graft.Given as goal
-
-abbrev pub invariant-loop-i : goal.invariant-loop-i
-invariant-loop-i l = (l.count ≡ length l.initial.self.uppers) × IsGraftedTo l.node l.fn.self l.other l.self l.i

@@ -1,0 +1,41 @@
+-- A vertex that a step leads to is put.
+use Rattle.std.proofs.Common.{◌≡◌, ℕ, ◌+◌, ◌<◌, ◌≤◌, inr, true, false, get_or, length, sym, ◌∙◌, subst, ap, arith, rules}
+use Rattle.weighted_graph.specs.declared.graph.Arc.{Arc}
+use Rattle.weighted_graph.specs.Searches.{is_seen}
+use Rattle.max_flow.specs.Flow.{arc_at}
+use Rattle.region_parts.specs.Found.{SearchState, Leads}
+use Rattle.region_parts.proofs.Finding.{put_search, quiet_put, leads_by_arc, not_must, room}
+use Rattle.region_parts.proofs.search.Search.follow_arc.Goals as goal
+
+pub returns-clause-search : goal.returns-clause-search
+returns-clause-search g c = λ starts h.
+    let s = c.args.self.now in
+    let arcs = c.args.arcs.now in
+    let n = g.A.StepArcs.vertices arcs in
+    let goes = g.A.StepArcs.goes arcs in
+    let to = c.args.arc.to in
+    let v = get_or s.order s.place 0 in
+    let one = h.from_one s.place c.requires.left in
+    let le = h.to_n s.place c.requires.left in
+    let has = g.met.A.StepArcs.has_arcs arcs c.requires.can in
+    let same : (arc_at (g.A.StepArcs.rows arcs v) c.args.k).to ≡ to = ap (λ (a : Arc). a.to) (sym c.requires.there) in
+    let taken : c.is_open.result ≡ true = search rules in
+    let open_there : g.A.StepArcs.open_at arcs v c.args.k ≡ true = subst (λ (x : ℕ). g.A.StepArcs.open_at arcs x c.args.k ≡ true) c.next-v.ensures (sym c.is_open.ensures ∙ taken) in
+    let new : is_seen s.seen to ≡ false = search rules in
+    let free : get_or c.args.turns.now to 0 ≡ 0 = search rules in
+    let leads : Leads goes v to = subst (λ (k : ℕ). Leads goes v k) same (leads_by_arc n (g.A.StepArcs.rows arcs) (g.A.StepArcs.open_at arcs) goes has v c.args.k one le c.requires.in_row open_there) in
+    let same_place : c.put.inside.place ≡ s.place = ap (λ (x : SearchState). x.place) c.put.view_is in
+    rw c.put-2.ensures
+    (put_search n goes (g.H.Halts.must c.args.halts.now) c.args.turns.now starts s to c.put.inside.place h c.requires.quiet
+    (subst (λ (k : ℕ). 1 ≤ k) same (has.from_one v c.args.k one le c.requires.in_row)) (subst (λ (k : ℕ). k ≤ n) same (has.to_n v c.args.k one le c.requires.in_row))
+    new free (inr (subst (λ (k : ℕ). (k < s.count) × Leads goes (get_or s.order k 0) to) (sym same_place) (c.requires.left, leads))))
+
+pub returns-clause-quiet : goal.returns-clause-quiet
+returns-clause-quiet g c = λ no.
+    let s = c.args.self.now in
+    let h = c.requires.search.1 in
+    let new : is_seen s.seen c.args.arc.to ≡ false = search rules in
+    let x_in : c.args.arc.to < length s.seen = search rules in
+    let fits : s.count < length s.order = omega (arith, h.order_length, room s.seen c.args.arc.to s.count (g.A.StepArcs.vertices c.args.arcs.now + 1) h.rest x_in new) in
+    rw c.put-2.ensures (quiet_put (g.H.Halts.must c.args.halts.now) s c.args.arc.to c.put.inside.place fits c.requires.quiet
+    (not_must (g.H.Halts.halts c.args.halts.now) (g.H.Halts.must c.args.halts.now) (g.met.H.Halts.must_halt c.args.halts.now) c.args.arc.to (sym c.halts.ensures ∙ no)))

@@ -1,0 +1,10 @@
+-- The vertices so far have their numbers.
+use Rattle.std.proofs.Common.{◌≡◌, length}
+use Rattle.region_parts.proofs.PartNumbers.{HavePut}
+use Rattle.region_parts.proofs.split.put_by_turn.Given as goal
+
+abbrev pub invariant-loop-v : goal.invariant-loop-v
+invariant-loop-v l = record {
+  long : length l.parts.numbers ≡ length l.initial.parts.numbers;
+  put : HavePut (λ turn. turn) l.listing l.v-index l.initial.parts.numbers l.parts.numbers;
+}

@@ -1,0 +1,99 @@
+-- What the search from beside the list found is further parts of it.
+use Rattle.region_parts.specs.declared.side.Side.TheVariants.{Inner, Outer}
+use Rattle.region_parts.proofs.SplitterLemmas.{taken_stays}
+use Rattle.region_parts.proofs.SplitterStates.{on_ok, on_ok_three, near_from, fit_in, inner_in, outer_in, inner_stays, outer_stays, each_taken}
+use Rattle.region_parts.proofs.splitter.Splitter.take_near.Goals as goal
+
+pub take-requires-clause-few : goal.take-requires-clause-few
+take-requires-clause-few c =
+    (fit_in c.args.side Inner _ _ _ _ _ _ _ _ c.args.self.now.near _ _ c.in-Inner.is c.arcs-arcs.ensures.graph c.arcs-arcs.ensures.flow c.arcs-arcs.ensures.direction c.found-found.ensures c.requires.between c.requires.some
+    (near_from c.args.side _ _ _ _ c.requires.ended.0 c.requires.ended.1)).few
+
+pub take-requires-clause-within : goal.take-requires-clause-within
+take-requires-clause-within c =
+    (fit_in c.args.side Inner _ _ _ _ _ _ _ _ c.args.self.now.near _ _ c.in-Inner.is c.arcs-arcs.ensures.graph c.arcs-arcs.ensures.flow c.arcs-arcs.ensures.direction c.found-found.ensures c.requires.between c.requires.some
+    (near_from c.args.side _ _ _ _ c.requires.ended.0 c.requires.ended.1)).within
+
+pub take-requires-clause-apart : goal.take-requires-clause-apart
+take-requires-clause-apart c =
+    (fit_in c.args.side Inner _ _ _ _ _ _ _ _ c.args.self.now.near _ _ c.in-Inner.is c.arcs-arcs.ensures.graph c.arcs-arcs.ensures.flow c.arcs-arcs.ensures.direction c.found-found.ensures c.requires.between c.requires.some
+    (near_from c.args.side _ _ _ _ c.requires.ended.0 c.requires.ended.1)).apart
+
+pub take-requires-clause-new : goal.take-requires-clause-new
+take-requires-clause-new c =
+    (fit_in c.args.side Inner _ _ _ _ _ _ _ _ c.args.self.now.near _ _ c.in-Inner.is c.arcs-arcs.ensures.graph c.arcs-arcs.ensures.flow c.arcs-arcs.ensures.direction c.found-found.ensures c.requires.between c.requires.some
+    (near_from c.args.side _ _ _ _ c.requires.ended.0 c.requires.ended.1)).new
+
+pub take-requires-clause-closed : goal.take-requires-clause-closed
+take-requires-clause-closed c =
+    (fit_in c.args.side Inner _ _ _ _ _ _ _ _ c.args.self.now.near _ _ c.in-Inner.is c.arcs-arcs.ensures.graph c.arcs-arcs.ensures.flow c.arcs-arcs.ensures.direction c.found-found.ensures c.requires.between c.requires.some
+    (near_from c.args.side _ _ _ _ c.requires.ended.0 c.requires.ended.1)).closed
+
+pub take-requires-clause-followed : goal.take-requires-clause-followed
+take-requires-clause-followed c =
+    (fit_in c.args.side Inner _ _ _ _ _ _ _ _ c.args.self.now.near _ _ c.in-Inner.is c.arcs-arcs.ensures.graph c.arcs-arcs.ensures.flow c.arcs-arcs.ensures.direction c.found-found.ensures c.requires.between c.requires.some
+    (near_from c.args.side _ _ _ _ c.requires.ended.0 c.requires.ended.1)).followed
+
+pub take-requires-clause-leads : goal.take-requires-clause-leads
+take-requires-clause-leads c =
+    (fit_in c.args.side Inner _ _ _ _ _ _ _ _ c.args.self.now.near _ _ c.in-Inner.is c.arcs-arcs.ensures.graph c.arcs-arcs.ensures.flow c.arcs-arcs.ensures.direction c.found-found.ensures c.requires.between c.requires.some
+    (near_from c.args.side _ _ _ _ c.requires.ended.0 c.requires.ended.1)).leads
+
+pub returns-in-Inner-clause-between : goal.returns-in-Inner-clause-between
+returns-in-Inner-clause-between c = on_ok_three c.take.result c.take.ensures.taken c.take.ensures.kept c.take.ensures.bordered (λ taken kept bordered.
+    inner_in c.args.side _ _ _ _ _ _ _ _ c.args.self.now.near _ _ c.take.new.self c.take.new.memory c.in-Inner.is c.arcs-arcs.ensures.graph c.arcs-arcs.ensures.flow c.arcs-arcs.ensures.direction c.found-found.ensures c.requires.between c.requires.some
+    (near_from c.args.side _ _ _ _ c.requires.ended.0 c.requires.ended.1) c.take.ensures.memory taken kept bordered)
+
+pub returns-in-Inner-clause-stays : goal.returns-in-Inner-clause-stays
+returns-in-Inner-clause-stays c = on_ok c.take.result c.take.ensures.taken (λ taken. inner_stays c.args.self.now c.take.new.self c.take.new.memory (λ v one. taken_stays taken v one))
+
+pub returns-in-Inner-clause-taken : goal.returns-in-Inner-clause-taken
+returns-in-Inner-clause-taken c = rw c.in-Inner.is
+    (on_ok c.take.result c.take.ensures.taken (λ taken. each_taken _ _ _ _ _ c.args.self.now.near _ _ _ _ _ _ _ c.requires.ended.1.search c.found-found.ensures taken))
+
+pub take-requires-in-Outer-clause-few : goal.take-requires-in-Outer-clause-few
+take-requires-in-Outer-clause-few c =
+    (fit_in c.args.side Outer _ _ _ _ _ _ _ _ c.args.self.now.near _ _ c.in-Outer.is c.arcs-arcs.ensures.graph c.arcs-arcs.ensures.flow c.arcs-arcs.ensures.direction c.found-found.ensures c.requires.between c.requires.some
+    (near_from c.args.side _ _ _ _ c.requires.ended.0 c.requires.ended.1)).few
+
+pub take-requires-in-Outer-clause-within : goal.take-requires-in-Outer-clause-within
+take-requires-in-Outer-clause-within c =
+    (fit_in c.args.side Outer _ _ _ _ _ _ _ _ c.args.self.now.near _ _ c.in-Outer.is c.arcs-arcs.ensures.graph c.arcs-arcs.ensures.flow c.arcs-arcs.ensures.direction c.found-found.ensures c.requires.between c.requires.some
+    (near_from c.args.side _ _ _ _ c.requires.ended.0 c.requires.ended.1)).within
+
+pub take-requires-in-Outer-clause-apart : goal.take-requires-in-Outer-clause-apart
+take-requires-in-Outer-clause-apart c =
+    (fit_in c.args.side Outer _ _ _ _ _ _ _ _ c.args.self.now.near _ _ c.in-Outer.is c.arcs-arcs.ensures.graph c.arcs-arcs.ensures.flow c.arcs-arcs.ensures.direction c.found-found.ensures c.requires.between c.requires.some
+    (near_from c.args.side _ _ _ _ c.requires.ended.0 c.requires.ended.1)).apart
+
+pub take-requires-in-Outer-clause-new : goal.take-requires-in-Outer-clause-new
+take-requires-in-Outer-clause-new c =
+    (fit_in c.args.side Outer _ _ _ _ _ _ _ _ c.args.self.now.near _ _ c.in-Outer.is c.arcs-arcs.ensures.graph c.arcs-arcs.ensures.flow c.arcs-arcs.ensures.direction c.found-found.ensures c.requires.between c.requires.some
+    (near_from c.args.side _ _ _ _ c.requires.ended.0 c.requires.ended.1)).new
+
+pub take-requires-in-Outer-clause-closed : goal.take-requires-in-Outer-clause-closed
+take-requires-in-Outer-clause-closed c =
+    (fit_in c.args.side Outer _ _ _ _ _ _ _ _ c.args.self.now.near _ _ c.in-Outer.is c.arcs-arcs.ensures.graph c.arcs-arcs.ensures.flow c.arcs-arcs.ensures.direction c.found-found.ensures c.requires.between c.requires.some
+    (near_from c.args.side _ _ _ _ c.requires.ended.0 c.requires.ended.1)).closed
+
+pub take-requires-in-Outer-clause-followed : goal.take-requires-in-Outer-clause-followed
+take-requires-in-Outer-clause-followed c =
+    (fit_in c.args.side Outer _ _ _ _ _ _ _ _ c.args.self.now.near _ _ c.in-Outer.is c.arcs-arcs.ensures.graph c.arcs-arcs.ensures.flow c.arcs-arcs.ensures.direction c.found-found.ensures c.requires.between c.requires.some
+    (near_from c.args.side _ _ _ _ c.requires.ended.0 c.requires.ended.1)).followed
+
+pub take-requires-in-Outer-clause-leads : goal.take-requires-in-Outer-clause-leads
+take-requires-in-Outer-clause-leads c =
+    (fit_in c.args.side Outer _ _ _ _ _ _ _ _ c.args.self.now.near _ _ c.in-Outer.is c.arcs-arcs.ensures.graph c.arcs-arcs.ensures.flow c.arcs-arcs.ensures.direction c.found-found.ensures c.requires.between c.requires.some
+    (near_from c.args.side _ _ _ _ c.requires.ended.0 c.requires.ended.1)).leads
+
+pub returns-in-Outer-clause-between : goal.returns-in-Outer-clause-between
+returns-in-Outer-clause-between c = on_ok_three c.take-in-Outer.result c.take-in-Outer.ensures.taken c.take-in-Outer.ensures.kept c.take-in-Outer.ensures.bordered (λ taken kept bordered.
+    outer_in c.args.side _ _ _ _ _ _ _ _ c.args.self.now.near _ _ c.take-in-Outer.new.self c.take-in-Outer.new.memory c.in-Outer.is c.arcs-arcs.ensures.graph c.arcs-arcs.ensures.flow c.arcs-arcs.ensures.direction c.found-found.ensures c.requires.between c.requires.some
+    (near_from c.args.side _ _ _ _ c.requires.ended.0 c.requires.ended.1) c.take-in-Outer.ensures.memory taken kept bordered)
+
+pub returns-in-Outer-clause-stays : goal.returns-in-Outer-clause-stays
+returns-in-Outer-clause-stays c = on_ok c.take-in-Outer.result c.take-in-Outer.ensures.taken (λ taken. outer_stays c.args.self.now c.take-in-Outer.new.self c.take-in-Outer.new.memory (λ v one. taken_stays taken v one))
+
+pub returns-in-Outer-clause-taken : goal.returns-in-Outer-clause-taken
+returns-in-Outer-clause-taken c = rw c.in-Outer.is
+    (on_ok c.take-in-Outer.result c.take-in-Outer.ensures.taken (λ taken. each_taken _ _ _ _ _ c.args.self.now.near _ _ _ _ _ _ _ c.requires.ended.1.search c.found-found.ensures taken))

@@ -1,0 +1,17 @@
+pub mod RegionLaws
+pub mod Hanging
+pub mod Splitting
+pub mod Sweeps
+pub mod Labelling
+pub mod Regrouping
+pub mod Regrouped
+pub mod Weighing
+pub mod Refining
+pub mod Stepping
+pub mod UnderWay
+pub mod Leaving
+pub mod Members
+pub mod SomeSets
+pub mod ShareLaws
+pub mod Grafts
+pub mod Grafting

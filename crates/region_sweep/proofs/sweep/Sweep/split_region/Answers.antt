@@ -1,0 +1,171 @@
+-- The region is split.
+use Rattle.std.proofs.Common.{◌≡◌, ℕ, List, length, get_or, ◌∙◌, ap, subst, arith}
+use Rattle.std.specs.Vec.{with_items}
+use Rattle.node_tree.specs.Flat.{AreLinked}
+use Rattle.node_tree.specs.Laws.{region_of}
+use Rattle.node_tree.specs.Linked.{IsWeighedChain}
+use Rattle.region_parts.specs.Listed.{part_in}
+use Rattle.region_parts.proofs.FewParts.{few_parts}
+use Rattle.region_sweep.proofs.Labelling.{fresh_labels}
+use Rattle.node_tree.proofs.PartWeights.{weights_small}
+use Rattle.region_sweep.proofs.Splitting.{parts}
+use Rattle.region_sweep.proofs.Stepping.{IsSplit}
+use Rattle.region_sweep.proofs.UnderWay.{IsRegrown, few_labels, split, written_long}
+use Rattle.region_sweep.proofs.sweep.Sweep.split_region.Goals as goal
+
+pub of_region-node-requires : goal.of_region-node-requires
+of_region-node-requires c =
+    let s = c.args.self.now in
+    let h = c.requires.under_way in
+    omega (arith, c.label-region.ensures, h.numbered.below c.args.t, fresh_labels c.args.graph.now.vertices s.flow.labels s.fresh h.numbered, h.room.regions)
+
+pub weigh_parts-requires-clause-later : goal.weigh_parts-requires-clause-later
+weigh_parts-requires-clause-later c =
+    let p = c.args.self.now.parts in
+    let labels = c.args.self.now.flow.labels in
+    rw c.as_mut_slice-later.ensures.value
+    (omega (arith, c.requires.under_way.room.later, few_parts c.args.graph.now.vertices 1 c.args.t p.count (part_in p labels (get_or labels c.args.t 0)) c.requires.light.numbered))
+
+pub weigh_parts-requires-clause-next : goal.weigh_parts-requires-clause-next
+weigh_parts-requires-clause-next c =
+    let p = c.args.self.now.parts in
+    let labels = c.args.self.now.flow.labels in
+    rw c.as_mut_slice-next.ensures.value
+    (omega (arith, c.requires.under_way.room.next, few_parts c.args.graph.now.vertices 1 c.args.t p.count (part_in p labels (get_or labels c.args.t 0)) c.requires.light.numbered))
+
+pub hang_parts-requires-clause-later : goal.hang_parts-requires-clause-later
+hang_parts-requires-clause-later c =
+    let p = c.args.self.now.parts in
+    let labels = c.args.self.now.flow.labels in
+    omega (
+      arith,
+      ap (λ (l : List ℕ). length l) c.as_mut_slice-later.ensures.value,
+      c.weigh_parts.ensures.later_long,
+      c.count-count.ensures,
+      c.requires.under_way.room.later,
+      few_parts c.args.graph.now.vertices 1 c.args.t p.count (part_in p labels (get_or labels c.args.t 0)) c.requires.light.numbered,
+    )
+
+pub hang_parts-requires-clause-next : goal.hang_parts-requires-clause-next
+hang_parts-requires-clause-next c =
+    let p = c.args.self.now.parts in
+    let labels = c.args.self.now.flow.labels in
+    omega (
+      arith,
+      ap (λ (l : List ℕ). length l) c.as_mut_slice-next.ensures.value,
+      c.weigh_parts.ensures.next_long,
+      c.count-count.ensures,
+      c.requires.under_way.room.next,
+      few_parts c.args.graph.now.vertices 1 c.args.t p.count (part_in p labels (get_or labels c.args.t 0)) c.requires.light.numbered,
+    )
+
+pub hang_parts-requires-clause-nodes : goal.hang_parts-requires-clause-nodes
+hang_parts-requires-clause-nodes c =
+    let p = c.args.self.now.parts in
+    let labels = c.args.self.now.flow.labels in
+    omega (
+      arith,
+      ap (λ (l : List ℕ). length l) c.as_mut_slice-nodes.ensures.value,
+      c.count-count.ensures,
+      c.requires.under_way.room.nodes,
+      few_parts c.args.graph.now.vertices 1 c.args.t p.count (part_in p labels (get_or labels c.args.t 0)) c.requires.light.numbered,
+    )
+
+pub hang_parts-requires-clause-small : goal.hang_parts-requires-clause-small
+hang_parts-requires-clause-small c =
+    let g = c.args.graph.now in
+    let t = c.args.t in
+    let p = c.args.self.now.parts in
+    let labels = c.args.self.now.flow.labels in
+    let part = part_in p labels (get_or labels t 0) in
+    let least = c.requires.least in
+    let ok = c.n-n.ensures.edge_list.is_graph in
+    let w : IsWeighedChain g (region_of labels (get_or labels t 0)) t p.count part c.args.value c.weigh_parts.new.later c.weigh_parts.new.next = record {
+      is_graph = ok;
+      chain = parts g labels t p.count c.args.value part ok c.requires.open.outside least.some least.minimum least.weighs c.requires.light;
+      some = least.some;
+      minimum = least.minimum;
+      weighs = least.weighs;
+      weights = record { to_later = rw c.label-region.ensures at c.weigh_parts.ensures.later; to_next = rw c.label-region.ensures at c.weigh_parts.ensures.next };
+    } in
+    rw c.count-count.ensures (weights_small g (region_of labels (get_or labels t 0)) t p.count part c.args.value c.weigh_parts.new.later c.weigh_parts.new.next w)
+
+pub regroup-self-requires-clause-nodes : goal.regroup-self-requires-clause-nodes
+regroup-self-requires-clause-nodes c =
+    let p = c.args.self.now.parts in
+    let labels = c.args.self.now.flow.labels in
+    omega (
+      arith,
+      ap (λ (l : List ℕ). length l) c.as_mut_slice-nodes.ensures.value,
+      c.in_ok-hang_parts.ensures.long,
+      c.requires.under_way.room.nodes,
+      few_parts c.args.graph.now.vertices 1 c.args.t p.count (part_in p labels (get_or labels c.args.t 0)) c.requires.light.numbered,
+    )
+
+pub put_listed-requires-clause-few : goal.put_listed-requires-clause-few
+put_listed-requires-clause-few c = few_labels c.args.graph.now.vertices c.regroup-self.new.flow.labels c.regroup-self.result c.regroup-self.ensures.numbered
+
+pub put_ends-requires-clause-few : goal.put_ends-requires-clause-few
+put_ends-requires-clause-few c = few_labels c.args.graph.now.vertices c.regroup-self.new.flow.labels c.regroup-self.result c.regroup-self.ensures.numbered
+
+pub returns : goal.returns
+returns c =
+    let g = c.args.graph.now in
+    let s = c.args.self.now in
+    let t = c.args.t in
+    let p = s.parts in
+    let labels = s.flow.labels in
+    let region = get_or labels t 0 in
+    let part = part_in p labels region in
+    let least = c.requires.least in
+    let ok = c.n-n.ensures.edge_list.is_graph in
+    let w : IsWeighedChain g (region_of labels region) t p.count part c.args.value c.weigh_parts.new.later c.weigh_parts.new.next = record {
+      is_graph = ok;
+      chain = parts g labels t p.count c.args.value part ok c.requires.open.outside least.some least.minimum least.weighs c.requires.light;
+      some = least.some;
+      minimum = least.minimum;
+      weighs = least.weighs;
+      weights = record { to_later = rw c.label-region.ensures at c.weigh_parts.ensures.later; to_next = rw c.label-region.ensures at c.weigh_parts.ensures.next };
+    } in
+    let hung = c.in_ok-hang_parts.ensures in
+    let r = c.regroup-self.ensures in
+    let nodes = c.hang_parts.new.nodes in
+    let node_is : c.of_region-node.result ≡ get_or s.homes.regions region 0 = c.of_region-node.ensures ∙ ap (λ (k : ℕ). get_or s.homes.regions k 0) c.label-region.ensures in
+    let linked = rw c.count-count.ensures at c.in_ok-hang_parts.ensures.linked in
+    let is : IsSplit g labels c.regroup-self.new.flow.labels s.homes c.regroup-self.new.homes s.tree c.hang_parts.new.tree p nodes t c.args.value = record {
+      light = c.requires.light;
+      linked = subst (λ (k : ℕ). AreLinked g p.count part (λ i. get_or nodes i 0) k s.tree c.hang_parts.new.tree) node_is (linked g (region_of labels region) t part w);
+      first = hung.first ∙ node_is;
+      within = λ i one le. hung.within i one (omega (arith, le, c.count-count.ensures));
+      homes = rw c.label-region.ensures at r.homes;
+      regrouped = rw c.label-region.ensures at r.regrouped;
+      finer = rw c.label-region.ensures at r.finer;
+      root = r.root;
+    } in
+    let regrown : IsRegrown g s c.regroup-self.new.flow c.regroup-self.new.homes c.put_listed.new.fronts c.put_ends.new.self t c.regroup-self.result = record {
+      flow = r.flow;
+      numbered = r.numbered;
+      lengths = r.lengths;
+      unlisted = r.unlisted;
+      refined = r.refined;
+      fed = r.fed;
+      vertices = c.in_ok-put_listed.ensures.vertices;
+      kept = c.in_ok-put_listed.ensures.kept;
+      ends = c.in_ok-put_listed.ensures.ends;
+      more_vertices = c.in_ok-put_ends.ensures.vertices;
+      more = c.in_ok-put_ends.ensures.kept;
+      last_ends = c.in_ok-put_ends.ensures.ends;
+    } in
+    let room = c.requires.under_way.room in
+    let size = λ (l : List ℕ). length l in
+    let nodes_long = hung.long ∙ ap size c.as_mut_slice-nodes.ensures.value in
+    let later_long = c.weigh_parts.ensures.later_long ∙ ap size c.as_mut_slice-later.ensures.value in
+    let next_long = c.weigh_parts.ensures.next_long ∙ ap size c.as_mut_slice-next.ensures.value in
+    record {
+      under_way = split g s c.regroup-self.new.flow c.regroup-self.new.homes c.hang_parts.new.tree c.put_listed.new.fronts c.put_ends.new.self nodes
+          (with_items s.nodes nodes) (with_items s.later c.weigh_parts.new.later) (with_items s.next c.weigh_parts.new.next) t c.args.value c.regroup-self.result
+          ok c.requires.under_way c.requires.open least c.requires.listed is regrown
+          (written_long s.nodes nodes nodes_long ∙ room.nodes) (written_long s.later c.weigh_parts.new.later later_long ∙ room.later) (written_long s.next c.weigh_parts.new.next next_long ∙ room.next);
+      entered = r.entered;
+      stay = r.stay;
+    }

@@ -1,0 +1,9 @@
+-- The vertices of the parts so far are done.
+use Rattle.std.proofs.Common.{◌+◌}
+use Rattle.region_parts.specs.Searched.{is_listed}
+use Rattle.region_parts.specs.Listed.{part_in}
+use Rattle.node_tree.specs.Weighed.{listed_below, AreWeighed}
+use Rattle.region_sweep.proofs.weights.weigh_parts.Given as goal
+
+abbrev pub invariant-loop-i : goal.invariant-loop-i
+invariant-loop-i l = AreWeighed l.graph (is_listed l.parts.numbers) (listed_below l.parts.numbers (l.i + 1)) l.parts.count (part_in l.parts l.flow.labels l.region) l.later l.next

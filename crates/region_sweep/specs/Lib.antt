@@ -1,0 +1,4 @@
+pub mod Regrouping
+pub mod UnderWay
+pub mod Surplus
+pub mod Shares

@@ -1,0 +1,332 @@
+//! The sweep over regions.
+
+ghost use Rattle.std.specs.Prelude.{◌≡◌, ◌+◌, ◌≤◌, ℕ, None, true, false, IfOk, IfSome, OnOk, length, slice_index, slice_set};
+ghost use Rattle.cut_definitions.specs.Components.{IsConnected};
+ghost use Rattle.cut_definitions.specs.Cuts.{value as least_value};
+ghost use Rattle.region_flow.specs.Inflow.{IsStopReached};
+ghost use Rattle.region_flow.specs.Regions.{IsOpenAt};
+ghost use Rattle.node_tree.specs.Finished.{IsFinished};
+ghost use Rattle.region_parts.specs.Fronts.{AreFew, HasEnds, KeepsAll};
+ghost use Rattle.region_parts.specs.Listed.{AreListed, IsPartList, part_in, part_list};
+ghost use Rattle.node_tree.specs.Parted.{AreLightParts};
+ghost use Rattle.region_sweep.specs.UnderWay.{IsLeastWeight, IsUnderWay};
+
+use crate::regroup::regroup;
+use crate::supply::Supply;
+use crate::surplus::Surplus;
+use crate::weights::weigh_parts;
+use cut_definitions::NoMemory;
+use node_tree::{FlatTree, HomedTree, Homes, hang_parts};
+use region_flow::RegionFlow;
+use region_parts::{Fronts, Parts, Splitter, open_beside};
+use std::alloc::Global;
+use std::thread::Threads;
+use weighted_graph::Graph;
+
+/// The vertex from which the sweep starts.
+const ROOT: u32 = 1;
+
+/// Regions that are left, the tree of the minimum cuts that lie in none of them, and memory for the steps.
+#[derive(Drop)]
+pub struct Sweep {
+    pub(crate) flow: RegionFlow,
+    pub(crate) fronts: Fronts,
+    splitter: Splitter,
+    pub(crate) parts: Parts,
+    pub(crate) tree: FlatTree,
+    pub(crate) homes: Homes,
+
+    // for each part its node, and what lies between it and all later parts, and the next
+    nodes: Vec<usize>,
+    later: Vec<u64>,
+    next: Vec<u64>,
+
+    // no region had this label yet, nor a greater one
+    fresh: u32,
+    surplus: Surplus,
+    supply: Supply,
+}
+
+/// Puts the open ends of the rows of all vertices that are listed.
+fn put_listed(
+    graph: &Graph,
+    flow: &RegionFlow,
+    fronts: &mut Fronts,
+    parts: &Parts,
+) -> Result<(), NoMemory>
+    requires labels { length flow.now.labels ≡ graph.now.vertices + 1 }
+    requires few { AreFew graph.now.vertices flow.now.labels }
+    requires vertices { fronts.old.vertices ≡ graph.now.vertices }
+    requires numbers { length parts.now.numbers ≡ graph.now.vertices + 1 }
+    requires lists { (i : ℕ) → 1 ≤ i → i ≤ parts.now.count → IsPartList parts.now.numbers i (part_list parts.now i) }
+    ensures vertices { fronts.new.vertices ≡ fronts.old.vertices }
+    ensures kept { KeepsAll fronts.old fronts.new }
+    ensures ends { OnOk result ((v : ℕ) → 1 ≤ slice_index parts.now.numbers v → slice_index parts.now.numbers v ≤ parts.now.count → HasEnds graph.now flow.now.labels fronts.new v) }
+{
+    for before in 0..parts.count() {
+        fronts.put_all_ends(graph, flow, parts.part(before + 1))?;
+    }
+    Ok(())
+}
+
+impl Sweep {
+    /// Vertex 1 has entered, and all others are in one region.
+    fn new(alloc: Global, graph: &Graph) -> Result<Sweep, NoMemory>
+        requires { 1 ≤ graph.now.vertices }
+        ensures { IfOk result (IsUnderWay graph.now) }
+    {
+        let n = graph.n();
+        let mut flow = RegionFlow::new(alloc, graph)?;
+        flow.enter(graph, ROOT);
+        let mut fronts = Fronts::new(alloc, n)?;
+        fronts.put_ends(graph, &flow, ROOT)?;
+        let splitter = Splitter::new(alloc, n)?;
+        let parts = Parts::new(alloc, n)?;
+        let tree = FlatTree::new(alloc)?;
+        let homes = Homes::new(alloc, n)?;
+        let size = n as usize + 2;
+        let nodes = vec![in alloc; 0usize; size]?;
+        let later = vec![in alloc; 0u64; size]?;
+        let next = vec![in alloc; 0u64; size]?;
+        Ok(Sweep {
+            flow,
+            fronts,
+            splitter,
+            parts,
+            tree,
+            homes,
+            nodes,
+            later,
+            next,
+            fresh: 2,
+            surplus: Surplus::new(),
+            supply: Supply::new(),
+        })
+    }
+
+    /// Lists the parts of the region of `t`, if a set around `t` in its region weighs just the value.
+    fn find_parts(&mut self, graph: &Graph, t: u32, value: u64) -> Result<bool, NoMemory>
+        requires under_way { IsUnderWay graph.now self.old }
+        requires connected { IsConnected graph.now }
+        requires least { IsLeastWeight graph.now value }
+        requires open { IsOpenAt graph.now self.old.flow.labels t }
+        ensures under_way { OnOk result (IsUnderWay graph.now self.new) }
+        ensures labels { self.new.flow.labels ≡ self.old.flow.labels }
+        ensures none { IfOk result (λ some. some ≡ false → IsStopReached graph.now self.new.flow.labels t (value + 1)) }
+        ensures listed { IfOk result (λ some. some ≡ true → AreListed graph.now.vertices self.new.flow.labels (slice_index self.new.flow.labels t) self.new.parts) }
+        ensures light { IfOk result (λ some. some ≡ true →
+            AreLightParts graph.now self.new.flow.labels t self.new.parts.count value (part_in self.new.parts self.new.flow.labels (slice_index self.new.flow.labels t))) }
+    {
+        // no set around `t` weighs less, so it is fed the value
+        let _fed = self.flow.flow(graph, t, value);
+        if self.flow.feed(t) > value {
+            return Ok(false);
+        }
+        self.splitter
+            .split(graph, &self.flow, &mut self.fronts, t, &mut self.parts)
+    }
+
+    /// Brings some of what the region of `t` is fed to an open vertex beside `t`. Answers whether there is one.
+    fn feed_beside(&mut self, graph: &Graph, t: u32) -> bool
+        requires under_way { IsUnderWay graph.now self.old }
+        requires open { IsOpenAt graph.now self.old.flow.labels t }
+        ensures under_way { IsUnderWay graph.now self.new }
+        ensures labels { self.new.flow.labels ≡ self.old.flow.labels }
+    {
+        let most = self.supply.most();
+        let Some(arc) = open_beside(graph, &self.flow, t) else {
+            return false;
+        };
+        self.flow.feed_beside(graph, t, &arc, 1, most);
+        true
+    }
+
+    /// Feeds `t` the value and a vertex beside it a little, where what its region is fed lies far away.
+    ///
+    /// So the searches for parts need not go there, nor for those after it. No answer rests on it.
+    fn feed_near(&mut self, graph: &Graph, t: u32, value: u64)
+        requires under_way { IsUnderWay graph.now self.old }
+        requires open { IsOpenAt graph.now self.old.flow.labels t }
+        ensures under_way { IsUnderWay graph.now self.new }
+        ensures labels { self.new.flow.labels ≡ self.old.flow.labels }
+    {
+        if !self.supply.is_far() {
+            return;
+        }
+        let _fed = self.flow.flow(graph, t, value);
+        if self.feed_beside(graph, t) {
+            self.supply = self.supply.after_feeding();
+        }
+    }
+
+    /// Feeds a vertex more than the value, where no set around it in its region weighs the value.
+    ///
+    /// When it enters it hands that on to the vertices beside it. Without it, each of them might have to be fed anew from far
+    /// away, or be shown by searches that meet far away to have no such set around it.
+    fn feed_more(&mut self, graph: &Graph, t: u32, value: u64)
+        requires under_way { IsUnderWay graph.now self.old }
+        requires open { IsOpenAt graph.now self.old.flow.labels t }
+        ensures under_way { IsUnderWay graph.now self.new }
+        ensures labels { self.new.flow.labels ≡ self.old.flow.labels }
+    {
+        if value < self.flow.feed(t) {
+            return;
+        }
+        let outcome = self.flow.flow(graph, t, self.surplus.above(value));
+        self.surplus = self.surplus.after(outcome);
+    }
+
+    /// Lets a vertex enter around which no set in its region weighs the value.
+    fn enter_alone(&mut self, graph: &Graph, t: u32) -> Result<(), NoMemory>
+        requires under_way { IsUnderWay graph.now self.old }
+        requires open { IsOpenAt graph.now self.old.flow.labels t }
+        requires heavy { (amount : ℕ) × IsLeastWeight graph.now amount × IsStopReached graph.now self.old.flow.labels t (amount + 1) }
+        ensures under_way { OnOk result (IsUnderWay graph.now self.new) }
+        ensures labels { self.new.flow.labels ≡ slice_set self.old.flow.labels t 0 }
+    {
+        let _n = graph.n();
+        let region = self.flow.label(t);
+        let node = self.homes.of_region(region);
+        self.homes.enter(t, node);
+        self.flow.enter(graph, t);
+        self.fronts.put_ends(graph, &self.flow, t)?;
+        Ok(())
+    }
+
+    /// Hangs the parts that are listed into the tree, gives them regions of their own, and lets `t` enter.
+    fn split_region(&mut self, graph: &Graph, t: u32, value: u64) -> Result<(), NoMemory>
+        requires under_way { IsUnderWay graph.now self.old }
+        requires open { IsOpenAt graph.now self.old.flow.labels t }
+        requires least { IsLeastWeight graph.now value }
+        requires listed { AreListed graph.now.vertices self.old.flow.labels (slice_index self.old.flow.labels t) self.old.parts }
+        requires light { AreLightParts graph.now self.old.flow.labels t self.old.parts.count value (part_in self.old.parts self.old.flow.labels (slice_index self.old.flow.labels t)) }
+        ensures under_way { OnOk result (IsUnderWay graph.now self.new) }
+        ensures entered { OnOk result (slice_index self.new.flow.labels t ≡ 0) }
+        ensures stay { OnOk result ((v : ℕ) → slice_index self.old.flow.labels v ≡ 0 → slice_index self.new.flow.labels v ≡ 0) }
+    {
+        let _n = graph.n();
+        let region = self.flow.label(t);
+        let node = self.homes.of_region(region);
+        let later = self.later.as_mut_slice();
+        let next = self.next.as_mut_slice();
+        weigh_parts(graph, &self.flow, region, &self.parts, later, next);
+        let count = self.parts.count();
+        let nodes = self.nodes.as_mut_slice();
+        hang_parts(&mut self.tree, count, later, next, value, node, nodes)?;
+        self.fresh = regroup(
+            graph,
+            &mut self.flow,
+            &self.parts,
+            &mut self.homes,
+            nodes,
+            t,
+            region,
+            self.fresh,
+        );
+        put_listed(graph, &self.flow, &mut self.fronts, &self.parts)?;
+        self.fronts.put_ends(graph, &self.flow, t)?;
+        Ok(())
+    }
+
+    /// The next vertex that is to enter; none where all have.
+    pub(crate) fn next(&mut self, graph: &Graph) -> Option<u32>
+        requires under_way { IsUnderWay graph.now self.old }
+        requires connected { IsConnected graph.now }
+        ensures under_way { IsUnderWay graph.now self.new }
+        ensures labels { self.new.flow.labels ≡ self.old.flow.labels }
+        ensures some { IfSome result (IsOpenAt graph.now self.old.flow.labels) }
+        ensures none { result ≡ None → (v : ℕ) → slice_index self.old.flow.labels v ≡ 0 }
+    {
+        self.fronts.next(graph, &self.flow)
+    }
+
+    /// Lets `t` enter, and before that splits its region where a minimum cut inside it has `t`. It answers whether there was one.
+    pub(crate) fn step(&mut self, graph: &Graph, t: u32, value: u64) -> Result<bool, NoMemory>
+        requires under_way { IsUnderWay graph.now self.old }
+        requires connected { IsConnected graph.now }
+        requires least { IsLeastWeight graph.now value }
+        requires open { IsOpenAt graph.now self.old.flow.labels t }
+        ensures under_way { OnOk result (IsUnderWay graph.now self.new) }
+        ensures entered { OnOk result (slice_index self.new.flow.labels t ≡ 0) }
+        ensures stay { OnOk result ((v : ℕ) → slice_index self.old.flow.labels v ≡ 0 → slice_index self.new.flow.labels v ≡ 0) }
+    {
+        self.feed_near(graph, t, value);
+        if self.find_parts(graph, t, value)? {
+            self.supply = self.supply.after_split(self.splitter.reach());
+            self.split_region(graph, t, value)?;
+            return Ok(true);
+        }
+        self.feed_more(graph, t, value);
+        self.enter_alone(graph, t)?;
+        Ok(false)
+    }
+
+    /// Goes on until all vertices have entered.
+    fn run(&mut self, graph: &Graph, value: u64) -> Result<(), NoMemory>
+        requires under_way { IsUnderWay graph.now self.old }
+        requires connected { IsConnected graph.now }
+        requires least { IsLeastWeight graph.now value }
+        ensures under_way { OnOk result (IsUnderWay graph.now self.new) }
+        ensures all { OnOk result ((v : ℕ) → slice_index self.new.flow.labels v ≡ 0) }
+    {
+        'steps: while let Some(t) = self.next(graph) {
+            self.step(graph, t, value)?;
+        }
+        Ok(())
+    }
+
+    /// The tree and the nodes of the vertices, once all have entered. All other memory of the sweep is given back.
+    fn into_tree(self, graph: &Graph) -> HomedTree
+        requires some { 1 ≤ graph.now.vertices }
+        requires under_way { IsUnderWay graph.now self }
+        requires all { (v : ℕ) → slice_index self.flow.labels v ≡ 0 }
+        ensures { IsFinished graph.now result }
+    {
+        // known by this call: the graph is an edge list
+        let _n = graph.n();
+        let tree = self.tree;
+        let homes = self.homes;
+        let homes = homes.into_entered();
+        HomedTree { tree, homes }
+    }
+}
+
+/// The tree of the minimum cuts of a connected graph of two or more vertices, whose value is given.
+///
+/// Its sides are just the minimum cuts, and some may be sides twice. It is refused only where memory is wanting.
+pub fn tree_of(alloc: Global, graph: &Graph, value: u64) -> Result<HomedTree, NoMemory>
+    requires connected { IsConnected graph.now }
+    requires enough { 2 ≤ graph.now.vertices }
+    requires value { value ≡ least_value graph.now }
+    ensures { IfOk result (IsFinished graph.now) }
+{
+    // known by this call: the graph is an edge list
+    let _n = graph.n();
+    let mut sweep = Sweep::new(alloc, graph)?;
+    sweep.run(graph, value)?;
+    Ok(sweep.into_tree(graph))
+}
+
+/// The same tree, by so many workers, of whom each takes some of the large regions, where a split leaves two or more of them.
+pub fn tree_by_workers<R: Threads + Sync>(
+    rt: &R,
+    alloc: Global,
+    graph: &Graph,
+    value: u64,
+    workers: u32,
+) -> Result<HomedTree, NoMemory>
+    requires connected { IsConnected graph.now }
+    requires enough { 2 ≤ graph.now.vertices }
+    requires value { value ≡ least_value graph.now }
+    requires workers { 1 ≤ workers }
+    ensures { IfOk result (IsFinished graph.now) }
+{
+    if workers == 1 {
+        return tree_of(alloc, graph, value);
+    }
+    // known by this call: the graph is an edge list
+    let _n = graph.n();
+    let mut sweep = Sweep::new(alloc, graph)?;
+    sweep.run_shared(rt, alloc, graph, value, workers)?;
+    Ok(sweep.into_tree(graph))
+}
