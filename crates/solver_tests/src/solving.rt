@@ -1,10 +1,12 @@
 //! The value and the minimum cuts of graphs.
 
-ghost use Rattle.std.specs.Prelude.{◌≡◌};
+ghost use Rattle.std.specs.Prelude.{◌≡◌, ◌≤◌};
+ghost use Rattle.cut_definitions.specs.Components.{IsConnected};
+ghost use Rattle.cut_definitions.specs.Cuts.{value as least_value};
 
 use crate::graphs::{GRAPHS, Known, edges_of};
 use crate::sides::{all_sides, are_same};
-use cactus_solver::solve;
+use cactus_solver::{Solved, solve, solve_at, solve_by_list};
 use cut_definitions::{EdgeList, NoMemory};
 use outside::OpenGate;
 use std::alloc::Global;
@@ -12,7 +14,47 @@ use std::test::Fail;
 use std::thread::Threads;
 use weighted_graph::{Graph, laws};
 
-// Whether the solver finds the value and just the sides.
+// Whether the value and just the sides were found.
+fn agrees(alloc: Global, solved: &Solved, known: &Known) -> Result<bool, NoMemory> {
+    let sides = all_sides(alloc, &solved.cactus)?;
+    Ok(solved.value == known.value && are_same(&sides, known.sides))
+}
+
+// Whether the solver finds what is known, where it is told the value.
+fn is_solved_at<R: Threads + Sync>(
+    rt: &R,
+    alloc: Global,
+    graph: &Graph,
+    value: u64,
+    known: &Known,
+) -> Result<bool, NoMemory>
+    requires connected { IsConnected graph.now }
+    requires enough { 2 ≤ graph.now.vertices }
+    requires value { value ≡ least_value graph.now }
+{
+    let solved = solve_at(rt, alloc, graph, value, 1, &OpenGate)?;
+    agrees(alloc, &solved, known)
+}
+
+// Whether the list of edges alone is solved where forests show what can be contracted, and only there.
+fn is_solved_by_list<R: Threads + Sync>(
+    rt: &R,
+    alloc: Global,
+    list: &EdgeList,
+    value: u64,
+    known: &Known,
+) -> Result<bool, NoMemory>
+    requires connected { IsConnected list.now }
+    requires enough { 2 ≤ list.now.vertices }
+    requires value { value ≡ least_value list.now }
+{
+    match solve_by_list(rt, alloc, list, value, 1, &OpenGate)? {
+        Some(solved) => Ok(known.is_solved_by_list && agrees(alloc, &solved, known)?),
+        None => Ok(!known.is_solved_by_list),
+    }
+}
+
+// Whether the solver finds the value and just the sides, by rows, for a value that is told, and by the list of edges.
 fn is_solved<R: Threads + Sync>(
     rt: &R,
     alloc: Global,
@@ -28,8 +70,11 @@ fn is_solved<R: Threads + Sync>(
         return Ok(false);
     }
     let solved = solve(rt, alloc, &graph, 4, &OpenGate)?;
-    let sides = all_sides(alloc, &solved.cactus)?;
-    Ok(solved.value == known.value && are_same(&sides, known.sides))
+    Ok(
+        agrees(alloc, &solved, known)?
+            && is_solved_at(rt, alloc, &graph, solved.value, known)?
+            && is_solved_by_list(rt, alloc, list, solved.value, known)?,
+    )
 }
 
 #[test]

@@ -102,3 +102,30 @@ fn a_ring_stays(rt: HostRuntime) -> Result<(), Fail> {
     assert!(rt; is_contracted(&rt, rt.alloc(), &list, 2, None, None)?);
     Ok(())
 }
+
+// A file with a wheel: 600 vertices in a ring, each joined to vertex 1.
+fn wheel(alloc: Global) -> Result<String, NoMemory> {
+    let mut text = String::from_str(alloc, "601 1200\n")?;
+    for v in 2u32..602 {
+        let word = format!(in alloc; "{v} ")?;
+        text.push_str(&word)?;
+    }
+    text.push_str("\n1 3 601\n")?;
+    for v in 2u32..600 {
+        let next = v + 2;
+        let line = format!(in alloc; "1 {v} {next}\n")?;
+        text.push_str(&line)?;
+    }
+    text.push_str("1 2 600\n")?;
+    Ok(text)
+}
+
+#[test]
+fn the_ring_of_a_wheel_becomes_one_vertex(rt: HostRuntime) -> Result<(), Fail> {
+    let text = wheel(rt.alloc())?;
+    let Some(list) = edges_of(rt.alloc(), &text) else {
+        return Err(Fail::from("no graph"));
+    };
+    assert!(rt; is_contracted(&rt, rt.alloc(), &list, 3, Some(2), Some(3))?);
+    Ok(())
+}

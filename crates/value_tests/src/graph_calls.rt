@@ -7,7 +7,7 @@ use cut_definitions::{Edge, EdgeList, NoMemory};
 use std::alloc::Global;
 use std::test::Fail;
 use vertex_set::Side;
-use weighted_graph::{Arc, Graph, Labels};
+use weighted_graph::{Arc, Graph, Labels, relabel_list};
 
 // Whether it is the triangle by its counts, the row, the degree and an edge of vertex 2, and the weight of another edge.
 fn is_triangle(graph: &Graph) -> bool
@@ -85,16 +85,18 @@ fn one_one(alloc: Global) -> Result<Labels, NoMemory>
 }
 
 // Whether two vertices are left, and this edge alone.
-fn has_one_edge(graph: &Graph, edge: Edge) -> bool {
-    graph.n() == 2 && graph.edges() == 1 && graph.edge(0) == edge
+fn has_one_edge(list: &EdgeList, edge: Edge) -> bool {
+    list.n() == 2 && list.len() == 1 && list.edge(0) == edge
 }
 
 #[test]
 fn two_vertices_become_one(rt: HostRuntime) -> Result<(), Fail> {
     let graph = uneven_triangle(rt.alloc())?;
     let labels = one_one_two(rt.alloc())?;
+    let edge = Edge { u: 1, v: 2, w: 5 };
     let small = graph.relabel(rt.alloc(), &labels)?;
-    assert!(rt; has_one_edge(&small, Edge { u: 1, v: 2, w: 5 }));
+    let list = relabel_list(rt.alloc(), graph.list(), &labels)?;
+    assert!(rt; has_one_edge(small.list(), edge) && has_one_edge(&list, edge));
     Ok(())
 }
 

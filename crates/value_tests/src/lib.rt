@@ -6,6 +6,8 @@ mod bounded_flows;
 #[cfg(test)]
 mod certificates;
 #[cfg(test)]
+mod classes;
+#[cfg(test)]
 mod flows;
 #[cfg(test)]
 mod forests;

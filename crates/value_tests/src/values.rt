@@ -2,8 +2,10 @@
 
 use crate::graphs::{edges_of, triangle_list, uneven_triangle};
 use cut_definitions::{EdgeList, NoMemory};
-use least_cut::{Swept, least_weight, least_weight_below, least_weight_within, value_of_dense};
-use min_value::value;
+use least_cut::{
+    Swept, least_degree, least_weight, least_weight_below, least_weight_within, value_of_dense,
+};
+use min_value::{value, value_of_list};
 use outside::OpenGate;
 use scan_forest::{LastPair, last_pair, plain_value};
 use std::alloc::Global;
@@ -86,44 +88,53 @@ fn a_dense_graph_needs_no_sweep(rt: HostRuntime) -> Result<(), Fail> {
     Ok(())
 }
 
-// Files, and what `value_of_dense` tells of their graphs: the complete graph of five vertices; one of four where vertex 4 has
+// Files, what `value_of_dense` tells of their graphs, and the least degrees: the complete graph of five vertices; one of four where vertex 4 has
 // the least degree, 12, and four times the heaviest edge is twice that; the same with an edge of weight 7; one of four where
 // an edge of weight 2 is too heavy for the least degree, 3; a ring of eight; two vertices with an edge, and without one.
-const DENSE: [(&str, Option<u64>); 7] = [
+const DENSE: [(&str, Option<u64>, u64); 7] = [
     (
         "5 10\n2 3 4 5\n1 3 4 5\n1 2 4 5\n1 2 3 5\n1 2 3 4\n",
         Some(4),
+        4,
     ),
     (
         "4 6 1\n2 6 3 6 4 4\n1 6 3 6 4 4\n1 6 2 6 4 4\n1 4 2 4 3 4\n",
         Some(12),
+        12,
     ),
     (
         "4 6 1\n2 7 3 6 4 4\n1 7 3 6 4 4\n1 6 2 6 4 4\n1 4 2 4 3 4\n",
         None,
+        12,
     ),
-    (UNEVEN_FOUR, None),
-    ("8 8\n2 8\n1 3\n2 4\n3 5\n4 6\n5 7\n6 8\n1 7\n", None),
-    ("2 1 1\n2 7\n1 7\n", Some(7)),
-    ("2 0\n\n\n", Some(0)),
+    (UNEVEN_FOUR, None, 3),
+    ("8 8\n2 8\n1 3\n2 4\n3 5\n4 6\n5 7\n6 8\n1 7\n", None, 2),
+    ("2 1 1\n2 7\n1 7\n", Some(7), 7),
+    ("2 0\n\n\n", Some(0), 0),
 ];
 
-// Whether this is told of a list of edges alone.
-fn is_told(alloc: Global, list: &EdgeList, known: Option<u64>) -> Result<bool, NoMemory> {
+// Whether this is told of a list of edges alone, and this is the least degree.
+fn is_told(
+    alloc: Global,
+    list: &EdgeList,
+    known: Option<u64>,
+    degree: u64,
+) -> Result<bool, NoMemory> {
     if list.n() < 2 {
         return Ok(false);
     }
     let found = value_of_dense(alloc, list)?;
-    Ok(found == known)
+    let least = least_degree(alloc, list)?;
+    Ok(found == known && least == degree)
 }
 
 #[test]
 fn values_of_dense_graphs(rt: HostRuntime) -> Result<(), Fail> {
-    for (text, known) in DENSE {
+    for (text, known, degree) in DENSE {
         let Some(list) = edges_of(rt.alloc(), text) else {
             return Err(Fail::from("no graph"));
         };
-        assert!(rt; is_told(rt.alloc(), &list, known)?);
+        assert!(rt; is_told(rt.alloc(), &list, known, degree)?);
     }
     Ok(())
 }
@@ -150,20 +161,21 @@ const FILES: [(&str, u64); 6] = [
     ),
 ];
 
-// Whether the value by phases and by all means is what is known.
+// Whether the value by phases, by all means, and by all means of a list that is taken over is what is known.
 fn is_value<R: Threads + Sync>(
     rt: &R,
     alloc: Global,
-    list: &EdgeList,
+    list: EdgeList,
     known: u64,
 ) -> Result<bool, NoMemory> {
     if list.n() < 2 {
         return Ok(false);
     }
-    let graph = Graph::build(alloc, list)?;
-    let phases = plain_value(alloc, list)?;
+    let graph = Graph::build(alloc, &list)?;
+    let phases = plain_value(alloc, &list)?;
     let least = value(rt, alloc, &graph, 1, &OpenGate)?;
-    Ok(phases == known && least == known)
+    let by_list = value_of_list(rt, alloc, list, 1, &OpenGate)?;
+    Ok(phases == known && least == known && by_list == known)
 }
 
 #[test]
@@ -172,7 +184,7 @@ fn values_of_files(rt: HostRuntime) -> Result<(), Fail> {
         let Some(list) = edges_of(rt.alloc(), text) else {
             return Err(Fail::from("no graph"));
         };
-        assert!(rt; is_value(&rt, rt.alloc(), &list, known)?);
+        assert!(rt; is_value(&rt, rt.alloc(), list, known)?);
     }
     Ok(())
 }

@@ -1,0 +1,23 @@
+//! Classes of vertices that pairs join.
+
+use cut_definitions::NoMemory;
+use std::alloc::Global;
+use std::test::Fail;
+use vertex_classes::Classes;
+
+// Whether 1 and 3 are joined, as 4 and 5 are, and no others, and the labels come up in the order of the vertices.
+fn are_as_joined(alloc: Global) -> Result<bool, NoMemory> {
+    let mut classes = Classes::new(alloc, 5)?;
+    classes.join(4, 5);
+    classes.join(1, 3);
+    let joined = classes.are_joined(3, 1);
+    let apart = classes.are_joined(3, 4);
+    let labels = classes.labels(alloc)?;
+    Ok(joined && !apart && labels.as_slice() == [1, 2, 1, 3, 3].as_slice())
+}
+
+#[test]
+fn pairs_are_joined(rt: HostRuntime) -> Result<(), Fail> {
+    assert!(rt; are_as_joined(rt.alloc())?);
+    Ok(())
+}
