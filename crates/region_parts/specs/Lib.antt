@@ -19,3 +19,4 @@ pub mod Listing
 pub mod Split
 pub mod Between
 pub mod Settling
+pub mod Beside

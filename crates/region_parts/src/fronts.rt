@@ -1,11 +1,13 @@
 //! For each region a list of its open vertices: those that an edge joins to another label.
 
-ghost use Rattle.std.specs.Prelude.{◌≡◌, ◌≢◌, ◌+◌, ◌-◌, ◌<◌, ◌≤◌, ◌^◌, ◌++◌, ◌∷◌, [], ℕ, IfOk, IfSome, OnOk, OnErr, IsTrue, IsFalse, length, take, slice_get, slice_index, slice_set};
+ghost use Rattle.std.specs.Prelude.{◌≡◌, ◌≢◌, ◌↔◌, ◌+◌, ◌-◌, ◌<◌, ◌≤◌, ◌^◌, ◌++◌, ◌∷◌, [], ℕ, None, IfOk, IfSome, OnOk, OnErr, IsTrue, IsFalse, length, take, slice_get, slice_index, slice_set};
 ghost use Rattle.std.specs.List.{All, Contains};
 ghost use Rattle.cut_definitions.specs.Components.{IsConnected};
 ghost use Rattle.weighted_graph.specs.RowLaws.{IsArcAt};
+ghost use Rattle.weighted_graph.specs.Rows.{row_of};
 ghost use Rattle.region_flow.specs.Regions.{IsOpenAt};
 ghost use Rattle.node_tree.specs.Open.{IsShutAt};
+ghost use Rattle.region_parts.specs.Beside.{IsFirstToOpen, IsOpenIn, LeadsToNoneBefore};
 ghost use Rattle.region_parts.specs.Fronts.{FrontsState, list_at, lists_of, IsCovered, KeepsAll, KeepsFronts, HasEnds, AreFew, AreApart, IsAtFront, taken_out};
 
 use cut_definitions::NoMemory;
@@ -62,14 +64,28 @@ fn is_open(graph: &Graph, flow: &RegionFlow, v: u32) -> bool
 /// How long the rows may be that are looked at for an open vertex beside another.
 const LONG_ROW: usize = 32;
 
-/// The first arc of a vertex to an open vertex of its region; none where no open vertex of the region is beside it, or only such
-/// as have a long row, or where its own row is long.
+/// Whether an arc leads to an open vertex of a region, and to no long row.
+fn leads_to_open(graph: &Graph, flow: &RegionFlow, region: u32, to: u32) -> bool
+    requires to_n { to ≤ graph.now.vertices }
+    requires labels { length flow.now.labels ≡ graph.now.vertices + 1 }
+    ensures { IsTrue result ↔ IsOpenIn graph.now flow.now.labels region to }
+{
+    if flow.label(to) != region || graph.row(to).len() > LONG_ROW {
+        return false;
+    }
+    is_open(graph, flow, to)
+}
+
+/// The first arc of a vertex to an open vertex of its region, where that has a row of at most 32 arcs and the vertex has one
+/// itself; none exactly where there is none.
+///
+/// It takes a step for each arc of the row, and for each arc of a row beside it, so some thousand at most.
 pub fn open_beside(graph: &Graph, flow: &RegionFlow, v: u32) -> Option<Arc>
     requires to_n { v ≤ graph.now.vertices }
     requires labels { length flow.now.labels ≡ graph.now.vertices + 1 }
     ensures arc { IfSome result (IsArcAt graph.now v) }
-    ensures region { IfSome result (λ a. slice_index flow.now.labels a.to ≡ slice_index flow.now.labels v) }
-    ensures open { IfSome result (λ a. IsOpenAt graph.now flow.now.labels a.to) }
+    ensures first { IfSome result (IsFirstToOpen graph.now flow.now.labels v) }
+    ensures none { result ≡ None → length (row_of graph.now v) ≤ 32 → LeadsToNoneBefore graph.now flow.now.labels v (length (row_of graph.now v)) }
 {
     let region = flow.label(v);
     let row = graph.row(v);
@@ -77,10 +93,7 @@ pub fn open_beside(graph: &Graph, flow: &RegionFlow, v: u32) -> Option<Arc>
         return None;
     }
     for arc in row {
-        if flow.label(arc.to) == region
-            && graph.row(arc.to).len() <= LONG_ROW
-            && is_open(graph, flow, arc.to)
-        {
+        if leads_to_open(graph, flow, region, arc.to) {
             return Some(*arc);
         }
     }
