@@ -33,12 +33,12 @@ fn value_below<R: Threads + Sync, G: Gate>(
 }
 
 /// The value of a graph of two or more vertices by its list of edges, if that can be told without rows for the whole graph:
-/// where the graph is dense, or the list can be made shorter by forests. None where neither comes to anything; the value is
-/// `value` of the graph with rows then.
+/// where the graph is dense, or a vertex has no edge, or the list can be made shorter. None where nothing comes of that; the
+/// value is `value` of the graph with rows then.
 ///
-/// It is worth its time on a list of more than 1,024 edges, and answers none for a shorter one that is not dense. The number
-/// of workers is 1 to 64. It takes memory O(n + m), for most graphs a few bytes for each vertex beside the list, and is refused
-/// only where that is wanting.
+/// It is worth its time on a list of more than 1,024 edges; a shorter one is not made shorter. The number of workers is 1 to
+/// 64. It takes memory O(n + m), for most graphs a few bytes for each vertex beside the list, and is refused only where that
+/// is wanting.
 pub fn value_by_list<R: Threads + Sync, G: Gate>(
     rt: &R,
     alloc: Global,
@@ -55,7 +55,8 @@ pub fn value_by_list<R: Threads + Sync, G: Gate>(
     }
     let Contracted { bound, list: found } = contract_list(alloc, list)?;
     let Some(small) = found else {
-        return Ok(None);
+        // no cut weighs less than 0, as a vertex without edges does
+        return Ok(if bound == 0 { Some(0) } else { None });
     };
     let weight = value_below(rt, alloc, small, bound, workers, gate)?;
     Ok(Some(weight))

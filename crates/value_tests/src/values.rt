@@ -148,9 +148,10 @@ fn the_value_of_a_triangle(rt: HostRuntime) -> Result<(), Fail> {
     Ok(())
 }
 
-// Files of two to six vertices, and the values of their graphs.
-const FILES: [(&str, u64); 6] = [
+// Files of two to six vertices, one of them with a vertex that has no edge, and the values of their graphs.
+const FILES: [(&str, u64); 7] = [
     ("3 3\n2 3\n1 3\n1 2\n", 2),
+    ("3 1\n2\n1\n\n", 0),
     ("3 2 1\n2 5\n1 5 3 5\n2 5\n", 5),
     ("4 4\n2 4\n1 3\n2 4\n1 3\n", 2),
     ("4 6\n2 3 4\n1 3 4\n1 2 4\n1 2 3\n", 3),
