@@ -26,6 +26,3 @@ mod ways;
 
 pub use grown::{Grown, grow};
 pub use insertion::{is_within_limits, with_edge};
-
-#[cfg(test)]
-mod tests;

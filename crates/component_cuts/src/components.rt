@@ -9,15 +9,14 @@ ghost use Rattle.cut_definitions.specs.Balance.{mass, IsBest};
 ghost use Rattle.vertex_set.specs.Side.{VertexList};
 
 use crate::best_refusal::BestRefusal;
-use crate::joining::{join_ends, numbers_of};
+use crate::numbers::numbers_of;
 use crate::sums::{best_sum, choose, fill_rows, mass_by_number, total_mass};
 use crate::unions::{chosen_side, double, sort_sides};
 use cut_definitions::{NoMemory, VertexWeights};
 use std::alloc::Global;
 use std::marker::Model;
-use vertex_classes::Classes;
 use vertex_set::Side;
-use weighted_graph::Graph;
+use weighted_graph::{Graph, Labels};
 
 // the most components whose number of unions is told
 const MOST_COUNTED: u32 = 127;
@@ -51,9 +50,8 @@ impl Components {
         ensures { IfOk result (AreComponents graph.now) }
     {
         let n = graph.n();
-        let mut classes = Classes::new(alloc, n)?;
-        join_ends(graph, &mut classes);
-        let labels = classes.labels(alloc)?;
+        let classes = graph.component_classes(alloc)?;
+        let labels = Labels::of_classes(alloc, &classes)?;
         let part_of = numbers_of(alloc, &labels)?;
         let count = labels.classes();
         Ok(Components { n, count, part_of })

@@ -7,13 +7,10 @@
 
 mod best_refusal;
 mod components;
-mod joining;
 pub mod laws;
+mod numbers;
 mod sums;
 mod unions;
 
 pub use best_refusal::BestRefusal;
 pub use components::Components;
-
-#[cfg(test)]
-mod tests;

@@ -104,21 +104,3 @@ impl EdgeList {
         &self.edges
     }
 }
-
-#[cfg(test)]
-mod tests {
-    use super::*;
-    use std::test::Fail;
-
-    #[test]
-    fn an_edge_is_appended(rt: HostRuntime) -> Result<(), Fail> {
-        let mut list = EdgeList::new(rt.alloc(), 3);
-        assert!(rt; list.is_empty());
-        list.push(Edge { u: 1, v: 2, w: 5 })?;
-        assert_eq!(rt; list.n(), 3);
-        assert_eq!(rt; list.len(), 1);
-        assert_eq!(rt; list.edge(0), Edge { u: 1, v: 2, w: 5 });
-        assert_eq!(rt; list.edges().len(), 1);
-        Ok(())
-    }
-}

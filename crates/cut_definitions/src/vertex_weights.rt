@@ -64,19 +64,3 @@ impl VertexWeights {
         &self.masses
     }
 }
-
-#[cfg(test)]
-mod tests {
-    use super::*;
-    use std::test::Fail;
-
-    #[test]
-    fn weights_stand_in_the_order_of_the_vertices(rt: HostRuntime) -> Result<(), Fail> {
-        let weights = VertexWeights::from_list(vec![in rt.alloc(); 9, 1, 0]?);
-        assert_eq!(rt; weights.len(), 3);
-        assert_eq!(rt; weights.of(1), 9);
-        assert_eq!(rt; weights.of(3), 0);
-        assert!(rt; !weights.is_empty());
-        Ok(())
-    }
-}

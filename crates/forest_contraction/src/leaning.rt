@@ -128,6 +128,6 @@ pub(crate) fn leaning_classes(
     let hubs = Hubs::of(alloc, list)?;
     let mut classes = Classes::new(alloc, n)?;
     join_leaning(&hubs, &mut classes, list, bound);
-    let labels = classes.labels(alloc)?;
+    let labels = Labels::of_classes(alloc, &classes)?;
     Ok(labels)
 }

@@ -107,6 +107,6 @@ pub fn tied_classes(alloc: Global, list: &EdgeList, bound: u64) -> Result<Labels
     let mut levels = bare_levels(alloc, n, measure.levels)?;
     let mut tied = Classes::new(alloc, n)?;
     tie_edges(&mut levels, &mut tied, list.edges(), bound, measure.step);
-    let labels = tied.labels(alloc)?;
+    let labels = Labels::of_classes(alloc, &tied)?;
     Ok(labels)
 }

@@ -11,6 +11,3 @@ pub mod laws;
 mod rings;
 
 pub use rings::make;
-
-#[cfg(test)]
-mod tests;

@@ -44,6 +44,6 @@ pub fn classes_of_marks(alloc: Global, graph: &Graph, marks: &Marks) -> Result<L
     let n = graph.n();
     let mut classes = Classes::new(alloc, n)?;
     join_marked(graph, marks, &mut classes);
-    let labels = classes.labels(alloc)?;
+    let labels = Labels::of_classes(alloc, &classes)?;
     Ok(labels)
 }

@@ -1,4 +1,4 @@
-//! Tests of the rooted cactus, its canonical form, its listings, balances, augmentations and texts, over small trees whose sides are known.
+//! Tests of the rooted cactus, its canonical form, its listings, balances, augmentations, growth and texts, over small trees whose sides are known.
 #![tactic(auto)]
 
 #[cfg(test)]
@@ -13,6 +13,8 @@ mod canonicals;
 mod counts;
 #[cfg(test)]
 mod flats;
+#[cfg(test)]
+mod growths;
 #[cfg(test)]
 mod listings;
 #[cfg(test)]

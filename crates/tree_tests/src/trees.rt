@@ -1,10 +1,10 @@
 //! The trees of the tests, and what their nodes and cuts are.
 
-ghost use Rattle.std.specs.Prelude.{◌≡◌, [], ◌∷◌, ◌++◌, IfOk, length, map};
+ghost use Rattle.std.specs.Prelude.{◌≡◌, ◌≤◌, [], ◌∷◌, ◌++◌, IfOk, length, map};
 ghost use Rattle.std.specs.List.{flat_map};
 ghost use Rattle.cactus_tree.specs.Entered.{entered};
 ghost use Rattle.cactus_tree.specs.Sides.{part, bridge_of, cycle_of, with_below};
-ghost use Rattle.cactus_tree.specs.Trees.{nodes_in};
+ghost use Rattle.cactus_tree.specs.Trees.{blocks, nodes_in};
 ghost use Rattle.cactus_tree.specs.Widths.{widths};
 ghost use Rattle.cactus_tree.specs.Different.{HasNoEmptySide};
 ghost use Rattle.tree_tests.specs.Leaves.{leaf_part, lone_part};
@@ -66,6 +66,7 @@ pub fn with_cycle(node: Node, ring: Children) -> Result<Node, NoMemory>
     ensures entered { IfOk result (λ x. entered x ≡ entered node ++ flat_map entered (nodes_in ring)) }
     ensures widths { IfOk result (λ x. widths x ≡ widths node ++ length (nodes_in ring) ∷ flat_map widths (nodes_in ring)) }
     ensures part { IfOk result (λ x. part x ≡ with_below (part node) (cycle_of (map part (nodes_in ring)))) }
+    ensures blocks { IfOk result (λ x. 1 ≤ length (blocks x)) }
 {
     let mut node = node;
     node.blocks.push(Block::Cycle(ring))?;
@@ -99,6 +100,7 @@ pub fn one_bridge(alloc: Global) -> Result<Cactus, NoMemory>
 pub fn one_ring(alloc: Global) -> Result<Cactus, NoMemory>
     ensures n { IfOk result (λ c. c.vertices ≡ 4) }
     ensures sides { IfOk result (λ c. HasNoEmptySide c) }
+    ensures blocks { IfOk result (λ c. 1 ≤ length (blocks c.root)) }
 {
     let root = leaf(alloc, &[1])?;
     let ring = leaves(alloc, &[2, 3, 4])?;

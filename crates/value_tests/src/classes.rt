@@ -4,6 +4,7 @@ use cut_definitions::NoMemory;
 use std::alloc::Global;
 use std::test::Fail;
 use vertex_classes::Classes;
+use weighted_graph::Labels;
 
 // Whether 1 and 3 are joined, as 4 and 5 are, and no others, and the labels come up in the order of the vertices.
 fn are_as_joined(alloc: Global) -> Result<bool, NoMemory> {
@@ -12,7 +13,7 @@ fn are_as_joined(alloc: Global) -> Result<bool, NoMemory> {
     classes.join(1, 3);
     let joined = classes.are_joined(3, 1);
     let apart = classes.are_joined(3, 4);
-    let labels = classes.labels(alloc)?;
+    let labels = Labels::of_classes(alloc, &classes)?;
     Ok(joined && !apart && labels.as_slice() == [1, 2, 1, 3, 3].as_slice())
 }
 

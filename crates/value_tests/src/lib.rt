@@ -8,6 +8,8 @@ mod certificates;
 #[cfg(test)]
 mod classes;
 #[cfg(test)]
+mod components;
+#[cfg(test)]
 mod flows;
 #[cfg(test)]
 mod forests;

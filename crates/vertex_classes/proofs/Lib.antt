@@ -1,3 +1,4 @@
 pub mod Joining
 pub mod Numbered
+mod Firsts
 mod Roots

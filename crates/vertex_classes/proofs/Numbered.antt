@@ -197,7 +197,7 @@ numbered_joined parents numbers count v h i j i1 iv j1 jv same =
 pub zero_out : (v : ℕ) → 1 ≤ v → eqb v 0 ≡ false
 zero_out v one = grind (arith, nat_tests)
 
-not_zero : (v : ℕ) → eqb v 0 ≡ false → 1 ≤ v
+pub not_zero : (v : ℕ) → eqb v 0 ≡ false → 1 ≤ v
 not_zero v h = ⊎_elim (λ (e : v ≡ 0). absurd (false≢true (sym h ∙ eq-eqb v 0 e))) (λ ne. omega arith) (cases_eq v 0)
 
 -- the vertices with one number

@@ -1,5 +1,5 @@
 -- The first of a class, found from any number of it by as many steps as there are numbers.
-use Rattle.std.proofs.Common.{◌≡◌, ℕ, zero, suc, ◌<◌, ◌≤◌, ⊎_elim, eqb, List, length, get_or, refl, sym, ◌∙◌, ap, arith}
+use Rattle.std.proofs.Common.{◌≡◌, ℕ, zero, suc, ◌<◌, ◌≤◌, ⊎_elim, eqb, true, List, length, get_or, refl, sym, ◌∙◌, ap, arith}
 use Rattle.std.specs.Prelude.{◌≢◌}
 use Rattle.std.proofs.lemmas.Bool.{cases_eq, eq-eqb, eqb-true}
 use Rattle.cut_definitions.specs.Weight.{VertexSet}
@@ -51,3 +51,24 @@ firsts_apart parents a b up own other ne joined =
     let both = joined (of_first parents a) (of_first-respects parents a up) in
     let here = of_first-own parents a a own ∙ eq-eqb a a refl in
     ne (sym (eqb-true b a (sym (of_first-own parents a b other) ∙ (sym both ∙ here))))
+
+-- no step leads up
+climbed-low : (parents : List ℕ) → AreParents parents → (k v : ℕ) → v < length parents → climbed parents k v ≤ v
+unfolding climbed
+climbed-low parents up zero v l = omega arith
+climbed-low parents up (suc k) v l =
+    let le = up v l in
+    omega (arith, climbed-low parents up k (get_or parents v 0) (omega (arith, le, l)))
+
+of_first-is : (parents : List ℕ) (a v : ℕ) → of_first parents a v ≡ eqb (climbed parents (length parents) v) a
+unfolding of_first
+of_first-is parents a v = refl
+
+-- no lesser number is joined with a first one
+pub first_is_least : (parents : List ℕ) (u v : ℕ) → AreParents parents → get_or parents v 0 ≡ v → u < v → v < length parents → ¬ AreJoined parents u v
+first_is_least parents u v up own less l joined =
+    let both = joined (of_first parents v) (of_first-respects parents v up) in
+    let here = of_first-own parents v v own ∙ eq-eqb v v refl in
+    let there : eqb (climbed parents (length parents) u) v ≡ true = sym (of_first-is parents v u) ∙ (both ∙ here) in
+    let low = climbed-low parents up (length parents) u (omega (arith, less, l)) in
+    omega (arith, eqb-true (climbed parents (length parents) u) v there, low, less)

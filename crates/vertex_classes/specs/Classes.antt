@@ -1,6 +1,7 @@
 -- Classes of vertices, each vertex with a parent.
-use Rattle.std.specs.Prelude.{ℕ, ◌==◌, ◌≡◌, ◌↔◌, ◌+◌, ◌<◌, ◌≤◌, List, length, slice_index}
+use Rattle.std.specs.Prelude.{ℕ, ◌==◌, ◌≡◌, ◌↔◌, ◌+◌, ◌-◌, ◌<◌, ◌≤◌, List, false, length, slice_index, true}
 use Rattle.cut_definitions.specs.Contraction.{label, classes, IsLabels}
+use Rattle.cut_definitions.specs.Cuts.{has, IsAscendingWithin}
 use Rattle.cut_definitions.specs.Weight.{VertexSet}
 
 -- no parent is above its child; a vertex that is its own parent is the first of its class
@@ -42,3 +43,11 @@ pub record AreNumbersOf (parents labels : List ℕ) : Type 0 where
   pub are_labels : IsLabels labels
   pub joined : (u v : ℕ) → 1 ≤ u → u < length parents → 1 ≤ v → v < length parents → (label labels u ≡ label labels v) ↔ AreJoined parents u v
   pub least : (c : ℕ) → 1 ≤ c → c ≤ classes labels → (v : ℕ) × IsLeastOf labels c v
+
+-- the number of the classes of the vertices from 1 on: that of the vertices that are in one class with no lesser vertex
+pub record HasClasses (parents : List ℕ) (count : ℕ) : Type 0 where
+  pub firsts : List ℕ
+  pub ascending : IsAscendingWithin 1 (length parents - 1) firsts
+  pub counted : count ≡ length firsts
+  pub first : (v : ℕ) → 1 ≤ v → v < length parents → has firsts v ≡ true → (u : ℕ) → 1 ≤ u → u < v → ¬ AreJoined parents u v
+  pub later : (v : ℕ) → 1 ≤ v → v < length parents → has firsts v ≡ false → (u : ℕ) × (1 ≤ u) × (u < v) × AreJoined parents u v

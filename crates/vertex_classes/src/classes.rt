@@ -2,13 +2,12 @@
 
 ghost use Rattle.std.specs.Prelude.{◌≡◌, ◌+◌, ◌<◌, ◌≤◌, ℕ, IfOk, IsFalse, IsTrue, length, slice_index};
 ghost use Rattle.cut_definitions.specs.Weight.{VertexSet};
-ghost use Rattle.vertex_classes.specs.Classes.{no_vertex, AreJoined, AreNumbersOf, AreParents, HasJoined, HasSameClasses, Respects};
+ghost use Rattle.vertex_classes.specs.Classes.{no_vertex, AreJoined, AreNumbersOf, AreParents, HasClasses, HasJoined, HasSameClasses, Respects};
 
-use crate::numbering::class_numbers;
+use crate::numbering::{class_numbers, count_firsts};
 use cut_definitions::NoMemory;
 use std::alloc::Global;
 use std::marker::Model;
-use weighted_graph::Labels;
 
 /// The first vertex of a class. On the way to it each second vertex gets the parent of its parent, so that the next search
 /// is shorter.
@@ -100,13 +99,21 @@ impl Classes {
         parents[last as usize] = first.min(second);
     }
 
-    /// The classes of the vertices 1 to n as labels, numbered by their least vertices, where 0 is alone. It takes 4 bytes of
-    /// memory for each vertex, and is refused only where that is wanting.
-    pub fn labels(&self, alloc: Global) -> Result<Labels, NoMemory>
+    /// The numbers of the classes of the vertices 1 to n, in their order: a class comes before another where its least
+    /// vertex does. 0 is alone. It takes 4 bytes of memory for each vertex, and is refused only where that is wanting.
+    pub fn numbers(&self, alloc: Global) -> Result<Vec<u32>, NoMemory>
         requires { Respects self.now no_vertex }
-        ensures { IfOk result (AreNumbersOf self.now) }
+        ensures numbers { IfOk result (λ l. AreNumbersOf self.now l.items) }
+        ensures few { length self.now ≤ 4194305 }
     {
-        let numbers = class_numbers(alloc, &self.parents)?;
-        Ok(Labels::from_list(numbers))
+        class_numbers(alloc, &self.parents)
+    }
+
+    /// The number of the classes of the vertices 1 to n, where 0 is alone. It takes O(n) steps and no memory.
+    pub fn count(&self) -> u32
+        requires { Respects self.now no_vertex }
+        ensures { HasClasses self.now result }
+    {
+        count_firsts(&self.parents)
     }
 }

@@ -1,8 +1,8 @@
-//! Classes numbered by their least vertices.
+//! Classes numbered by their least vertices, and counted.
 
 ghost use Rattle.std.specs.Prelude.{◌≤◌, IfOk, length};
 ghost use Rattle.cut_definitions.specs.Contraction.{IsLabels};
-ghost use Rattle.vertex_classes.specs.Classes.{no_vertex, AreNumbersOf, AreParents, Respects};
+ghost use Rattle.vertex_classes.specs.Classes.{no_vertex, AreNumbersOf, AreParents, HasClasses, Respects};
 
 use cut_definitions::NoMemory;
 use std::alloc::Global;
@@ -28,4 +28,21 @@ pub(crate) fn class_numbers(alloc: Global, parents: &[u32]) -> Result<Vec<u32>, 
         }
     }
     Ok(numbers)
+}
+
+/// The number of the classes of the vertices from 1 on: that of the vertices that are their own parents.
+pub(crate) fn count_firsts(parents: &[u32]) -> u32
+    requires parents { AreParents parents.now }
+    requires some { 1 ≤ length parents.now }
+    requires few { length parents.now ≤ 4194305 }
+    requires apart { Respects parents.now no_vertex }
+    ensures { HasClasses parents.now result }
+{
+    let mut count = 0;
+    for v in 1..parents.len() {
+        if parents[v] as usize == v {
+            count += 1;
+        }
+    }
+    count
 }

@@ -9,6 +9,3 @@ mod side;
 mod words;
 
 pub use side::Side;
-
-#[cfg(test)]
-mod tests;

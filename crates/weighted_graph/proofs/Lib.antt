@@ -13,6 +13,6 @@ pub mod Relabelled
 pub mod Contracting
 pub mod OneComponent
 pub mod Searched
-pub mod Counting
+pub mod Joined
 pub mod SafeContraction
 pub mod MarkLaws

@@ -5,21 +5,23 @@
 ghost use Rattle.std.specs.Prelude.{◌≡◌, ◌↔◌, ◌+◌, ◌<◌, ◌≤◌, IfOk, if◌then◌else◌, length, slice_get, slice_index_or};
 ghost use Rattle.std.specs.List.{AllPairs, sum_by};
 ghost use Rattle.cut_definitions.specs.Graph.{IsEdgeList};
-ghost use Rattle.cut_definitions.specs.Weight.{weight, between};
+ghost use Rattle.cut_definitions.specs.Weight.{VertexSet, weight, between};
 ghost use Rattle.cut_definitions.specs.Cuts.{has};
 ghost use Rattle.cut_definitions.specs.Components.{HasComponents};
 ghost use Rattle.cut_definitions.specs.Contraction.{relabel};
 ghost use Rattle.cut_definitions.specs.Scan.{single};
+ghost use Rattle.vertex_classes.specs.Classes.{no_vertex, Respects};
 ghost use Rattle.weighted_graph.specs.declared.graph.Arc.{Arc};
 ghost use Rattle.weighted_graph.specs.Rows.{row_of, weight_in};
 
-use crate::components::count_components;
+use crate::components::join_ends;
 use crate::labels::Labels;
 use crate::relabel::relabel_list;
 use crate::row_index::RowIndex;
 use cut_definitions::{Edge, EdgeList, NoMemory};
 use std::alloc::Global;
 use std::marker::Model;
+use vertex_classes::Classes;
 use vertex_set::Side;
 
 /// One direction of an edge: its other end, its place in the list of edges, and its weight.
@@ -174,16 +176,27 @@ impl Graph {
         total
     }
 
-    /// The number of components; 0 exactly where there is no vertex. Breadth-first search (Moore, 1959) from each
-    /// vertex that no earlier search saw, in O(n + m). It is refused only where memory is wanting.
+    /// The components as classes of the vertices: the ends of one edge after another are made one (Galler and Fischer,
+    /// 1964), in O(m log(n) + n) steps. The sets that have all or none of each class are just those of weight 0. It takes
+    /// 4 bytes a vertex, and is refused only where memory is wanting.
+    pub fn component_classes(&self, alloc: Global) -> Result<Classes, NoMemory>
+        ensures long { IfOk result (λ c. length c ≡ self.now.vertices + 1) }
+        ensures joined { IfOk result (λ c. (s : VertexSet) → Respects c s ↔ (weight self.now s ≡ 0)) }
+        ensures apart { IfOk result (λ c. Respects c no_vertex) }
+    {
+        let mut classes = Classes::new(alloc, self.n())?;
+        join_ends(self, &mut classes);
+        Ok(classes)
+    }
+
+    /// The number of components; 0 exactly where there is no vertex. It goes by the classes of `component_classes`, and is
+    /// refused only where memory is wanting.
     pub fn components(&self, alloc: Global) -> Result<u32, NoMemory>
         ensures counted { IfOk result (λ count. HasComponents self.now count) }
         ensures none { IfOk result (λ count. (count ≡ 0) ↔ (self.now.vertices ≡ 0)) }
     {
-        let places = self.n() as usize + 1;
-        let mut seen = vec![in alloc; false; places]?;
-        let mut queue = vec![in alloc; 0u32; places]?;
-        Ok(count_components(self, &mut seen, &mut queue))
+        let classes = self.component_classes(alloc)?;
+        Ok(classes.count())
     }
 
     /// The graph on the classes of labels, one for each vertex: the weight between two classes is the sum over the

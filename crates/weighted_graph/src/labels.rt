@@ -2,11 +2,13 @@
 
 ghost use Rattle.std.specs.Prelude.{◌≡◌, ℕ, ◌+◌, ◌≤◌, IfOk, length, map};
 ghost use Rattle.cut_definitions.specs.Contraction.{label, classes, lift, IsLabels};
+ghost use Rattle.vertex_classes.specs.Classes.{no_vertex, AreNumbersOf, Respects};
 ghost use Rattle.weighted_graph.specs.Labels.{AreKept};
 
 use cut_definitions::NoMemory;
 use std::alloc::Global;
 use std::marker::Model;
+use vertex_classes::Classes;
 use vertex_set::Side;
 
 /// A class of 1 to k for each of the vertices 1 to n, each class used, with vertex 1 in class 1. There are at most
@@ -43,6 +45,16 @@ impl Labels {
             class_of: list,
             count,
         }
+    }
+
+    /// The labels that number classes of vertices in the order of their least vertices. 0 is in a class alone. It takes 4
+    /// bytes a vertex, and is refused only where memory is wanting.
+    pub fn of_classes(alloc: Global, classes: &Classes) -> Result<Labels, NoMemory>
+        requires { Respects classes.now no_vertex }
+        ensures { IfOk result (AreNumbersOf classes.now) }
+    {
+        let numbers = classes.numbers(alloc)?;
+        Ok(Labels::from_list(numbers))
     }
 
     /// The class of a vertex of 1 to n.

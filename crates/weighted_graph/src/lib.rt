@@ -2,7 +2,7 @@
 //!
 //! Contracts see a `Graph` as its number of vertices and its ascending list of edges, and `Labels` as the list of the
 //! classes of the vertices 1 to n. A graph is built from its list in a few passes, so the row of a vertex is one slice;
-//! components are found by breadth-first search; contraction sorts the edges between classes once.
+//! components are classes that edges join; contraction sorts the edges between classes once.
 #![tactic(auto)]
 
 mod components;

@@ -1,6 +1,8 @@
-use Rattle.std.proofs.Common.{◌++◌, ◌∙◌, ap, refl}
+use Rattle.std.proofs.Common.{◌++◌, ◌∷◌, [], length, ◌∙◌, ap, refl, arith, length-append}
 use Rattle.cactus_tree.specs.Entered.{entered}
+use Rattle.cactus_tree.specs.Trees.{blocks}
 use Rattle.cactus_tree.specs.Widths.{widths}
+use Rattle.cactus_tree.specs.declared.tree.Block.TheVariants.{Cycle}
 use Rattle.cactus_tree.proofs.Orders.{hung_entered, entered_cycle}
 use Rattle.cactus_tree.proofs.Built.{hung_widths, ring_widths}
 use Rattle.cactus_tree.specs.Sides.{part, with_below}
@@ -17,3 +19,6 @@ returns-clause-widths c =
 
 pub returns-clause-part : goal.returns-clause-part
 returns-clause-part c = hung_part c.args.node _ _ refl c.in_ok-push.ensures.ok ∙ ap (with_below (part c.args.node)) (cycle_part c.args.ring)
+
+pub returns-clause-blocks : goal.returns-clause-blocks
+returns-clause-blocks c = omega (arith, ap length c.in_ok-push.ensures.ok, length-append (blocks c.args.node) (Cycle c.args.ring ∷ []))

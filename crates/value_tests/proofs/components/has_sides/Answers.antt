@@ -1,7 +1,7 @@
 use Rattle.std.proofs.Common.{ℕ, ◌≤◌, ◌-◌, ◌*◌, ◌^◌, length, arith}
 use Rattle.std.proofs.Math.Pow.{pow_mono}
 use Rattle.std.proofs.Math.Nat.{mul-le-mul_left}
-use Rattle.component_cuts.proofs.tests.has_sides.Goals as goal
+use Rattle.value_tests.proofs.components.has_sides.Goals as goal
 
 -- few unions of few vertices
 few : (c n : ℕ) → c ≤ 9 → n ≤ 9 → (2 ^ (c - 1) - 1) * n ≤ 2 ^ 30

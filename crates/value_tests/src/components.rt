@@ -1,6 +1,8 @@
+//! Components and the unions of them that are minimum cuts.
+
 ghost use Rattle.std.specs.Prelude.{◌≡◌, ◌≤◌, length};
 
-use crate::Components;
+use component_cuts::Components;
 use cut_definitions::{Edge, EdgeList, NoMemory, VertexWeights};
 use std::alloc::Global;
 use std::test::Fail;

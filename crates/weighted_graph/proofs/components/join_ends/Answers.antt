@@ -3,8 +3,8 @@ use Rattle.std.proofs.Common.{◌≡◌, ◌∙◌, ℕ, List, length, get_or, r
 use Rattle.cut_definitions.specs.declared.edge_list.Edge.{Edge}
 use Rattle.weighted_graph.specs.RowLaws.{no_edge}
 use Rattle.vertex_classes.specs.Classes.{HasJoined}
-use Rattle.component_cuts.proofs.Numbered.{AreOfEdgesBefore, of_no_edges, of_one_edge, of_all_edges}
-use Rattle.component_cuts.proofs.joining.join_ends.Goals as goal
+use Rattle.weighted_graph.proofs.Joined.{AreOfEdgesBefore, of_no_edges, of_one_edge, of_all_edges}
+use Rattle.weighted_graph.proofs.components.join_ends.Goals as goal
 
 pub loop-edge-init : goal.loop-edge-init
 loop-edge-init c = record { long = refl; joined = of_no_edges c.args.graph.now.edges c.args.classes.now c.requires.alone }

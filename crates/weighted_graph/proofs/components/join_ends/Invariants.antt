@@ -1,6 +1,6 @@
 use Rattle.std.proofs.Common.{◌≡◌, length}
-use Rattle.component_cuts.proofs.Numbered.{AreOfEdgesBefore}
-use Rattle.component_cuts.proofs.joining.join_ends.Given as goal
+use Rattle.weighted_graph.proofs.Joined.{AreOfEdgesBefore}
+use Rattle.weighted_graph.proofs.components.join_ends.Given as goal
 
 abbrev pub invariant-loop-edge : goal.invariant-loop-edge
 invariant-loop-edge l = record {

@@ -1,9 +1,0 @@
-use Rattle.std.proofs.Common.{[], ◌∷◌, refl}
-use Rattle.cactus_tree.proofs.Built.{is_cactus}
-use Rattle.cactus_growth.proofs.tests.ring_of_four.Goals as goal
-
-pub from_root-requires : goal.from_root-requires
-from_root-requires c = is_cactus 4 c.in_ok-tree.tree ((1 ∷ []) ∷ (2 ∷ []) ∷ (3 ∷ []) ∷ (4 ∷ []) ∷ []) (3 ∷ [])
-    (rw (c.in_ok-tree.ensures.entered, c.in_ok-root.ensures.entered, c.in_ok-ring.ensures.entered) refl)
-    (rw (c.in_ok-tree.ensures.widths, c.in_ok-root.ensures.widths, c.in_ok-ring.ensures.count, c.in_ok-ring.ensures.widths) refl)
-    refl
