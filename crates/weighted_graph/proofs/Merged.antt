@@ -4,7 +4,7 @@ use Rattle.std.specs.Prelude.{◌≢◌, if◌then◌else◌}
 use Rattle.std.specs.List.{sum_by, All, AllPairs}
 use Rattle.std.proofs.lemmas.List.{length_push}
 use Rattle.std.proofs.lemmas.List.Quantifiers.{all_pairs_push}
-use Rattle.std.proofs.lemmas.List.Sums.{sum_by_more, sum_by_push}
+use Rattle.std.proofs.lemmas.List.Sums.{sum_by-take-le, sum_by_more, sum_by_push}
 use Rattle.std.proofs.lemmas.List.Elements.{All-push, All-weaker, All-nil}
 use Rattle.cut_definitions.specs.declared.edge_list.Edge.{Edge}
 use Rattle.cut_definitions.specs.Graph.{Graph, IsEdgeWithin, IsBefore, IsEdgeList, with_edge}
@@ -40,6 +40,18 @@ merged_edge_list n sorted count merged current h few_n few_m total =
       few_vertices = omega arith;
       few_edges = omega (arith, length_push merged.edges current, h.few);
     }
+
+-- the list may take the current edge, where the edges before it may be all
+pub merged_edge_list_so_far : (n : ℕ) (sorted : List Edge) (count : ℕ) (merged : Graph) (current : Edge) → IsMerged n sorted count merged current →
+    n ≤ 4194304 → count ≤ 16777216 → sum_by weight_of sorted ≤ 2 ^ 61 → IsEdgeList (with_edge merged current)
+merged_edge_list_so_far n sorted count merged current h few_n few_m total =
+    merged_edge_list n sorted count merged current h few_n few_m (omega (arith, sum_by-take-le weight_of sorted count, total))
+
+-- where all edges are merged each pair weighs what it weighed
+pub merged_all : (n : ℕ) (sorted : List Edge) (count : ℕ) (merged longer : Graph) (current : Edge) → IsMerged n sorted count merged current → longer ≡ with_edge merged current → take count sorted ≡ sorted →
+    (a b : ℕ) → pair_weight longer.edges a b ≡ pair_weight sorted a b
+merged_all n sorted count merged longer current h longer_is whole a b =
+    rw longer_is (omega (arith, sum_by_push (pair_term a b) merged.edges current, h.weights a b, ap (λ (es : List Edge). pair_weight es a b) whole))
 
 pub merged_start : (n : ℕ) (sorted : List Edge) (merged : Graph) → merged ≡ record { vertices = n; edges = [] } → All (IsEdgeWithin n) sorted → 0 < length sorted →
     IsMerged n sorted 1 merged (get_or sorted 0 no_edge)
