@@ -1,12 +1,12 @@
 ghost use Rattle.std.specs.Prelude.{◌≡◌, ◌≤◌, [], ◌∷◌, ◌++◌, IfOk, length, map};
 ghost use Rattle.std.specs.List.{flat_map};
-ghost use Rattle.cactus_tree.specs.Entered.{entered};
-ghost use Rattle.cactus_tree.specs.Trees.{blocks, nodes_in};
-ghost use Rattle.cactus_tree.specs.Widths.{widths};
+ghost use Rattle.rooted_cactus.specs.Entered.{entered};
+ghost use Rattle.rooted_cactus.specs.Trees.{blocks, nodes_in};
+ghost use Rattle.rooted_cactus.specs.Widths.{widths};
 
 use crate::{Grown, grow, is_within_limits, with_edge};
-use cactus_tree::{Block, Blocks, Cactus, Children, Node, VertexList};
 use cut_definitions::{Edge, EdgeList, NoMemory};
+use rooted_cactus::{Block, Blocks, Cactus, Children, Node, VertexList};
 use std::alloc::Global;
 use std::test::Fail;
 

@@ -1,4 +1,4 @@
-use Rattle.cactus_tree.proofs.Built.{leaf_entered, leaf_widths}
+use Rattle.rooted_cactus.proofs.Built.{leaf_entered, leaf_widths}
 use Rattle.cactus_growth.proofs.tests.leaf.Goals as goal
 
 pub returns-clause-entered : goal.returns-clause-entered

@@ -1,7 +1,7 @@
 use Rattle.std.proofs.Common.{[], ◌∷◌, length, ap, arith}
 use Rattle.std.proofs.lemmas.List.{length-append}
-use Rattle.cactus_tree.specs.Trees.{nodes_in}
-use Rattle.cactus_tree.proofs.Built.{leaf_pushed, leaf_counted, leaves_done}
+use Rattle.rooted_cactus.specs.Trees.{nodes_in}
+use Rattle.rooted_cactus.proofs.Built.{leaf_pushed, leaf_counted, leaves_done}
 use Rattle.cactus_growth.proofs.tests.leaves.Goals as goal
 
 pub each_vertex-preserved : goal.each_vertex-preserved

@@ -1,8 +1,8 @@
 use Rattle.std.proofs.Common.{◌≡◌, [], ◌∷◌, length, map, take}
 use Rattle.std.specs.List.{flat_map}
-use Rattle.cactus_tree.specs.Entered.{entered}
-use Rattle.cactus_tree.specs.Trees.{nodes_in}
-use Rattle.cactus_tree.specs.Widths.{widths}
+use Rattle.rooted_cactus.specs.Entered.{entered}
+use Rattle.rooted_cactus.specs.Trees.{nodes_in}
+use Rattle.rooted_cactus.specs.Widths.{widths}
 use Rattle.cactus_growth.proofs.tests.leaves.Given as goal
 
 abbrev pub invariant-each_vertex : goal.invariant-each_vertex

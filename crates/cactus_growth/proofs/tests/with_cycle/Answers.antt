@@ -1,10 +1,10 @@
 use Rattle.std.proofs.Common.{◌++◌, ◌∷◌, [], length, ◌∙◌, ap, refl, arith, length-append}
-use Rattle.cactus_tree.specs.Entered.{entered}
-use Rattle.cactus_tree.specs.Trees.{blocks}
-use Rattle.cactus_tree.specs.Widths.{widths}
-use Rattle.cactus_tree.specs.declared.tree.Block.TheVariants.{Cycle}
-use Rattle.cactus_tree.proofs.Orders.{hung_entered, entered_cycle}
-use Rattle.cactus_tree.proofs.Built.{hung_widths, ring_widths}
+use Rattle.rooted_cactus.specs.Entered.{entered}
+use Rattle.rooted_cactus.specs.Trees.{blocks}
+use Rattle.rooted_cactus.specs.Widths.{widths}
+use Rattle.rooted_cactus.specs.declared.tree.Block.TheVariants.{Cycle}
+use Rattle.rooted_cactus.proofs.Orders.{hung_entered, entered_cycle}
+use Rattle.rooted_cactus.proofs.Built.{hung_widths, ring_widths}
 use Rattle.cactus_growth.proofs.tests.with_cycle.Goals as goal
 
 pub returns-clause-entered : goal.returns-clause-entered
