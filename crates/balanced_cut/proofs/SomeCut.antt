@@ -5,20 +5,20 @@ use Rattle.std.proofs.lemmas.List.{length-map}
 use Rattle.std.proofs.lemmas.List.Elements.{All-head}
 use Rattle.cut_definitions.specs.Weight.{VertexSet, either}
 use Rattle.cut_definitions.proofs.ListLaws.{All-front}
-use Rattle.cactus_tree.specs.Sides.{Part, part, block_part, below, cuts, intervals, all_cuts, belows, from_here}
-use Rattle.cactus_tree.specs.Trees.{blocks, nodes_in}
-use Rattle.cactus_tree.specs.Widths.{widths, block_widths, joined}
-use Rattle.cactus_tree.specs.Rooted.{Rooted, IsCactus, sides_of}
-use Rattle.cactus_tree.specs.declared.tree.Node.{Node}
-use Rattle.cactus_tree.specs.declared.tree.Block.{Block, out-Block}
-use Rattle.cactus_tree.specs.declared.tree.Blocks.{Blocks}
-use Rattle.cactus_tree.specs.declared.tree.Children.{Children}
-use Rattle.cactus_tree.specs.declared.tree.Block.TheVariants.{rolls-Bridge, rolls-Cycle}
-use Rattle.cactus_tree.specs.declared.tree.Block.TheOpen as Open
-use Rattle.cactus_tree.specs.declared.tree.Block.TheOpen.{Block-F}
-use Rattle.cactus_tree.specs.declared.tree.Block.TheViews.{roll-Block, roll-out-Block}
-use Rattle.cactus_tree.proofs.Parts.{part_out, bridge_part, cycle_part}
-use Rattle.cactus_tree.proofs.Widths.{widths_out, widths_cycle}
+use Rattle.rooted_cactus.specs.Sides.{Part, part, block_part, below, cuts, intervals, all_cuts, belows, from_here}
+use Rattle.rooted_cactus.specs.Trees.{blocks, nodes_in}
+use Rattle.rooted_cactus.specs.Widths.{widths, block_widths, joined}
+use Rattle.rooted_cactus.specs.Rooted.{Rooted, IsCactus, sides_of}
+use Rattle.rooted_cactus.specs.declared.tree.Node.{Node}
+use Rattle.rooted_cactus.specs.declared.tree.Block.{Block, out-Block}
+use Rattle.rooted_cactus.specs.declared.tree.Blocks.{Blocks}
+use Rattle.rooted_cactus.specs.declared.tree.Children.{Children}
+use Rattle.rooted_cactus.specs.declared.tree.Block.TheVariants.{rolls-Bridge, rolls-Cycle}
+use Rattle.rooted_cactus.specs.declared.tree.Block.TheOpen as Open
+use Rattle.rooted_cactus.specs.declared.tree.Block.TheOpen.{Block-F}
+use Rattle.rooted_cactus.specs.declared.tree.Block.TheViews.{roll-Block, roll-out-Block}
+use Rattle.rooted_cactus.proofs.Parts.{part_out, bridge_part, cycle_part}
+use Rattle.rooted_cactus.proofs.Widths.{widths_out, widths_cycle}
 
 begins : {X : Type 0} (x : X) (xs zs : List X) → zs ≡ x ∷ xs → zs ≢ []
 begins x xs zs e none = let same : x ∷ xs ≡ [] = sym e ∙ none in cc

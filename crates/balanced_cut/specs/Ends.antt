@@ -2,11 +2,11 @@
 use Rattle.std.specs.Prelude.{ℕ, ◌+◌, ◌-◌, ◌≤◌, ◌<◌, ◌≡◌, ◌++◌, List, drop, length, min, slice_index}
 use Rattle.std.specs.List.{All, Contains}
 use Rattle.balanced_cut.specs.declared.scale.Scale.{Scale}
-use Rattle.cactus_tree.specs.Borders.{border_at, ranges_between}
-use Rattle.cactus_tree.specs.CutRanges.{Range}
-use Rattle.cactus_tree.specs.RangeMasses.{mass_before}
-use Rattle.cactus_tree.specs.declared.walk.borders.Border.{Border}
-use Rattle.cactus_tree.specs.declared.walk.shown.Span.{Span}
+use Rattle.rooted_cactus.specs.Borders.{border_at, ranges_between}
+use Rattle.rooted_cactus.specs.CutRanges.{Range}
+use Rattle.cactus_walk.specs.RangeMasses.{mass_before}
+use Rattle.rooted_cactus.specs.declared.tree.border.Border.{Border}
+use Rattle.cactus_walk.specs.declared.walk.shown.Span.{Span}
 
 abbrev pub range_of : Span → Range
 range_of s = record { from = s.from; to = s.to }

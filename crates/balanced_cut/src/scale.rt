@@ -3,10 +3,10 @@
 ghost use Rattle.std.specs.Prelude.{◌≡◌, ◌≤◌, ◌↔◌, IfOk, IsTrue, length};
 ghost use Rattle.std.specs.List.{All};
 ghost use Rattle.balanced_cut.specs.Ends.{IsLesserPart, IsRangeOf, IsScale, IsScaleOf, places_of, range_balance, range_of, span_mass};
-ghost use Rattle.cactus_tree.specs.Places.{IsVertex};
+ghost use Rattle.rooted_cactus.specs.Places.{IsVertex};
 
 use crate::NoMemory;
-use cactus_tree::{Span, masses_before};
+use cactus_walk::{Span, masses_before};
 use cut_definitions::VertexWeights;
 use std::alloc::Global;
 

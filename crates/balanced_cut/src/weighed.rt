@@ -3,16 +3,17 @@
 ghost use Rattle.std.specs.Prelude.{◌≡◌, ◌≢◌, ◌+◌, ◌-◌, ◌<◌, ◌≤◌, [], IfOk, length};
 ghost use Rattle.std.specs.List.{Contains};
 ghost use Rattle.balanced_cut.specs.Ends.{IsBestBefore, IsLesserPart, IsRangeOf, IsScale, NoneGreater, places_of, range_balance, range_between, range_of};
-ghost use Rattle.cactus_tree.specs.Borders.{border_at, ranges_between};
-ghost use Rattle.cactus_tree.specs.Rooted.{sides_of};
-ghost use Rattle.cactus_tree.specs.Trees.{blocks};
-ghost use Rattle.cactus_tree.specs.Walking.{AreBorders, AreChained};
+ghost use Rattle.rooted_cactus.specs.Borders.{border_at, ranges_between};
+ghost use Rattle.rooted_cactus.specs.Rooted.{sides_of};
+ghost use Rattle.rooted_cactus.specs.Trees.{blocks};
+ghost use Rattle.cactus_walk.specs.Walking.{AreBorders, AreChained};
 ghost use Rattle.cut_definitions.specs.Balance.{IsBest};
 
 use crate::NoMemory;
 use crate::scale::Scale;
-use cactus_tree::{Border, Cactus, Span, cut_places, next_start, put_range};
+use cactus_walk::{Span, cut_places, next_start, put_range};
 use cut_definitions::VertexWeights;
+use rooted_cactus::{Border, Cactus};
 use std::alloc::Global;
 use vertex_set::Side;
 

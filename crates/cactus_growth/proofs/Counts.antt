@@ -5,7 +5,7 @@ use Rattle.std.proofs.lemmas.Bool.{or_cases, or_left, or_right, cases_Bool, fals
 use Rattle.std.proofs.lemmas.List.Elements.{filter-append}
 use Rattle.cut_definitions.specs.Cuts.{has}
 use Rattle.cut_definitions.proofs.ListLaws.{longer}
-use Rattle.cactus_tree.proofs.Segments.{has_append_at}
+use Rattle.rooted_cactus.proofs.Segments.{has_append_at}
 use Rattle.cactus_growth.specs.Growth.{times}
 
 pub count_both : (v : ℕ) (ls ms : List (List ℕ)) → times v (ls ++ ms) ≡ times v ls + times v ms

@@ -7,14 +7,14 @@ use Rattle.std.proofs.lemmas.List.Elements.{All-nil, All-cons, All-head, All-tai
 use Rattle.cut_definitions.specs.Weight.{VertexSet, either}
 use Rattle.cut_definitions.proofs.Lists.{Contains-cons_cases, Contains-nil}
 use Rattle.cut_definitions.proofs.Bools.{no_left, no_right}
-use Rattle.cactus_tree.specs.Sides.{Part, part, all_of, belows, from_here}
-use Rattle.cactus_tree.specs.Entered.{entered}
-use Rattle.cactus_tree.specs.declared.tree.Node.{Node}
-use Rattle.cactus_tree.proofs.Cycles.{cycle_cuts, cycle_cases, cycle_here, cycle_own, cycle_rest}
-use Rattle.cactus_tree.proofs.Layouts.{laid_out}
-use Rattle.cactus_tree.proofs.Sets.{IsIn}
+use Rattle.rooted_cactus.specs.Sides.{Part, part, all_of, belows, from_here}
+use Rattle.rooted_cactus.specs.Entered.{entered}
+use Rattle.rooted_cactus.specs.declared.tree.Node.{Node}
+use Rattle.rooted_cactus.proofs.Cycles.{cycle_cuts, cycle_cases, cycle_here, cycle_own, cycle_rest}
+use Rattle.rooted_cactus.proofs.Layouts.{laid_out}
+use Rattle.rooted_cactus.proofs.Sets.{IsIn}
 use Rattle.cactus_growth.proofs.Runs.{along, past, reached, opened, joined}
-use Rattle.cactus_tree.proofs.Within.{segment_within}
+use Rattle.rooted_cactus.proofs.Within.{segment_within}
 use Rattle.cactus_growth.proofs.Without.{cycle_lacks, cycle_without, cycle_before, cycle_behind, cycle_child}
 
 -- ---- sets that have both of two vertices or neither

@@ -11,25 +11,25 @@ use Rattle.cut_definitions.proofs.Bridge.{has_within}
 use Rattle.cut_definitions.proofs.Lists.{Contains-cons_cases, Contains-from_map, Contains-nil}
 use Rattle.cut_definitions.proofs.ListLaws.{All-from_each}
 use Rattle.cut_definitions.proofs.Ascending.{has_contains}
-use Rattle.cactus_tree.specs.Different.{HasNoEmptySide}
-use Rattle.cactus_tree.specs.Entered.{entered}
-use Rattle.cactus_tree.specs.Normal.{is_normal}
-use Rattle.cactus_tree.specs.Places.{IsVertex}
-use Rattle.cactus_tree.specs.Rooted.{Rooted, IsCactus, sides_of}
-use Rattle.cactus_tree.specs.Sides.{Part, part, block_part, all_of, belows, all_cuts, cuts}
-use Rattle.cactus_tree.specs.Trees.{vertices, blocks, nodes_in}
-use Rattle.cactus_tree.specs.declared.tree.Node.{Node}
-use Rattle.cactus_tree.specs.declared.tree.Block.{Block}
-use Rattle.cactus_tree.specs.declared.tree.Children.{Children}
-use Rattle.cactus_tree.specs.declared.tree.Block.TheVariants.{Bridge, Cycle}
-use Rattle.cactus_tree.proofs.Cycles.{cycle_cuts, cycle_cases, here_above}
-use Rattle.cactus_tree.proofs.Fits.{IsFit, IsFitBlock, AreFitBlocks, AreFitNodes, IsPlaced, blocks_head, blocks_tail, nodes_head, nodes_placed, nodes_tail, node_blocks, bridge_child, cycle_children, root_fit}
-use Rattle.cactus_tree.proofs.Layouts.{laid_out}
-use Rattle.cactus_tree.proofs.Once.{all_vertices_within}
-use Rattle.cactus_tree.proofs.Parts.{bridge_part, cycle_part}
-use Rattle.cactus_tree.proofs.Sets.{HasOne}
-use Rattle.cactus_tree.proofs.Views.{block_induction, each}
-use Rattle.cactus_tree.proofs.Trims.{cuts_out}
+use Rattle.rooted_cactus.specs.Different.{HasNoEmptySide}
+use Rattle.rooted_cactus.specs.Entered.{entered}
+use Rattle.rooted_cactus.specs.Normal.{is_normal}
+use Rattle.rooted_cactus.specs.Places.{IsVertex}
+use Rattle.rooted_cactus.specs.Rooted.{Rooted, IsCactus, sides_of}
+use Rattle.rooted_cactus.specs.Sides.{Part, part, block_part, all_of, belows, all_cuts, cuts}
+use Rattle.rooted_cactus.specs.Trees.{vertices, blocks, nodes_in}
+use Rattle.rooted_cactus.specs.declared.tree.Node.{Node}
+use Rattle.rooted_cactus.specs.declared.tree.Block.{Block}
+use Rattle.rooted_cactus.specs.declared.tree.Children.{Children}
+use Rattle.rooted_cactus.specs.declared.tree.Block.TheVariants.{Bridge, Cycle}
+use Rattle.rooted_cactus.proofs.Cycles.{cycle_cuts, cycle_cases, here_above}
+use Rattle.rooted_cactus.proofs.Fits.{IsFit, IsFitBlock, AreFitBlocks, AreFitNodes, IsPlaced, blocks_head, blocks_tail, nodes_head, nodes_placed, nodes_tail, node_blocks, bridge_child, cycle_children, root_fit}
+use Rattle.rooted_cactus.proofs.Layouts.{laid_out}
+use Rattle.rooted_cactus.proofs.Once.{all_vertices_within}
+use Rattle.rooted_cactus.proofs.Parts.{bridge_part, cycle_part}
+use Rattle.rooted_cactus.proofs.Sets.{HasOne}
+use Rattle.rooted_cactus.proofs.Views.{block_induction, each}
+use Rattle.rooted_cactus.proofs.Trims.{cuts_out}
 use Rattle.cactus_growth.proofs.CycleKept.{node_inside}
 use Rattle.cactus_growth.proofs.WaysDown.{below_at}
 

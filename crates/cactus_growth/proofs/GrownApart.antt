@@ -7,22 +7,22 @@ use Rattle.std.proofs.lemmas.List.Elements.{Contains-append_cases}
 use Rattle.cut_definitions.specs.Weight.{VertexSet}
 use Rattle.cut_definitions.specs.Cuts.{has}
 use Rattle.cut_definitions.proofs.Lists.{Contains-nil}
-use Rattle.cactus_tree.specs.Sides.{Part, part, block_part, all_of, belows, all_cuts}
-use Rattle.cactus_tree.specs.Entered.{entered, entered_block}
-use Rattle.cactus_tree.specs.Entries.{nodes_of}
-use Rattle.cactus_tree.specs.Trees.{vertices, blocks}
-use Rattle.cactus_tree.specs.declared.tree.Node.{Node}
-use Rattle.cactus_tree.specs.declared.tree.Block.{Block}
-use Rattle.cactus_tree.proofs.Orders.{entered_out}
-use Rattle.cactus_tree.proofs.Trims.{cuts_out}
-use Rattle.cactus_tree.proofs.BlockLaws.{block_laid}
+use Rattle.rooted_cactus.specs.Sides.{Part, part, block_part, all_of, belows, all_cuts}
+use Rattle.rooted_cactus.specs.Entered.{entered, entered_block}
+use Rattle.rooted_cactus.specs.Entries.{nodes_of}
+use Rattle.rooted_cactus.specs.Trees.{vertices, blocks}
+use Rattle.rooted_cactus.specs.declared.tree.Node.{Node}
+use Rattle.rooted_cactus.specs.declared.tree.Block.{Block}
+use Rattle.rooted_cactus.proofs.Orders.{entered_out}
+use Rattle.rooted_cactus.proofs.Trims.{cuts_out}
+use Rattle.rooted_cactus.proofs.BlockLaws.{block_laid}
 use Rattle.cactus_growth.specs.Growth.{times, AreOnce, IsGrown, IsPulled}
 use Rattle.cactus_growth.specs.Ways.{HasChild, LeadsTo}
 use Rattle.cactus_growth.specs.declared.ways.Step.{Step}
 use Rattle.cactus_growth.proofs.Counts.{count_both, count_some}
 use Rattle.cactus_growth.proofs.Opened.{blocks_listed, own_lacks, walk_part}
 use Rattle.cactus_growth.proofs.Pulled.{times_more}
-use Rattle.cactus_tree.proofs.Within.{block_within, of_lists}
+use Rattle.rooted_cactus.proofs.Within.{block_within, of_lists}
 use Rattle.cactus_growth.proofs.WaysDown.{way_inside, one_of_all, below_at}
 
 -- ---- which block has a vertex below it

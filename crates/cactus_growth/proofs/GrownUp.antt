@@ -8,11 +8,11 @@ use Rattle.std.proofs.Math.Bool.{or-true}
 use Rattle.cut_definitions.specs.Weight.{VertexSet}
 use Rattle.cut_definitions.specs.Cuts.{has, IsAscendingWithin}
 use Rattle.cut_definitions.proofs.ListLaws.{All-front, All-back}
-use Rattle.cactus_tree.specs.Sides.{Part, part, all_of, belows}
-use Rattle.cactus_tree.specs.Entered.{entered}
-use Rattle.cactus_tree.specs.Widths.{widths}
-use Rattle.cactus_tree.specs.declared.tree.Node.{Node}
-use Rattle.cactus_tree.proofs.Cycles.{cycle_cuts}
+use Rattle.rooted_cactus.specs.Sides.{Part, part, all_of, belows}
+use Rattle.rooted_cactus.specs.Entered.{entered}
+use Rattle.rooted_cactus.specs.Widths.{widths}
+use Rattle.rooted_cactus.specs.declared.tree.Node.{Node}
+use Rattle.rooted_cactus.proofs.Cycles.{cycle_cuts}
 use Rattle.cactus_growth.specs.Growth.{times, AreOnce, AreAscending, AreWide, IsArcHung, IsOpened, IsGrown}
 use Rattle.cactus_growth.proofs.Counts.{count_both, count_some}
 use Rattle.cactus_growth.proofs.CycleKept.{IsEven, cycle_even, cycle_replaced, lacking_even, node_lacks}

@@ -10,23 +10,23 @@ use Rattle.cut_definitions.proofs.Lists.{Contains-here, Contains-map, Contains-f
 use Rattle.cut_definitions.proofs.Bools.{parts_from_same, same_from_parts}
 use Rattle.cut_definitions.proofs.Ascending.{contains_has, has_contains}
 use Rattle.cut_definitions.proofs.ListLaws.{All-front}
-use Rattle.cactus_tree.specs.Sides.{Part, part, block_part, all_cuts, all_of, belows, cuts}
-use Rattle.cactus_tree.specs.Entered.{entered}
-use Rattle.cactus_tree.specs.Different.{HasNoEmptySide, HaveSameSides}
-use Rattle.cactus_tree.specs.Normal.{is_normal}
-use Rattle.cactus_tree.specs.Rooted.{Rooted, IsCactus, sides_of}
-use Rattle.cactus_tree.specs.Trees.{vertices, blocks, nodes_in}
-use Rattle.cactus_tree.specs.Widths.{widths, block_widths}
-use Rattle.cactus_tree.specs.declared.tree.Node.{Node}
-use Rattle.cactus_tree.specs.declared.tree.Block.{Block}
-use Rattle.cactus_tree.proofs.Built.{ring_widths}
-use Rattle.cactus_tree.proofs.Clean.{root_clean}
-use Rattle.cactus_tree.proofs.Cycles.{cycle_cuts, cycle_whole}
-use Rattle.cactus_tree.proofs.Layouts.{laid_out}
-use Rattle.cactus_tree.proofs.Parts.{bridge_part, cycle_part}
-use Rattle.cactus_tree.proofs.Views.{view}
-use Rattle.cactus_tree.proofs.Trims.{cuts_out}
-use Rattle.cactus_tree.proofs.BlockLaws.{widths_flat}
+use Rattle.rooted_cactus.specs.Sides.{Part, part, block_part, all_cuts, all_of, belows, cuts}
+use Rattle.rooted_cactus.specs.Entered.{entered}
+use Rattle.rooted_cactus.specs.Different.{HasNoEmptySide, HaveSameSides}
+use Rattle.rooted_cactus.specs.Normal.{is_normal}
+use Rattle.rooted_cactus.specs.Rooted.{Rooted, IsCactus, sides_of}
+use Rattle.rooted_cactus.specs.Trees.{vertices, blocks, nodes_in}
+use Rattle.rooted_cactus.specs.Widths.{widths, block_widths}
+use Rattle.rooted_cactus.specs.declared.tree.Node.{Node}
+use Rattle.rooted_cactus.specs.declared.tree.Block.{Block}
+use Rattle.rooted_cactus.proofs.Built.{ring_widths}
+use Rattle.rooted_cactus.proofs.Clean.{root_clean}
+use Rattle.rooted_cactus.proofs.Cycles.{cycle_cuts, cycle_whole}
+use Rattle.rooted_cactus.proofs.Layouts.{laid_out}
+use Rattle.rooted_cactus.proofs.Parts.{bridge_part, cycle_part}
+use Rattle.rooted_cactus.proofs.Views.{view}
+use Rattle.rooted_cactus.proofs.Trims.{cuts_out}
+use Rattle.rooted_cactus.proofs.BlockLaws.{widths_flat}
 use Rattle.cactus_growth.specs.After.{IsKept, PartsEachSide}
 use Rattle.cactus_growth.specs.Growth.{AreOnce, AreWide, IsGrown}
 use Rattle.cactus_growth.proofs.Counts.{count_some, count_has}

@@ -11,29 +11,29 @@ use Rattle.cut_definitions.specs.Cuts.{has, IsAscendingWithin}
 use Rattle.cut_definitions.proofs.Lists.{Contains-nil}
 use Rattle.cut_definitions.proofs.Bools.{or_assoc, no_left, no_right}
 use Rattle.cut_definitions.proofs.ListLaws.{All-front, All-back}
-use Rattle.cactus_tree.specs.Sides.{Part, part, block_part, all_of, belows, all_cuts, cycle_of}
-use Rattle.cactus_tree.specs.Entered.{entered, entered_block}
-use Rattle.cactus_tree.specs.Entries.{nodes_of}
-use Rattle.cactus_tree.specs.Trees.{vertices, blocks, nodes_in}
-use Rattle.cactus_tree.specs.Widths.{widths, block_widths}
-use Rattle.cactus_tree.specs.declared.tree.Node.{Node}
-use Rattle.cactus_tree.specs.declared.tree.Block.{Block}
-use Rattle.cactus_tree.specs.declared.tree.Block.TheVariants.{Bridge}
-use Rattle.cactus_tree.proofs.Built.{ring_widths}
-use Rattle.cactus_tree.proofs.Entries.{nodes_bridge, nodes_cycle}
-use Rattle.cactus_tree.proofs.Layouts.{laid_out}
-use Rattle.cactus_tree.proofs.Orders.{entered_out, entered_cycle, in_order_map}
-use Rattle.cactus_tree.proofs.Parts.{all_cuts_append, cycle_part}
-use Rattle.cactus_tree.proofs.Segments.{cycle_laid}
-use Rattle.cactus_tree.proofs.Views.{view}
-use Rattle.cactus_tree.proofs.Widths.{widths_bridge}
-use Rattle.cactus_tree.proofs.BlockLaws.{widths_flat, nodes_laid, block_laid}
-use Rattle.cactus_tree.proofs.Trims.{cuts_out}
+use Rattle.rooted_cactus.specs.Sides.{Part, part, block_part, all_of, belows, all_cuts, cycle_of}
+use Rattle.rooted_cactus.specs.Entered.{entered, entered_block}
+use Rattle.rooted_cactus.specs.Entries.{nodes_of}
+use Rattle.rooted_cactus.specs.Trees.{vertices, blocks, nodes_in}
+use Rattle.rooted_cactus.specs.Widths.{widths, block_widths}
+use Rattle.rooted_cactus.specs.declared.tree.Node.{Node}
+use Rattle.rooted_cactus.specs.declared.tree.Block.{Block}
+use Rattle.rooted_cactus.specs.declared.tree.Block.TheVariants.{Bridge}
+use Rattle.rooted_cactus.proofs.Built.{ring_widths}
+use Rattle.rooted_cactus.proofs.Entries.{nodes_bridge, nodes_cycle}
+use Rattle.rooted_cactus.proofs.Layouts.{laid_out}
+use Rattle.rooted_cactus.proofs.Orders.{entered_out, entered_cycle, in_order_map}
+use Rattle.rooted_cactus.proofs.Parts.{all_cuts_append, cycle_part}
+use Rattle.rooted_cactus.proofs.Segments.{cycle_laid}
+use Rattle.rooted_cactus.proofs.Views.{view}
+use Rattle.rooted_cactus.proofs.Widths.{widths_bridge}
+use Rattle.rooted_cactus.proofs.BlockLaws.{widths_flat, nodes_laid, block_laid}
+use Rattle.rooted_cactus.proofs.Trims.{cuts_out}
 use Rattle.cactus_growth.specs.Growth.{times, AreOnce, AreAscending, AreWide, AreHung, IsOpened}
 use Rattle.cactus_growth.proofs.Counts.{count_both, count_some}
 use Rattle.cactus_growth.proofs.Hung.{one_part, one_entered}
 use Rattle.cactus_growth.proofs.Pulled.{times_more}
-use Rattle.cactus_tree.proofs.Within.{block_within, of_lists, of_append}
+use Rattle.rooted_cactus.proofs.Within.{block_within, of_lists, of_append}
 use Rattle.cactus_growth.proofs.WaysDown.{below_at}
 
 -- ---- lists with one element among others

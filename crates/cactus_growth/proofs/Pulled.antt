@@ -6,16 +6,16 @@ use Rattle.std.proofs.lemmas.List.{append_assoc}
 use Rattle.std.proofs.lemmas.List.Elements.{All-nil, All-append, All-cons, All-head, All-tail, Contains-append_left, Contains-append_right, Contains-append_cases}
 use Rattle.cut_definitions.specs.Cuts.{has, IsAscendingWithin}
 use Rattle.cut_definitions.proofs.ListLaws.{All-front, All-back}
-use Rattle.cactus_tree.specs.Sides.{Part, part, block_part, all_of, belows, all_cuts, with_below}
-use Rattle.cactus_tree.specs.Entered.{entered, entered_block}
-use Rattle.cactus_tree.specs.Trees.{vertices, blocks}
-use Rattle.cactus_tree.specs.Widths.{widths, block_widths}
-use Rattle.cactus_tree.specs.declared.tree.Node.{Node}
-use Rattle.cactus_tree.specs.declared.tree.Block.{Block}
-use Rattle.cactus_tree.proofs.Orders.{entered_out}
-use Rattle.cactus_tree.proofs.Segments.{has_append_at}
-use Rattle.cactus_tree.proofs.BlockLaws.{widths_flat}
-use Rattle.cactus_tree.proofs.Trims.{cuts_out}
+use Rattle.rooted_cactus.specs.Sides.{Part, part, block_part, all_of, belows, all_cuts, with_below}
+use Rattle.rooted_cactus.specs.Entered.{entered, entered_block}
+use Rattle.rooted_cactus.specs.Trees.{vertices, blocks}
+use Rattle.rooted_cactus.specs.Widths.{widths, block_widths}
+use Rattle.rooted_cactus.specs.declared.tree.Node.{Node}
+use Rattle.rooted_cactus.specs.declared.tree.Block.{Block}
+use Rattle.rooted_cactus.proofs.Orders.{entered_out}
+use Rattle.rooted_cactus.proofs.Segments.{has_append_at}
+use Rattle.rooted_cactus.proofs.BlockLaws.{widths_flat}
+use Rattle.rooted_cactus.proofs.Trims.{cuts_out}
 use Rattle.cactus_growth.specs.Growth.{times, AreAscending, AreWithin, AreWide, AreHung, IsTakenIn}
 use Rattle.cactus_growth.proofs.Counts.{count_both}
 use Rattle.cactus_growth.proofs.WaysDown.{below_at}

@@ -5,9 +5,9 @@ use Rattle.std.proofs.lemmas.Bool.{false≢true, or_from}
 use Rattle.cut_definitions.specs.Weight.{VertexSet, either}
 use Rattle.cut_definitions.proofs.Lists.{Contains-there, Contains-cons_cases}
 use Rattle.cut_definitions.proofs.Bools.{no_left, no_right}
-use Rattle.cactus_tree.specs.Sides.{all_of, from_here}
-use Rattle.cactus_tree.proofs.Parts.{either_assoc, either_nothing}
-use Rattle.cactus_tree.proofs.Cycles.{here_first}
+use Rattle.rooted_cactus.specs.Sides.{all_of, from_here}
+use Rattle.rooted_cactus.proofs.Parts.{either_assoc, either_nothing}
+use Rattle.rooted_cactus.proofs.Cycles.{here_first}
 
 -- the union of a set and those that follow it
 abbrev pub along : VertexSet → List VertexSet → VertexSet

@@ -13,7 +13,7 @@ use Rattle.std.proofs.lemmas.List.Elements.{All-weaker, All-contains, All-contai
 use Rattle.std.specs.List.{dedup}
 use Rattle.cut_definitions.specs.Cuts.{has, IsAscendingWithin}
 use Rattle.cut_definitions.proofs.Lists.{Contains-here}
-use Rattle.cactus_tree.proofs.Groups.{same_members, ascending_from}
+use Rattle.rooted_cactus.proofs.Groups.{same_members, ascending_from}
 
 rising_is : (n : ℕ) (xs : List ℕ) → IsStrictlyIncreasing xs → ((v : ℕ) → Contains xs v → (1 ≤ v) × (v ≤ n)) → IsAscendingWithin 1 n xs
 rising_is n [] up h = tt

@@ -7,15 +7,15 @@ use Rattle.std.proofs.lemmas.List.Elements.{All-nil, All-append, All-cons, Conta
 use Rattle.cut_definitions.specs.Weight.{VertexSet}
 use Rattle.cut_definitions.specs.Cuts.{has, IsAscendingWithin}
 use Rattle.cut_definitions.proofs.ListLaws.{All-front, All-back}
-use Rattle.cactus_tree.specs.Sides.{Part, part, block_part, all_of, belows, all_cuts}
-use Rattle.cactus_tree.specs.Entered.{entered, entered_block}
-use Rattle.cactus_tree.specs.Trees.{vertices, blocks}
-use Rattle.cactus_tree.specs.Widths.{widths, block_widths}
-use Rattle.cactus_tree.specs.declared.tree.Node.{Node}
-use Rattle.cactus_tree.proofs.Cycles.{cycle_cuts, cycle_rest}
-use Rattle.cactus_tree.proofs.Orders.{entered_out}
-use Rattle.cactus_tree.proofs.BlockLaws.{widths_flat}
-use Rattle.cactus_tree.proofs.Trims.{cuts_out}
+use Rattle.rooted_cactus.specs.Sides.{Part, part, block_part, all_of, belows, all_cuts}
+use Rattle.rooted_cactus.specs.Entered.{entered, entered_block}
+use Rattle.rooted_cactus.specs.Trees.{vertices, blocks}
+use Rattle.rooted_cactus.specs.Widths.{widths, block_widths}
+use Rattle.rooted_cactus.specs.declared.tree.Node.{Node}
+use Rattle.rooted_cactus.proofs.Cycles.{cycle_cuts, cycle_rest}
+use Rattle.rooted_cactus.proofs.Orders.{entered_out}
+use Rattle.rooted_cactus.proofs.BlockLaws.{widths_flat}
+use Rattle.rooted_cactus.proofs.Trims.{cuts_out}
 use Rattle.cactus_growth.specs.Growth.{times, AreOnce, AreAscending, AreWithin, AreWide, AscendBelow, IsArcHung, IsTakenIn, IsSorted, IsOpened, IsToward, IsPulled}
 use Rattle.cactus_growth.proofs.Counts.{count_both, count_some}
 use Rattle.cactus_growth.proofs.CycleKept.{node_lacks}

@@ -9,14 +9,14 @@ use Rattle.std.proofs.lemmas.List.Concat.{flat_map-append}
 use Rattle.std.proofs.lemmas.List.Elements.{All-nil, All-cons, All-head, All-tail, All-append, All-filter, All-weaker, filter-append}
 use Rattle.cut_definitions.specs.Cuts.{has}
 use Rattle.cut_definitions.proofs.ListLaws.{taken, All-front, All-back}
-use Rattle.cactus_tree.specs.Sides.{part, block_part, all_of, belows}
-use Rattle.cactus_tree.specs.Trees.{vertices, blocks}
-use Rattle.cactus_tree.specs.Entries.{nodes_of}
-use Rattle.cactus_tree.specs.declared.tree.Node.{Node}
-use Rattle.cactus_tree.specs.declared.tree.Block.{Block}
-use Rattle.cactus_tree.proofs.Tallies.{nodes_to_come, no_blocks, fewer_inner}
+use Rattle.rooted_cactus.specs.Sides.{part, block_part, all_of, belows}
+use Rattle.rooted_cactus.specs.Trees.{vertices, blocks}
+use Rattle.rooted_cactus.specs.Entries.{nodes_of}
+use Rattle.rooted_cactus.specs.declared.tree.Node.{Node}
+use Rattle.rooted_cactus.specs.declared.tree.Block.{Block}
+use Rattle.rooted_cactus.proofs.Tallies.{nodes_to_come, no_blocks, fewer_inner}
 use Rattle.cactus_growth.specs.Ways.{HasChild, IsStepTo, IsWay, LeadsTo, IsBelow, AreAdded, AreVisited, visited, same_step}
-use Rattle.cactus_tree.specs.Numbers.{is_inner}
+use Rattle.rooted_cactus.specs.Numbers.{is_inner}
 use Rattle.cactus_growth.specs.declared.ways.Step.{Step}
 use Rattle.cactus_growth.specs.declared.ways.Visit.{Visit}
 use Rattle.cactus_growth.proofs.WaysDown.{way_end, block_below, below_at}

@@ -5,14 +5,14 @@ use Rattle.std.proofs.lemmas.Option.{same_Some, slice_get_within}
 use Rattle.std.proofs.lemmas.Bool.{or_left, or_right}
 use Rattle.std.proofs.Math.Bool.{or-false}
 use Rattle.cut_definitions.specs.Cuts.{has}
-use Rattle.cactus_tree.specs.Sides.{Part, part, block_part, all_of, belows}
-use Rattle.cactus_tree.specs.Trees.{vertices, blocks}
-use Rattle.cactus_tree.specs.Entries.{nodes_of}
-use Rattle.cactus_tree.specs.declared.tree.Node.{Node}
-use Rattle.cactus_tree.specs.declared.tree.Block.{Block}
-use Rattle.cactus_tree.proofs.Parts.{part_out, bridge_part, cycle_part}
-use Rattle.cactus_tree.proofs.Entries.{nodes_bridge, nodes_cycle}
-use Rattle.cactus_tree.proofs.Views.{view}
+use Rattle.rooted_cactus.specs.Sides.{Part, part, block_part, all_of, belows}
+use Rattle.rooted_cactus.specs.Trees.{vertices, blocks}
+use Rattle.rooted_cactus.specs.Entries.{nodes_of}
+use Rattle.rooted_cactus.specs.declared.tree.Node.{Node}
+use Rattle.rooted_cactus.specs.declared.tree.Block.{Block}
+use Rattle.rooted_cactus.proofs.Parts.{part_out, bridge_part, cycle_part}
+use Rattle.rooted_cactus.proofs.Entries.{nodes_bridge, nodes_cycle}
+use Rattle.rooted_cactus.proofs.Views.{view}
 use Rattle.cactus_growth.specs.Ways.{HasChild, IsWay}
 use Rattle.cactus_growth.specs.declared.ways.Step.{Step}
 

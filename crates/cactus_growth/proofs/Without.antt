@@ -4,14 +4,14 @@ use Rattle.std.specs.List.{Contains}
 use Rattle.std.proofs.lemmas.Bool.{or_right, false_from_ne_true, false≢true}
 use Rattle.cut_definitions.specs.Weight.{VertexSet, either}
 use Rattle.cut_definitions.proofs.Lists.{Contains-here, Contains-there, Contains-cons_cases, Contains-nil}
-use Rattle.cactus_tree.specs.Sides.{Part, part, all_of, belows, from_here}
-use Rattle.cactus_tree.specs.Entered.{entered, in_order}
-use Rattle.cactus_tree.specs.declared.tree.Node.{Node}
-use Rattle.cactus_tree.proofs.Segments.{cycle_laid}
-use Rattle.cactus_tree.proofs.Sets.{IsIn}
-use Rattle.cactus_tree.proofs.Cycles.{cycle_cuts, cycle_cases, cycle_here, cycle_own, cycle_rest, here_above}
-use Rattle.cactus_tree.proofs.BlockLaws.{nodes_laid}
-use Rattle.cactus_tree.proofs.Within.{segment_within}
+use Rattle.rooted_cactus.specs.Sides.{Part, part, all_of, belows, from_here}
+use Rattle.rooted_cactus.specs.Entered.{entered, in_order}
+use Rattle.rooted_cactus.specs.declared.tree.Node.{Node}
+use Rattle.rooted_cactus.proofs.Segments.{cycle_laid}
+use Rattle.rooted_cactus.proofs.Sets.{IsIn}
+use Rattle.rooted_cactus.proofs.Cycles.{cycle_cuts, cycle_cases, cycle_here, cycle_own, cycle_rest, here_above}
+use Rattle.rooted_cactus.proofs.BlockLaws.{nodes_laid}
+use Rattle.rooted_cactus.proofs.Within.{segment_within}
 
 -- a cut of a cycle is within what is below its children
 pub cycle_inside : (xs : List Node) (s : VertexSet) → Contains (cycle_cuts (map part xs)) s → IsIn s (all_of (belows (map part xs)))

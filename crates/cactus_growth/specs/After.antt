@@ -3,9 +3,9 @@ use Rattle.std.specs.Prelude.{ℕ, ◌≡◌, ◌≤◌, ◌↔◌, true, false,
 use Rattle.std.specs.List.{Contains}
 use Rattle.cut_definitions.specs.Cuts.{has}
 use Rattle.cut_definitions.specs.Weight.{parts}
-use Rattle.cactus_tree.specs.Normal.{is_normal}
-use Rattle.cactus_tree.specs.Rooted.{Rooted, sides_of}
-use Rattle.cactus_tree.specs.Trees.{blocks}
+use Rattle.rooted_cactus.specs.Normal.{is_normal}
+use Rattle.rooted_cactus.specs.Rooted.{Rooted, sides_of}
+use Rattle.rooted_cactus.specs.Trees.{blocks}
 use Rattle.cactus_growth.specs.declared.grown.Grown.{Grown}
 use Rattle.cactus_growth.specs.declared.grown.Grown.TheVariants.{Kept, Gone}
 

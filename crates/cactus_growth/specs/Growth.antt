@@ -3,12 +3,12 @@ use Rattle.std.specs.Prelude.{ℕ, ◌≡◌, ◌+◌, ◌≤◌, ◌⊎◌, ◌
 use Rattle.std.specs.List.{All, Contains, filter, flat_map}
 use Rattle.cut_definitions.specs.Weight.{VertexSet}
 use Rattle.cut_definitions.specs.Cuts.{has, IsAscendingWithin}
-use Rattle.cactus_tree.specs.Sides.{part, block_part, all_of, belows, all_cuts, cycle_of, with_below}
-use Rattle.cactus_tree.specs.Entered.{entered, entered_block}
-use Rattle.cactus_tree.specs.Trees.{vertices, blocks}
-use Rattle.cactus_tree.specs.Widths.{widths, block_widths}
-use Rattle.cactus_tree.specs.declared.tree.Node.{Node}
-use Rattle.cactus_tree.specs.declared.tree.Block.{Block}
+use Rattle.rooted_cactus.specs.Sides.{part, block_part, all_of, belows, all_cuts, cycle_of, with_below}
+use Rattle.rooted_cactus.specs.Entered.{entered, entered_block}
+use Rattle.rooted_cactus.specs.Trees.{vertices, blocks}
+use Rattle.rooted_cactus.specs.Widths.{widths, block_widths}
+use Rattle.rooted_cactus.specs.declared.tree.Node.{Node}
+use Rattle.rooted_cactus.specs.declared.tree.Block.{Block}
 
 -- in how many lists a vertex is
 abbrev pub times : ℕ → List (List ℕ) → ℕ

@@ -2,12 +2,12 @@
 
 ghost use Rattle.std.specs.Prelude.{ℕ, ◌≡◌, ◌≢◌, ◌<◌, ◌++◌, ◌∷◌, false, true, take, slice_get, IfOk};
 ghost use Rattle.std.specs.List.{flat_map};
-ghost use Rattle.cactus_tree.specs.declared.tree.Node.{Node};
-ghost use Rattle.cactus_tree.specs.declared.tree.Block.{Block};
-ghost use Rattle.cactus_tree.specs.Entered.{entered};
-ghost use Rattle.cactus_tree.specs.Entries.{nodes_of, top_first};
-ghost use Rattle.cactus_tree.specs.Sides.{below};
-ghost use Rattle.cactus_tree.specs.Trees.{blocks, nodes_in, vertices};
+ghost use Rattle.rooted_cactus.specs.declared.tree.Node.{Node};
+ghost use Rattle.rooted_cactus.specs.declared.tree.Block.{Block};
+ghost use Rattle.rooted_cactus.specs.Entered.{entered};
+ghost use Rattle.rooted_cactus.specs.Entries.{nodes_of, top_first};
+ghost use Rattle.rooted_cactus.specs.Sides.{below};
+ghost use Rattle.rooted_cactus.specs.Trees.{blocks, nodes_in, vertices};
 ghost use Rattle.cactus_growth.specs.Growth.{AreOnce, IsArcHung, IsGrown, IsOpened, IsPulled, IsToward};
 ghost use Rattle.cactus_growth.specs.Levels.{AreAbove};
 ghost use Rattle.cactus_growth.specs.Ways.{HasChild, IsWay, LeadsTo};
@@ -16,8 +16,8 @@ use crate::pieces::{
     hang_all, hang_arc, nodes_of_block, put_between, sorted, take_in, taken_block, taken_out,
 };
 use crate::ways::{Step, shared_steps, way_to};
-use cactus_tree::{Blocks, Children, Node, VertexList};
 use cut_definitions::NoMemory;
+use rooted_cactus::{Blocks, Children, Node, VertexList};
 use std::alloc::Global;
 
 /// A node without a node right below it.

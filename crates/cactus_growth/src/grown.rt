@@ -1,14 +1,14 @@
 //! What an insertion does to a cactus.
 
 ghost use Rattle.std.specs.Prelude.{◌≡◌, ◌≢◌, ◌≤◌, nat_lt, true, length, IfOk};
-ghost use Rattle.cactus_tree.specs.Different.{HasNoEmptySide, HaveSameSides};
-ghost use Rattle.cactus_tree.specs.Normal.{is_normal};
-ghost use Rattle.cactus_tree.specs.Trees.{blocks};
+ghost use Rattle.rooted_cactus.specs.Different.{HasNoEmptySide, HaveSameSides};
+ghost use Rattle.rooted_cactus.specs.Normal.{is_normal};
+ghost use Rattle.rooted_cactus.specs.Trees.{blocks};
 ghost use Rattle.cactus_growth.specs.After.{IsAfter};
 
 use crate::growing::grow_node;
-use cactus_tree::{Cactus, Node};
 use cut_definitions::NoMemory;
+use rooted_cactus::{Cactus, Node};
 use std::alloc::Global;
 
 /// A cactus after an insertion.

@@ -3,16 +3,16 @@
 ghost use Rattle.std.specs.Prelude.{ℕ, ◌≡◌, ◌≤◌, ◌<◌, ◌++◌, ◌∷◌, [], length, map, take, drop, slice_get, IfOk, OnOk};
 ghost use Rattle.std.specs.List.{All, flat_map};
 ghost use Rattle.cut_definitions.specs.Cuts.{has, IsAscendingWithin};
-ghost use Rattle.cactus_tree.specs.declared.tree.Node.{Node};
-ghost use Rattle.cactus_tree.specs.Entered.{entered, entered_block};
-ghost use Rattle.cactus_tree.specs.Entries.{nodes_of};
-ghost use Rattle.cactus_tree.specs.Sides.{block_part, cycle_of, part, with_below};
-ghost use Rattle.cactus_tree.specs.Trees.{blocks, blocks_in, nodes_in, vertices};
-ghost use Rattle.cactus_tree.specs.Widths.{block_widths, widths};
+ghost use Rattle.rooted_cactus.specs.declared.tree.Node.{Node};
+ghost use Rattle.rooted_cactus.specs.Entered.{entered, entered_block};
+ghost use Rattle.rooted_cactus.specs.Entries.{nodes_of};
+ghost use Rattle.rooted_cactus.specs.Sides.{block_part, cycle_of, part, with_below};
+ghost use Rattle.rooted_cactus.specs.Trees.{blocks, blocks_in, nodes_in, vertices};
+ghost use Rattle.rooted_cactus.specs.Widths.{block_widths, widths};
 ghost use Rattle.cactus_growth.specs.Growth.{AreHung, IsArcHung, IsSorted, IsTakenIn};
 
-use cactus_tree::{Block, Blocks, Children, Node, VertexList};
 use cut_definitions::NoMemory;
+use rooted_cactus::{Block, Blocks, Children, Node, VertexList};
 use std::alloc::Global;
 
 /// Hangs one more block below a node.

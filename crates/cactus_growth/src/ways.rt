@@ -3,15 +3,15 @@
 ghost use Rattle.std.specs.Prelude.{ℕ, ◌≡◌, ◌≢◌, ◌≤◌, ◌<◌, ◌==◌, ◌&&◌, take, length, map, slice_get, true, [], ◌∷◌, IfOk, IfSome, IfNone};
 ghost use Rattle.std.specs.List.{flat_map};
 ghost use Rattle.cut_definitions.specs.Cuts.{has};
-ghost use Rattle.cactus_tree.specs.declared.tree.Node.{Node};
-ghost use Rattle.cactus_tree.specs.declared.tree.Block.{Block};
-ghost use Rattle.cactus_tree.specs.Entries.{nodes_of};
-ghost use Rattle.cactus_tree.specs.Sides.{below};
-ghost use Rattle.cactus_tree.specs.Trees.{blocks, nodes_in};
+ghost use Rattle.rooted_cactus.specs.declared.tree.Node.{Node};
+ghost use Rattle.rooted_cactus.specs.declared.tree.Block.{Block};
+ghost use Rattle.rooted_cactus.specs.Entries.{nodes_of};
+ghost use Rattle.rooted_cactus.specs.Sides.{below};
+ghost use Rattle.rooted_cactus.specs.Trees.{blocks, nodes_in};
 ghost use Rattle.cactus_growth.specs.Ways.{AreVisited, HasChild, IsStepTo, LeadsTo, same_step};
 
-use cactus_tree::{Block, Children, Node, VertexList};
 use cut_definitions::NoMemory;
+use rooted_cactus::{Block, Children, Node, VertexList};
 use std::alloc::Global;
 
 /// A step from a node to a node right below it.

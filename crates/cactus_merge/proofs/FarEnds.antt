@@ -1,9 +1,9 @@
 -- The node at the far end of a run.
 use Rattle.std.proofs.Common.{◌≡◌, [], inr, refl, sym, ◌∙◌, ap, subst}
-use Rattle.cactus_tree.specs.Sides.{Part, part, with_below, bridge_of, nothing}
-use Rattle.cactus_tree.specs.Trees.{vertices, blocks}
-use Rattle.cactus_tree.specs.declared.tree.Node.{Node}
-use Rattle.cactus_tree.proofs.Parts.{part_out}
+use Rattle.rooted_cactus.specs.Sides.{Part, part, with_below, bridge_of, nothing}
+use Rattle.rooted_cactus.specs.Trees.{vertices, blocks}
+use Rattle.rooted_cactus.specs.declared.tree.Node.{Node}
+use Rattle.rooted_cactus.proofs.Parts.{part_out}
 use Rattle.cactus_merge.specs.Joined.{IsFarEnd}
 use Rattle.cut_definitions.proofs.Lists.{Contains-there}
 use Rattle.cut_definitions.proofs.ListLaws.{head_or_tail}

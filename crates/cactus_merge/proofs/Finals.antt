@@ -14,13 +14,13 @@ use Rattle.cut_definitions.proofs.ListLaws.{All-back}
 use Rattle.residual_chain.specs.declared.run.Run.{Run}
 use Rattle.residual_chain.specs.Chain.{ChainView, IsChainShape, IsInnerRun}
 use Rattle.residual_chain.specs.Search.{mark_of}
-use Rattle.cactus_tree.specs.Entered.{entered}
-use Rattle.cactus_tree.specs.Sides.{Part, part, cuts, belows, all_cuts, intervals}
-use Rattle.cactus_tree.specs.Rooted.{IsCactus, places, sides_of}
-use Rattle.cactus_tree.specs.Trees.{vertices}
-use Rattle.cactus_tree.specs.declared.tree.Node.{Node}
-use Rattle.cactus_tree.proofs.Segments.{has_append_at}
-use Rattle.cactus_tree.proofs.Layouts.{laid_out}
+use Rattle.rooted_cactus.specs.Entered.{entered}
+use Rattle.rooted_cactus.specs.Sides.{Part, part, cuts, belows, all_cuts, intervals}
+use Rattle.rooted_cactus.specs.Rooted.{IsCactus, places, sides_of}
+use Rattle.rooted_cactus.specs.Trees.{vertices}
+use Rattle.rooted_cactus.specs.declared.tree.Node.{Node}
+use Rattle.rooted_cactus.proofs.Segments.{has_append_at}
+use Rattle.rooted_cactus.proofs.Layouts.{laid_out}
 use Rattle.cactus_merge.specs.declared.part.PartCactus.{PartCactus}
 use Rattle.cactus_merge.specs.Joined.{IsRuns, IsWide, SameSets, joined_cuts, run_cuts, run_parts, tails, held, has_some}
 use Rattle.cut_definitions.specs.Members.{SameMembers}

@@ -5,13 +5,13 @@ use Rattle.std.proofs.lemmas.List.{append-nil, append_assoc}
 use Rattle.std.proofs.Math.Seq.{drop-length}
 use Rattle.std.proofs.lemmas.List.Concat.{flat_map-append}
 use Rattle.std.proofs.lemmas.List.Elements.{filter-append}
-use Rattle.cactus_tree.specs.Entered.{entered, entered_block}
-use Rattle.cactus_tree.specs.Trees.{vertices, blocks, nodes_in}
-use Rattle.cactus_tree.specs.declared.tree.Node.{Node}
-use Rattle.cactus_tree.specs.declared.tree.Block.{Block}
-use Rattle.cactus_tree.specs.declared.tree.Block.TheVariants.{Cycle}
-use Rattle.cactus_tree.specs.declared.tree.Children.{Children}
-use Rattle.cactus_tree.proofs.Orders.{entered_out, entered_cycle, hung_entered}
+use Rattle.rooted_cactus.specs.Entered.{entered, entered_block}
+use Rattle.rooted_cactus.specs.Trees.{vertices, blocks, nodes_in}
+use Rattle.rooted_cactus.specs.declared.tree.Node.{Node}
+use Rattle.rooted_cactus.specs.declared.tree.Block.{Block}
+use Rattle.rooted_cactus.specs.declared.tree.Block.TheVariants.{Cycle}
+use Rattle.rooted_cactus.specs.declared.tree.Children.{Children}
+use Rattle.rooted_cactus.proofs.Orders.{entered_out, entered_cycle, hung_entered}
 use Rattle.cactus_merge.specs.Joined.{has_some, held, block_held}
 
 filter_each : {X Y : Type 0} (p : Y → Bool) (f : X → List Y) (xs : List X) → filter p (flat_map f xs) ≡ flat_map (λ x. filter p (f x)) xs

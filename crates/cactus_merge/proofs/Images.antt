@@ -9,10 +9,10 @@ use Rattle.std.proofs.Math.Bool.{or-false}
 use Rattle.cut_definitions.specs.Weight.{VertexSet}
 use Rattle.cut_definitions.specs.Cuts.{has}
 use Rattle.cut_definitions.proofs.Bools.{or_nothing}
-use Rattle.cactus_tree.specs.Sides.{Part, part_by, cuts}
-use Rattle.cactus_tree.specs.Entered.{name_of, renamed}
-use Rattle.cactus_tree.specs.declared.tree.Node.{Node}
-use Rattle.cactus_tree.proofs.Lifts.{KeepsUnions, lifted, own_lists}
+use Rattle.rooted_cactus.specs.Sides.{Part, part_by, cuts}
+use Rattle.rooted_cactus.specs.Entered.{name_of, renamed}
+use Rattle.rooted_cactus.specs.declared.tree.Node.{Node}
+use Rattle.rooted_cactus.proofs.Lifts.{KeepsUnions, lifted, own_lists}
 
 any_none : (c : ℕ → Bool) (xs : List ℕ) → list_any (λ u. false && c u) xs ≡ false
 any_none c [] = refl

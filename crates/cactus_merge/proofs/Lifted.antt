@@ -7,10 +7,10 @@ use Rattle.std.proofs.lemmas.Bool.{cases_eq, cases_lt, and_left, lt-leb}
 use Rattle.cut_definitions.specs.Weight.{VertexSet}
 use Rattle.cut_definitions.specs.Cuts.{has}
 use Rattle.cut_definitions.proofs.Lists.{Contains-here, Contains-there}
-use Rattle.cactus_tree.specs.Sides.{cuts}
-use Rattle.cactus_tree.specs.Entered.{name_of}
-use Rattle.cactus_tree.specs.Rooted.{IsCactus, sides_of}
-use Rattle.cactus_tree.specs.declared.tree.Node.{Node}
+use Rattle.rooted_cactus.specs.Sides.{cuts}
+use Rattle.rooted_cactus.specs.Entered.{name_of}
+use Rattle.rooted_cactus.specs.Rooted.{IsCactus, sides_of}
+use Rattle.rooted_cactus.specs.declared.tree.Node.{Node}
 use Rattle.cactus_merge.specs.Assembled.{set_list, stands_for, lifted_side, names_by}
 use Rattle.cactus_merge.proofs.Images.{image, any_same, any_filter}
 use Rattle.cactus_merge.proofs.Numbered.{same_list}

@@ -8,7 +8,7 @@ use Rattle.cut_definitions.specs.Cuts.{has, IsAscendingWithin}
 use Rattle.cut_definitions.proofs.Bridge.{has_low}
 use Rattle.cut_definitions.proofs.Bools.{never_both, no_left, no_right}
 use Rattle.cut_definitions.proofs.ListLaws.{All-back}
-use Rattle.cactus_tree.specs.Entered.{name_of, renamed}
+use Rattle.rooted_cactus.specs.Entered.{name_of, renamed}
 use Rattle.cactus_merge.specs.Assembled.{names_by, inserted}
 use Rattle.cactus_merge.proofs.Lifted.{name_at}
 use Rattle.cactus_merge.proofs.Within.{Lacks}

@@ -9,14 +9,14 @@ use Rattle.cut_definitions.proofs.Bools.{never_both}
 use Rattle.cut_definitions.proofs.Ascending.{contains_has, has_contains}
 use Rattle.residual_chain.specs.Chain.{ChainView}
 use Rattle.residual_chain.specs.Search.{mark_of}
-use Rattle.cactus_tree.specs.Entered.{entered, entered_block, name_of, renamed}
-use Rattle.cactus_tree.specs.Sides.{cuts}
-use Rattle.cactus_tree.specs.Rooted.{IsCactus}
-use Rattle.cactus_tree.specs.Widths.{widths, block_widths, joined}
-use Rattle.cactus_tree.specs.Trees.{vertices, blocks}
-use Rattle.cactus_tree.specs.declared.tree.Node.{Node}
-use Rattle.cactus_tree.proofs.Orders.{entered_out}
-use Rattle.cactus_tree.proofs.Widths.{widths_out}
+use Rattle.rooted_cactus.specs.Entered.{entered, entered_block, name_of, renamed}
+use Rattle.rooted_cactus.specs.Sides.{cuts}
+use Rattle.rooted_cactus.specs.Rooted.{IsCactus}
+use Rattle.rooted_cactus.specs.Widths.{widths, block_widths, joined}
+use Rattle.rooted_cactus.specs.Trees.{vertices, blocks}
+use Rattle.rooted_cactus.specs.declared.tree.Node.{Node}
+use Rattle.rooted_cactus.proofs.Orders.{entered_out}
+use Rattle.rooted_cactus.proofs.Widths.{widths_out}
 use Rattle.cactus_merge.specs.declared.part.PartCactus.{PartCactus}
 use Rattle.cactus_merge.specs.Assembled.{IsPartOf, IsNodeOf, names_by}
 use Rattle.cactus_merge.proofs.Images.{image}

@@ -7,7 +7,7 @@ use Rattle.std.proofs.lemmas.List.{map-append}
 use Rattle.cut_definitions.specs.Weight.{VertexSet, either}
 use Rattle.cut_definitions.specs.Chain.{SameOn, one_part, parts_between}
 use Rattle.cut_definitions.proofs.Bridge.{has_within, IsAscendingWithin-filter, same_ascending}
-use Rattle.cactus_tree.specs.Sides.{Part, all_of, belows, from_here, intervals}
+use Rattle.rooted_cactus.specs.Sides.{Part, all_of, belows, from_here, intervals}
 use Rattle.cactus_merge.specs.Joined.{tails}
 use Rattle.cactus_merge.specs.Assembled.{set_list}
 

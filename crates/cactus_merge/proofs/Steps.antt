@@ -3,8 +3,8 @@ use Rattle.std.proofs.Common.{◌≡◌, ℕ, ◌+◌, ◌-◌, ◌≤◌, ◌<�
 use Rattle.std.proofs.lemmas.List.{map-append, drop-take, take-map, drop-map, length-map}
 use Rattle.std.proofs.Math.Seq.{drop-cons, drop-length}
 use Rattle.cut_definitions.specs.Weight.{either}
-use Rattle.cactus_tree.specs.Sides.{Part, part, all_of, belows, all_cuts, with_below, bridge_of, cycle_of}
-use Rattle.cactus_tree.specs.declared.tree.Node.{Node}
+use Rattle.rooted_cactus.specs.Sides.{Part, part, all_of, belows, all_cuts, with_below, bridge_of, cycle_of}
+use Rattle.rooted_cactus.specs.declared.tree.Node.{Node}
 use Rattle.residual_chain.specs.declared.run.Run.{Run}
 use Rattle.cactus_merge.specs.Joined.{run_parts, run_cuts, tails, joined_cuts, bridges, IsFarEnd, SameSets}
 use Rattle.cactus_merge.proofs.Tails.{IsTail, tail_bridges, tail_run, tail_last, tail_first}

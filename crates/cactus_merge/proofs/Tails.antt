@@ -3,8 +3,8 @@ use Rattle.std.proofs.Common.{◌≡◌, List, [], ◌∷◌, ◌++◌, ◌⊎�
 use Rattle.std.specs.List.{Contains}
 use Rattle.std.proofs.lemmas.List.Elements.{Contains-append_cases, Contains-append_left, Contains-append_right}
 use Rattle.cut_definitions.specs.Weight.{VertexSet, either}
-use Rattle.cactus_tree.specs.Sides.{Part, all_of, intervals, belows, all_cuts, with_below, bridge_of, cycle_of}
-use Rattle.cactus_tree.proofs.Parts.{either_assoc, either_nothing, all_of_push, all_cuts_append, all_cuts_push}
+use Rattle.rooted_cactus.specs.Sides.{Part, all_of, intervals, belows, all_cuts, with_below, bridge_of, cycle_of}
+use Rattle.rooted_cactus.proofs.Parts.{either_assoc, either_nothing, all_of_push, all_cuts_append, all_cuts_push}
 use Rattle.residual_chain.specs.declared.run.Run.{Run}
 use Rattle.cactus_merge.specs.Joined.{tails, run_parts, run_cuts, SameSets, IsFarEnd, bridges}
 use Rattle.cut_definitions.proofs.Lists.{Contains-nil, Contains-here, Contains-there}

@@ -7,9 +7,9 @@ use Rattle.cut_definitions.proofs.Bools.{never_both}
 use Rattle.cut_definitions.proofs.Ascending.{has_one}
 use Rattle.residual_chain.specs.Chain.{ChainView, IsChainShape}
 use Rattle.residual_chain.specs.Search.{mark_of}
-use Rattle.cactus_tree.specs.Entered.{name_of, renamed}
-use Rattle.cactus_tree.specs.Trees.{vertices}
-use Rattle.cactus_tree.specs.declared.tree.Node.{Node}
+use Rattle.rooted_cactus.specs.Entered.{name_of, renamed}
+use Rattle.rooted_cactus.specs.Trees.{vertices}
+use Rattle.rooted_cactus.specs.declared.tree.Node.{Node}
 use Rattle.cactus_merge.specs.declared.part.PartCactus.{PartCactus}
 use Rattle.cactus_merge.specs.Assembled.{IsPartOf, names_by, inserted}
 use Rattle.cactus_merge.proofs.Lifted.{name_at}

@@ -4,13 +4,13 @@ use Rattle.std.specs.List.{All}
 use Rattle.std.proofs.lemmas.List.{length-append, length-map, length-drop}
 use Rattle.std.proofs.lemmas.List.Elements.{All-append, All-cons, All-head, All-nil, All-drop}
 use Rattle.cut_definitions.proofs.ListLaws.{All-front, All-back}
-use Rattle.cactus_tree.specs.Trees.{blocks, nodes_in}
-use Rattle.cactus_tree.specs.Widths.{widths, block_widths, joined}
-use Rattle.cactus_tree.specs.declared.tree.Node.{Node}
-use Rattle.cactus_tree.specs.declared.tree.Block.{Block}
-use Rattle.cactus_tree.specs.declared.tree.Block.TheVariants.{Cycle}
-use Rattle.cactus_tree.specs.declared.tree.Children.{Children}
-use Rattle.cactus_tree.proofs.Widths.{widths_out, widths_cycle}
+use Rattle.rooted_cactus.specs.Trees.{blocks, nodes_in}
+use Rattle.rooted_cactus.specs.Widths.{widths, block_widths, joined}
+use Rattle.rooted_cactus.specs.declared.tree.Node.{Node}
+use Rattle.rooted_cactus.specs.declared.tree.Block.{Block}
+use Rattle.rooted_cactus.specs.declared.tree.Block.TheVariants.{Cycle}
+use Rattle.rooted_cactus.specs.declared.tree.Children.{Children}
+use Rattle.rooted_cactus.proofs.Widths.{widths_out, widths_cycle}
 use Rattle.cactus_merge.specs.Joined.{IsWide, IsWideBlock}
 
 abbrev Two : ℕ → Type 0

@@ -9,15 +9,15 @@ use Rattle.cut_definitions.proofs.Bridge.{has_low}
 use Rattle.cut_definitions.proofs.Ascending.{has_high, contains_has}
 use Rattle.cut_definitions.proofs.ListLaws.{All-front, All-back}
 use Rattle.cut_definitions.proofs.Bools.{no_left, no_right}
-use Rattle.cactus_tree.specs.Sides.{Part, cuts, together, block_part}
-use Rattle.cactus_tree.specs.Trees.{vertices, blocks}
-use Rattle.cactus_tree.specs.Entered.{entered, entered_block}
-use Rattle.cactus_tree.specs.Rooted.{IsCactus}
-use Rattle.cactus_tree.specs.declared.tree.Node.{Node, roll-Node, out-Node}
-use Rattle.cactus_tree.proofs.Parts.{part_out}
-use Rattle.cactus_tree.proofs.Orders.{entered_out}
-use Rattle.cactus_tree.proofs.Segments.{IsSegment}
-use Rattle.cactus_tree.proofs.Layouts.{cut_is_segment}
+use Rattle.rooted_cactus.specs.Sides.{Part, cuts, together, block_part}
+use Rattle.rooted_cactus.specs.Trees.{vertices, blocks}
+use Rattle.rooted_cactus.specs.Entered.{entered, entered_block}
+use Rattle.rooted_cactus.specs.Rooted.{IsCactus}
+use Rattle.rooted_cactus.specs.declared.tree.Node.{Node, roll-Node, out-Node}
+use Rattle.rooted_cactus.proofs.Parts.{part_out}
+use Rattle.rooted_cactus.proofs.Orders.{entered_out}
+use Rattle.rooted_cactus.proofs.Segments.{IsSegment}
+use Rattle.rooted_cactus.proofs.Layouts.{cut_is_segment}
 
 -- the vertices of the nodes below a node
 abbrev pub under : Node → List (List ℕ)

@@ -7,12 +7,12 @@ use Rattle.cut_definitions.specs.Chain.{parts_between}
 use Rattle.residual_chain.specs.declared.run.Run.{Run}
 use Rattle.residual_chain.specs.Chain.{ChainView}
 use Rattle.residual_chain.specs.Search.{mark_of}
-use Rattle.cactus_tree.specs.Rooted.{sides_of, places}
-use Rattle.cactus_tree.specs.Sides.{cuts}
-use Rattle.cactus_tree.specs.Entered.{entered}
-use Rattle.cactus_tree.specs.Trees.{vertices}
-use Rattle.cactus_tree.specs.Widths.{widths}
-use Rattle.cactus_tree.specs.declared.tree.Node.{Node}
+use Rattle.rooted_cactus.specs.Rooted.{sides_of, places}
+use Rattle.rooted_cactus.specs.Sides.{cuts}
+use Rattle.rooted_cactus.specs.Entered.{entered}
+use Rattle.rooted_cactus.specs.Trees.{vertices}
+use Rattle.rooted_cactus.specs.Widths.{widths}
+use Rattle.rooted_cactus.specs.declared.tree.Node.{Node}
 use Rattle.cactus_merge.specs.declared.part.PartCactus.{PartCactus}
 
 -- the vertices of 1 to n in a set

@@ -1,19 +1,19 @@
 //! The node of a part: the root of its cactus, with the vertices of the graph.
 
 ghost use Rattle.std.specs.Prelude.{List, ◌≡◌, ℕ, ◌≤◌, ◌<◌, [], ◌∷◌, ◌++◌, length, map, take, drop, IfOk, ◌==◌, nat_lt, if◌then◌else◌};
-ghost use Rattle.cactus_tree.specs.Trees.{blocks, vertices};
-ghost use Rattle.cactus_tree.specs.Rooted.{IsCactus};
-ghost use Rattle.cactus_tree.specs.Widths.{widths};
-ghost use Rattle.cactus_tree.specs.Entered.{entered, renamed};
-ghost use Rattle.cactus_tree.specs.Sides.{part_by};
+ghost use Rattle.rooted_cactus.specs.Trees.{blocks, vertices};
+ghost use Rattle.rooted_cactus.specs.Rooted.{IsCactus};
+ghost use Rattle.rooted_cactus.specs.Widths.{widths};
+ghost use Rattle.rooted_cactus.specs.Entered.{entered, renamed};
+ghost use Rattle.rooted_cactus.specs.Sides.{part_by};
 ghost use Rattle.cut_definitions.specs.Weight.{VertexSet};
 ghost use Rattle.residual_chain.specs.Chain.{IsChainShape};
 ghost use Rattle.cactus_merge.specs.Assembled.{inserted, names_by, IsPartOf, IsNodeOf};
 
 use crate::part::PartCactus;
-use cactus_tree::{Node, VertexList, rename_node};
 use cut_definitions::NoMemory;
 use residual_chain::Chain;
+use rooted_cactus::{Node, VertexList, rename_node};
 use std::alloc::Global;
 
 /// The names of the vertices of a part's cactus: 1 stays, and j + 1 becomes the j-th vertex of the list.

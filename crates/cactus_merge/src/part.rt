@@ -1,17 +1,17 @@
 //! The parts of a chain with their cactuses, and the cactus of the whole.
 
 ghost use Rattle.std.specs.Prelude.{◌≡◌, ℕ, ◌≤◌, ◌<◌, [], ◌∷◌, ◌++◌, length, map, IfOk};
-ghost use Rattle.cactus_tree.specs.Rooted.{sides_of};
+ghost use Rattle.rooted_cactus.specs.Rooted.{sides_of};
 ghost use Rattle.cut_definitions.specs.Members.{SameMembers};
 ghost use Rattle.cactus_merge.specs.Assembled.{ArePartsOf, AreNodesOf, assembled_sides};
 ghost use Rattle.residual_chain.specs.Chain.{IsChainShape};
-ghost use Rattle.cactus_tree.specs.Trees.{nodes_in};
+ghost use Rattle.rooted_cactus.specs.Trees.{nodes_in};
 
 use crate::assembly::join;
 use crate::node::part_node;
-use cactus_tree::{Cactus, Children, VertexList};
 use cut_definitions::NoMemory;
 use residual_chain::Chain;
+use rooted_cactus::{Cactus, Children, VertexList};
 use std::alloc::Global;
 
 /// The cactus of a part of a chain, in which vertex 1 stands for all vertices that are not in the list, and vertex j + 1

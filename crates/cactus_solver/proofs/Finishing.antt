@@ -12,8 +12,8 @@ use Rattle.cut_definitions.proofs.Bridge.{has_low, side_of-has, IsCut-has, IsMin
 use Rattle.cut_definitions.proofs.Values.{value_is_weight, Contains-mincuts, IsSide-from_mincuts}
 use Rattle.cut_definitions.proofs.Lists.{Contains-from_map}
 use Rattle.cut_definitions.proofs.ListLaws.{some_long}
-use Rattle.cactus_tree.specs.Rooted.{Rooted, sides_of}
-use Rattle.cactus_tree.specs.Sides.{cuts}
+use Rattle.rooted_cactus.specs.Rooted.{Rooted, sides_of}
+use Rattle.rooted_cactus.specs.Sides.{cuts}
 use Rattle.node_tree.specs.Finished.{IsTreeOfAll}
 use Rattle.node_tree.specs.Flat.{NodeArrays, sets_of}
 use Rattle.cut_definitions.specs.Members.{SameMembers}

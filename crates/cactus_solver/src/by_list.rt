@@ -3,8 +3,8 @@
 ghost use Rattle.std.specs.Prelude.{◌≡◌, ◌≤◌, IfOk, IfSome, true};
 ghost use Rattle.cut_definitions.specs.Components.{IsConnected};
 ghost use Rattle.cut_definitions.specs.Cuts.{value as least_value, mincuts};
-ghost use Rattle.cactus_tree.specs.Normal.{is_normal};
-ghost use Rattle.cactus_tree.specs.Rooted.{sides_of};
+ghost use Rattle.rooted_cactus.specs.Normal.{is_normal};
+ghost use Rattle.rooted_cactus.specs.Rooted.{sides_of};
 ghost use Rattle.min_value.specs.Kernels.{IsKept};
 ghost use Rattle.node_tree.specs.Finished.{IsFinished};
 ghost use Rattle.cut_definitions.specs.Members.{SameMembers};

@@ -3,18 +3,18 @@
 ghost use Rattle.std.specs.Prelude.{◌≡◌, ◌≤◌, IfOk, true};
 ghost use Rattle.cut_definitions.specs.Components.{IsConnected};
 ghost use Rattle.cut_definitions.specs.Cuts.{value, value as least_value, mincuts};
-ghost use Rattle.cactus_tree.specs.Normal.{is_normal};
-ghost use Rattle.cactus_tree.specs.Rooted.{sides_of};
+ghost use Rattle.rooted_cactus.specs.Normal.{is_normal};
+ghost use Rattle.rooted_cactus.specs.Rooted.{sides_of};
 ghost use Rattle.min_value.specs.Kernels.{IsKept};
 ghost use Rattle.node_tree.specs.Finished.{IsFinished};
 ghost use Rattle.cut_definitions.specs.Members.{SameMembers};
 
-use cactus_tree::Cactus;
 use cut_definitions::NoMemory;
 use min_value::{Kernel, reduce, value as least_weight};
 use node_tree::{HomedTree, cactus_of_tree, normal_form, tree_of_branches};
 use outside::Gate;
 use region_sweep::tree_by_workers;
+use rooted_cactus::Cactus;
 use std::alloc::Global;
 use std::thread::Threads;
 use weighted_graph::Graph;

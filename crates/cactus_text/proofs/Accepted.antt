@@ -10,8 +10,8 @@ use Rattle.std.proofs.lemmas.List.Elements.{filter-append, All-push}
 use Rattle.std.proofs.lemmas.List.FromFn.{get_or-range_with_len, length-range_with_len}
 use Rattle.cut_definitions.specs.Cuts.{has, IsAscendingWithin}
 use Rattle.cut_definitions.proofs.Ascending.{all_at, has_contains}
-use Rattle.cactus_tree.specs.Flat.{Flat}
-use Rattle.cactus_tree.specs.FlatCuts.{IsWellFormed, IsBridgeBelow, IsCycleBelow, IsClosed, IsReached, all_edges, node_at}
+use Rattle.flat_cactus.specs.Flat.{Flat}
+use Rattle.flat_cactus.specs.FlatCuts.{IsWellFormed, IsBridgeBelow, IsCycleBelow, IsClosed, IsReached, all_edges, node_at}
 use Rattle.cactus_text.specs.declared.reading.Counts.{Counts}
 use Rattle.cactus_text.specs.Reading.{ascends, distinct, is_cycle, is_node, is_placed, is_complete, is_joined, is_tree, is_whole, no_node, relabelled, with_node, with_bridge, with_cycle, with_line, numbers_of, plus_node, plus_bridge, plus_cycle, stated}
 use Rattle.cactus_text.proofs.Forms.{EndsBelow, ends_all, fold_size}

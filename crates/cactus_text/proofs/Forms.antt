@@ -10,11 +10,11 @@ use Rattle.std.proofs.lemmas.List.Elements.{All-head, All-tail}
 use Rattle.cut_definitions.specs.Cuts.{has, IsAscendingWithin}
 use Rattle.cut_definitions.proofs.ListLaws.{All-back}
 use Rattle.cut_definitions.proofs.Ascending.{member_within, all_from, contains_has}
-use Rattle.cactus_tree.specs.Flat.{Flat}
-use Rattle.cactus_tree.specs.FlatCuts.{IsWellFormed, IsBridgeBelow, IsCycleBelow, IsClosed, all_edges, cycle_edges, edges_along, node_at}
+use Rattle.flat_cactus.specs.Flat.{Flat}
+use Rattle.flat_cactus.specs.FlatCuts.{IsWellFormed, IsBridgeBelow, IsCycleBelow, IsClosed, all_edges, cycle_edges, edges_along, node_at}
 use Rattle.cactus_text.specs.Reading.{ascends, distinct, is_cycle, is_node, is_placed, is_complete, is_joined, is_tree, relabelled}
-use Rattle.cactus_tree.specs.Flattened.{flat_of}
-use Rattle.cactus_tree.proofs.FlatShapes.{flat_form}
+use Rattle.flat_cactus.specs.Flattened.{flat_of}
+use Rattle.flat_cactus.proofs.FlatShapes.{flat_form}
 use Rattle.cactus_text.specs.TextLaws.{LawOfText, LawOfCactusText}
 use Rattle.cactus_text.specs.Scanned.{AreSmall}
 use Rattle.cactus_text.proofs.Law.{AreNodes, AreBridges, AreCycles, IsReadable, counts_for, printed_is_read}

@@ -4,7 +4,7 @@ use Rattle.std.specs.Prelude.{slice_index}
 use Rattle.std.specs.List.{fold, flat_map}
 use Rattle.std.proofs.lemmas.List.{drop_all}
 use Rattle.std.proofs.lemmas.List.Sums.{fold-append}
-use Rattle.cactus_tree.specs.FlatCuts.{cycle_edges, edges_along}
+use Rattle.flat_cactus.specs.FlatCuts.{cycle_edges, edges_along}
 use Rattle.cactus_text.specs.Reading.{relabelled}
 use Rattle.cactus_text.proofs.Suffixes.{drop_next}
 

@@ -6,7 +6,7 @@ use Rattle.std.proofs.lemmas.List.{get_or_past}
 use Rattle.std.proofs.lemmas.List.Folds.{list_all-append}
 use Rattle.std.proofs.Math.Bool.{and-false, and-true}
 use Rattle.cut_definitions.proofs.Ranges.{range_push}
-use Rattle.cactus_tree.specs.Flat.{Flat, appended_from, appended_to_last}
+use Rattle.flat_cactus.specs.Flat.{Flat, appended_from, appended_to_last}
 use Rattle.cactus_text.specs.declared.reading.Counts.{Counts}
 use Rattle.cactus_text.specs.Reading.{counts_of, with_bridge, with_line, is_whole, stated}
 

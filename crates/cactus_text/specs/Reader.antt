@@ -1,7 +1,7 @@
 -- What a reader keeps beside the flat cactus that grows, and what it does with a line.
 use Rattle.std.specs.Prelude.{◌≡◌, ◌≤◌, ◌<◌, ℕ, Bool, true, false, Option, Some, None, Result, IfOk, length, slice_index, slice_index_or}
 use Rattle.std.specs.List.{All}
-use Rattle.cactus_tree.specs.Flat.{Flat}
+use Rattle.flat_cactus.specs.Flat.{Flat}
 use Rattle.cactus_text.specs.declared.reading.Reader.{Reader}
 use Rattle.cactus_text.specs.Reading.{is_placed}
 

@@ -4,8 +4,8 @@ use Rattle.std.specs.List.{fold, list_all, list_any, range_with_len, sum_by}
 use Rattle.std.specs.Str.{bytes_eq}
 use Rattle.std.specs.Str.Parse.{digits_value}
 use Rattle.cut_definitions.specs.Cuts.{has}
-use Rattle.cactus_tree.specs.Flat.{Flat}
-use Rattle.cactus_tree.specs.FlatCuts.{all_edges}
+use Rattle.flat_cactus.specs.Flat.{Flat}
+use Rattle.flat_cactus.specs.FlatCuts.{all_edges}
 use Rattle.cactus_text.specs.Text.{line}
 use Rattle.cactus_text.specs.declared.reading.Counts.{Counts}
 

@@ -2,7 +2,7 @@
 use Rattle.std.specs.Prelude.{ℕ, ◌+◌, List, [], ◌∷◌, ◌++◌, length, codes}
 use Rattle.std.specs.List.{flat_map}
 use Rattle.std.specs.Fmt.{decimal}
-use Rattle.cactus_tree.specs.Flat.{Flat}
+use Rattle.flat_cactus.specs.Flat.{Flat}
 
 -- numbers in decimal, each with a space before it
 abbrev pub spaced : List ℕ → List ℕ

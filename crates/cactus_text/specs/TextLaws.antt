@@ -1,10 +1,10 @@
 -- Laws of the text: what was printed is read.
 use Rattle.std.specs.Prelude.{List, ◌≡◌, ◌≤◌, ◌<◌, ◌^◌, ℕ, length, Ok}
-use Rattle.cactus_tree.specs.declared.tree.Node.{Node}
-use Rattle.cactus_tree.specs.Rooted.{IsCactus}
-use Rattle.cactus_tree.specs.Flat.{Flat}
-use Rattle.cactus_tree.specs.FlatCuts.{IsWellFormed}
-use Rattle.cactus_tree.specs.Flattened.{flat_of}
+use Rattle.rooted_cactus.specs.declared.tree.Node.{Node}
+use Rattle.rooted_cactus.specs.Rooted.{IsCactus}
+use Rattle.flat_cactus.specs.Flat.{Flat}
+use Rattle.flat_cactus.specs.FlatCuts.{IsWellFormed}
+use Rattle.flat_cactus.specs.Flattened.{flat_of}
 use Rattle.cactus_text.specs.Text.{cactus_text}
 use Rattle.cactus_text.specs.Reading.{Stated, lines, file_of}
 

@@ -4,14 +4,15 @@ ghost use Rattle.std.specs.Prelude.{◌≡◌, ◌≤◌, ◌^◌, ◌∷◌, �
 ghost use Rattle.std.specs.Io.KnownBytes.{Appends};
 ghost use Rattle.std.specs.List.{flat_map};
 ghost use Rattle.outside.specs.Faults.{HasCause, AppendsPrefix, Rose};
-ghost use Rattle.cactus_tree.specs.Flattened.{flat_of};
+ghost use Rattle.flat_cactus.specs.Flattened.{flat_of};
 ghost use Rattle.cactus_text.specs.Text.{cactus_text, line, first_line, node_lines, bridge_lines, cycle_lines};
 ghost use Rattle.cactus_text.specs.Puts.{Puts};
 
 use crate::page::Page;
-use cactus_tree::{Cactus, FlatCactus, flatten};
+use flat_cactus::{FlatCactus, flatten};
 use itoa::Integer;
 use outside::{Sink, SinkFailed};
+use rooted_cactus::Cactus;
 use std::alloc::Global;
 
 /// Why a text was not printed.

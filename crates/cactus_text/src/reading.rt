@@ -8,8 +8,8 @@ ghost use Rattle.cactus_text.specs.Reader.{IsReader, Takes};
 use crate::scan::{Lines, read_line, read_numbers};
 use crate::sets::Seen;
 use crate::tree::is_tree;
-use cactus_tree::FlatCactus;
 use cut_definitions::NoMemory;
+use flat_cactus::FlatCactus;
 use std::alloc::Global;
 
 const MOST_VERTICES: u64 = 4194304;

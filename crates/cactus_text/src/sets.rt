@@ -3,7 +3,7 @@
 ghost use Rattle.std.specs.Prelude.{◌≡◌, ◌||◌, ◌==◌, ◌<◌, ◌≤◌, [], ℕ, List, not, false, IfOk, OnOk, length, slice_index, slice_index_or};
 ghost use Rattle.std.specs.List.{All, list_all, range_with_len, fold};
 ghost use Rattle.cut_definitions.specs.Cuts.{has};
-ghost use Rattle.cactus_tree.specs.FlatCuts.{cycle_edges};
+ghost use Rattle.flat_cactus.specs.FlatCuts.{cycle_edges};
 ghost use Rattle.cactus_text.specs.Reading.{relabelled};
 ghost use Rattle.cactus_text.specs.Labels.{IsLabelled};
 

@@ -7,8 +7,8 @@ ghost use Rattle.cactus_text.specs.Reader.{JoinsNodes};
 ghost use Rattle.cactus_text.specs.Labels.{IsLabelled};
 
 use crate::sets::Joined;
-use cactus_tree::FlatCactus;
 use cut_definitions::NoMemory;
+use flat_cactus::FlatCactus;
 use std::alloc::Global;
 
 /// Whether the nodes are one more than the edges that a tree of them takes: the bridges, and the edges of each cycle but one.

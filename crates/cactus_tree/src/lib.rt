@@ -24,23 +24,14 @@
 //! the tree: `laws::flat_sides`.
 #![tactic(auto)]
 
-mod cactus;
-mod flat;
-mod flattening;
 pub mod laws;
-mod tree;
-mod vertex_list;
-mod walk;
 
-pub use cactus::Cactus;
-pub use flat::FlatCactus;
-pub use flattening::flatten;
-pub use tree::{
-    Block, Blocks, Children, Node, rename_node, stack_inner, subtree_sizes, vertices_by_class,
-    vertices_in_order,
-};
-pub use vertex_list::VertexList;
-pub use walk::{
-    Border, CutPlaces, KeptPlaces, Span, Walk, cut_places, kept_places, masses_before, next_start,
+pub use cactus_walk::{
+    CutPlaces, KeptPlaces, Span, Walk, cut_places, kept_places, masses_before, next_start,
     put_range,
+};
+pub use flat_cactus::{FlatCactus, flatten};
+pub use rooted_cactus::{
+    Block, Blocks, Border, Cactus, Children, Node, VertexList, rename_node, stack_inner,
+    subtree_sizes, vertices_by_class, vertices_in_order,
 };

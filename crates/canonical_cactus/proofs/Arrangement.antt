@@ -6,19 +6,19 @@ use Rattle.std.specs.declared.boxed.Box.{Box}
 use Rattle.std.specs.declared.alloc.Global.{Global}
 use Rattle.cut_definitions.specs.Weight.{either}
 use Rattle.cut_definitions.specs.Cuts.{has}
-use Rattle.cactus_tree.specs.Sides.{Part, part, block_part, all_of, belows}
-use Rattle.cactus_tree.specs.Trees.{vertices, blocks, nodes_in}
-use Rattle.cactus_tree.specs.declared.tree.Node.{Node, out-Node}
-use Rattle.cactus_tree.specs.declared.tree.Block.{Block}
-use Rattle.cactus_tree.specs.declared.tree.Children.{Children}
-use Rattle.cactus_tree.specs.declared.tree.Block.TheVariants.{Bridge, Cycle, rolls-Bridge, rolls-Cycle}
-use Rattle.cactus_tree.specs.declared.tree.Block.TheOpen as Open
-use Rattle.cactus_tree.specs.declared.tree.Block.TheFolds.{fold_out-Node, fold_out-Blocks, fold_out-Children, fold-roll-Block, fold-Block}
-use Rattle.cactus_tree.proofs.Parts.{part_out, bridge_part, cycle_part}
-use Rattle.cactus_tree.proofs.Segments.{has_append}
-use Rattle.cactus_tree.proofs.Induction.{tree_induction}
+use Rattle.rooted_cactus.specs.Sides.{Part, part, block_part, all_of, belows}
+use Rattle.rooted_cactus.specs.Trees.{vertices, blocks, nodes_in}
+use Rattle.rooted_cactus.specs.declared.tree.Node.{Node, out-Node}
+use Rattle.rooted_cactus.specs.declared.tree.Block.{Block}
+use Rattle.rooted_cactus.specs.declared.tree.Children.{Children}
+use Rattle.rooted_cactus.specs.declared.tree.Block.TheVariants.{Bridge, Cycle, rolls-Bridge, rolls-Cycle}
+use Rattle.rooted_cactus.specs.declared.tree.Block.TheOpen as Open
+use Rattle.rooted_cactus.specs.declared.tree.Block.TheFolds.{fold_out-Node, fold_out-Blocks, fold_out-Children, fold-roll-Block, fold-Block}
+use Rattle.rooted_cactus.proofs.Parts.{part_out, bridge_part, cycle_part}
+use Rattle.rooted_cactus.proofs.Segments.{has_append}
+use Rattle.rooted_cactus.proofs.Induction.{tree_induction}
 use Rattle.canonical_cactus.specs.Canonical.{Arranged, arranged, arranged_block, all_vertices, leasts, ascend, rises, arranged_block_step, arranged_blocks_step, arranged_children_step, arranged_node_step}
-use Rattle.cactus_tree.proofs.Views.{block_induction}
+use Rattle.rooted_cactus.proofs.Views.{block_induction}
 
 abbrev pub node_arranged : List ℕ → List Arranged → Arranged
 node_arranged vs bs = record { vertices = vs ++ all_vertices bs; in_order = ascend (leasts bs) && list_all (λ (a : Arranged). a.in_order) bs }

@@ -2,13 +2,13 @@
 use Rattle.std.specs.Prelude.{Option, Some}
 use Rattle.std.proofs.Common.{◌≡◌, ℕ, zero, suc, ◌+◌, ◌-◌, ◌*◌, ◌≤◌, ◌<◌, ◌⊎◌, inl, inr, max, List, [], ◌∷◌, sym, refl, subst, arith}
 use Rattle.std.proofs.lemmas.Bool.{cases_eq, cases_lt}
-use Rattle.cactus_tree.specs.Borders.{border_at}
-use Rattle.cactus_tree.specs.CutRanges.{Range}
-use Rattle.cactus_tree.specs.Walking.{AreChained}
-use Rattle.cactus_tree.specs.declared.walk.borders.Border.{Border}
-use Rattle.cactus_tree.specs.declared.walk.shown.Span.{Span}
-use Rattle.cactus_tree.proofs.Stepping.{place_within}
-use Rattle.cactus_tree.proofs.Chains.{no_less}
+use Rattle.rooted_cactus.specs.Borders.{border_at}
+use Rattle.rooted_cactus.specs.CutRanges.{Range}
+use Rattle.cactus_walk.specs.Walking.{AreChained}
+use Rattle.rooted_cactus.specs.declared.tree.border.Border.{Border}
+use Rattle.cactus_walk.specs.declared.walk.shown.Span.{Span}
+use Rattle.cactus_walk.proofs.Stepping.{place_within}
+use Rattle.cactus_walk.proofs.Chains.{no_less}
 use Rattle.balanced_cut.specs.Ends.{mass_to, range_between, span_mass}
 use Rattle.balanced_cut.proofs.Moving.{behind_there, between_fits}
 use Rattle.canonical_cactus.specs.FirstBest.{AreLess, IsFound, IsRanked, IsWanted, count_of}

@@ -7,21 +7,21 @@ use Rattle.std.proofs.lemmas.List.{map-id}
 use Rattle.std.proofs.lemmas.List.Elements.{All-contains}
 use Rattle.cut_definitions.specs.Cuts.{has, IsAscendingWithin}
 use Rattle.cut_definitions.proofs.ListLaws.{All-from_each}
-use Rattle.cactus_tree.specs.Sides.{Part, part}
-use Rattle.cactus_tree.specs.Trees.{vertices}
-use Rattle.cactus_tree.specs.Entered.{entered}
-use Rattle.cactus_tree.specs.Entries.{read_node, kept}
-use Rattle.cactus_tree.specs.Rooted.{Rooted, IsCactus}
-use Rattle.cactus_tree.specs.Normal.{is_normal}
-use Rattle.cactus_tree.specs.Widths.{widths}
-use Rattle.cactus_tree.specs.Different.{HaveSameSides, HasNoEmptySide}
-use Rattle.cactus_tree.specs.Trims.{SameSets, NoneEmpty}
-use Rattle.cactus_tree.specs.declared.tree.Node.{Node}
-use Rattle.cactus_tree.proofs.Clean.{root_clean}
-use Rattle.cactus_tree.proofs.Lifts.{own_lists}
-use Rattle.cactus_tree.proofs.Orders.{entered_out}
-use Rattle.cactus_tree.proofs.Shapes.{root_normal}
-use Rattle.cactus_tree.proofs.Normals.{none_empty, same_sides}
+use Rattle.rooted_cactus.specs.Sides.{Part, part}
+use Rattle.rooted_cactus.specs.Trees.{vertices}
+use Rattle.rooted_cactus.specs.Entered.{entered}
+use Rattle.rooted_cactus.specs.Entries.{read_node, kept}
+use Rattle.rooted_cactus.specs.Rooted.{Rooted, IsCactus}
+use Rattle.rooted_cactus.specs.Normal.{is_normal}
+use Rattle.rooted_cactus.specs.Widths.{widths}
+use Rattle.rooted_cactus.specs.Different.{HaveSameSides, HasNoEmptySide}
+use Rattle.rooted_cactus.specs.Trims.{SameSets, NoneEmpty}
+use Rattle.rooted_cactus.specs.declared.tree.Node.{Node}
+use Rattle.rooted_cactus.proofs.Clean.{root_clean}
+use Rattle.rooted_cactus.proofs.Lifts.{own_lists}
+use Rattle.rooted_cactus.proofs.Orders.{entered_out}
+use Rattle.rooted_cactus.proofs.Shapes.{root_normal}
+use Rattle.rooted_cactus.proofs.Normals.{none_empty, same_sides}
 use Rattle.canonical_cactus.specs.Canonical.{arranged, is_canonical}
 use Rattle.canonical_cactus.specs.Laws.{over}
 use Rattle.canonical_cactus.specs.Making.{AreApart, ShowsNode, IsGood, IsNodeOf}

@@ -4,11 +4,11 @@ use Rattle.std.specs.List.{Contains}
 use Rattle.std.proofs.lemmas.Bool.{or_cases, or_left, or_right}
 use Rattle.cut_definitions.specs.Weight.{VertexSet, either}
 use Rattle.cut_definitions.proofs.Lists.{Contains-there, Contains-cons_cases, Contains-nil}
-use Rattle.cactus_tree.specs.Sides.{Part, all_of, belows, from_here}
-use Rattle.cactus_tree.proofs.Sets.{IsIn, Apart, SameFamily, same_set}
-use Rattle.cactus_tree.proofs.Rows.{IsRow}
-use Rattle.cactus_tree.proofs.Cycles.{cycle_cuts, cycle_cases, cycle_here, cycle_within, here_first, here_above}
-use Rattle.cactus_tree.proofs.Distinct.{grown_apart}
+use Rattle.rooted_cactus.specs.Sides.{Part, all_of, belows, from_here}
+use Rattle.rooted_cactus.proofs.Sets.{IsIn, Apart, SameFamily, same_set}
+use Rattle.rooted_cactus.proofs.Rows.{IsRow}
+use Rattle.rooted_cactus.proofs.Cycles.{cycle_cuts, cycle_cases, cycle_here, cycle_within, here_first, here_above}
+use Rattle.rooted_cactus.proofs.Distinct.{grown_apart}
 
 module _ (p q : Part) (ps qs : List Part) (rp : IsRow (p ∷ ps)) (rq : IsRow (q ∷ qs))
     (f : (s : VertexSet) → Contains (cycle_cuts (p ∷ ps)) s → Contains (cycle_cuts (q ∷ qs)) s)

@@ -8,9 +8,9 @@ use Rattle.std.proofs.lemmas.List.Elements.{All-get_or}
 use Rattle.cut_definitions.specs.Cuts.{has}
 use Rattle.cut_definitions.proofs.Ascending.{has_one}
 use Rattle.vertex_set.proofs.Bits.{filter-same}
-use Rattle.cactus_tree.specs.CutRanges.{Range, elements_at}
-use Rattle.cactus_tree.specs.Places.{IsVertex, is_inside}
-use Rattle.cactus_tree.proofs.Elements.{drop_nothing, elements_more, elements_none}
+use Rattle.rooted_cactus.specs.CutRanges.{Range, elements_at}
+use Rattle.rooted_cactus.specs.Places.{IsVertex, is_inside}
+use Rattle.rooted_cactus.proofs.Elements.{drop_nothing, elements_more, elements_none}
 use Rattle.canonical_cactus.specs.FirstBest.{IsBeyond, IsNoLater, IsRanked, count_of, side_of, vertex_at}
 use Rattle.canonical_cactus.specs.declared.first_side.Ranked.{Ranked}
 use Rattle.canonical_cactus.proofs.Firsts.{first_alone, first_end}

@@ -7,14 +7,14 @@ use Rattle.std.specs.Prelude.{Box}
 use Rattle.std.specs.declared.alloc.Global.{Global}
 use Rattle.std.proofs.lemmas.List.{append_assoc, append-nil, drop-drop, length-drop, length-take-le}
 use Rattle.cut_definitions.specs.Cuts.{has}
-use Rattle.cactus_tree.specs.declared.tree.Node.{Node}
-use Rattle.cactus_tree.specs.declared.tree.Block.TheVariants.{Bridge}
-use Rattle.cactus_tree.specs.Trees.{vertices, blocks}
-use Rattle.cactus_tree.specs.Trims.{is_spare}
-use Rattle.cactus_tree.specs.Entries.{Read, bridge_read, cycle_read, node_read, nothing_read}
+use Rattle.rooted_cactus.specs.declared.tree.Node.{Node}
+use Rattle.rooted_cactus.specs.declared.tree.Block.TheVariants.{Bridge}
+use Rattle.rooted_cactus.specs.Trees.{vertices, blocks}
+use Rattle.rooted_cactus.specs.Trims.{is_spare}
+use Rattle.rooted_cactus.specs.Entries.{Read, bridge_read, cycle_read, node_read, nothing_read}
 use Rattle.canonical_cactus.specs.declared.entries.Joint.{Joint}
-use Rattle.cactus_tree.proofs.Entries.{drawn_front}
-use Rattle.cactus_tree.proofs.Makes.{each_push, each_length, each_drop, each_first}
+use Rattle.rooted_cactus.proofs.Entries.{drawn_front}
+use Rattle.rooted_cactus.proofs.Makes.{each_push, each_length, each_drop, each_first}
 use Rattle.canonical_cactus.specs.Making.{IsNodeOf, IsChildOf, IsBlockOf, AreNodesOf, AreChildrenOf, AreBlocksOf, key_of}
 use Rattle.canonical_cactus.specs.Standing.{least_in}
 use Rattle.canonical_cactus.specs.Taken.{used, wanted, drawn, all_drawn, joints_of, read_entry, read_entries, left, IsReady}

@@ -10,23 +10,23 @@ use Rattle.std.proofs.lemmas.List.Sorted.{IsPermutation-map, IsPermutation-sym, 
 use Rattle.cut_definitions.specs.Weight.{VertexSet, either}
 use Rattle.cut_definitions.specs.Cuts.{has}
 use Rattle.cut_definitions.proofs.Lists.{Contains-cons_cases}
-use Rattle.cactus_tree.specs.Sides.{Part, part, block_part, nothing, all_of, belows, all_cuts, from_here}
-use Rattle.cactus_tree.specs.Trees.{vertices, blocks, nodes_in}
-use Rattle.cactus_tree.specs.Entered.{entered, entered_block}
-use Rattle.cactus_tree.specs.Widths.{widths, block_widths, joined}
-use Rattle.cactus_tree.specs.Normal.{shape, block_shape, child_fine}
-use Rattle.cactus_tree.specs.Entries.{Read, parts_read, lists_read, counts_read, cycle_read, node_read}
-use Rattle.cactus_tree.specs.Trims.{Each, SameSets, NoneEmpty}
-use Rattle.cactus_tree.specs.declared.tree.Node.{Node}
-use Rattle.cactus_tree.specs.declared.tree.Block.{Block}
-use Rattle.cactus_tree.specs.declared.tree.Children.{Children}
-use Rattle.cactus_tree.specs.declared.tree.Block.TheVariants.{Cycle}
-use Rattle.cactus_tree.proofs.Parts.{cycle_part}
-use Rattle.cactus_tree.proofs.Orders.{entered_out, entered_cycle}
-use Rattle.cactus_tree.proofs.Widths.{widths_out, widths_cycle}
-use Rattle.cactus_tree.proofs.Shapes.{wide_fine}
-use Rattle.cactus_tree.proofs.Trims.{Wide, below_out, cuts_out, cycle_way, way_belows, ways_back, ways_there, wide_left, wide_right}
-use Rattle.cactus_tree.proofs.Cycles.{here_first, cycle_cuts, cycle_here, cycle_own, cycle_rest}
+use Rattle.rooted_cactus.specs.Sides.{Part, part, block_part, nothing, all_of, belows, all_cuts, from_here}
+use Rattle.rooted_cactus.specs.Trees.{vertices, blocks, nodes_in}
+use Rattle.rooted_cactus.specs.Entered.{entered, entered_block}
+use Rattle.rooted_cactus.specs.Widths.{widths, block_widths, joined}
+use Rattle.rooted_cactus.specs.Normal.{shape, block_shape, child_fine}
+use Rattle.rooted_cactus.specs.Entries.{Read, parts_read, lists_read, counts_read, cycle_read, node_read}
+use Rattle.rooted_cactus.specs.Trims.{Each, SameSets, NoneEmpty}
+use Rattle.rooted_cactus.specs.declared.tree.Node.{Node}
+use Rattle.rooted_cactus.specs.declared.tree.Block.{Block}
+use Rattle.rooted_cactus.specs.declared.tree.Children.{Children}
+use Rattle.rooted_cactus.specs.declared.tree.Block.TheVariants.{Cycle}
+use Rattle.rooted_cactus.proofs.Parts.{cycle_part}
+use Rattle.rooted_cactus.proofs.Orders.{entered_out, entered_cycle}
+use Rattle.rooted_cactus.proofs.Widths.{widths_out, widths_cycle}
+use Rattle.rooted_cactus.proofs.Shapes.{wide_fine}
+use Rattle.rooted_cactus.proofs.Trims.{Wide, below_out, cuts_out, cycle_way, way_belows, ways_back, ways_there, wide_left, wide_right}
+use Rattle.rooted_cactus.proofs.Cycles.{here_first, cycle_cuts, cycle_here, cycle_own, cycle_rest}
 use Rattle.canonical_cactus.specs.Canonical.{Arranged, arranged, arranged_block, ascend, leasts, rises}
 use Rattle.canonical_cactus.specs.Making.{AreWide, AreApart, SameLists, ShowsNode, ShowsChild, ShowsBlock, IsGood}
 use Rattle.canonical_cactus.proofs.Arrangement.{arranged_out, arranged_cycle}

@@ -2,9 +2,9 @@
 use Rattle.std.proofs.Common.{◌≡◌, ℕ, ◌+◌, ◌<◌, ◌⊎◌, inl, inr, List, length, ap, arith}
 use Rattle.std.specs.Ordering.{is_gt}
 use Rattle.std.proofs.lemmas.Cmp.{nat_list_cmp_total, tied_itself, upto}
-use Rattle.cactus_tree.specs.Borders.{border_at}
-use Rattle.cactus_tree.specs.Walking.{AreBorders}
-use Rattle.cactus_tree.specs.declared.walk.borders.Border.{Border}
+use Rattle.rooted_cactus.specs.Borders.{border_at}
+use Rattle.cactus_walk.specs.Walking.{AreBorders}
+use Rattle.rooted_cactus.specs.declared.tree.border.Border.{Border}
 use Rattle.balanced_cut.proofs.Moving.{behind_there}
 use Rattle.canonical_cactus.specs.FirstBest.{IsNoLater}
 

@@ -8,17 +8,17 @@ use Rattle.std.proofs.lemmas.Bool.{and_parts, leb-true}
 use Rattle.std.proofs.lemmas.List.{length-map}
 use Rattle.std.proofs.lemmas.List.Elements.{All-head}
 use Rattle.cut_definitions.specs.Cuts.{IsAscendingWithin}
-use Rattle.cactus_tree.specs.Entered.{entered_block}
-use Rattle.cactus_tree.specs.Rooted.{IsCactus}
-use Rattle.cactus_tree.specs.Normal.{is_normal}
-use Rattle.cactus_tree.specs.Trees.{vertices, blocks, nodes_in}
-use Rattle.cactus_tree.specs.declared.tree.Node.{Node}
-use Rattle.cactus_tree.specs.declared.tree.Block.{Block}
-use Rattle.cactus_tree.specs.declared.tree.Children.{Children}
-use Rattle.cactus_tree.specs.declared.tree.Block.TheVariants.{Bridge, Cycle}
+use Rattle.rooted_cactus.specs.Entered.{entered_block}
+use Rattle.rooted_cactus.specs.Rooted.{IsCactus}
+use Rattle.rooted_cactus.specs.Normal.{is_normal}
+use Rattle.rooted_cactus.specs.Trees.{vertices, blocks, nodes_in}
+use Rattle.rooted_cactus.specs.declared.tree.Node.{Node}
+use Rattle.rooted_cactus.specs.declared.tree.Block.{Block}
+use Rattle.rooted_cactus.specs.declared.tree.Children.{Children}
+use Rattle.rooted_cactus.specs.declared.tree.Block.TheVariants.{Bridge, Cycle}
 use Rattle.canonical_cactus.specs.Canonical.{Arranged, arranged, arranged_block, leasts, ascend, rises, is_canonical}
-use Rattle.cactus_tree.proofs.Fits as Normal
-use Rattle.cactus_tree.proofs.Fits.{IsSolid, clean_node}
+use Rattle.rooted_cactus.proofs.Fits as Normal
+use Rattle.rooted_cactus.proofs.Fits.{IsSolid, clean_node}
 use Rattle.canonical_cactus.proofs.Arrangement.{arranged_out, arranged_bridge, arranged_cycle}
 
 pub record IsFit (n : ℕ) (x : Node) : Type 0 where

@@ -13,17 +13,17 @@ use Rattle.std.proofs.lemmas.Option.{get_or_from_slice_get}
 use Rattle.cut_definitions.specs.Cuts.{least}
 use Rattle.cut_definitions.proofs.Bools.{same_tests, four_and}
 use Rattle.cut_definitions.proofs.ListLaws.{taken}
-use Rattle.cactus_tree.specs.declared.tree.Node.{Node}
-use Rattle.cactus_tree.specs.declared.tree.Block.{Block}
-use Rattle.cactus_tree.specs.declared.tree.Children.{Children}
-use Rattle.cactus_tree.specs.declared.tree.Block.TheVariants.{Bridge, Cycle, outs-Bridge, outs-Cycle}
-use Rattle.cactus_tree.specs.Entries.{nodes_of}
-use Rattle.cactus_tree.specs.Numbers.{is_inner}
-use Rattle.cactus_tree.specs.Trees.{vertices, blocks, nodes_in}
-use Rattle.cactus_tree.proofs.Drops.{drop_at}
-use Rattle.cactus_tree.proofs.Entries.{nodes_bridge, nodes_cycle}
-use Rattle.cactus_tree.proofs.Tallies.{no_blocks}
-use Rattle.cactus_tree.proofs.Views.{view}
+use Rattle.rooted_cactus.specs.declared.tree.Node.{Node}
+use Rattle.rooted_cactus.specs.declared.tree.Block.{Block}
+use Rattle.rooted_cactus.specs.declared.tree.Children.{Children}
+use Rattle.rooted_cactus.specs.declared.tree.Block.TheVariants.{Bridge, Cycle, outs-Bridge, outs-Cycle}
+use Rattle.rooted_cactus.specs.Entries.{nodes_of}
+use Rattle.rooted_cactus.specs.Numbers.{is_inner}
+use Rattle.rooted_cactus.specs.Trees.{vertices, blocks, nodes_in}
+use Rattle.rooted_cactus.proofs.Drops.{drop_at}
+use Rattle.rooted_cactus.proofs.Entries.{nodes_bridge, nodes_cycle}
+use Rattle.rooted_cactus.proofs.Tallies.{no_blocks}
+use Rattle.rooted_cactus.proofs.Views.{view}
 use Rattle.canonical_cactus.specs.Canonical.{Arranged, all_vertices, arranged, arranged_block, ascend, leasts, rises}
 use Rattle.canonical_cactus.specs.Inner.{AreInner, IsWalk, inner_below, is_turned, least_of, leasts_of, stands, turned_step}
 use Rattle.canonical_cactus.specs.Standing.{least_in, lesser_of}

@@ -9,8 +9,8 @@ use Rattle.std.proofs.lemmas.List.Sums.{sum_by-cons}
 use Rattle.std.proofs.lemmas.List.Sorted.{Contains-permutation, IsPermutation-sym, sum_by-IsPermutation}
 use Rattle.cut_definitions.specs.Cuts.{has}
 use Rattle.cut_definitions.proofs.Lists.{Contains-here, Contains-there, Contains-cons_cases, Contains-nil}
-use Rattle.cactus_tree.specs.Sides.{Part, all_of, belows}
-use Rattle.cactus_tree.proofs.Sets.{same_set}
+use Rattle.rooted_cactus.specs.Sides.{Part, all_of, belows}
+use Rattle.rooted_cactus.proofs.Sets.{same_set}
 use Rattle.canonical_cactus.specs.Making.{count_with, SameLists}
 
 -- ---- lists of lists

@@ -5,31 +5,31 @@ use Rattle.std.specs.declared.boxed.Box.{Box}
 use Rattle.std.specs.declared.alloc.Global.{Global}
 use Rattle.cut_definitions.specs.Weight.{VertexSet}
 use Rattle.cut_definitions.proofs.Lists.{Contains-map, Contains-from_map}
-use Rattle.cactus_tree.specs.Sides.{part}
-use Rattle.cactus_tree.specs.Rooted.{IsCactus, sides_of}
-use Rattle.cactus_tree.specs.Different.{HaveSameSides}
-use Rattle.cactus_tree.specs.Places.{IsVertex}
-use Rattle.cactus_tree.specs.Entered.{entered, entered_block, in_order}
-use Rattle.cactus_tree.specs.Flat.{Flat}
-use Rattle.cactus_tree.specs.Flattened.{TreeJoins, BlockJoins, tree_joins, block_joins, node_joins, bridge_joins, cycle_joins}
-use Rattle.cactus_tree.specs.Trees.{vertices, blocks, nodes_in}
-use Rattle.cactus_tree.specs.declared.tree.Node.{Node, out-Node}
-use Rattle.cactus_tree.specs.declared.tree.Block.{Block}
-use Rattle.cactus_tree.specs.declared.tree.Children.{Children}
-use Rattle.cactus_tree.specs.declared.tree.Block.TheVariants.{Bridge, Cycle, rolls-Bridge, rolls-Cycle}
-use Rattle.cactus_tree.specs.declared.tree.Block.TheOpen as Open
-use Rattle.cactus_tree.specs.declared.tree.Block.TheFolds.{fold_out-Node, fold_out-Blocks, fold_out-Children, fold-roll-Block, fold-Block}
-use Rattle.cactus_tree.proofs.Once.{each_there}
-use Rattle.cactus_tree.proofs.Orders.{entered_out, entered_bridge, entered_cycle}
-use Rattle.cactus_tree.proofs.JoinsOut.{joins_out, joins_bridge, joins_cycle}
+use Rattle.rooted_cactus.specs.Sides.{part}
+use Rattle.rooted_cactus.specs.Rooted.{IsCactus, sides_of}
+use Rattle.rooted_cactus.specs.Different.{HaveSameSides}
+use Rattle.rooted_cactus.specs.Places.{IsVertex}
+use Rattle.rooted_cactus.specs.Entered.{entered, entered_block, in_order}
+use Rattle.flat_cactus.specs.Flat.{Flat}
+use Rattle.flat_cactus.specs.Flattened.{TreeJoins, BlockJoins, tree_joins, block_joins, node_joins, bridge_joins, cycle_joins}
+use Rattle.rooted_cactus.specs.Trees.{vertices, blocks, nodes_in}
+use Rattle.rooted_cactus.specs.declared.tree.Node.{Node, out-Node}
+use Rattle.rooted_cactus.specs.declared.tree.Block.{Block}
+use Rattle.rooted_cactus.specs.declared.tree.Children.{Children}
+use Rattle.rooted_cactus.specs.declared.tree.Block.TheVariants.{Bridge, Cycle, rolls-Bridge, rolls-Cycle}
+use Rattle.rooted_cactus.specs.declared.tree.Block.TheOpen as Open
+use Rattle.rooted_cactus.specs.declared.tree.Block.TheFolds.{fold_out-Node, fold_out-Blocks, fold_out-Children, fold-roll-Block, fold-Block}
+use Rattle.rooted_cactus.proofs.Once.{each_there}
+use Rattle.rooted_cactus.proofs.Orders.{entered_out, entered_bridge, entered_cycle}
+use Rattle.flat_cactus.proofs.JoinsOut.{joins_out, joins_bridge, joins_cycle}
 use Rattle.canonical_cactus.specs.Canonical.{is_canonical}
 use Rattle.canonical_cactus.specs.Plain.{Tree, Branches, Ring, node, bridge, cycle, plain, plain_block, hung, ring_of, plain_block_step, plain_blocks_step, plain_children_step, plain_node_step}
 use Rattle.canonical_cactus.specs.Laws.{over, LawOfOneTree, LawOfOneFlat}
-use Rattle.cactus_tree.proofs.Distinct.{AreVertices, listed_same, root_vertices}
-use Rattle.cactus_tree.proofs.Fits.{root_solid}
-use Rattle.cactus_tree.proofs.Sets.{same_set}
-use Rattle.cactus_tree.proofs.Trims.{with_whole}
-use Rattle.cactus_tree.proofs.Covered.{node_listed}
+use Rattle.rooted_cactus.proofs.Distinct.{AreVertices, listed_same, root_vertices}
+use Rattle.rooted_cactus.proofs.Fits.{root_solid}
+use Rattle.rooted_cactus.proofs.Sets.{same_set}
+use Rattle.rooted_cactus.proofs.Trims.{with_whole}
+use Rattle.rooted_cactus.proofs.Covered.{node_listed}
 use Rattle.canonical_cactus.proofs.Fits.{IsFit, root_fit}
 use Rattle.canonical_cactus.proofs.Sound.{node_sound}
 use Rattle.canonical_cactus.proofs.Unique.{read_alike}

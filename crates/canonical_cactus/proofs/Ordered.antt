@@ -10,18 +10,18 @@ use Rattle.std.proofs.lemmas.List.Sorted.{Contains-permutation, IsPermutation-ma
 use Rattle.std.proofs.lemmas.List.Folds.{flat_map-map}
 use Rattle.cut_definitions.specs.Cuts.{has, least}
 use Rattle.cut_definitions.proofs.Lists.{Contains-here, Contains-there, Contains-cons_cases, Contains-nil}
-use Rattle.cactus_tree.specs.Sides.{part, block_part, nothing}
-use Rattle.cactus_tree.specs.Trees.{vertices, blocks, nodes_in}
-use Rattle.cactus_tree.specs.Entered.{entered, entered_block}
-use Rattle.cactus_tree.specs.Entries.{Read, top_first, lists_read, counts_read, cycle_read, node_read}
-use Rattle.cactus_tree.specs.Trims.{Each, SameSets}
-use Rattle.cactus_tree.specs.declared.tree.Node.{Node}
-use Rattle.cactus_tree.specs.declared.tree.Block.{Block}
-use Rattle.cactus_tree.specs.declared.tree.Children.{Children}
-use Rattle.cactus_tree.specs.declared.tree.Block.TheVariants.{Cycle}
-use Rattle.cactus_tree.proofs.Cycles.{cycle_cuts}
-use Rattle.cactus_tree.proofs.Trims.{own_cut}
-use Rattle.cactus_tree.proofs.Covered.{block_listed, node_listed}
+use Rattle.rooted_cactus.specs.Sides.{part, block_part, nothing}
+use Rattle.rooted_cactus.specs.Trees.{vertices, blocks, nodes_in}
+use Rattle.rooted_cactus.specs.Entered.{entered, entered_block}
+use Rattle.rooted_cactus.specs.Entries.{Read, top_first, lists_read, counts_read, cycle_read, node_read}
+use Rattle.rooted_cactus.specs.Trims.{Each, SameSets}
+use Rattle.rooted_cactus.specs.declared.tree.Node.{Node}
+use Rattle.rooted_cactus.specs.declared.tree.Block.{Block}
+use Rattle.rooted_cactus.specs.declared.tree.Children.{Children}
+use Rattle.rooted_cactus.specs.declared.tree.Block.TheVariants.{Cycle}
+use Rattle.rooted_cactus.proofs.Cycles.{cycle_cuts}
+use Rattle.rooted_cactus.proofs.Trims.{own_cut}
+use Rattle.rooted_cactus.proofs.Covered.{block_listed, node_listed}
 use Rattle.canonical_cactus.specs.Canonical.{Arranged, arranged, arranged_block, all_vertices, ascend, leasts, rises}
 use Rattle.canonical_cactus.specs.Standing.{least_in, lesser_of, or_zero}
 use Rattle.canonical_cactus.specs.Making.{AreApart, ShowsChild, ShowsBlock, IsGood, IsNodeOf, IsChildOf, IsBlockOf, AreBlocksOf, AreChildrenOf, key_of, last_of, ends_rise, faced}

@@ -6,11 +6,11 @@ use Rattle.std.proofs.lemmas.List.{append-nil}
 use Rattle.std.proofs.lemmas.List.Elements.{All-nil, All-append, All-weaker, All-contains}
 use Rattle.cut_definitions.specs.Balance.{balance, IsBest}
 use Rattle.cut_definitions.proofs.Lists.{Contains-map, Contains-from_map}
-use Rattle.cactus_tree.specs.Borders.{ranges_between}
-use Rattle.cactus_tree.specs.CutRanges.{Range}
-use Rattle.cactus_tree.specs.Places.{AreOnce, IsVertex, side_at}
-use Rattle.cactus_tree.specs.Walking.{AreBorders}
-use Rattle.cactus_tree.specs.declared.walk.shown.Span.{Span}
+use Rattle.rooted_cactus.specs.Borders.{ranges_between}
+use Rattle.rooted_cactus.specs.CutRanges.{Range}
+use Rattle.rooted_cactus.specs.Places.{AreOnce, IsVertex, side_at}
+use Rattle.cactus_walk.specs.Walking.{AreBorders}
+use Rattle.cactus_walk.specs.declared.walk.shown.Span.{Span}
 use Rattle.balanced_cut.specs.Ends.{IsScale, range_between, range_of}
 use Rattle.balanced_cut.proofs.BestSide.{IsWeighed, same_balance, scale_of, scale_places}
 use Rattle.balanced_cut.proofs.Moving.{best_fits, from_here, none_past}

@@ -8,25 +8,25 @@ use Rattle.std.proofs.lemmas.List.{length-map}
 use Rattle.cut_definitions.specs.Weight.{VertexSet, either}
 use Rattle.cut_definitions.specs.Cuts.{has}
 use Rattle.cut_definitions.proofs.Lists.{Contains-here, Contains-there, Contains-cons_cases}
-use Rattle.cactus_tree.specs.Sides.{Part, part, block_part, all_of, belows, all_cuts, bridge_of, cycle_of}
-use Rattle.cactus_tree.specs.Entered.{entered, entered_block}
-use Rattle.cactus_tree.specs.Trees.{vertices, blocks, nodes_in}
-use Rattle.cactus_tree.specs.declared.tree.Node.{Node}
-use Rattle.cactus_tree.specs.declared.tree.Block.{Block}
-use Rattle.cactus_tree.specs.declared.tree.Children.{Children}
-use Rattle.cactus_tree.specs.declared.tree.Block.TheVariants.{Bridge, Cycle}
-use Rattle.cactus_tree.proofs.Parts.{part_out, bridge_part, cycle_part, either_nothing}
-use Rattle.cactus_tree.proofs.Induction.{tree_induction}
-use Rattle.cactus_tree.proofs.Sets.{IsIn, HasOne, Apart, SameFamily}
-use Rattle.cactus_tree.proofs.Rows.{IsSound, IsRow, HaveOwn, row_within, row_nonempty, one_left_out}
-use Rattle.cactus_tree.proofs.Cycles.{cycle_cuts, cycle_within, cycle_nonempty, cycle_whole}
+use Rattle.rooted_cactus.specs.Sides.{Part, part, block_part, all_of, belows, all_cuts, bridge_of, cycle_of}
+use Rattle.rooted_cactus.specs.Entered.{entered, entered_block}
+use Rattle.rooted_cactus.specs.Trees.{vertices, blocks, nodes_in}
+use Rattle.rooted_cactus.specs.declared.tree.Node.{Node}
+use Rattle.rooted_cactus.specs.declared.tree.Block.{Block}
+use Rattle.rooted_cactus.specs.declared.tree.Children.{Children}
+use Rattle.rooted_cactus.specs.declared.tree.Block.TheVariants.{Bridge, Cycle}
+use Rattle.rooted_cactus.proofs.Parts.{part_out, bridge_part, cycle_part, either_nothing}
+use Rattle.rooted_cactus.proofs.Induction.{tree_induction}
+use Rattle.rooted_cactus.proofs.Sets.{IsIn, HasOne, Apart, SameFamily}
+use Rattle.rooted_cactus.proofs.Rows.{IsSound, IsRow, HaveOwn, row_within, row_nonempty, one_left_out}
+use Rattle.rooted_cactus.proofs.Cycles.{cycle_cuts, cycle_within, cycle_nonempty, cycle_whole}
 use Rattle.canonical_cactus.proofs.Turns.{IsTorn, cycle_torn}
-use Rattle.cactus_tree.proofs.Views.{block_induction, each}
-use Rattle.cactus_tree.proofs.Clean.{clean_apart}
-use Rattle.cactus_tree.proofs.Trims.{cuts_out, below_out}
-use Rattle.cactus_tree.proofs.Fits.{IsSolid, IsPlaced, nodes_placed, own_apart}
-use Rattle.cactus_tree.proofs.Distinct.{placed_one}
-use Rattle.cactus_tree.proofs.Covered.{node_listed, block_listed, blocks_listed, nodes_listed}
+use Rattle.rooted_cactus.proofs.Views.{block_induction, each}
+use Rattle.rooted_cactus.proofs.Clean.{clean_apart}
+use Rattle.rooted_cactus.proofs.Trims.{cuts_out, below_out}
+use Rattle.rooted_cactus.proofs.Fits.{IsSolid, IsPlaced, nodes_placed, own_apart}
+use Rattle.rooted_cactus.proofs.Distinct.{placed_one}
+use Rattle.rooted_cactus.proofs.Covered.{node_listed, block_listed, blocks_listed, nodes_listed}
 use Rattle.canonical_cactus.proofs.Fits.{IsFit, IsFitBlock, AreFitBlocks, AreFitNodes, blocks_head, blocks_tail, nodes_head, nodes_tail, node_blocks, bridge_child, cycle_children}
 
 -- ---- the induction

@@ -10,8 +10,8 @@ use Rattle.cut_definitions.specs.Cuts.{has, least}
 use Rattle.cut_definitions.proofs.Lists.{Contains-here, Contains-there, Contains-cons_cases, Contains-nil, Contains-from_map}
 use Rattle.cut_definitions.proofs.ListLaws.{longer}
 use Rattle.cut_definitions.proofs.Ascending.{least_has}
-use Rattle.cactus_tree.specs.Entries.{top_first}
-use Rattle.cactus_tree.proofs.Segments.{has_append_at, has_both}
+use Rattle.rooted_cactus.specs.Entries.{top_first}
+use Rattle.rooted_cactus.proofs.Segments.{has_append_at, has_both}
 use Rattle.canonical_cactus.specs.Canonical.{Arranged, ascend, rises, last_from}
 use Rattle.canonical_cactus.specs.Making.{count_with, AreApart, last_of}
 use Rattle.canonical_cactus.proofs.Moved.{count_both, each_passes}

@@ -7,24 +7,24 @@ use Rattle.std.proofs.lemmas.Bool.{and_parts, false≢true, and_from, not-true}
 use Rattle.cut_definitions.specs.Weight.{either}
 use Rattle.cut_definitions.specs.Cuts.{has}
 use Rattle.cut_definitions.proofs.ListLaws.{only}
-use Rattle.cactus_tree.specs.Sides.{Part, part, block_part, all_of, belows, all_cuts}
-use Rattle.cactus_tree.specs.Trees.{vertices, blocks}
-use Rattle.cactus_tree.specs.Entered.{entered, entered_block}
-use Rattle.cactus_tree.specs.Widths.{widths, block_widths, joined}
-use Rattle.cactus_tree.specs.Normal.{BlockShape, block_shape, well_placed}
-use Rattle.cactus_tree.specs.Entries.{Read, bridge_read, nodes_of}
-use Rattle.cactus_tree.specs.Trims.{SameSets, is_spare, is_above_bridge}
-use Rattle.cactus_tree.specs.declared.tree.Node.{Node}
-use Rattle.cactus_tree.specs.declared.tree.Block.{Block}
-use Rattle.cactus_tree.specs.declared.tree.Block.TheVariants.{Bridge}
-use Rattle.cactus_tree.proofs.Parts.{bridge_part, either_nothing}
-use Rattle.cactus_tree.proofs.Orders.{entered_out, entered_bridge}
-use Rattle.cactus_tree.proofs.Widths.{widths_out, widths_bridge}
-use Rattle.cactus_tree.proofs.Shapes.{bridge_shape, cycle_shape, child_parts}
-use Rattle.cactus_tree.proofs.Entries.{nodes_bridge}
-use Rattle.cactus_tree.proofs.Trims.{below_out, cuts_out, none_of, placed_of, cycle_placed, no_node, bridge_to_cycle, same_cons, same_own, own_cut}
-use Rattle.cactus_tree.proofs.Fits.{cycles_of}
-use Rattle.cactus_tree.proofs.Views.{view}
+use Rattle.rooted_cactus.specs.Sides.{Part, part, block_part, all_of, belows, all_cuts}
+use Rattle.rooted_cactus.specs.Trees.{vertices, blocks}
+use Rattle.rooted_cactus.specs.Entered.{entered, entered_block}
+use Rattle.rooted_cactus.specs.Widths.{widths, block_widths, joined}
+use Rattle.rooted_cactus.specs.Normal.{BlockShape, block_shape, well_placed}
+use Rattle.rooted_cactus.specs.Entries.{Read, bridge_read, nodes_of}
+use Rattle.rooted_cactus.specs.Trims.{SameSets, is_spare, is_above_bridge}
+use Rattle.rooted_cactus.specs.declared.tree.Node.{Node}
+use Rattle.rooted_cactus.specs.declared.tree.Block.{Block}
+use Rattle.rooted_cactus.specs.declared.tree.Block.TheVariants.{Bridge}
+use Rattle.rooted_cactus.proofs.Parts.{bridge_part, either_nothing}
+use Rattle.rooted_cactus.proofs.Orders.{entered_out, entered_bridge}
+use Rattle.rooted_cactus.proofs.Widths.{widths_out, widths_bridge}
+use Rattle.rooted_cactus.proofs.Shapes.{bridge_shape, cycle_shape, child_parts}
+use Rattle.rooted_cactus.proofs.Entries.{nodes_bridge}
+use Rattle.rooted_cactus.proofs.Trims.{below_out, cuts_out, none_of, placed_of, cycle_placed, no_node, bridge_to_cycle, same_cons, same_own, own_cut}
+use Rattle.rooted_cactus.proofs.Fits.{cycles_of}
+use Rattle.rooted_cactus.proofs.Views.{view}
 use Rattle.canonical_cactus.specs.Canonical.{Arranged, arranged, arranged_block, all_vertices, ascend, leasts}
 use Rattle.canonical_cactus.specs.Standing.{least_in}
 use Rattle.canonical_cactus.specs.Making.{SameLists, AreWide, ShowsNode, ShowsChild, ShowsBlock, IsNodeOf, IsChildOf, IsBlockOf}

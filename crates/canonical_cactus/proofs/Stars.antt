@@ -5,11 +5,11 @@ use Rattle.std.proofs.lemmas.List.Elements.{All-tail, Contains-append_left, Cont
 use Rattle.cut_definitions.specs.Weight.{VertexSet, either}
 use Rattle.cut_definitions.specs.Cuts.{has}
 use Rattle.cut_definitions.proofs.Lists.{Contains-here, Contains-there, Contains-cons_cases, Contains-nil}
-use Rattle.cactus_tree.specs.Sides.{Part, nothing, from_here}
-use Rattle.cactus_tree.specs.Entries.{Read, bridge_read, cycle_read, node_read, counts_read}
-use Rattle.cactus_tree.specs.declared.tree.Block.{Block}
-use Rattle.cactus_tree.proofs.Parts.{either_nothing}
-use Rattle.cactus_tree.proofs.Cycles.{here_first, cycle_cuts, cycle_cases, cycle_here, cycle_own, cycle_rest, cycle_whole}
+use Rattle.rooted_cactus.specs.Sides.{Part, nothing, from_here}
+use Rattle.rooted_cactus.specs.Entries.{Read, bridge_read, cycle_read, node_read, counts_read}
+use Rattle.rooted_cactus.specs.declared.tree.Block.{Block}
+use Rattle.rooted_cactus.proofs.Parts.{either_nothing}
+use Rattle.rooted_cactus.proofs.Cycles.{here_first, cycle_cuts, cycle_cases, cycle_here, cycle_own, cycle_rest, cycle_whole}
 use Rattle.canonical_cactus.specs.Making.{ShowsBlock, IsBlockOf, SameLists}
 use Rattle.canonical_cactus.specs.declared.parts.Hung.{Hung}
 

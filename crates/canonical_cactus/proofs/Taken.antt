@@ -7,15 +7,15 @@ use Rattle.std.proofs.lemmas.List.{append_assoc, append-nil, length-append, leng
 use Rattle.std.proofs.lemmas.List.Concat.{flat_map-append}
 use Rattle.std.proofs.Math.Seq.{take-append_seam, drop-append_seam}
 use Rattle.cut_definitions.specs.Weight.{VertexSet}
-use Rattle.cactus_tree.specs.declared.tree.Node.{Node}
-use Rattle.cactus_tree.specs.declared.tree.Block.{Block}
-use Rattle.cactus_tree.specs.declared.tree.Block.TheVariants as Blocks
-use Rattle.cactus_tree.specs.declared.tree.Children.{Children}
-use Rattle.cactus_tree.specs.Trees.{vertices, blocks, nodes_in}
-use Rattle.cactus_tree.specs.Entered.{entered, entered_block}
-use Rattle.cactus_tree.specs.Entries.{top_first, Read, bridge_read, cycle_read, node_read, read_node, read_block, kept}
-use Rattle.cactus_tree.proofs.Entries.{read_out, read_bridge, read_cycle}
-use Rattle.cactus_tree.proofs.Orders.{entered_out, entered_bridge, entered_cycle}
+use Rattle.rooted_cactus.specs.declared.tree.Node.{Node}
+use Rattle.rooted_cactus.specs.declared.tree.Block.{Block}
+use Rattle.rooted_cactus.specs.declared.tree.Block.TheVariants as Blocks
+use Rattle.rooted_cactus.specs.declared.tree.Children.{Children}
+use Rattle.rooted_cactus.specs.Trees.{vertices, blocks, nodes_in}
+use Rattle.rooted_cactus.specs.Entered.{entered, entered_block}
+use Rattle.rooted_cactus.specs.Entries.{top_first, Read, bridge_read, cycle_read, node_read, read_node, read_block, kept}
+use Rattle.rooted_cactus.proofs.Entries.{read_out, read_bridge, read_cycle}
+use Rattle.rooted_cactus.proofs.Orders.{entered_out, entered_bridge, entered_cycle}
 use Rattle.canonical_cactus.specs.Taken.{used, wanted, all_drawn, IsShed, AreShed, joints_of, read_entry, read_entries, left, IsReady, Shows}
 use Rattle.canonical_cactus.specs.declared.entries.Joint.{Joint}
 use Rattle.canonical_cactus.specs.declared.entries.Joint.TheVariants as Joints

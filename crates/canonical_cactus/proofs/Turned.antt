@@ -6,12 +6,12 @@ use Rattle.std.proofs.lemmas.List.{append_assoc, append-nil, map-append}
 use Rattle.std.proofs.lemmas.List.Elements.{Contains-append_left, Contains-append_right, Contains-append_cases}
 use Rattle.cut_definitions.specs.Weight.{VertexSet, either}
 use Rattle.cut_definitions.proofs.Lists.{Contains-here, Contains-there, Contains-cons_cases, Contains-nil}
-use Rattle.cactus_tree.specs.Sides.{Part, all_of, belows, all_cuts, from_here, intervals}
-use Rattle.cactus_tree.specs.Entries.{top_first}
-use Rattle.cactus_tree.specs.Trims.{SameSets}
-use Rattle.cactus_tree.proofs.Parts.{either_nothing, all_cuts_push}
-use Rattle.cactus_tree.proofs.Sets.{same_set}
-use Rattle.cactus_tree.proofs.Cycles.{cycle_cuts, here_whole}
+use Rattle.rooted_cactus.specs.Sides.{Part, all_of, belows, all_cuts, from_here, intervals}
+use Rattle.rooted_cactus.specs.Entries.{top_first}
+use Rattle.rooted_cactus.specs.Trims.{SameSets}
+use Rattle.rooted_cactus.proofs.Parts.{either_nothing, all_cuts_push}
+use Rattle.rooted_cactus.proofs.Sets.{same_set}
+use Rattle.rooted_cactus.proofs.Cycles.{cycle_cuts, here_whole}
 
 -- ---- lists turned round
 pub top_both : {X : Type 0} (xs ys : List X) → top_first (xs ++ ys) ≡ top_first ys ++ top_first xs

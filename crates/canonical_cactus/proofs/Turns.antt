@@ -4,11 +4,11 @@ use Rattle.std.specs.List.{Contains}
 use Rattle.std.proofs.lemmas.Bool.{or_cases, or_left, or_right}
 use Rattle.cut_definitions.specs.Weight.{VertexSet, either}
 use Rattle.cut_definitions.proofs.Lists.{Contains-here, Contains-there, Contains-cons_cases, Contains-nil}
-use Rattle.cactus_tree.specs.Sides.{Part, nothing, all_of, belows, from_here}
-use Rattle.cactus_tree.proofs.Sets.{IsIn, HasOne, Apart, IsLeast, SameFamily, same_set, or_forth}
-use Rattle.cactus_tree.proofs.Rows.{IsRow}
-use Rattle.cactus_tree.proofs.Cycles.{cycle_cuts, cycle_cases, cycle_here, cycle_rest, cycle_within, cycle_whole, here_above}
-use Rattle.cactus_tree.proofs.Distinct.{grown_apart}
+use Rattle.rooted_cactus.specs.Sides.{Part, nothing, all_of, belows, from_here}
+use Rattle.rooted_cactus.proofs.Sets.{IsIn, HasOne, Apart, IsLeast, SameFamily, same_set, or_forth}
+use Rattle.rooted_cactus.proofs.Rows.{IsRow}
+use Rattle.rooted_cactus.proofs.Cycles.{cycle_cuts, cycle_cases, cycle_here, cycle_rest, cycle_within, cycle_whole, here_above}
+use Rattle.rooted_cactus.proofs.Distinct.{grown_apart}
 
 -- the last of several parts
 abbrev pub last_part : Part → List Part → Part

@@ -11,26 +11,26 @@ use Rattle.cut_definitions.specs.Cuts.{has, least}
 use Rattle.cut_definitions.proofs.Bridge.{same_ascending}
 use Rattle.cut_definitions.proofs.Lists.{Contains-nil}
 use Rattle.cut_definitions.proofs.Bools.{same_tests}
-use Rattle.cactus_tree.specs.Sides.{Part, part, block_part, all_of, belows, all_cuts}
-use Rattle.cactus_tree.specs.Trees.{vertices, blocks, nodes_in}
-use Rattle.cactus_tree.specs.declared.tree.Node.{Node}
-use Rattle.cactus_tree.specs.declared.tree.Block.{Block}
-use Rattle.cactus_tree.specs.declared.tree.Children.{Children}
-use Rattle.cactus_tree.specs.declared.tree.Block.TheVariants.{Bridge, Cycle}
-use Rattle.cactus_tree.proofs.Parts.{bridge_part, cycle_part}
-use Rattle.cactus_tree.proofs.Induction.{tree_induction}
+use Rattle.rooted_cactus.specs.Sides.{Part, part, block_part, all_of, belows, all_cuts}
+use Rattle.rooted_cactus.specs.Trees.{vertices, blocks, nodes_in}
+use Rattle.rooted_cactus.specs.declared.tree.Node.{Node}
+use Rattle.rooted_cactus.specs.declared.tree.Block.{Block}
+use Rattle.rooted_cactus.specs.declared.tree.Children.{Children}
+use Rattle.rooted_cactus.specs.declared.tree.Block.TheVariants.{Bridge, Cycle}
+use Rattle.rooted_cactus.proofs.Parts.{bridge_part, cycle_part}
+use Rattle.rooted_cactus.proofs.Induction.{tree_induction}
 use Rattle.canonical_cactus.specs.Canonical.{arranged, arranged_block, leasts, ascend, rises, last_from}
-use Rattle.cactus_tree.proofs.Sets.{IsIn, IsLeast, SameFamily}
-use Rattle.cactus_tree.proofs.Rows.{row_within, in_some_cut, row_head}
-use Rattle.cactus_tree.proofs.Cycles.{cycle_cuts, cycle_head}
+use Rattle.rooted_cactus.proofs.Sets.{IsIn, IsLeast, SameFamily}
+use Rattle.rooted_cactus.proofs.Rows.{row_within, in_some_cut, row_head}
+use Rattle.rooted_cactus.proofs.Cycles.{cycle_cuts, cycle_head}
 use Rattle.canonical_cactus.proofs.ChildOrder.{cycle_order}
 use Rattle.canonical_cactus.proofs.Turns.{last_part, first_same}
-use Rattle.cactus_tree.proofs.Views.{view}
-use Rattle.cactus_tree.proofs.Clean.{least_is}
-use Rattle.cactus_tree.proofs.Trims.{below_out, cuts_out}
+use Rattle.rooted_cactus.proofs.Views.{view}
+use Rattle.rooted_cactus.proofs.Clean.{least_is}
+use Rattle.rooted_cactus.proofs.Trims.{below_out, cuts_out}
 use Rattle.canonical_cactus.proofs.Arrangement.{node_covered, block_covered}
-use Rattle.cactus_tree.proofs.Fits.{IsPlaced, nodes_placed, own_apart}
-use Rattle.cactus_tree.proofs.Distinct.{placed_one}
+use Rattle.rooted_cactus.proofs.Fits.{IsPlaced, nodes_placed, own_apart}
+use Rattle.rooted_cactus.proofs.Distinct.{placed_one}
 use Rattle.canonical_cactus.proofs.Fits.{IsFit, IsFitBlock, AreFitBlocks, AreFitNodes, blocks_head, blocks_tail, nodes_head, nodes_tail, node_blocks, own_ascending, bridge_child, cycle_children}
 use Rattle.canonical_cactus.proofs.Sound.{node_sound, block_sound, nodes_row, blocks_row, placed_kind, same_cuts, solid_leaves_out, cycle_is_torn, torn_or_whole}
 

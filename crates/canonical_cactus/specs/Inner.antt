@@ -1,14 +1,14 @@
 -- The nodes of a tree that have blocks below them, each looked at without what is below the nodes of its blocks.
 use Rattle.std.specs.Prelude.{ℕ, Bool, true, ◌≡◌, ◌&&◌, Option, nat_le, List, [], ◌∷◌, ◌++◌, length, map}
 use Rattle.std.specs.List.{filter, flat_map, list_all}
-use Rattle.cactus_tree.specs.declared.tree.Node.{Node}
-use Rattle.cactus_tree.specs.declared.tree.Block.{Block, out-Block}
-use Rattle.cactus_tree.specs.declared.tree.Blocks.{Blocks}
-use Rattle.cactus_tree.specs.declared.tree.Children.{Children}
-use Rattle.cactus_tree.specs.declared.tree.Block.TheOpen.{Block-F, Bridge, Cycle}
-use Rattle.cactus_tree.specs.Entries.{nodes_of}
-use Rattle.cactus_tree.specs.Numbers.{is_inner}
-use Rattle.cactus_tree.specs.Trees.{blocks, nodes_in}
+use Rattle.rooted_cactus.specs.declared.tree.Node.{Node}
+use Rattle.rooted_cactus.specs.declared.tree.Block.{Block, out-Block}
+use Rattle.rooted_cactus.specs.declared.tree.Blocks.{Blocks}
+use Rattle.rooted_cactus.specs.declared.tree.Children.{Children}
+use Rattle.rooted_cactus.specs.declared.tree.Block.TheOpen.{Block-F, Bridge, Cycle}
+use Rattle.rooted_cactus.specs.Entries.{nodes_of}
+use Rattle.rooted_cactus.specs.Numbers.{is_inner}
+use Rattle.rooted_cactus.specs.Trees.{blocks, nodes_in}
 use Rattle.canonical_cactus.specs.Canonical.{arranged, arranged_block, ascend, leasts, rises}
 use Rattle.canonical_cactus.specs.Standing.{least_in}
 

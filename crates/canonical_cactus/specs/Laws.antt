@@ -1,12 +1,12 @@
 -- The laws of canonical cactuses, as facts that the functions of the module `laws` state.
 use Rattle.std.specs.Prelude.{ℕ, ◌≡◌, true}
 use Rattle.cut_definitions.specs.Cuts.{has}
-use Rattle.cactus_tree.specs.Rooted.{Rooted, IsCactus}
-use Rattle.cactus_tree.specs.Different.{HaveSameSides}
-use Rattle.cactus_tree.specs.Flattened.{flat_of}
-use Rattle.cactus_tree.specs.Sides.{below, block_part}
-use Rattle.cactus_tree.specs.declared.tree.Node.{Node}
-use Rattle.cactus_tree.specs.declared.tree.Block.{Block}
+use Rattle.rooted_cactus.specs.Rooted.{Rooted, IsCactus}
+use Rattle.rooted_cactus.specs.Different.{HaveSameSides}
+use Rattle.flat_cactus.specs.Flattened.{flat_of}
+use Rattle.rooted_cactus.specs.Sides.{below, block_part}
+use Rattle.rooted_cactus.specs.declared.tree.Node.{Node}
+use Rattle.rooted_cactus.specs.declared.tree.Block.{Block}
 use Rattle.canonical_cactus.specs.Canonical.{arranged, arranged_block, is_canonical}
 use Rattle.canonical_cactus.specs.Plain.{plain}
 

@@ -3,15 +3,15 @@ use Rattle.std.specs.Prelude.{ℕ, ◌≡◌, ◌≤◌, ◌⊎◌, Bool, true, 
 use Rattle.std.specs.List.{All, Contains, filter, list_all}
 use Rattle.cut_definitions.specs.Weight.{VertexSet}
 use Rattle.cut_definitions.specs.Cuts.{has}
-use Rattle.cactus_tree.specs.declared.tree.Node.{Node}
-use Rattle.cactus_tree.specs.declared.tree.Block.{Block}
-use Rattle.cactus_tree.specs.Trees.{vertices, blocks}
-use Rattle.cactus_tree.specs.Sides.{part, block_part}
-use Rattle.cactus_tree.specs.Entered.{entered, entered_block}
-use Rattle.cactus_tree.specs.Entries.{Read, top_first}
-use Rattle.cactus_tree.specs.Widths.{widths, block_widths}
-use Rattle.cactus_tree.specs.Normal.{shape, block_shape, child_fine}
-use Rattle.cactus_tree.specs.Trims.{Each, NoneEmpty, SameSets}
+use Rattle.rooted_cactus.specs.declared.tree.Node.{Node}
+use Rattle.rooted_cactus.specs.declared.tree.Block.{Block}
+use Rattle.rooted_cactus.specs.Trees.{vertices, blocks}
+use Rattle.rooted_cactus.specs.Sides.{part, block_part}
+use Rattle.rooted_cactus.specs.Entered.{entered, entered_block}
+use Rattle.rooted_cactus.specs.Entries.{Read, top_first}
+use Rattle.rooted_cactus.specs.Widths.{widths, block_widths}
+use Rattle.rooted_cactus.specs.Normal.{shape, block_shape, child_fine}
+use Rattle.rooted_cactus.specs.Trims.{Each, NoneEmpty, SameSets}
 use Rattle.canonical_cactus.specs.Canonical.{arranged, arranged_block}
 use Rattle.canonical_cactus.specs.Standing.{least_in, or_zero}
 use Rattle.canonical_cactus.specs.declared.parts.Placed.{Placed}

@@ -2,11 +2,11 @@
 use Rattle.std.specs.Prelude.{ℕ, ◌≡◌, ◌+◌, ◌-◌, ◌≤◌, ⊤, List, [], ◌∷◌, ◌++◌, length, map, take, drop, slice_index_or}
 use Rattle.std.specs.List.{flat_map}
 use Rattle.cut_definitions.specs.Weight.{VertexSet}
-use Rattle.cactus_tree.specs.declared.tree.Node.{Node}
-use Rattle.cactus_tree.specs.declared.tree.Block.{Block}
-use Rattle.cactus_tree.specs.Trees.{vertices}
-use Rattle.cactus_tree.specs.Entered.{entered, entered_block}
-use Rattle.cactus_tree.specs.Entries.{Read, top_first, read_node, read_block, node_read, bridge_read, cycle_read, nothing_read, kept}
+use Rattle.rooted_cactus.specs.declared.tree.Node.{Node}
+use Rattle.rooted_cactus.specs.declared.tree.Block.{Block}
+use Rattle.rooted_cactus.specs.Trees.{vertices}
+use Rattle.rooted_cactus.specs.Entered.{entered, entered_block}
+use Rattle.rooted_cactus.specs.Entries.{Read, top_first, read_node, read_block, node_read, bridge_read, cycle_read, nothing_read, kept}
 use Rattle.canonical_cactus.specs.declared.entries.Joint.{Joint}
 use Rattle.canonical_cactus.specs.declared.entries.Joint.TheVariants.{Bridge, Leaf, Cycle}
 use Rattle.canonical_cactus.specs.declared.entries.OpenNode.{OpenNode}

@@ -1,13 +1,13 @@
 //! A tree taken apart into its nodes, in the order in which it is entered, by loops.
 
 ghost use Rattle.std.specs.Prelude.{List, ◌≡◌, [], ◌++◌, OnOk, IfOk};
-ghost use Rattle.cactus_tree.specs.Entries.{top_first};
-ghost use Rattle.cactus_tree.specs.Trees.{blocks_in, nodes_in};
+ghost use Rattle.rooted_cactus.specs.Entries.{top_first};
+ghost use Rattle.rooted_cactus.specs.Trees.{blocks_in, nodes_in};
 ghost use Rattle.canonical_cactus.specs.Taken.{AreShed, IsShed, Shows};
 
 use crate::parts::bare_node;
-use cactus_tree::{Block, Blocks, Children, Node, VertexList};
 use cut_definitions::NoMemory;
+use rooted_cactus::{Block, Blocks, Children, Node, VertexList};
 use std::alloc::Global;
 use std::mem;
 

@@ -9,17 +9,18 @@
 ghost use Rattle.std.specs.Prelude.{◌≡◌, ◌≢◌, ◌+◌, ◌*◌, ◌<◌, ◌≤◌, ◌⊎◌, [], ℕ, IfOk, IsFalse, IsTrue, Some, length, slice_index};
 ghost use Rattle.std.specs.List.{All, Contains};
 ghost use Rattle.balanced_cut.specs.Ends.{IsRangeOf, range_between, range_of, span_mass};
-ghost use Rattle.cactus_tree.specs.Borders.{border_at, ranges_between};
-ghost use Rattle.cactus_tree.specs.CutRanges.{Range};
-ghost use Rattle.cactus_tree.specs.Places.{IsVertex, side_at};
-ghost use Rattle.cactus_tree.specs.Rooted.{sides_of};
-ghost use Rattle.cactus_tree.specs.Trees.{blocks};
+ghost use Rattle.rooted_cactus.specs.Borders.{border_at, ranges_between};
+ghost use Rattle.rooted_cactus.specs.CutRanges.{Range};
+ghost use Rattle.rooted_cactus.specs.Places.{IsVertex, side_at};
+ghost use Rattle.rooted_cactus.specs.Rooted.{sides_of};
+ghost use Rattle.rooted_cactus.specs.Trees.{blocks};
 ghost use Rattle.canonical_cactus.specs.FirstBest.{AreLess, IsBeyond, IsFirstBefore, IsFirstBest, IsFound, IsNoLater, IsNotAfter, IsRanked, IsRankedOf, IsWanted, count_of, side_of, vertex_at};
 
 use crate::minima::Minima;
 use balanced_cut::{Scale, balance_of, best};
-use cactus_tree::{Cactus, CutPlaces, Span, cut_places, put_range};
+use cactus_walk::{CutPlaces, Span, cut_places, put_range};
 use cut_definitions::{NoMemory, VertexWeights};
+use rooted_cactus::Cactus;
 use std::alloc::Global;
 use vertex_set::Side;
 

@@ -39,11 +39,11 @@ mod put;
 mod rows;
 mod standing;
 
-use cactus_tree::Cactus;
 use cut_definitions::NoMemory;
 pub use first_side::first_best;
 pub use making::canonical;
 use order::node_standing;
+use rooted_cactus::Cactus;
 use standing::stands_in_order;
 use std::alloc::Global;
 

@@ -4,7 +4,7 @@
 ghost use Rattle.std.specs.Prelude.{◌≡◌, ℕ, ◌+◌, ◌*◌, ◌<◌, ◌≤◌, IfOk, length, map, min, slice_index, vec_len};
 ghost use Rattle.canonical_cactus.specs.Minima.{IsLeast, IsMinTree, leaf_at};
 
-use cactus_tree::Span;
+use cactus_walk::Span;
 use cut_definitions::NoMemory;
 use std::alloc::Global;
 

@@ -2,11 +2,11 @@
 
 ghost use Rattle.std.specs.Prelude.{◌≡◌, ◌&&◌, ◌||◌, ◌==◌, ◌<◌, nat_le, nat_lt, length, map};
 ghost use Rattle.std.specs.List.{list_all};
-ghost use Rattle.cactus_tree.specs.Trees.{blocks_in, nodes_in};
+ghost use Rattle.rooted_cactus.specs.Trees.{blocks_in, nodes_in};
 ghost use Rattle.canonical_cactus.specs.Canonical.{all_vertices, arranged, arranged_block, ascend, leasts, rises};
 ghost use Rattle.canonical_cactus.specs.Standing.{least_in, lesser_of, or_zero};
 
-use cactus_tree::{Block, Blocks, Children, Node, VertexList};
+use rooted_cactus::{Block, Blocks, Children, Node, VertexList};
 
 /// What is known of a part of a tree: its least vertex, if it has any, and whether all in it stands in order.
 #[derive(Clone, Copy)]

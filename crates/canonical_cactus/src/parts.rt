@@ -1,14 +1,14 @@
 //! Finished parts of a tree: nodes that may stand below a block, and blocks that may hang from a node.
 
 ghost use Rattle.std.specs.Prelude.{◌≡◌, ◌==◌, [], ◌∷◌, false, length, IfOk};
-ghost use Rattle.cactus_tree.specs.Entries.{Read, nodes_of, bridge_read};
-ghost use Rattle.cactus_tree.specs.Normal.{block_shape};
-ghost use Rattle.cactus_tree.specs.Trees.{blocks, blocks_in, vertices};
-ghost use Rattle.cactus_tree.specs.Trims.{is_above_bridge, is_spare};
+ghost use Rattle.rooted_cactus.specs.Entries.{Read, nodes_of, bridge_read};
+ghost use Rattle.rooted_cactus.specs.Normal.{block_shape};
+ghost use Rattle.rooted_cactus.specs.Trees.{blocks, blocks_in, vertices};
+ghost use Rattle.rooted_cactus.specs.Trims.{is_above_bridge, is_spare};
 ghost use Rattle.canonical_cactus.specs.Making.{IsBlockOf, IsChildOf, IsNodeOf};
 
-use cactus_tree::{Block, Blocks, Node, VertexList};
 use cut_definitions::NoMemory;
+use rooted_cactus::{Block, Blocks, Node, VertexList};
 use std::alloc::Global;
 
 /// A finished node, with the least vertex at or under it, if there is one.

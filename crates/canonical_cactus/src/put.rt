@@ -2,8 +2,8 @@
 
 ghost use Rattle.std.specs.Prelude.{List, ◌≡◌, ◌∷◌, [], ◌≤◌, ◌<◌, length, take, drop, map, OnOk, IfOk, slice_index_or};
 ghost use Rattle.cut_definitions.specs.Cuts.{has};
-ghost use Rattle.cactus_tree.specs.Entries.{Read, top_first, bridge_read, cycle_read, node_read, nothing_read};
-ghost use Rattle.cactus_tree.specs.Trees.{vertices};
+ghost use Rattle.rooted_cactus.specs.Entries.{Read, top_first, bridge_read, cycle_read, node_read, nothing_read};
+ghost use Rattle.rooted_cactus.specs.Trees.{vertices};
 ghost use Rattle.canonical_cactus.specs.Making.{AreBlocksOf, AreChildrenOf, AreNodesOf, IsBlockOf, IsNodeOf};
 ghost use Rattle.canonical_cactus.specs.Taken.{IsReady, all_drawn, drawn, left, read_entries, used, wanted};
 
@@ -11,8 +11,8 @@ use crate::entries::{Joint, OpenNode};
 use crate::order::least_vertex;
 use crate::parts::{Hung, Placed, hang_in, trimmed};
 use crate::rows::{cycle_of, node_of, star_of};
-use cactus_tree::{Block, Blocks, Node};
 use cut_definitions::NoMemory;
+use rooted_cactus::{Block, Blocks, Node};
 use std::alloc::Global;
 
 /// Takes the nodes of a cycle from the top of the stack, in order.

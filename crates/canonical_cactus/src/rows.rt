@@ -3,13 +3,13 @@
 ghost use Rattle.std.specs.Prelude.{◌≡◌, [], ◌∷◌, length, IfOk, OnOk, List};
 ghost use Rattle.std.specs.List.Sorted.{IsPermutation, IsNonDecreasingBy};
 ghost use Rattle.cut_definitions.specs.Cuts.{has};
-ghost use Rattle.cactus_tree.specs.Entries.{Read, bridge_read, cycle_read, node_read, top_first};
+ghost use Rattle.rooted_cactus.specs.Entries.{Read, bridge_read, cycle_read, node_read, top_first};
 ghost use Rattle.canonical_cactus.specs.Making.{AreBlocksOf, AreChildrenOf, IsBlockOf, IsNodeOf, key_of, ends_rise, faced};
 
 use crate::order::{least_vertex, lesser, vertex_or_zero};
 use crate::parts::{Hung, Placed, hang};
-use cactus_tree::{Block, Blocks, Children, Node, VertexList};
 use cut_definitions::NoMemory;
+use rooted_cactus::{Block, Blocks, Children, Node, VertexList};
 use std::alloc::Global;
 
 /// Sorts blocks by their least vertices, the greatest first.

@@ -2,16 +2,16 @@
 
 ghost use Rattle.std.specs.Prelude.{List, Option, ℕ, ◌≡◌, ◌&&◌, [], ◌∷◌, ◌++◌, IfOk, OnOk, length, map, nat_le};
 ghost use Rattle.std.specs.List.{filter, flat_map, list_all};
-ghost use Rattle.cactus_tree.specs.Entries.{nodes_of};
-ghost use Rattle.cactus_tree.specs.Numbers.{is_inner, seen};
-ghost use Rattle.cactus_tree.specs.Trees.{blocks_in, nodes_in};
+ghost use Rattle.rooted_cactus.specs.Entries.{nodes_of};
+ghost use Rattle.rooted_cactus.specs.Numbers.{is_inner, seen};
+ghost use Rattle.rooted_cactus.specs.Trees.{blocks_in, nodes_in};
 ghost use Rattle.canonical_cactus.specs.Canonical.{all_vertices, arranged, arranged_block, ascend, leasts, rises};
 ghost use Rattle.canonical_cactus.specs.Inner.{AreInner, IsWalk, inner_below, least_of, leasts_of, is_turned, stands};
 ghost use Rattle.canonical_cactus.specs.Standing.{least_in};
 
 use crate::order::{Standing, comes_after, first_of, least_vertex, lesser, vertex_or_zero};
-use cactus_tree::{Block, Blocks, Children, Node, stack_inner};
 use cut_definitions::NoMemory;
+use rooted_cactus::{Block, Blocks, Children, Node, stack_inner};
 use std::alloc::Global;
 
 /// The root, and all nodes that have a block below them, each before those below it. Room for so many nodes as are expected

@@ -8,22 +8,22 @@ use Rattle.std.proofs.lemmas.List.Elements.{All-append, All-cons, All-drop, All-
 use Rattle.cut_definitions.specs.Balance.{AreMasses, balance, mass}
 use Rattle.cut_definitions.specs.Cuts.{has}
 use Rattle.cut_definitions.specs.Weight.{complement}
-use Rattle.cactus_tree.specs.Borders.{border_at, ranges_to}
-use Rattle.cactus_tree.specs.CutRanges.{Range}
-use Rattle.cactus_tree.specs.Different.{AreDifferent}
-use Rattle.cactus_tree.specs.Entered.{entered}
-use Rattle.cactus_tree.specs.Normal.{is_normal}
-use Rattle.cactus_tree.specs.Numbers.{number}
-use Rattle.cactus_tree.specs.Places.{AreOnce, IsVertex, side_at}
-use Rattle.cactus_tree.specs.RangeMasses.{mass_before}
-use Rattle.cactus_tree.specs.Repeats.{passed_over, ranges_kept}
-use Rattle.cactus_tree.specs.Rooted.{IsCactus, Rooted, sides_of}
-use Rattle.cactus_tree.specs.Walking.{AreBorders, AreChained}
-use Rattle.cactus_tree.specs.declared.walk.borders.Border.{Border}
-use Rattle.cactus_tree.proofs.Bounds.{number_small}
-use Rattle.cactus_tree.proofs.Distinct.{number_of_sides}
-use Rattle.cactus_tree.proofs.Once.{each_there}
-use Rattle.cactus_tree.proofs.RangeMasses.{before_bound, before_no_less, side_balance}
+use Rattle.rooted_cactus.specs.Borders.{border_at, ranges_to}
+use Rattle.rooted_cactus.specs.CutRanges.{Range}
+use Rattle.rooted_cactus.specs.Different.{AreDifferent}
+use Rattle.rooted_cactus.specs.Entered.{entered}
+use Rattle.rooted_cactus.specs.Normal.{is_normal}
+use Rattle.rooted_cactus.specs.Numbers.{number}
+use Rattle.rooted_cactus.specs.Places.{AreOnce, IsVertex, side_at}
+use Rattle.cactus_walk.specs.RangeMasses.{mass_before}
+use Rattle.cactus_walk.specs.Repeats.{passed_over, ranges_kept}
+use Rattle.rooted_cactus.specs.Rooted.{IsCactus, Rooted, sides_of}
+use Rattle.cactus_walk.specs.Walking.{AreBorders, AreChained}
+use Rattle.rooted_cactus.specs.declared.tree.border.Border.{Border}
+use Rattle.rooted_cactus.proofs.Bounds.{number_small}
+use Rattle.rooted_cactus.proofs.Distinct.{number_of_sides}
+use Rattle.rooted_cactus.proofs.Once.{each_there}
+use Rattle.cactus_walk.proofs.RangeMasses.{before_bound, before_no_less, side_balance}
 use Rattle.cut_listing.specs.Asks.{is_balanced}
 use Rattle.cut_listing.specs.Bands.{AreRising, is_heavy, range_balance, whole}
 use Rattle.cut_listing.specs.Listings.{different}

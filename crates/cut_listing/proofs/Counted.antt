@@ -1,7 +1,7 @@
 -- The number of the different sides of a cactus.
 use Rattle.std.proofs.Common.{◌≡◌, ℕ, List, length, ap, ◌∙◌, sym}
-use Rattle.cactus_tree.specs.Different.{HasDifferent}
-use Rattle.cactus_tree.specs.Rooted.{Rooted, sides_of}
+use Rattle.rooted_cactus.specs.Different.{HasDifferent}
+use Rattle.rooted_cactus.specs.Rooted.{Rooted, sides_of}
 use Rattle.cut_listing.specs.declared.ask.Ask.TheVariants.{All}
 use Rattle.cut_listing.specs.Listings.{asked_sides, different}
 use Rattle.cut_listing.proofs.Listed.{all_different, pass_true, same_different}

@@ -13,7 +13,7 @@ use Rattle.std.proofs.lemmas.Map.Keys.{sorted_head, sorted_tail}
 use Rattle.std.proofs.lemmas.Map.Lookups.{exact_bytes}
 use Rattle.cut_definitions.proofs.Lists.{Contains-here, Contains-there, Contains-cons_cases, Contains-nil}
 use Rattle.cut_definitions.proofs.Orderings.{one_listed}
-use Rattle.cactus_tree.specs.Different.{AreDifferent}
+use Rattle.rooted_cactus.specs.Different.{AreDifferent}
 use Rattle.cut_listing.specs.Listings.{IsAscending, IsListing, put, put_by, different}
 
 abbrev Lists : Type 0

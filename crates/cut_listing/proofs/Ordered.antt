@@ -11,7 +11,7 @@ use Rattle.cut_definitions.specs.Cuts.{sides, mincuts}
 use Rattle.cut_definitions.proofs.Lists.{Contains-filter, Contains-from_filter}
 use Rattle.cut_definitions.proofs.Order.{sides_sorted, mincuts_sorted}
 use Rattle.cut_definitions.proofs.Orderings.{one_listed}
-use Rattle.cactus_tree.specs.Rooted.{sides_of}
+use Rattle.rooted_cactus.specs.Rooted.{sides_of}
 use Rattle.cut_listing.specs.Asks.{lets}
 use Rattle.cut_listing.specs.Laws.{LawOfOneListing, LawOfSides, LawOfMinimumCuts, LawOfCount}
 

@@ -14,15 +14,15 @@ use Rattle.cut_definitions.proofs.Bridge.{has_low, has_within}
 use Rattle.cut_definitions.proofs.Lists.{Contains-filter, Contains-from_filter, Contains-from_map}
 use Rattle.cut_definitions.proofs.Masses.{mass_term}
 use Rattle.cut_definitions.proofs.Ascending.{contains_has}
-use Rattle.cactus_tree.specs.Entered.{entered, entered_block}
-use Rattle.cactus_tree.specs.Rooted.{IsCactus, Rooted, sides_of}
-use Rattle.cactus_tree.specs.Sides.{Part, cuts}
-use Rattle.cactus_tree.specs.Trees.{blocks, vertices}
-use Rattle.cactus_tree.specs.declared.tree.Node.{Node, out-Node, roll-Node}
-use Rattle.cactus_tree.proofs.Layouts.{cut_is_segment}
-use Rattle.cactus_tree.proofs.Orders.{entered_out}
-use Rattle.cactus_tree.proofs.Parts.{part_out}
-use Rattle.cactus_tree.proofs.Segments.{IsSegment, has_append_at, has_both}
+use Rattle.rooted_cactus.specs.Entered.{entered, entered_block}
+use Rattle.rooted_cactus.specs.Rooted.{IsCactus, Rooted, sides_of}
+use Rattle.rooted_cactus.specs.Sides.{Part, cuts}
+use Rattle.rooted_cactus.specs.Trees.{blocks, vertices}
+use Rattle.rooted_cactus.specs.declared.tree.Node.{Node, out-Node, roll-Node}
+use Rattle.rooted_cactus.proofs.Layouts.{cut_is_segment}
+use Rattle.rooted_cactus.proofs.Orders.{entered_out}
+use Rattle.rooted_cactus.proofs.Parts.{part_out}
+use Rattle.rooted_cactus.proofs.Segments.{IsSegment, has_append_at, has_both}
 use Rattle.cut_listing.specs.Asks.{is_balanced}
 use Rattle.cut_listing.specs.Listings.{different}
 use Rattle.cut_listing.specs.Pairs.{ArePairMasses, vertex_or_one}

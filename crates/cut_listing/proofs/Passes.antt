@@ -8,7 +8,7 @@ use Rattle.std.proofs.lemmas.Bool.{cases_Bool, eq-eqb, eqb-true}
 use Rattle.std.proofs.lemmas.List.{append_assoc, nil_from_length}
 use Rattle.std.proofs.lemmas.List.Elements.{All-nil, All-contains, All-head, All-map, All-tail, filter-append}
 use Rattle.cut_definitions.proofs.Lists.{Contains-filter, Contains-from_filter}
-use Rattle.cactus_tree.specs.Different.{AreDifferent}
+use Rattle.rooted_cactus.specs.Different.{AreDifferent}
 use Rattle.vertex_set.specs.Side.{VertexList}
 use Rattle.cut_listing.specs.declared.ask.Ask.{Ask}
 use Rattle.cut_listing.specs.Listings.{IsList, IsListing, asked_sides, different, members_of}
@@ -16,16 +16,16 @@ use Rattle.cut_listing.proofs.Listed.{all_from, same_different, different_is_lis
 use Rattle.cut_definitions.specs.Weight.{VertexSet}
 use Rattle.cut_definitions.specs.Cuts.{IsAscendingWithin}
 use Rattle.cut_definitions.proofs.Bridge.{IsAscendingWithin-filter}
-use Rattle.cactus_tree.specs.Rooted.{Rooted, sides_of}
-use Rattle.cactus_tree.specs.Sides.{cuts}
+use Rattle.rooted_cactus.specs.Rooted.{Rooted, sides_of}
+use Rattle.rooted_cactus.specs.Sides.{cuts}
 use Rattle.cut_definitions.specs.Cuts.{has}
 use Rattle.cut_definitions.proofs.Numbers.{cases_le}
 use Rattle.cut_definitions.proofs.Ascending.{contains_has}
-use Rattle.cactus_tree.specs.declared.tree.Node.{Node}
-use Rattle.cactus_tree.specs.Entered.{entered_block}
-use Rattle.cactus_tree.specs.Rooted.{IsCactus}
-use Rattle.cactus_tree.specs.Trees.{vertices, blocks}
-use Rattle.cactus_tree.proofs.Orders.{entered_out}
+use Rattle.rooted_cactus.specs.declared.tree.Node.{Node}
+use Rattle.rooted_cactus.specs.Entered.{entered_block}
+use Rattle.rooted_cactus.specs.Rooted.{IsCactus}
+use Rattle.rooted_cactus.specs.Trees.{vertices, blocks}
+use Rattle.rooted_cactus.proofs.Orders.{entered_out}
 
 abbrev Lists : Type 0
 Lists = List (List ℕ)

@@ -18,7 +18,7 @@ use Rattle.cut_definitions.proofs.Lists.{Contains-map, Contains-from_map}
 use Rattle.cut_definitions.proofs.Orderings.{then_parts, then_same, from_is_eq}
 use Rattle.vertex_set.specs.Side.{VertexList}
 use Rattle.vertex_set.proofs.Compared.{side_cmp, side_total}
-use Rattle.cactus_tree.specs.Different.{AreDifferent}
+use Rattle.rooted_cactus.specs.Different.{AreDifferent}
 use Rattle.cut_listing.specs.Listings.{IsAscending, members_of, different}
 use Rattle.cut_listing.proofs.Listed.{all_different, ascending_cons, ascending_nil, is_different}
 

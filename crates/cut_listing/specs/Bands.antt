@@ -1,8 +1,8 @@
 -- Ranges between the borders of blocks, weighed by the masses before their ends.
 use Rattle.std.specs.Prelude.{ℕ, ◌+◌, ◌-◌, ◌≤◌, ◌<◌, ◌^◌, nat_le, Bool, List, drop, get_or, length, min, take}
-use Rattle.cactus_tree.specs.Borders.{border_at, ranges_to}
-use Rattle.cactus_tree.specs.CutRanges.{Range}
-use Rattle.cactus_tree.specs.declared.walk.borders.Border.{Border}
+use Rattle.rooted_cactus.specs.Borders.{border_at, ranges_to}
+use Rattle.rooted_cactus.specs.CutRanges.{Range}
+use Rattle.rooted_cactus.specs.declared.tree.border.Border.{Border}
 
 -- the last of several masses
 abbrev pub whole : List ℕ → ℕ

@@ -3,8 +3,8 @@ use Rattle.std.specs.Prelude.{ℕ, Bool, ◌≡◌, ◌↔◌, List, length}
 use Rattle.std.specs.List.{Contains, filter}
 use Rattle.cut_definitions.specs.Graph.{Graph}
 use Rattle.cut_definitions.specs.Cuts.{sides, mincuts}
-use Rattle.cactus_tree.specs.Different.{HasDifferent}
-use Rattle.cactus_tree.specs.Rooted.{Rooted, sides_of}
+use Rattle.rooted_cactus.specs.Different.{HasDifferent}
+use Rattle.rooted_cactus.specs.Rooted.{Rooted, sides_of}
 use Rattle.cut_listing.specs.declared.ask.Ask.{Ask}
 use Rattle.cut_listing.specs.Asks.{lets}
 use Rattle.cut_listing.specs.Listings.{IsAscending, IsListing, HaveDifferent, asked_sides}

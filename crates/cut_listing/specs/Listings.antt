@@ -6,7 +6,7 @@ use Rattle.std.specs.Ordering.{nat_cmp}
 use Rattle.std.specs.Cmp.Lexicographic.{slice_cmp}
 use Rattle.std.specs.declared.cmp.Ordering.{Ordering}
 use Rattle.std.specs.declared.cmp.Ordering.TheVariants.{Less, Equal, Greater}
-use Rattle.cactus_tree.specs.Rooted.{Rooted, sides_of}
+use Rattle.rooted_cactus.specs.Rooted.{Rooted, sides_of}
 use Rattle.vertex_set.specs.Side.{VertexList}
 use Rattle.cut_listing.specs.declared.ask.Ask.{Ask}
 use Rattle.cut_listing.specs.declared.list_refusal.ListRefusal.{ListRefusal}

@@ -2,8 +2,8 @@
 
 ghost use Rattle.std.specs.Prelude.{◌≡◌, ◌*◌, ◌<◌, ◌≤◌, ◌^◌, ◌++◌, ◌&&◌, ◌==◌, [], ◌∷◌, true, IfOk, IfErr, map, length};
 ghost use Rattle.std.specs.List.{All, filter};
-ghost use Rattle.cactus_tree.specs.Different.{AreDifferent};
-ghost use Rattle.cactus_tree.specs.Normal.{is_normal};
+ghost use Rattle.rooted_cactus.specs.Different.{AreDifferent};
+ghost use Rattle.rooted_cactus.specs.Normal.{is_normal};
 ghost use Rattle.cut_listing.specs.Asks.{AnswersAsk, HasMasses, IsOver, TakesSides, has_masses-prop, lets};
 ghost use Rattle.cut_listing.specs.Listings.{IsList, IsRefusal, asked_sides, different, members_of};
 
@@ -12,8 +12,9 @@ use crate::list_refusal::ListRefusal;
 use crate::pair::{number_of_parting, parting_sides};
 use crate::sorting::sort_sides;
 use crate::weighed::{balanced_sides, number_of_balanced};
-use cactus_tree::{Cactus, Walk};
+use cactus_walk::Walk;
 use cut_definitions::NoMemory;
+use rooted_cactus::Cactus;
 use std::alloc::Global;
 use vertex_set::Side;
 

@@ -5,15 +5,15 @@ ghost use Rattle.std.specs.Prelude.{◌≡◌, ◌≤◌, true, IfOk, length};
 ghost use Rattle.std.specs.List.{All, filter};
 ghost use Rattle.cut_definitions.specs.Cuts.{has};
 ghost use Rattle.cut_definitions.specs.Weight.{parts};
-ghost use Rattle.cactus_tree.specs.Different.{AreDifferent};
-ghost use Rattle.cactus_tree.specs.Normal.{is_normal};
-ghost use Rattle.cactus_tree.specs.Rooted.{sides_of};
+ghost use Rattle.rooted_cactus.specs.Different.{AreDifferent};
+ghost use Rattle.rooted_cactus.specs.Normal.{is_normal};
+ghost use Rattle.rooted_cactus.specs.Rooted.{sides_of};
 ghost use Rattle.cut_listing.specs.Listings.{different, members_of};
 ghost use Rattle.cut_listing.specs.Pairs.{ArePairMasses, vertex_or_one};
 
 use crate::weighed::{balanced_sides, number_of_balanced};
-use cactus_tree::Cactus;
 use cut_definitions::{NoMemory, VertexWeights};
+use rooted_cactus::Cactus;
 use std::alloc::Global;
 use vertex_set::Side;
 

@@ -2,7 +2,7 @@
 
 ghost use Rattle.std.specs.Prelude.{◌≡◌};
 ghost use Rattle.std.specs.List.{All};
-ghost use Rattle.cactus_tree.specs.Different.{AreDifferent};
+ghost use Rattle.rooted_cactus.specs.Different.{AreDifferent};
 ghost use Rattle.cut_listing.specs.Listings.{different, members_of};
 
 use vertex_set::Side;

@@ -7,19 +7,20 @@
 
 ghost use Rattle.std.specs.Prelude.{◌≡◌, ◌+◌, ◌-◌, ◌<◌, ◌≤◌, ◌^◌, ◌++◌, true, IfOk, OnOk, drop, length, map, max};
 ghost use Rattle.std.specs.List.{All, filter};
-ghost use Rattle.cactus_tree.specs.Borders.{border_at};
-ghost use Rattle.cactus_tree.specs.Different.{AreDifferent};
-ghost use Rattle.cactus_tree.specs.Normal.{is_normal};
-ghost use Rattle.cactus_tree.specs.Places.{IsVertex, side_at};
-ghost use Rattle.cactus_tree.specs.Repeats.{mark_at, passed_over, ranges_kept};
-ghost use Rattle.cactus_tree.specs.Rooted.{sides_of};
-ghost use Rattle.cactus_tree.specs.Walking.{AreBorders, AreChained};
+ghost use Rattle.rooted_cactus.specs.Borders.{border_at};
+ghost use Rattle.rooted_cactus.specs.Different.{AreDifferent};
+ghost use Rattle.rooted_cactus.specs.Normal.{is_normal};
+ghost use Rattle.rooted_cactus.specs.Places.{IsVertex, side_at};
+ghost use Rattle.cactus_walk.specs.Repeats.{mark_at, passed_over, ranges_kept};
+ghost use Rattle.rooted_cactus.specs.Rooted.{sides_of};
+ghost use Rattle.cactus_walk.specs.Walking.{AreBorders, AreChained};
 ghost use Rattle.cut_listing.specs.Asks.{is_balanced};
 ghost use Rattle.cut_listing.specs.Bands.{AreEnds, AreRising, AreShort, IsShort, is_heavy, mass_at, ranges_of, range_between, whole};
 ghost use Rattle.cut_listing.specs.Listings.{different, members_of};
 
-use cactus_tree::{Border, Cactus, kept_places, masses_before, put_range};
+use cactus_walk::{kept_places, masses_before, put_range};
 use cut_definitions::{NoMemory, VertexWeights};
+use rooted_cactus::{Border, Cactus};
 use std::alloc::Global;
 use vertex_set::Side;
 

@@ -8,14 +8,14 @@ use Rattle.std.proofs.lemmas.List.FromFn.{get_or-map-range_with_len}
 use Rattle.cut_definitions.specs.Weight.{VertexSet}
 use Rattle.cut_definitions.specs.Cuts.{has}
 use Rattle.cut_definitions.proofs.Lists.{Contains-cons_cases, Contains-nil}
-use Rattle.cactus_tree.specs.Sides.{Part, part, block_part, all_cuts}
-use Rattle.cactus_tree.specs.Normal.{is_normal}
-use Rattle.cactus_tree.specs.Rooted.{IsCactus}
-use Rattle.cactus_tree.specs.Trees.{blocks}
-use Rattle.cactus_tree.specs.declared.tree.Node.{Node}
-use Rattle.cactus_tree.specs.declared.tree.Block.{Block}
-use Rattle.cactus_tree.proofs.Parts.{part_out}
-use Rattle.cactus_tree.proofs.Trims.{own_cut}
+use Rattle.rooted_cactus.specs.Sides.{Part, part, block_part, all_cuts}
+use Rattle.rooted_cactus.specs.Normal.{is_normal}
+use Rattle.rooted_cactus.specs.Rooted.{IsCactus}
+use Rattle.rooted_cactus.specs.Trees.{blocks}
+use Rattle.rooted_cactus.specs.declared.tree.Node.{Node}
+use Rattle.rooted_cactus.specs.declared.tree.Block.{Block}
+use Rattle.rooted_cactus.proofs.Parts.{part_out}
+use Rattle.rooted_cactus.proofs.Trims.{own_cut}
 use Rattle.edge_augment.specs.Ends.{end_sets}
 use Rattle.edge_augment.specs.Laws.{LawOfSeveral, LawOfDifferent}
 use Rattle.edge_augment.specs.NewEdges.{least_at, new_edges, opposite_pairs, upward}

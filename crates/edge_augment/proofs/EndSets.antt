@@ -11,27 +11,27 @@ use Rattle.cut_definitions.proofs.Sides.{IsAscendingWithin-lower}
 use Rattle.cut_definitions.proofs.Lists.{Contains-here, Contains-there, Contains-cons_cases, Contains-nil, Contains-map, Contains-from_map}
 use Rattle.cut_definitions.proofs.Bools.{parts_from_false, same_tests}
 use Rattle.cut_definitions.proofs.Ascending.{contains_has, has_contains}
-use Rattle.cactus_tree.specs.Sides.{Part, part, block_part, all_cuts}
-use Rattle.cactus_tree.specs.Normal.{block_shape, is_normal}
-use Rattle.cactus_tree.specs.Entered.{entered, entered_block}
-use Rattle.cactus_tree.specs.Places.{IsVertex}
-use Rattle.cactus_tree.specs.Rooted.{IsCactus, sides_of}
-use Rattle.cactus_tree.specs.Trees.{vertices, blocks}
-use Rattle.cactus_tree.specs.declared.tree.Node.{Node}
-use Rattle.cactus_tree.specs.declared.tree.Block.{Block}
-use Rattle.cactus_tree.proofs.Once.{each_there, all_vertices_within}
-use Rattle.cactus_tree.proofs.Orders.{entered_out}
-use Rattle.cactus_tree.proofs.Parts.{part_out}
-use Rattle.cactus_tree.proofs.Segments.{has_append_at}
-use Rattle.cactus_tree.proofs.Shapes.{root_normal}
+use Rattle.rooted_cactus.specs.Sides.{Part, part, block_part, all_cuts}
+use Rattle.rooted_cactus.specs.Normal.{block_shape, is_normal}
+use Rattle.rooted_cactus.specs.Entered.{entered, entered_block}
+use Rattle.rooted_cactus.specs.Places.{IsVertex}
+use Rattle.rooted_cactus.specs.Rooted.{IsCactus, sides_of}
+use Rattle.rooted_cactus.specs.Trees.{vertices, blocks}
+use Rattle.rooted_cactus.specs.declared.tree.Node.{Node}
+use Rattle.rooted_cactus.specs.declared.tree.Block.{Block}
+use Rattle.rooted_cactus.proofs.Once.{each_there, all_vertices_within}
+use Rattle.rooted_cactus.proofs.Orders.{entered_out}
+use Rattle.rooted_cactus.proofs.Parts.{part_out}
+use Rattle.rooted_cactus.proofs.Segments.{has_append_at}
+use Rattle.rooted_cactus.proofs.Shapes.{root_normal}
 use Rattle.edge_augment.specs.Ends.{end_sets}
 use Rattle.edge_augment.specs.Laws.{over, IsCutSet, IsSublist, LawOfEndSets}
-use Rattle.cactus_tree.proofs.Sets.{Apart}
-use Rattle.cactus_tree.proofs.Clean.{IsClean, count, clean_apart, root_clean}
-use Rattle.cactus_tree.proofs.Trims.{own_cut}
-use Rattle.cactus_tree.proofs.BlockLaws.{block_laid}
+use Rattle.rooted_cactus.proofs.Sets.{Apart}
+use Rattle.rooted_cactus.proofs.Clean.{IsClean, count, clean_apart, root_clean}
+use Rattle.rooted_cactus.proofs.Trims.{own_cut}
+use Rattle.rooted_cactus.proofs.BlockLaws.{block_laid}
 use Rattle.edge_augment.proofs.Leaves.{IsLeft, none, drops, keeps, count_more, first_of, ends_once, end_sets_left}
-use Rattle.cactus_tree.proofs.Within.{of_lists, block_below, blocks_within, of_left}
+use Rattle.rooted_cactus.proofs.Within.{of_lists, block_below, blocks_within, of_left}
 use Rattle.edge_augment.proofs.Inside.{HasInside, AreFine, IsFull, fine_split}
 use Rattle.edge_augment.proofs.Outside.{ends_inside, ends_outside, ends_full, ends_cut, own_within}
 

@@ -8,10 +8,10 @@ use Rattle.cut_definitions.specs.Cuts.{has, side_of}
 use Rattle.cut_definitions.proofs.Bridge.{has-side_of}
 use Rattle.cut_definitions.proofs.Lists.{Contains-here, Contains-there, Contains-cons_cases, Contains-nil, Contains-from_filter}
 use Rattle.cut_definitions.proofs.Bools.{not_then_never}
-use Rattle.cactus_tree.specs.Places.{IsVertex}
+use Rattle.rooted_cactus.specs.Places.{IsVertex}
 use Rattle.edge_augment.specs.Ends.{end_sets}
 use Rattle.edge_augment.specs.Laws.{LawOfFewest}
-use Rattle.cactus_tree.proofs.Clean.{count}
+use Rattle.rooted_cactus.proofs.Clean.{count}
 use Rattle.edge_augment.proofs.Leaves.{count_more, first_of, ends_once}
 use Rattle.edge_augment.proofs.EndSets.{end_is_set}
 

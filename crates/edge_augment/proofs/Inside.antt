@@ -11,22 +11,22 @@ use Rattle.cut_definitions.specs.Weight.{VertexSet, either}
 use Rattle.cut_definitions.specs.Cuts.{has}
 use Rattle.cut_definitions.proofs.Bridge.{has_first_of}
 use Rattle.cut_definitions.proofs.Lists.{Contains-here, Contains-cons_cases, Contains-nil}
-use Rattle.cactus_tree.specs.Sides.{Part, part, block_part, all_of, belows, all_cuts, bridge_of, cycle_of}
-use Rattle.cactus_tree.specs.Normal.{shape, block_shape, child_fine, well_placed, BlockShape}
-use Rattle.cactus_tree.specs.Entered.{in_order}
-use Rattle.cactus_tree.specs.Trees.{vertices, blocks, nodes_in}
-use Rattle.cactus_tree.specs.declared.tree.Node.{Node}
-use Rattle.cactus_tree.specs.declared.tree.Block.{Block}
-use Rattle.cactus_tree.specs.declared.tree.Children.{Children}
-use Rattle.cactus_tree.specs.declared.tree.Block.TheVariants.{Bridge, Cycle}
-use Rattle.cactus_tree.proofs.Parts.{part_out, bridge_part, cycle_part}
-use Rattle.cactus_tree.proofs.Shapes.{bridge_shape, cycle_fine}
+use Rattle.rooted_cactus.specs.Sides.{Part, part, block_part, all_of, belows, all_cuts, bridge_of, cycle_of}
+use Rattle.rooted_cactus.specs.Normal.{shape, block_shape, child_fine, well_placed, BlockShape}
+use Rattle.rooted_cactus.specs.Entered.{in_order}
+use Rattle.rooted_cactus.specs.Trees.{vertices, blocks, nodes_in}
+use Rattle.rooted_cactus.specs.declared.tree.Node.{Node}
+use Rattle.rooted_cactus.specs.declared.tree.Block.{Block}
+use Rattle.rooted_cactus.specs.declared.tree.Children.{Children}
+use Rattle.rooted_cactus.specs.declared.tree.Block.TheVariants.{Bridge, Cycle}
+use Rattle.rooted_cactus.proofs.Parts.{part_out, bridge_part, cycle_part}
+use Rattle.rooted_cactus.proofs.Shapes.{bridge_shape, cycle_fine}
 use Rattle.edge_augment.specs.Ends.{leaves, block_leaves, leaves_of}
 use Rattle.edge_augment.proofs.Leaves.{leaves_out, leaves_bridge, leaves_cycle}
-use Rattle.cactus_tree.proofs.Fits.{child_splits}
-use Rattle.cactus_tree.proofs.Sets.{IsIn, HasOne}
-use Rattle.cactus_tree.proofs.Cycles.{here_above, cycle_cuts, cycle_cases}
-use Rattle.cactus_tree.proofs.Views.{block_induction, each}
+use Rattle.rooted_cactus.proofs.Fits.{child_splits}
+use Rattle.rooted_cactus.proofs.Sets.{IsIn, HasOne}
+use Rattle.rooted_cactus.proofs.Cycles.{here_above, cycle_cuts, cycle_cases}
+use Rattle.rooted_cactus.proofs.Views.{block_induction, each}
 
 -- one of the lists is within a set
 abbrev pub HasInside : List (List ℕ) → VertexSet → Type 0

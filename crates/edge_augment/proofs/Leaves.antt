@@ -6,20 +6,20 @@ use Rattle.std.specs.declared.boxed.Box.{Box}
 use Rattle.std.specs.declared.alloc.Global.{Global}
 use Rattle.std.proofs.lemmas.Bool.{cases_Bool}
 use Rattle.cut_definitions.specs.Cuts.{has}
-use Rattle.cactus_tree.specs.Entered.{entered, entered_block, in_order}
-use Rattle.cactus_tree.specs.Rooted.{IsCactus}
-use Rattle.cactus_tree.specs.Trees.{vertices, blocks, nodes_in}
-use Rattle.cactus_tree.specs.declared.tree.Node.{Node, out-Node}
-use Rattle.cactus_tree.specs.declared.tree.Block.{Block}
-use Rattle.cactus_tree.specs.declared.tree.Children.{Children}
-use Rattle.cactus_tree.specs.declared.tree.Block.TheVariants.{Bridge, Cycle, rolls-Bridge, rolls-Cycle}
-use Rattle.cactus_tree.specs.declared.tree.Block.TheOpen as Open
-use Rattle.cactus_tree.specs.declared.tree.Block.TheFolds.{fold_out-Node, fold_out-Blocks, fold_out-Children, fold-roll-Block, fold-Block}
-use Rattle.cactus_tree.proofs.Orders.{entered_out, entered_bridge, entered_cycle}
+use Rattle.rooted_cactus.specs.Entered.{entered, entered_block, in_order}
+use Rattle.rooted_cactus.specs.Rooted.{IsCactus}
+use Rattle.rooted_cactus.specs.Trees.{vertices, blocks, nodes_in}
+use Rattle.rooted_cactus.specs.declared.tree.Node.{Node, out-Node}
+use Rattle.rooted_cactus.specs.declared.tree.Block.{Block}
+use Rattle.rooted_cactus.specs.declared.tree.Children.{Children}
+use Rattle.rooted_cactus.specs.declared.tree.Block.TheVariants.{Bridge, Cycle, rolls-Bridge, rolls-Cycle}
+use Rattle.rooted_cactus.specs.declared.tree.Block.TheOpen as Open
+use Rattle.rooted_cactus.specs.declared.tree.Block.TheFolds.{fold_out-Node, fold_out-Blocks, fold_out-Children, fold-roll-Block, fold-Block}
+use Rattle.rooted_cactus.proofs.Orders.{entered_out, entered_bridge, entered_cycle}
 use Rattle.edge_augment.specs.Ends.{leaves, block_leaves, leaves_of, ends_of, end_sets, leaves_block_step, leaves_blocks_step, leaves_children_step, leaves_node_step}
 use Rattle.edge_augment.specs.Laws.{LawOfDisjointSets}
-use Rattle.cactus_tree.proofs.Clean.{count, root_clean}
-use Rattle.cactus_tree.proofs.Views.{block_induction, each}
+use Rattle.rooted_cactus.proofs.Clean.{count, root_clean}
+use Rattle.rooted_cactus.proofs.Views.{block_induction, each}
 
 abbrev pub Lists : Type 0
 Lists = List (List ℕ)

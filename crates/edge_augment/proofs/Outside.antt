@@ -6,17 +6,17 @@ use Rattle.std.proofs.lemmas.List.Elements.{Contains-append_left, Contains-appen
 use Rattle.cut_definitions.specs.Weight.{VertexSet}
 use Rattle.cut_definitions.specs.Cuts.{has}
 use Rattle.cut_definitions.proofs.Lists.{Contains-here, Contains-there, Contains-cons_cases, Contains-nil}
-use Rattle.cactus_tree.specs.Sides.{part, block_part, all_of, belows, all_cuts}
-use Rattle.cactus_tree.specs.Entered.{entered_block, in_order}
-use Rattle.cactus_tree.specs.declared.tree.Node.{Node}
-use Rattle.cactus_tree.specs.declared.tree.Block.{Block}
-use Rattle.cactus_tree.proofs.Segments.{has_append_at}
+use Rattle.rooted_cactus.specs.Sides.{part, block_part, all_of, belows, all_cuts}
+use Rattle.rooted_cactus.specs.Entered.{entered_block, in_order}
+use Rattle.rooted_cactus.specs.declared.tree.Node.{Node}
+use Rattle.rooted_cactus.specs.declared.tree.Block.{Block}
+use Rattle.rooted_cactus.proofs.Segments.{has_append_at}
 use Rattle.edge_augment.specs.Ends.{block_leaves, ends_of}
-use Rattle.cactus_tree.proofs.Sets.{IsIn, HasOne, Apart}
-use Rattle.cactus_tree.proofs.Clean.{IsClean, clean_apart, clean_right}
-use Rattle.cactus_tree.proofs.Cycles.{cycle_cuts, cycle_whole}
-use Rattle.cactus_tree.proofs.Views.{each}
-use Rattle.cactus_tree.proofs.Within.{Lists, of_lists, of_left, block_within, block_below, blocks_within}
+use Rattle.rooted_cactus.proofs.Sets.{IsIn, HasOne, Apart}
+use Rattle.rooted_cactus.proofs.Clean.{IsClean, clean_apart, clean_right}
+use Rattle.rooted_cactus.proofs.Cycles.{cycle_cuts, cycle_whole}
+use Rattle.rooted_cactus.proofs.Views.{each}
+use Rattle.rooted_cactus.proofs.Within.{Lists, of_lists, of_left, block_within, block_below, blocks_within}
 use Rattle.edge_augment.proofs.OwnCuts.{BlockOwn, block_own, own_blocks}
 use Rattle.edge_augment.proofs.Inside.{HasInside, AreFine, IsFull, block_rich, cuts_rich, leaves_full, fine_split}
 

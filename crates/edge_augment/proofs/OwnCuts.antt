@@ -7,18 +7,18 @@ use Rattle.std.proofs.lemmas.List.Elements.{Contains-append_left, Contains-appen
 use Rattle.cut_definitions.specs.Weight.{either}
 use Rattle.cut_definitions.specs.Cuts.{has}
 use Rattle.cut_definitions.proofs.Lists.{Contains-here, Contains-there, Contains-cons_cases, Contains-nil}
-use Rattle.cactus_tree.specs.Sides.{Part, part, block_part, all_of, belows, all_cuts, nothing}
-use Rattle.cactus_tree.specs.Entered.{in_order}
-use Rattle.cactus_tree.specs.Trees.{vertices, blocks, nodes_in}
-use Rattle.cactus_tree.specs.declared.tree.Node.{Node}
-use Rattle.cactus_tree.specs.declared.tree.Block.{Block}
-use Rattle.cactus_tree.specs.declared.tree.Children.{Children}
-use Rattle.cactus_tree.specs.declared.tree.Block.TheVariants.{Bridge, Cycle}
-use Rattle.cactus_tree.proofs.Parts.{part_out, bridge_part, cycle_part, either_nothing}
+use Rattle.rooted_cactus.specs.Sides.{Part, part, block_part, all_of, belows, all_cuts, nothing}
+use Rattle.rooted_cactus.specs.Entered.{in_order}
+use Rattle.rooted_cactus.specs.Trees.{vertices, blocks, nodes_in}
+use Rattle.rooted_cactus.specs.declared.tree.Node.{Node}
+use Rattle.rooted_cactus.specs.declared.tree.Block.{Block}
+use Rattle.rooted_cactus.specs.declared.tree.Children.{Children}
+use Rattle.rooted_cactus.specs.declared.tree.Block.TheVariants.{Bridge, Cycle}
+use Rattle.rooted_cactus.proofs.Parts.{part_out, bridge_part, cycle_part, either_nothing}
 use Rattle.edge_augment.specs.Ends.{leaves, block_leaves, leaves_of}
 use Rattle.edge_augment.proofs.Leaves.{leaves_out, leaves_bridge, leaves_cycle}
-use Rattle.cactus_tree.proofs.Cycles.{here_first, cycle_cuts, cycle_here, cycle_own, cycle_rest}
-use Rattle.cactus_tree.proofs.Views.{block_induction}
+use Rattle.rooted_cactus.proofs.Cycles.{here_first, cycle_cuts, cycle_here, cycle_own, cycle_rest}
+use Rattle.rooted_cactus.proofs.Views.{block_induction}
 
 abbrev NodeOwn : Node → Type 0
 NodeOwn x = (l : List ℕ) → Contains (leaves x) l → Contains ((part x).below ∷ (part x).cuts) (has l)

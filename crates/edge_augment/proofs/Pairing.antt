@@ -13,17 +13,17 @@ use Rattle.cut_definitions.proofs.Values.{Contains-least}
 use Rattle.cut_definitions.proofs.Lists.{Contains-here, Contains-there, Contains-cons_cases, Contains-nil, Contains-map, Contains-from_map}
 use Rattle.cut_definitions.proofs.Bools.{one_parts}
 use Rattle.cut_definitions.proofs.Ascending.{contains_has}
-use Rattle.cactus_tree.specs.Sides.{part}
-use Rattle.cactus_tree.specs.Entered.{entered}
-use Rattle.cactus_tree.proofs.Layouts.{laid_out}
-use Rattle.cactus_tree.proofs.Segments.{has_append_at}
+use Rattle.rooted_cactus.specs.Sides.{part}
+use Rattle.rooted_cactus.specs.Entered.{entered}
+use Rattle.rooted_cactus.proofs.Layouts.{laid_out}
+use Rattle.rooted_cactus.proofs.Segments.{has_append_at}
 use Rattle.edge_augment.specs.Ends.{end_sets}
 use Rattle.edge_augment.specs.Laws.{LawOfPairing, LawOfNumber}
 use Rattle.edge_augment.specs.NewEdges.{least_at, opposite_pairs}
-use Rattle.cactus_tree.proofs.Sets.{IsIn, HasOne, Apart}
-use Rattle.cactus_tree.proofs.Clean.{IsClean, clean_apart, clean_right, root_clean}
+use Rattle.rooted_cactus.proofs.Sets.{IsIn, HasOne, Apart}
+use Rattle.rooted_cactus.proofs.Clean.{IsClean, clean_apart, clean_right, root_clean}
 use Rattle.edge_augment.proofs.Leaves.{IsLeft, none, drops, keeps, end_sets_left}
-use Rattle.cactus_tree.proofs.Within.{of_lists, of_left}
+use Rattle.rooted_cactus.proofs.Within.{of_lists, of_left}
 use Rattle.edge_augment.proofs.EndSets.{left_contains, inside, outside, full, end_ascending, ascending_vertex}
 
 abbrev Lists : Type 0

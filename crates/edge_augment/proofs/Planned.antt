@@ -9,11 +9,11 @@ use Rattle.cut_definitions.specs.Weight.{VertexSet, parts}
 use Rattle.cut_definitions.specs.Cuts.{has, least, IsAscendingWithin}
 use Rattle.cut_definitions.proofs.Lists.{Contains-map}
 use Rattle.cut_definitions.proofs.Bools.{parts_flip}
-use Rattle.cactus_tree.specs.Normal.{is_normal}
-use Rattle.cactus_tree.specs.Places.{IsVertex}
-use Rattle.cactus_tree.specs.Rooted.{Rooted, IsCactus}
-use Rattle.cactus_tree.specs.Trees.{blocks}
-use Rattle.cactus_tree.specs.declared.tree.Node.{Node}
+use Rattle.rooted_cactus.specs.Normal.{is_normal}
+use Rattle.rooted_cactus.specs.Places.{IsVertex}
+use Rattle.rooted_cactus.specs.Rooted.{Rooted, IsCactus}
+use Rattle.rooted_cactus.specs.Trees.{blocks}
+use Rattle.rooted_cactus.specs.declared.tree.Node.{Node}
 use Rattle.edge_augment.specs.Augmentations.{pair_cmp, IsAugmentation, IsLeast, LawOfAugmentation}
 use Rattle.edge_augment.specs.Ends.{end_sets}
 use Rattle.edge_augment.specs.NewEdges.{least_at, new_edges, opposite_pairs, upward}

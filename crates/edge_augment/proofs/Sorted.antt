@@ -22,8 +22,8 @@ use Rattle.cut_definitions.specs.Cuts.{has}
 use Rattle.cut_definitions.proofs.Bridge.{has_first_of}
 use Rattle.cut_definitions.proofs.Numbers.{eqb_flip}
 use Rattle.cut_definitions.proofs.Orderings.{then_less, then_parts}
-use Rattle.cactus_tree.proofs.Clean.{count}
-use Rattle.cactus_tree.proofs.Sets.{HasOne}
+use Rattle.rooted_cactus.proofs.Clean.{count}
+use Rattle.rooted_cactus.proofs.Sets.{HasOne}
 use Rattle.edge_augment.specs.Augmentations.{pair_cmp}
 use Rattle.edge_augment.specs.Laws.{AreDisjoint}
 use Rattle.edge_augment.proofs.Leaves.{first_of, count_more, count_twice}

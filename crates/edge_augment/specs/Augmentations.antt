@@ -7,8 +7,8 @@ use Rattle.std.specs.Cmp.Lexicographic.{slice_cmp}
 use Rattle.std.specs.declared.cmp.Ordering.{Ordering}
 use Rattle.cut_definitions.specs.Graph.{Graph}
 use Rattle.cut_definitions.specs.Cuts.{has, value, mincuts}
-use Rattle.cactus_tree.specs.Rooted.{Rooted, sides_of}
-use Rattle.cactus_tree.specs.Places.{IsVertex}
+use Rattle.rooted_cactus.specs.Rooted.{Rooted, sides_of}
+use Rattle.rooted_cactus.specs.Places.{IsVertex}
 use Rattle.edge_augment.specs.Ends.{end_sets}
 use Rattle.edge_augment.specs.Laws.{IsMinimalSet}
 use Rattle.edge_augment.specs.NewEdges.{new_edges, with_unit_edges, IsParted}

@@ -3,11 +3,11 @@ use Rattle.std.specs.Prelude.{ℕ, ◌≡◌, ◌-◌, ◌/◌, ◌*◌, ◌<◌
 use Rattle.std.specs.List.{All, AllPairs, Contains}
 use Rattle.cut_definitions.specs.Graph.{Graph}
 use Rattle.cut_definitions.specs.Cuts.{has, value, mincuts, side_of, IsAscendingWithin}
-use Rattle.cactus_tree.specs.Rooted.{Rooted, IsCactus, sides_of}
-use Rattle.cactus_tree.specs.Places.{IsVertex}
-use Rattle.cactus_tree.specs.Normal.{is_normal}
-use Rattle.cactus_tree.specs.Trees.{blocks}
-use Rattle.cactus_tree.specs.declared.tree.Node.{Node}
+use Rattle.rooted_cactus.specs.Rooted.{Rooted, IsCactus, sides_of}
+use Rattle.rooted_cactus.specs.Places.{IsVertex}
+use Rattle.rooted_cactus.specs.Normal.{is_normal}
+use Rattle.rooted_cactus.specs.Trees.{blocks}
+use Rattle.rooted_cactus.specs.declared.tree.Node.{Node}
 use Rattle.edge_augment.specs.Ends.{end_sets}
 use Rattle.edge_augment.specs.NewEdges.{with_unit_edges, IsParted, opposite_pairs, new_edges}
 

@@ -1,7 +1,7 @@
 -- End nodes that are still to be entered, and whether a node is one.
 use Rattle.std.specs.Prelude.{ℕ, Bool, if◌then◌else◌, List, [], ◌∷◌, ◌++◌}
 use Rattle.std.specs.Borrow.{Bor}
-use Rattle.cactus_tree.specs.declared.tree.Node.{Node}
+use Rattle.rooted_cactus.specs.declared.tree.Node.{Node}
 use Rattle.edge_augment.specs.Ends.{leaves}
 
 -- the end nodes at and below the nodes on a stack, the last on the stack first

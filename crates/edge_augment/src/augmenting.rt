@@ -4,15 +4,15 @@ ghost use Rattle.std.specs.Prelude.{◌≡◌, ◌≤◌, ◌-◌, ◌/◌, true
 ghost use Rattle.std.specs.List.{All};
 ghost use Rattle.std.specs.List.Sorted.{IsNonDecreasingBy, IsPermutation, IsSorted};
 ghost use Rattle.cut_definitions.specs.Cuts.{least};
-ghost use Rattle.cactus_tree.specs.Normal.{is_normal};
-ghost use Rattle.cactus_tree.specs.Trees.{blocks};
+ghost use Rattle.rooted_cactus.specs.Normal.{is_normal};
+ghost use Rattle.rooted_cactus.specs.Trees.{blocks};
 ghost use Rattle.edge_augment.specs.Augmentations.{IsAugmentation, IsLeast, pair_cmp};
 ghost use Rattle.edge_augment.specs.NewEdges.{new_edges, upward};
 
 use crate::ends::{first_vertex, list_ends};
 use crate::plan::Plan;
-use cactus_tree::{Cactus, VertexList};
 use cut_definitions::NoMemory;
+use rooted_cactus::{Cactus, VertexList};
 use std::alloc::Global;
 
 /// The edge between two vertices, with the lesser one first.

@@ -2,13 +2,13 @@
 
 ghost use Rattle.std.specs.Prelude.{◌≡◌, [], ◌∷◌, ◌++◌, OnOk, IfOk, slice_index};
 ghost use Rattle.std.specs.List.{flat_map};
-ghost use Rattle.cactus_tree.specs.Entered.{entered, entered_block, waiting};
-ghost use Rattle.cactus_tree.specs.Trees.{blocks_in, nodes_in, vertices};
+ghost use Rattle.rooted_cactus.specs.Entered.{entered, entered_block, waiting};
+ghost use Rattle.rooted_cactus.specs.Trees.{blocks_in, nodes_in, vertices};
 ghost use Rattle.edge_augment.specs.Ends.{block_leaves, end_sets, leaves};
 ghost use Rattle.edge_augment.specs.Walks.{alone_if, leaves_waiting};
 
-use cactus_tree::{Block, Blocks, Children, Node, VertexList};
 use cut_definitions::NoMemory;
+use rooted_cactus::{Block, Blocks, Children, Node, VertexList};
 use std::alloc::Global;
 
 /// Puts the nodes of a cycle on the stack, the first on top.

@@ -2,7 +2,7 @@
 
 ghost use Rattle.std.specs.Prelude.{◌≡◌, ◌<◌, Some, length, slice_get};
 
-use cactus_tree::VertexList;
+use rooted_cactus::VertexList;
 use std::marker::Model;
 
 /// New edges of weight 1 that raise the value of a graph, and the sets that show that fewer do not.

@@ -9,19 +9,19 @@ use Rattle.std.specs.declared.alloc.Global.{Global}
 use Rattle.std.proofs.lemmas.Bool.{and_from}
 use Rattle.cut_definitions.proofs.ListLaws.{All-back, All-front}
 use Rattle.cut_definitions.proofs.Bools.{and_second}
-use Rattle.cactus_tree.specs.declared.tree.Node.{Node}
-use Rattle.cactus_tree.specs.declared.tree.Block.{Block}
-use Rattle.cactus_tree.specs.declared.tree.Children.{Children}
-use Rattle.cactus_tree.specs.declared.tree.Block.TheVariants.{Bridge, Cycle}
-use Rattle.cactus_tree.specs.Trees.{vertices, blocks, nodes_in}
-use Rattle.cactus_tree.specs.Entered.{entered, entered_block}
-use Rattle.cactus_tree.specs.Widths.{widths, block_widths}
-use Rattle.cactus_tree.specs.Normal.{shape, block_shape, child_fine, is_normal, well_placed}
-use Rattle.cactus_tree.proofs.Induction.{tree_induction}
-use Rattle.cactus_tree.proofs.Orders.{entered_out, entered_bridge, entered_cycle, hung_entered}
-use Rattle.cactus_tree.proofs.Shapes.{bridge_shape, child_parts, root_normal, wide_fine}
-use Rattle.cactus_tree.proofs.Widths.{widths_bridge, widths_cycle}
-use Rattle.cactus_tree.proofs.BlockLaws.{widths_flat}
+use Rattle.rooted_cactus.specs.declared.tree.Node.{Node}
+use Rattle.rooted_cactus.specs.declared.tree.Block.{Block}
+use Rattle.rooted_cactus.specs.declared.tree.Children.{Children}
+use Rattle.rooted_cactus.specs.declared.tree.Block.TheVariants.{Bridge, Cycle}
+use Rattle.rooted_cactus.specs.Trees.{vertices, blocks, nodes_in}
+use Rattle.rooted_cactus.specs.Entered.{entered, entered_block}
+use Rattle.rooted_cactus.specs.Widths.{widths, block_widths}
+use Rattle.rooted_cactus.specs.Normal.{shape, block_shape, child_fine, is_normal, well_placed}
+use Rattle.rooted_cactus.proofs.Induction.{tree_induction}
+use Rattle.rooted_cactus.proofs.Orders.{entered_out, entered_bridge, entered_cycle, hung_entered}
+use Rattle.rooted_cactus.proofs.Shapes.{bridge_shape, child_parts, root_normal, wide_fine}
+use Rattle.rooted_cactus.proofs.Widths.{widths_bridge, widths_cycle}
+use Rattle.rooted_cactus.proofs.BlockLaws.{widths_flat}
 use Rattle.node_tree.specs.Flat.{NodeArrays}
 use Rattle.node_tree.specs.Forest.{AreFrom, IsChangedAt, AddsBlock, IsBlockOf, IsFilled, IsForest, IsPlaced}
 use Rattle.node_tree.proofs.ForestChanges.{hung_flat, widths_joined}

@@ -8,17 +8,17 @@ use Rattle.std.proofs.Math.Seq.{take-append_seam, drop-append_seam}
 use Rattle.std.proofs.lemmas.List.{append-nil, append_assoc, length-append, length-map, length-reverse, take-append-drop}
 use Rattle.std.proofs.lemmas.List.Elements.{All-cons}
 use Rattle.std.proofs.lemmas.List.Sorted.{All-permutation, IsPermutation-sym}
-use Rattle.cactus_tree.specs.declared.tree.Node.{Node}
-use Rattle.cactus_tree.specs.declared.tree.Children.{Children}
-use Rattle.cactus_tree.specs.declared.tree.Block.TheVariants.{Bridge, Cycle}
-use Rattle.cactus_tree.specs.Trees.{nodes_in}
-use Rattle.cactus_tree.specs.Entered.{entered}
-use Rattle.cactus_tree.specs.Widths.{widths}
-use Rattle.cactus_tree.specs.Sides.{part, bridge_of, cycle_of}
-use Rattle.cactus_tree.proofs.Parts.{bridge_part, cycle_part}
-use Rattle.cactus_tree.proofs.Orders.{entered_bridge, entered_cycle}
-use Rattle.cactus_tree.proofs.Widths.{widths_bridge, widths_cycle}
-use Rattle.cactus_tree.proofs.BlockLaws.{bridge_cycle}
+use Rattle.rooted_cactus.specs.declared.tree.Node.{Node}
+use Rattle.rooted_cactus.specs.declared.tree.Children.{Children}
+use Rattle.rooted_cactus.specs.declared.tree.Block.TheVariants.{Bridge, Cycle}
+use Rattle.rooted_cactus.specs.Trees.{nodes_in}
+use Rattle.rooted_cactus.specs.Entered.{entered}
+use Rattle.rooted_cactus.specs.Widths.{widths}
+use Rattle.rooted_cactus.specs.Sides.{part, bridge_of, cycle_of}
+use Rattle.rooted_cactus.proofs.Parts.{bridge_part, cycle_part}
+use Rattle.rooted_cactus.proofs.Orders.{entered_bridge, entered_cycle}
+use Rattle.rooted_cactus.proofs.Widths.{widths_bridge, widths_cycle}
+use Rattle.rooted_cactus.proofs.BlockLaws.{bridge_cycle}
 use Rattle.node_tree.specs.Forest.{IsBlockOf}
 use Rattle.node_tree.proofs.ForestChanges.{flat_reverse, widths_joined}
 

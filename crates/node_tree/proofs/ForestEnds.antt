@@ -10,11 +10,11 @@ use Rattle.cut_definitions.specs.Chain.{SameOn}
 use Rattle.cut_definitions.proofs.Lists.{Contains-map, Contains-from_map}
 use Rattle.cut_definitions.proofs.Bridge.{has_within}
 use Rattle.cut_definitions.proofs.ChainLists.{filter-range}
-use Rattle.cactus_tree.specs.declared.tree.Node.{Node}
-use Rattle.cactus_tree.specs.Entered.{entered}
-use Rattle.cactus_tree.specs.Widths.{widths}
-use Rattle.cactus_tree.specs.Sides.{cuts}
-use Rattle.cactus_tree.specs.Rooted.{IsCactus}
+use Rattle.rooted_cactus.specs.declared.tree.Node.{Node}
+use Rattle.rooted_cactus.specs.Entered.{entered}
+use Rattle.rooted_cactus.specs.Widths.{widths}
+use Rattle.rooted_cactus.specs.Sides.{cuts}
+use Rattle.rooted_cactus.specs.Rooted.{IsCactus}
 use Rattle.node_tree.specs.TreeSets.{IsTreeSide}
 use Rattle.node_tree.specs.Flat.{NodeArrays, AreNodes, is_follower, sets_of}
 use Rattle.node_tree.specs.Forest.{IsForest}

@@ -10,14 +10,14 @@ use Rattle.cut_definitions.proofs.Lists.{Contains-filter, Contains-here, Contain
 use Rattle.cut_definitions.proofs.Bridge.{has_within, IsAscendingWithin-filter}
 use Rattle.cut_definitions.proofs.Bools.{or_nothing}
 use Rattle.cut_definitions.proofs.Ranges.{range_push}
-use Rattle.cactus_tree.specs.declared.tree.Node.{Node}
-use Rattle.cactus_tree.specs.Trees.{vertices, blocks}
-use Rattle.cactus_tree.specs.Entered.{entered, entered_block}
-use Rattle.cactus_tree.specs.Widths.{widths}
-use Rattle.cactus_tree.specs.Sides.{Part, block_part, below, cuts, together}
-use Rattle.cactus_tree.proofs.Parts.{part_out}
-use Rattle.cactus_tree.proofs.Orders.{entered_out}
-use Rattle.cactus_tree.proofs.Built.{leaf_widths}
+use Rattle.rooted_cactus.specs.declared.tree.Node.{Node}
+use Rattle.rooted_cactus.specs.Trees.{vertices, blocks}
+use Rattle.rooted_cactus.specs.Entered.{entered, entered_block}
+use Rattle.rooted_cactus.specs.Widths.{widths}
+use Rattle.rooted_cactus.specs.Sides.{Part, block_part, below, cuts, together}
+use Rattle.rooted_cactus.proofs.Parts.{part_out}
+use Rattle.rooted_cactus.proofs.Orders.{entered_out}
+use Rattle.rooted_cactus.proofs.Built.{leaf_widths}
 use Rattle.node_tree.specs.Flat.{NodeArrays, AreNodes}
 use Rattle.node_tree.specs.Forest.{AreFrom, IsChangedAt, AddsVertex, IsPlaced, IsHolding, IsForest}
 use Rattle.node_tree.proofs.ForestChanges.{from_changed, from_weaker}

@@ -8,7 +8,7 @@ use Rattle.cut_definitions.specs.Weight.{VertexSet, either}
 use Rattle.cut_definitions.specs.Chain.{SameOn}
 use Rattle.cut_definitions.proofs.Lists.{Contains-here, Contains-there, Contains-cons_cases, Contains-nil}
 use Rattle.cut_definitions.proofs.Bools.{same_tests}
-use Rattle.cactus_tree.specs.Sides.{from_here, intervals}
+use Rattle.rooted_cactus.specs.Sides.{from_here, intervals}
 use Rattle.node_tree.specs.TreeSets.{IsUnder}
 
 module _ (n : ℕ) (under : ℕ → VertexSet) where

@@ -11,15 +11,15 @@ use Rattle.cut_definitions.specs.Weight.{VertexSet}
 use Rattle.cut_definitions.specs.Cuts.{has, IsAscendingWithin}
 use Rattle.cut_definitions.specs.Chain.{SameOn}
 use Rattle.cut_definitions.proofs.ListLaws.{All-front, All-back}
-use Rattle.cactus_tree.specs.declared.tree.Node.{Node}
-use Rattle.cactus_tree.specs.declared.tree.Block.{Block}
-use Rattle.cactus_tree.specs.Trees.{vertices}
-use Rattle.cactus_tree.specs.Entered.{entered}
-use Rattle.cactus_tree.specs.Widths.{widths, block_widths}
-use Rattle.cactus_tree.specs.Sides.{Part, part, below, cuts, belows, all_of, all_cuts, intervals, with_below, cycle_of}
-use Rattle.cactus_tree.proofs.Parts.{hung_part, all_of_push}
-use Rattle.cactus_tree.proofs.Orders.{hung_entered}
-use Rattle.cactus_tree.proofs.Built.{hung_widths}
+use Rattle.rooted_cactus.specs.declared.tree.Node.{Node}
+use Rattle.rooted_cactus.specs.declared.tree.Block.{Block}
+use Rattle.rooted_cactus.specs.Trees.{vertices}
+use Rattle.rooted_cactus.specs.Entered.{entered}
+use Rattle.rooted_cactus.specs.Widths.{widths, block_widths}
+use Rattle.rooted_cactus.specs.Sides.{Part, part, below, cuts, belows, all_of, all_cuts, intervals, with_below, cycle_of}
+use Rattle.rooted_cactus.proofs.Parts.{hung_part, all_of_push}
+use Rattle.rooted_cactus.proofs.Orders.{hung_entered}
+use Rattle.rooted_cactus.proofs.Built.{hung_widths}
 use Rattle.node_tree.specs.Flat.{NodeArrays, AreNodes, is_follower, sets_of}
 use Rattle.node_tree.specs.Forest.{AreFrom, IsChangedAt, AddsBlock, IsBlockOf, holder, IsHolding, IsSideFrom, IsForest}
 use Rattle.node_tree.proofs.ForestChanges.{from_back, from_front, from_weaker, from_changed, hung_flat, changed_flat, changed_length, reverse_more}

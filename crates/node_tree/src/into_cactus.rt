@@ -3,10 +3,10 @@
 ghost use Rattle.std.specs.Prelude.{ℕ, ◌≡◌, ◌↔◌, ◌+◌, ◌-◌, ◌<◌, ◌≤◌, ◌++◌, [], false, true, IfOk, IsFalse, IsTrue, OnOk, length, reverse, slice_index, take, drop};
 ghost use Rattle.std.specs.List.{All, Contains, filter, range_with_len};
 ghost use Rattle.cut_definitions.specs.Weight.{VertexSet};
-ghost use Rattle.cactus_tree.specs.Different.{HaveSameSides, HasNoEmptySide};
-ghost use Rattle.cactus_tree.specs.Normal.{is_normal};
-ghost use Rattle.cactus_tree.specs.Trees.{blocks, nodes_in, vertices};
-ghost use Rattle.cactus_tree.specs.Rooted.{sides_of};
+ghost use Rattle.rooted_cactus.specs.Different.{HaveSameSides, HasNoEmptySide};
+ghost use Rattle.rooted_cactus.specs.Normal.{is_normal};
+ghost use Rattle.rooted_cactus.specs.Trees.{blocks, nodes_in, vertices};
+ghost use Rattle.rooted_cactus.specs.Rooted.{sides_of};
 ghost use Rattle.node_tree.specs.Finished.{arrays_of};
 ghost use Rattle.node_tree.specs.Flat.{AreNodes, is_follower, sets_of};
 ghost use Rattle.node_tree.specs.Forest.{AddsBlock, AddsVertex, AreFrom, IsBlockOf, IsChangedAt, IsFilled, IsForest, IsPlaced};
@@ -14,8 +14,8 @@ ghost use Rattle.node_tree.specs.TreeSets.{IsTreeSide};
 
 use crate::homed_tree::HomedTree;
 use crate::tree::FlatTree;
-use cactus_tree::{Block, Blocks, Cactus, Children, Node, VertexList};
 use cut_definitions::NoMemory;
+use rooted_cactus::{Block, Blocks, Cactus, Children, Node, VertexList};
 use std::alloc::Global;
 
 /// How often each number below a count is in a list.

@@ -8,13 +8,13 @@ use Rattle.std.proofs.lemmas.List.Elements.{All-nil, All-cons}
 use Rattle.std.proofs.Math.Seq.{take-length}
 use Rattle.cut_definitions.specs.Weight.{VertexSet, either}
 use Rattle.cut_definitions.specs.Cuts.{has}
-use Rattle.cactus_tree.specs.Different.{HasNoEmptySide}
-use Rattle.cactus_tree.specs.Rooted.{Rooted}
-use Rattle.cactus_tree.specs.Sides.{Part, part, block_part, together}
-use Rattle.cactus_tree.specs.Trees.{vertices, blocks}
-use Rattle.cactus_tree.specs.declared.tree.Node.{Node}
-use Rattle.cactus_tree.specs.declared.tree.Block.{Block}
-use Rattle.cactus_tree.proofs.Parts.{part_out}
+use Rattle.rooted_cactus.specs.Different.{HasNoEmptySide}
+use Rattle.rooted_cactus.specs.Rooted.{Rooted}
+use Rattle.rooted_cactus.specs.Sides.{Part, part, block_part, together}
+use Rattle.rooted_cactus.specs.Trees.{vertices, blocks}
+use Rattle.rooted_cactus.specs.declared.tree.Node.{Node}
+use Rattle.rooted_cactus.specs.declared.tree.Block.{Block}
+use Rattle.rooted_cactus.proofs.Parts.{part_out}
 use Rattle.tree_tests.specs.Leaves.{leaf_part, lone_part}
 
 abbrev node_part : List ℕ → List Block → Part

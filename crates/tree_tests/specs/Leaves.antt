@@ -2,7 +2,7 @@
 use Rattle.std.specs.Prelude.{ℕ, List, [], ◌∷◌}
 use Rattle.cut_definitions.specs.Weight.{either}
 use Rattle.cut_definitions.specs.Cuts.{has}
-use Rattle.cactus_tree.specs.Sides.{Part, nothing}
+use Rattle.rooted_cactus.specs.Sides.{Part, nothing}
 
 -- a node without blocks
 abbrev pub leaf_part : List ℕ → Part

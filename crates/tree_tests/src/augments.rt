@@ -2,9 +2,9 @@
 
 ghost use Rattle.std.specs.Prelude.{◌≡◌, ◌+◌, ◌++◌, IfOk, length};
 ghost use Rattle.std.specs.List.{flat_map};
-ghost use Rattle.cactus_tree.specs.Entered.{entered};
-ghost use Rattle.cactus_tree.specs.Trees.{nodes_in};
-ghost use Rattle.cactus_tree.specs.Widths.{widths};
+ghost use Rattle.rooted_cactus.specs.Entered.{entered};
+ghost use Rattle.rooted_cactus.specs.Trees.{nodes_in};
+ghost use Rattle.rooted_cactus.specs.Widths.{widths};
 
 use crate::trees::{leaf, leaves, with_cycle};
 use cactus_tree::{Cactus, Children, Node};

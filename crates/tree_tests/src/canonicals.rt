@@ -1,7 +1,7 @@
 //! Canonical cactuses, those that are not, and what they become.
 
 ghost use Rattle.std.specs.Prelude.{◌≡◌, IfOk};
-ghost use Rattle.cactus_tree.specs.Different.{HasNoEmptySide};
+ghost use Rattle.rooted_cactus.specs.Different.{HasNoEmptySide};
 
 use crate::cactuses::has_sides;
 use crate::trees::{leaf, leaves, one_ring, ring_and_bridge, two_spare, with_bridge, with_cycle};

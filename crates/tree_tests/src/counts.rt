@@ -1,7 +1,7 @@
 //! Cactuses are made normal, and their sides are counted.
 
 ghost use Rattle.std.specs.Prelude.{◌≤◌};
-ghost use Rattle.cactus_tree.specs.Different.{HasNoEmptySide};
+ghost use Rattle.rooted_cactus.specs.Different.{HasNoEmptySide};
 
 use crate::cactuses::has_sides;
 use crate::trees::{one_ring, two_rings, two_spare};

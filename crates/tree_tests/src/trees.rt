@@ -2,11 +2,11 @@
 
 ghost use Rattle.std.specs.Prelude.{◌≡◌, ◌≤◌, [], ◌∷◌, ◌++◌, IfOk, length, map};
 ghost use Rattle.std.specs.List.{flat_map};
-ghost use Rattle.cactus_tree.specs.Entered.{entered};
-ghost use Rattle.cactus_tree.specs.Sides.{part, bridge_of, cycle_of, with_below};
-ghost use Rattle.cactus_tree.specs.Trees.{blocks, nodes_in};
-ghost use Rattle.cactus_tree.specs.Widths.{widths};
-ghost use Rattle.cactus_tree.specs.Different.{HasNoEmptySide};
+ghost use Rattle.rooted_cactus.specs.Entered.{entered};
+ghost use Rattle.rooted_cactus.specs.Sides.{part, bridge_of, cycle_of, with_below};
+ghost use Rattle.rooted_cactus.specs.Trees.{blocks, nodes_in};
+ghost use Rattle.rooted_cactus.specs.Widths.{widths};
+ghost use Rattle.rooted_cactus.specs.Different.{HasNoEmptySide};
 ghost use Rattle.tree_tests.specs.Leaves.{leaf_part, lone_part};
 
 use cactus_tree::{Block, Blocks, Cactus, Children, Node, VertexList};

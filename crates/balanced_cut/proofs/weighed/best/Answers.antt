@@ -1,14 +1,14 @@
 -- The sides of a cactus are those at the ranges between the borders of its blocks, and one of these is best.
 use Rattle.std.proofs.Common.{◌≡◌, ◌∙◌, ap, sym, map, length, subst, arith}
 use Rattle.std.specs.List.{Contains}
-use Rattle.cactus_tree.specs.Borders.{ranges_between}
-use Rattle.cactus_tree.specs.Places.{side_at}
-use Rattle.cactus_tree.specs.Rooted.{sides_of}
-use Rattle.cactus_tree.specs.Walking.{AreBorders}
-use Rattle.cactus_tree.proofs.Once.{each_there}
+use Rattle.rooted_cactus.specs.Borders.{ranges_between}
+use Rattle.rooted_cactus.specs.Places.{side_at}
+use Rattle.rooted_cactus.specs.Rooted.{sides_of}
+use Rattle.cactus_walk.specs.Walking.{AreBorders}
+use Rattle.rooted_cactus.proofs.Once.{each_there}
 use Rattle.cut_definitions.specs.Cuts.{has}
 use Rattle.balanced_cut.specs.Ends.{IsScale, IsScaleOf, NoneGreater, range_of}
-use Rattle.cactus_tree.proofs.Elements.{side_filled}
+use Rattle.rooted_cactus.proofs.Elements.{side_filled}
 use Rattle.balanced_cut.proofs.BestSide.{best_side, scale_of, scale_places}
 use Rattle.balanced_cut.proofs.Moving.{best_fits, ranges_fit}
 use Rattle.balanced_cut.proofs.SomeCut.{some_side}

@@ -1,7 +1,7 @@
 -- The moving end stays within its block.
 use Rattle.std.proofs.Common.{◌+◌, ◌<◌, length, sym, subst, arith}
 use Rattle.balanced_cut.specs.Ends.{IsRangeOf, places_of}
-use Rattle.cactus_tree.specs.Borders.{border_at}
+use Rattle.rooted_cactus.specs.Borders.{border_at}
 use Rattle.balanced_cut.proofs.Moving.{behind_there, between_fits}
 use Rattle.balanced_cut.proofs.weighed.end_from.Goals as goal
 

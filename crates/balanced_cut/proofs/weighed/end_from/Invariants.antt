@@ -1,6 +1,6 @@
 use Rattle.std.proofs.Common.{◌≡◌, ◌+◌, ◌-◌, ◌≤◌, ◌<◌}
 use Rattle.balanced_cut.specs.Ends.{IsLesserPart, range_between}
-use Rattle.cactus_tree.specs.Borders.{border_at}
+use Rattle.rooted_cactus.specs.Borders.{border_at}
 use Rattle.balanced_cut.proofs.weighed.end_from.Given as goal
 
 abbrev pub invariant-ends : goal.invariant-ends

@@ -1,7 +1,7 @@
 use Rattle.std.proofs.Common.{◌≡◌, ℕ, length, true}
-use Rattle.cactus_tree.specs.Entries.{top_first}
-use Rattle.cactus_tree.specs.Sides.{below}
-use Rattle.cactus_tree.specs.declared.tree.Node.{Node}
+use Rattle.rooted_cactus.specs.Entries.{top_first}
+use Rattle.rooted_cactus.specs.Sides.{below}
+use Rattle.rooted_cactus.specs.declared.tree.Node.{Node}
 use Rattle.cactus_growth.specs.Growth.{IsGrown}
 use Rattle.cactus_growth.specs.Levels.{AreAbove}
 use Rattle.cactus_growth.proofs.growing.ascend.Given as goal

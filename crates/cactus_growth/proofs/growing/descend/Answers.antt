@@ -1,5 +1,5 @@
 use Rattle.std.proofs.Common.{◌≤◌, length, subst, sym, arith}
-use Rattle.cactus_tree.specs.Trees.{nodes_in}
+use Rattle.rooted_cactus.specs.Trees.{nodes_in}
 use Rattle.cactus_growth.specs.Ways.{IsWay}
 use Rattle.cactus_growth.proofs.GrownUp.{child_once}
 use Rattle.cactus_growth.proofs.Stepped.{stepped, step_on, way_ended, level_down}

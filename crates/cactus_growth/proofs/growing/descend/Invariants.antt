@@ -1,7 +1,7 @@
 use Rattle.std.proofs.Common.{◌≡◌, length, drop}
-use Rattle.cactus_tree.specs.Entered.{entered}
-use Rattle.cactus_tree.specs.Entries.{top_first}
-use Rattle.cactus_tree.specs.declared.tree.Node.{Node}
+use Rattle.rooted_cactus.specs.Entered.{entered}
+use Rattle.rooted_cactus.specs.Entries.{top_first}
+use Rattle.rooted_cactus.specs.declared.tree.Node.{Node}
 use Rattle.cactus_growth.specs.Growth.{AreOnce}
 use Rattle.cactus_growth.specs.Levels.{AreAbove}
 use Rattle.cactus_growth.specs.Ways.{IsWay}

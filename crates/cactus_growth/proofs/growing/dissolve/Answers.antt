@@ -1,4 +1,4 @@
-use Rattle.cactus_tree.specs.Trees.{nodes_in}
+use Rattle.rooted_cactus.specs.Trees.{nodes_in}
 use Rattle.cactus_growth.proofs.Toward.{toward_step}
 use Rattle.cactus_growth.proofs.growing.dissolve.Goals as goal
 

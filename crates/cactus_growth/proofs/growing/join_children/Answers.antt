@@ -1,5 +1,5 @@
 use Rattle.std.proofs.Common.{refl}
-use Rattle.cactus_tree.specs.Trees.{nodes_in}
+use Rattle.rooted_cactus.specs.Trees.{nodes_in}
 use Rattle.cactus_growth.specs.declared.ways.Step.{Step}
 use Rattle.cactus_growth.proofs.GrownJoin.{absorbed, grown_join}
 use Rattle.cactus_growth.proofs.GrownUp.{child_once, walk_once, mid_once, front_once}

@@ -1,6 +1,6 @@
 use Rattle.std.proofs.Common.{refl, sym, ◌∙◌}
-use Rattle.cactus_tree.specs.Trees.{blocks_in, nodes_in, vertices}
-use Rattle.cactus_tree.specs.declared.tree.Node.{Node, roll-Node}
+use Rattle.rooted_cactus.specs.Trees.{blocks_in, nodes_in, vertices}
+use Rattle.rooted_cactus.specs.declared.tree.Node.{Node, roll-Node}
 use Rattle.cactus_growth.proofs.Opened.{opened}
 use Rattle.cactus_growth.proofs.growing.open.Goals as goal
 

@@ -1,5 +1,5 @@
 use Rattle.std.proofs.Common.{refl, ◌≤◌, ◌+◌, length, drop, arith}
-use Rattle.cactus_tree.specs.declared.tree.Node.{Node, roll-Node}
+use Rattle.rooted_cactus.specs.declared.tree.Node.{Node, roll-Node}
 use Rattle.cactus_growth.proofs.Stepped.{stepped, leads_on, leads_inside, leads_end}
 use Rattle.cactus_growth.proofs.Toward.{toward_begin, toward_end}
 use Rattle.cactus_growth.proofs.growing.pull.Goals as goal

@@ -1,8 +1,8 @@
 use Rattle.std.proofs.Common.{◌≡◌, refl, ap, ◌∙◌, sym, subst, arith}
 use Rattle.std.proofs.Common.{ℕ}
-use Rattle.cactus_tree.specs.Rooted.{Rooted, IsCactus}
-use Rattle.cactus_tree.specs.Trees.{blocks}
-use Rattle.cactus_tree.specs.declared.tree.Node.{Node}
+use Rattle.rooted_cactus.specs.Rooted.{Rooted, IsCactus}
+use Rattle.rooted_cactus.specs.Trees.{blocks}
+use Rattle.rooted_cactus.specs.declared.tree.Node.{Node}
 use Rattle.std.proofs.lemmas.Bool.{false≢true}
 use Rattle.cactus_growth.specs.Growth.{IsGrown}
 use Rattle.cactus_growth.proofs.Pulled.{none_left}

@@ -1,8 +1,8 @@
 use Rattle.std.proofs.Common.{◌≤◌, length, ◌∙◌, ap, sym, arith, ◌++◌}
 use Rattle.std.specs.Prelude.{option_to_list}
-use Rattle.cactus_tree.specs.Trees.{nodes_in}
-use Rattle.cactus_tree.proofs.Parts.{cycle_part}
-use Rattle.cactus_tree.proofs.Orders.{entered_cycle}
+use Rattle.rooted_cactus.specs.Trees.{nodes_in}
+use Rattle.rooted_cactus.proofs.Parts.{cycle_part}
+use Rattle.rooted_cactus.proofs.Orders.{entered_cycle}
 use Rattle.cactus_growth.proofs.Hung.{one_alone, one_part, one_entered, one_wide, ring_wide}
 use Rattle.cactus_growth.proofs.pieces.closed.Goals as goal
 

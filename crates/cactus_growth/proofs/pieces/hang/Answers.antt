@@ -1,7 +1,7 @@
 use Rattle.std.proofs.Common.{refl}
-use Rattle.cactus_tree.proofs.Parts.{hung_part}
-use Rattle.cactus_tree.proofs.Built.{hung_widths}
-use Rattle.cactus_tree.proofs.Orders.{hung_entered}
+use Rattle.rooted_cactus.proofs.Parts.{hung_part}
+use Rattle.rooted_cactus.proofs.Built.{hung_widths}
+use Rattle.rooted_cactus.proofs.Orders.{hung_entered}
 use Rattle.cactus_growth.proofs.pieces.hang.Goals as goal
 
 pub returns-clause-part : goal.returns-clause-part

@@ -1,5 +1,5 @@
 use Rattle.std.proofs.Common.{◌≡◌, ◌++◌, ◌∷◌, [], ◌∙◌, ap, sym, subst}
-use Rattle.cactus_tree.specs.Trees.{blocks_in}
+use Rattle.rooted_cactus.specs.Trees.{blocks_in}
 use Rattle.cactus_growth.specs.Growth.{AreHung}
 use Rattle.cactus_growth.proofs.Pulled.{none_left, more_done, hung_step}
 use Rattle.std.proofs.lemmas.Bool.{false≢true}

@@ -1,6 +1,6 @@
 use Rattle.std.proofs.Common.{◌≡◌, ◌++◌, List, length}
-use Rattle.cactus_tree.specs.Trees.{blocks_in}
-use Rattle.cactus_tree.specs.declared.tree.Block.{Block}
+use Rattle.rooted_cactus.specs.Trees.{blocks_in}
+use Rattle.rooted_cactus.specs.declared.tree.Block.{Block}
 use Rattle.cactus_growth.specs.Growth.{AreHung}
 use Rattle.cactus_growth.proofs.pieces.hang_all.Given as goal
 

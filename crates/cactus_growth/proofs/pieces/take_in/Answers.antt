@@ -1,5 +1,5 @@
 use Rattle.std.proofs.Common.{refl}
-use Rattle.cactus_tree.specs.declared.tree.Node.{Node, roll-Node, out-Node}
+use Rattle.rooted_cactus.specs.declared.tree.Node.{Node, roll-Node, out-Node}
 use Rattle.cactus_growth.proofs.Pulled.{taken_in}
 use Rattle.cactus_growth.proofs.pieces.take_in.Goals as goal
 

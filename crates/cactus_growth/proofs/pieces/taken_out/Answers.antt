@@ -1,6 +1,6 @@
 use Rattle.std.proofs.Common.{sym, ◌∙◌}
 use Rattle.cut_definitions.proofs.ListLaws.{popped_is}
-use Rattle.cactus_tree.specs.Trees.{nodes_in}
+use Rattle.rooted_cactus.specs.Trees.{nodes_in}
 use Rattle.cactus_growth.proofs.Around.{front_is, parts_are}
 use Rattle.cactus_growth.proofs.pieces.taken_out.Goals as goal
 

@@ -1,7 +1,7 @@
 use Rattle.std.proofs.Common.{◌≡◌, length, take}
 use Rattle.std.specs.List.{flat_map}
-use Rattle.cactus_tree.specs.Entries.{nodes_of}
-use Rattle.cactus_tree.specs.Trees.{blocks}
+use Rattle.rooted_cactus.specs.Entries.{nodes_of}
+use Rattle.rooted_cactus.specs.Trees.{blocks}
 use Rattle.cactus_growth.specs.Ways.{AreVisited}
 use Rattle.cactus_growth.proofs.ways.visit_below.Given as goal
 

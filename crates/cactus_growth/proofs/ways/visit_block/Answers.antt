@@ -1,7 +1,7 @@
 use Rattle.std.proofs.Common.{sym, ◌∙◌, ap, subst, [], ◌∷◌, refl}
 use Rattle.std.proofs.lemmas.Option.{IfSome_then}
-use Rattle.cactus_tree.specs.Entries.{nodes_of}
-use Rattle.cactus_tree.proofs.Entries.{nodes_bridge, nodes_cycle}
+use Rattle.rooted_cactus.specs.Entries.{nodes_of}
+use Rattle.rooted_cactus.proofs.Entries.{nodes_bridge, nodes_cycle}
 use Rattle.cactus_growth.specs.Ways.{AreVisited}
 use Rattle.cactus_growth.proofs.Visits.{child_of, none_then}
 use Rattle.cactus_growth.proofs.ways.visit_block.Goals as goal

@@ -1,6 +1,6 @@
 use Rattle.std.proofs.Common.{subst, arith}
 use Rattle.std.proofs.lemmas.List.{take_all}
-use Rattle.cactus_tree.specs.Trees.{nodes_in}
+use Rattle.rooted_cactus.specs.Trees.{nodes_in}
 use Rattle.cactus_growth.specs.Ways.{AreVisited}
 use Rattle.cactus_growth.proofs.Visits.{child_of, some_says, none_says, visited_node}
 use Rattle.cactus_growth.proofs.ways.visit_nodes.Goals as goal

@@ -1,9 +1,9 @@
 use Rattle.std.proofs.Common.{◌≡◌, length, take, Some}
 use Rattle.std.specs.Prelude.{slice_get}
-use Rattle.cactus_tree.specs.Entries.{nodes_of}
-use Rattle.cactus_tree.specs.Trees.{blocks, nodes_in}
-use Rattle.cactus_tree.specs.declared.tree.Node.{Node}
-use Rattle.cactus_tree.specs.declared.tree.Block.{Block}
+use Rattle.rooted_cactus.specs.Entries.{nodes_of}
+use Rattle.rooted_cactus.specs.Trees.{blocks, nodes_in}
+use Rattle.rooted_cactus.specs.declared.tree.Node.{Node}
+use Rattle.rooted_cactus.specs.declared.tree.Block.{Block}
 use Rattle.cactus_growth.specs.Ways.{AreVisited}
 use Rattle.cactus_growth.proofs.ways.visit_nodes.Given as goal
 

@@ -1,5 +1,5 @@
 use Rattle.cactus_growth.specs.Ways.{visited}
-use Rattle.cactus_tree.proofs.Tallies.{nodes_to_come}
+use Rattle.rooted_cactus.proofs.Tallies.{nodes_to_come}
 use Rattle.cactus_growth.proofs.Visits.{IsSearched}
 use Rattle.cactus_growth.proofs.ways.way_to.Given as goal
 

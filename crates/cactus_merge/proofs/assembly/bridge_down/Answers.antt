@@ -1,7 +1,7 @@
 use Rattle.std.proofs.Common.{List, ◌∙◌, ap, sym, map, arith}
-use Rattle.cactus_tree.specs.Trees.{nodes_in}
-use Rattle.cactus_tree.specs.Sides.{Part, part, block_part, with_below, bridge_of}
-use Rattle.cactus_tree.specs.declared.tree.Node.{Node}
+use Rattle.rooted_cactus.specs.Trees.{nodes_in}
+use Rattle.rooted_cactus.specs.Sides.{Part, part, block_part, with_below, bridge_of}
+use Rattle.rooted_cactus.specs.declared.tree.Node.{Node}
 use Rattle.cactus_merge.specs.Joined.{bridges}
 use Rattle.cactus_merge.proofs.Fronts.{front_popped}
 use Rattle.cactus_merge.proofs.Held.{more_held}

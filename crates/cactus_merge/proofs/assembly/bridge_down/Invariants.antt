@@ -1,6 +1,6 @@
 use Rattle.std.proofs.Common.{◌≡◌, ◌≤◌, length, ◌++◌, map, take, drop}
-use Rattle.cactus_tree.specs.Trees.{nodes_in}
-use Rattle.cactus_tree.specs.Sides.{part, block_part}
+use Rattle.rooted_cactus.specs.Trees.{nodes_in}
+use Rattle.rooted_cactus.specs.Sides.{part, block_part}
 use Rattle.cactus_merge.specs.Joined.{bridges, held, block_held, IsWide, IsWideBlock}
 use Rattle.std.specs.List.{All, flat_map}
 use Rattle.cactus_merge.proofs.assembly.bridge_down.Given as goal

@@ -1,14 +1,14 @@
 use Rattle.std.proofs.Common.{◌∙◌, ap}
-use Rattle.cactus_tree.specs.Sides.{part, bridge_of}
-use Rattle.cactus_tree.proofs.Parts.{bridge_part}
-use Rattle.cactus_tree.specs.declared.tree.Node.{Node}
+use Rattle.rooted_cactus.specs.Sides.{part, bridge_of}
+use Rattle.rooted_cactus.proofs.Parts.{bridge_part}
+use Rattle.rooted_cactus.specs.declared.tree.Node.{Node}
 use Rattle.std.specs.List.{filter}
-use Rattle.cactus_tree.proofs.Orders.{entered_bridge}
+use Rattle.rooted_cactus.proofs.Orders.{entered_bridge}
 use Rattle.cactus_merge.specs.Joined.{has_some, held}
 use Rattle.std.proofs.Common.{sym, subst, ◌≤◌}
 use Rattle.std.specs.List.{All}
-use Rattle.cactus_tree.specs.Widths.{widths}
-use Rattle.cactus_tree.proofs.Widths.{widths_bridge}
+use Rattle.rooted_cactus.specs.Widths.{widths}
+use Rattle.rooted_cactus.proofs.Widths.{widths_bridge}
 use Rattle.cactus_merge.proofs.assembly.bridge_to.Goals as goal
 
 pub returns-clause-part : goal.returns-clause-part

@@ -1,7 +1,7 @@
 use Rattle.std.proofs.Common.{List, [], ◌∷◌, ◌++◌, map, ◌∙◌, ap}
-use Rattle.cactus_tree.specs.Sides.{part, cycle_of}
-use Rattle.cactus_tree.proofs.Parts.{cycle_part}
-use Rattle.cactus_tree.specs.declared.tree.Node.{Node}
+use Rattle.rooted_cactus.specs.Sides.{part, cycle_of}
+use Rattle.rooted_cactus.proofs.Parts.{cycle_part}
+use Rattle.rooted_cactus.specs.declared.tree.Node.{Node}
 use Rattle.std.specs.List.{flat_map}
 use Rattle.cactus_merge.specs.Joined.{held}
 use Rattle.cactus_merge.proofs.Held.{cycle_held, run_held}

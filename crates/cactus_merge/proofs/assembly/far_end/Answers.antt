@@ -1,17 +1,17 @@
 use Rattle.std.proofs.Common.{◌∙◌, ◌++◌, ap, sym}
-use Rattle.cactus_tree.specs.Sides.{part, block_part, bridge_of}
-use Rattle.cactus_tree.specs.declared.tree.Node.{Node, roll-Node}
-use Rattle.cactus_tree.specs.declared.tree.Block.TheVariants.{Cycle}
+use Rattle.rooted_cactus.specs.Sides.{part, block_part, bridge_of}
+use Rattle.rooted_cactus.specs.declared.tree.Node.{Node, roll-Node}
+use Rattle.rooted_cactus.specs.declared.tree.Block.TheVariants.{Cycle}
 use Rattle.cactus_merge.specs.Joined.{IsFarEnd, has_some, held, block_held}
 use Rattle.std.specs.List.{filter}
-use Rattle.cactus_tree.proofs.Orders.{entered_bridge}
+use Rattle.rooted_cactus.proofs.Orders.{entered_bridge}
 use Rattle.cactus_merge.proofs.Held.{empty_held}
-use Rattle.cactus_tree.proofs.Parts.{bridge_part}
+use Rattle.rooted_cactus.proofs.Parts.{bridge_part}
 use Rattle.cactus_merge.proofs.FarEnds.{far_bridge, empty_above}
 use Rattle.std.proofs.Common.{subst, ◌≤◌}
 use Rattle.std.specs.List.{All}
-use Rattle.cactus_tree.specs.Widths.{widths, block_widths}
-use Rattle.cactus_tree.proofs.Widths.{widths_bridge}
+use Rattle.rooted_cactus.specs.Widths.{widths, block_widths}
+use Rattle.rooted_cactus.proofs.Widths.{widths_bridge}
 use Rattle.cactus_merge.specs.Joined.{IsWideBlock}
 use Rattle.cactus_merge.proofs.Wide.{empty_wide}
 use Rattle.cactus_merge.proofs.assembly.far_end.Goals as goal

@@ -1,5 +1,5 @@
 use Rattle.std.proofs.Common.{refl}
-use Rattle.cactus_tree.proofs.Parts.{hung_part}
+use Rattle.rooted_cactus.proofs.Parts.{hung_part}
 use Rattle.cactus_merge.proofs.Held.{hung_held}
 use Rattle.cactus_merge.proofs.Wide.{hung_wide}
 use Rattle.cactus_merge.proofs.assembly.hang.Goals as goal

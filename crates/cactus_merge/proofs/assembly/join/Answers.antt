@@ -1,9 +1,9 @@
 use Rattle.std.proofs.Common.{List, ℕ, ◌≡◌, ◌-◌, ◌≤◌, ◌<◌, suc, ◌∷◌, ◌++◌, length, map, drop, ◌∙◌, ap, sym, subst, arith}
 use Rattle.std.specs.Prelude.{slice_index_or}
 use Rattle.std.proofs.Math.Seq.{take-length, drop-cons}
-use Rattle.cactus_tree.specs.Trees.{nodes_in, vertices}
-use Rattle.cactus_tree.specs.declared.tree.Node.{Node}
-use Rattle.cactus_tree.specs.Sides.{part, block_part}
+use Rattle.rooted_cactus.specs.Trees.{nodes_in, vertices}
+use Rattle.rooted_cactus.specs.declared.tree.Node.{Node}
+use Rattle.rooted_cactus.specs.Sides.{part, block_part}
 use Rattle.cactus_merge.proofs.Fronts.{front_popped, front_cut}
 use Rattle.cactus_merge.proofs.Steps.{bridged, drawn, started, ended}
 use Rattle.std.specs.List.{All, flat_map}

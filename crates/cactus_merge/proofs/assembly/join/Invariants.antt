@@ -1,7 +1,7 @@
 use Rattle.std.proofs.Common.{◌≡◌, ℕ, ◌≤◌, ◌<◌, length, map, take, drop}
 use Rattle.std.specs.Prelude.{slice_index_or}
-use Rattle.cactus_tree.specs.Trees.{nodes_in}
-use Rattle.cactus_tree.specs.Sides.{part, block_part}
+use Rattle.rooted_cactus.specs.Trees.{nodes_in}
+use Rattle.rooted_cactus.specs.Sides.{part, block_part}
 use Rattle.residual_chain.specs.declared.run.Run.{Run}
 use Rattle.cactus_merge.specs.Joined.{held, block_held, IsWide, IsWideBlock}
 use Rattle.std.specs.List.{All, flat_map}

@@ -1,5 +1,5 @@
 use Rattle.std.proofs.Common.{refl}
-use Rattle.cactus_tree.specs.declared.tree.Node.{out-Node, roll-Node}
+use Rattle.rooted_cactus.specs.declared.tree.Node.{out-Node, roll-Node}
 use Rattle.cactus_merge.specs.Assembled.{names_by}
 use Rattle.cactus_merge.proofs.Images.{renamed_cuts}
 use Rattle.cactus_merge.proofs.NodeOf.{IsRenamed}

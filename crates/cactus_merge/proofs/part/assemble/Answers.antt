@@ -1,9 +1,9 @@
 use Rattle.std.proofs.Common.{◌≡◌, ℕ, sym, subst}
 use Rattle.residual_chain.specs.declared.run.Run.{Run}
 use Rattle.std.proofs.Common.{List, map}
-use Rattle.cactus_tree.specs.Trees.{nodes_in}
-use Rattle.cactus_tree.specs.Sides.{cuts, part}
-use Rattle.cactus_tree.specs.Rooted.{IsCactus, Rooted, sides_of}
+use Rattle.rooted_cactus.specs.Trees.{nodes_in}
+use Rattle.rooted_cactus.specs.Sides.{cuts, part}
+use Rattle.rooted_cactus.specs.Rooted.{IsCactus, Rooted, sides_of}
 use Rattle.cactus_merge.specs.Joined.{SameSets, joined_cuts}
 use Rattle.cut_definitions.specs.Members.{SameMembers}
 use Rattle.cactus_merge.specs.Assembled.{assembled_sides}

@@ -1,6 +1,6 @@
 -- As for a graph with rows.
 use Rattle.std.proofs.Common.{◌∙◌, arith}
-use Rattle.cactus_tree.specs.Rooted.{sides_of}
+use Rattle.rooted_cactus.specs.Rooted.{sides_of}
 use Rattle.cactus_solver.proofs.Finishing.{finished, no_empty_side, same_through}
 use Rattle.node_tree.specs.Finished.{arrays_of}
 use Rattle.cactus_solver.proofs.by_list.solve_by_list.Goals as goal

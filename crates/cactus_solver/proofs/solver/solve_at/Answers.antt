@@ -1,5 +1,5 @@
 use Rattle.std.proofs.Common.{◌∙◌, arith}
-use Rattle.cactus_tree.specs.Rooted.{sides_of}
+use Rattle.rooted_cactus.specs.Rooted.{sides_of}
 use Rattle.cactus_solver.proofs.Finishing.{finished, no_empty_side, same_through}
 use Rattle.node_tree.specs.Finished.{arrays_of}
 use Rattle.cactus_solver.proofs.solver.solve_at.Goals as goal

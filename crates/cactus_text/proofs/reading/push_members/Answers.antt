@@ -1,5 +1,5 @@
 use Rattle.std.proofs.Common.{◌++◌, ◌∷◌, [], ◌∙◌, take, ap, arith, refl}
-use Rattle.cactus_tree.proofs.Members.{member_added}
+use Rattle.flat_cactus.proofs.Members.{member_added}
 use Rattle.cactus_text.proofs.Suffixes.{take_next}
 use Rattle.cactus_text.proofs.reading.push_members.Goals as goal
 

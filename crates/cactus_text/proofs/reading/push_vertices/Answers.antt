@@ -1,5 +1,5 @@
 use Rattle.std.proofs.Common.{arith, refl}
-use Rattle.cactus_tree.proofs.Members.{vertex_added}
+use Rattle.flat_cactus.proofs.Members.{vertex_added}
 use Rattle.cactus_text.proofs.reading.push_vertices.Goals as goal
 
 pub vertices-preserved : goal.vertices-preserved

@@ -2,7 +2,7 @@ use Rattle.std.proofs.Common.{◌≡◌, ◌<◌, ◌∙◌, [], ℕ, List, leng
 use Rattle.std.specs.List.{fold, list_all}
 use Rattle.std.specs.Prelude.{slice_index, ◌==◌}
 use Rattle.std.proofs.lemmas.Option.{get_or_from_slice_get, slice_get_within}
-use Rattle.cactus_tree.specs.FlatCuts.{cycle_edges}
+use Rattle.flat_cactus.specs.FlatCuts.{cycle_edges}
 use Rattle.cactus_text.specs.Reading.{relabelled}
 use Rattle.cactus_text.proofs.Rounds.{cycle_next, cycles_end}
 use Rattle.cactus_text.proofs.tree.is_joined.Goals as goal

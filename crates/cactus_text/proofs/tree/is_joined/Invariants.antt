@@ -1,7 +1,7 @@
 -- What the edges of all cycles make of the labels after the bridges is what those to come make of the labels now.
 use Rattle.std.proofs.Common.{◌≡◌, ℕ, List, length, drop}
 use Rattle.std.specs.List.{fold, flat_map, range_with_len}
-use Rattle.cactus_tree.specs.FlatCuts.{all_edges, cycle_edges}
+use Rattle.flat_cactus.specs.FlatCuts.{all_edges, cycle_edges}
 use Rattle.cactus_text.specs.Reading.{relabelled}
 use Rattle.cactus_text.specs.Labels.{IsLabelled}
 use Rattle.cactus_text.proofs.tree.is_joined.Given as goal

@@ -1,11 +1,11 @@
 use Rattle.std.proofs.Common.{List, ◌∙◌, ap, sym, subst, refl}
 use Rattle.cut_definitions.proofs.ListLaws.{popped_is}
-use Rattle.cactus_tree.specs.Trees.{vertices}
-use Rattle.cactus_tree.specs.Entries.{top_first}
-use Rattle.cactus_tree.specs.declared.tree.Node.{Node}
+use Rattle.rooted_cactus.specs.Trees.{vertices}
+use Rattle.rooted_cactus.specs.Entries.{top_first}
+use Rattle.rooted_cactus.specs.declared.tree.Node.{Node}
 use Rattle.canonical_cactus.specs.Taken.{Shows}
 use Rattle.canonical_cactus.specs.declared.entries.OpenNode.{OpenNode}
-use Rattle.cactus_tree.proofs.Entries.{none_popped, top_push}
+use Rattle.rooted_cactus.proofs.Entries.{none_popped, top_push}
 use Rattle.canonical_cactus.proofs.Taken.{entered_one, fewer_left, first_entered}
 use Rattle.canonical_cactus.proofs.entries.entries_of.Goals as goal
 

@@ -1,8 +1,8 @@
-use Rattle.cactus_tree.specs.Entries.{top_first}
+use Rattle.rooted_cactus.specs.Entries.{top_first}
 use Rattle.canonical_cactus.specs.Taken.{Shows}
 use Rattle.std.proofs.Common.{length}
 use Rattle.std.specs.List.{flat_map}
-use Rattle.cactus_tree.specs.Entered.{entered}
+use Rattle.rooted_cactus.specs.Entered.{entered}
 use Rattle.canonical_cactus.proofs.entries.entries_of.Given as goal
 
 abbrev pub invariant-walk : goal.invariant-walk

@@ -1,8 +1,8 @@
 use Rattle.std.proofs.Common.{[], ◌∷◌, ◌∙◌, ap, length, sym, refl}
-use Rattle.cactus_tree.specs.declared.tree.Node.{Node}
-use Rattle.cactus_tree.specs.Entries.{top_first}
-use Rattle.cactus_tree.specs.Trees.{blocks, nodes_in}
-use Rattle.cactus_tree.proofs.Entries.{top_push}
+use Rattle.rooted_cactus.specs.declared.tree.Node.{Node}
+use Rattle.rooted_cactus.specs.Entries.{top_first}
+use Rattle.rooted_cactus.specs.Trees.{blocks, nodes_in}
+use Rattle.rooted_cactus.proofs.Entries.{top_push}
 use Rattle.canonical_cactus.proofs.Taken.{bridge_shed, leaf_shed, cycle_shed, none_in}
 use Rattle.canonical_cactus.proofs.entries.shed_block.Goals as goal
 

@@ -1,6 +1,6 @@
 use Rattle.std.proofs.Common.{length}
-use Rattle.cactus_tree.specs.Trees.{blocks_in}
-use Rattle.cactus_tree.specs.Entries.{top_first}
+use Rattle.rooted_cactus.specs.Trees.{blocks_in}
+use Rattle.rooted_cactus.specs.Entries.{top_first}
 use Rattle.canonical_cactus.proofs.Taken.{Shedding}
 use Rattle.canonical_cactus.proofs.entries.shed_blocks.Given as goal
 

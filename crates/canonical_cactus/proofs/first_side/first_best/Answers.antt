@@ -3,8 +3,8 @@ use Rattle.std.proofs.Common.{Some, ◌≡◌, ◌∙◌, length, ap, subst, sym
 use Rattle.std.proofs.lemmas.Result.{IfOk-weaker}
 use Rattle.balanced_cut.specs.Ends.{range_of}
 use Rattle.balanced_cut.proofs.Moving.{best_fits}
-use Rattle.cactus_tree.specs.Places.{side_at}
-use Rattle.cactus_tree.specs.Rooted.{sides_of}
+use Rattle.rooted_cactus.specs.Places.{side_at}
+use Rattle.rooted_cactus.specs.Rooted.{sides_of}
 use Rattle.canonical_cactus.specs.FirstBest.{IsFirstBest, IsFound, IsNotAfter, IsRanked, count_of}
 use Rattle.canonical_cactus.proofs.Searched.{known_ends, known_ranked, known_some}
 use Rattle.canonical_cactus.proofs.first_side.first_best.Goals as goal

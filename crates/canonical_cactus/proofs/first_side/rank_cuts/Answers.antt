@@ -1,7 +1,7 @@
 -- What is known of the places, the scale and the trees of minima.
 use Rattle.std.proofs.Common.{◌∙◌, length, slice_index, ap, subst, arith}
 use Rattle.cut_definitions.specs.Cuts.{has}
-use Rattle.cactus_tree.proofs.Once.{each_there}
+use Rattle.rooted_cactus.proofs.Once.{each_there}
 use Rattle.balanced_cut.specs.Ends.{IsScaleOf}
 use Rattle.canonical_cactus.proofs.first_side.rank_cuts.Goals as goal
 

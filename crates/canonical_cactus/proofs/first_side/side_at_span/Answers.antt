@@ -1,6 +1,6 @@
 -- The vertices of the range were put into an empty side.
 use Rattle.balanced_cut.specs.Ends.{range_of}
-use Rattle.cactus_tree.proofs.Elements.{side_filled}
+use Rattle.rooted_cactus.proofs.Elements.{side_filled}
 use Rattle.canonical_cactus.proofs.first_side.side_at_span.Goals as goal
 
 pub returns-clause-side : goal.returns-clause-side

@@ -1,7 +1,7 @@
 use Rattle.std.proofs.Common.{◌∙◌, ap, sym, subst}
 use Rattle.cut_definitions.specs.Cuts.{has}
-use Rattle.cactus_tree.specs.Rooted.{Rooted}
-use Rattle.cactus_tree.specs.Different.{HaveSameSides}
+use Rattle.rooted_cactus.specs.Rooted.{Rooted}
+use Rattle.rooted_cactus.specs.Different.{HaveSameSides}
 use Rattle.canonical_cactus.specs.Canonical.{is_canonical}
 use Rattle.canonical_cactus.proofs.Canonicals.{finished}
 use Rattle.canonical_cactus.proofs.making.canonical.Goals as goal

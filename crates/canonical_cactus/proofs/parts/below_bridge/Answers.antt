@@ -1,7 +1,7 @@
 use Rattle.std.proofs.Common.{◌∙◌, ap, sym}
 use Rattle.std.proofs.lemmas.Bool.{false≢true}
-use Rattle.cactus_tree.specs.Normal.{BlockShape, block_shape}
-use Rattle.cactus_tree.proofs.Shapes.{cycle_shape}
+use Rattle.rooted_cactus.specs.Normal.{BlockShape, block_shape}
+use Rattle.rooted_cactus.proofs.Shapes.{cycle_shape}
 use Rattle.canonical_cactus.proofs.parts.below_bridge.Goals as goal
 
 pub unreachable-requires : goal.unreachable-requires

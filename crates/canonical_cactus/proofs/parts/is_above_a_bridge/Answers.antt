@@ -1,6 +1,6 @@
 use Rattle.std.proofs.Common.{◌∙◌, not, ap, sym}
-use Rattle.cactus_tree.specs.Trees.{vertices, blocks}
-use Rattle.cactus_tree.proofs.Makes.{above_first}
+use Rattle.rooted_cactus.specs.Trees.{vertices, blocks}
+use Rattle.rooted_cactus.proofs.Makes.{above_first}
 use Rattle.canonical_cactus.proofs.parts.is_above_a_bridge.Goals as goal
 
 pub returns-then-is_spare : goal.returns-then-is_spare

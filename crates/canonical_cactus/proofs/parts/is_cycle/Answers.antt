@@ -1,5 +1,5 @@
 use Rattle.std.proofs.Common.{refl}
-use Rattle.cactus_tree.proofs.Shapes.{bridge_shape, cycle_shape}
+use Rattle.rooted_cactus.proofs.Shapes.{bridge_shape, cycle_shape}
 use Rattle.canonical_cactus.proofs.parts.is_cycle.Goals as goal
 
 pub returns-in-Bridge : goal.returns-in-Bridge

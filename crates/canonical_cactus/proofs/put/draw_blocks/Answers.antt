@@ -1,8 +1,8 @@
 use Rattle.std.proofs.Common.{◌≡◌, [], ◌∷◌, List, length, drop, ◌∙◌, ap, sym, refl, arith}
 use Rattle.std.proofs.lemmas.List.{length-append, length-drop}
 use Rattle.cut_definitions.proofs.ListLaws.{popped_is}
-use Rattle.cactus_tree.specs.Entries.{top_first}
-use Rattle.cactus_tree.proofs.Entries.{top_push, top_length, none_popped}
+use Rattle.rooted_cactus.specs.Entries.{top_first}
+use Rattle.rooted_cactus.proofs.Entries.{top_push, top_length, none_popped}
 use Rattle.canonical_cactus.specs.Taken.{used, wanted, all_drawn}
 use Rattle.cut_definitions.specs.Cuts.{has}
 use Rattle.canonical_cactus.specs.declared.entries.Joint.{Joint}

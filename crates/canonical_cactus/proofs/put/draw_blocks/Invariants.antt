@@ -1,6 +1,6 @@
 use Rattle.cut_definitions.specs.Cuts.{has}
 use Rattle.std.proofs.Common.{◌≡◌, ◌≤◌, List, length, drop}
-use Rattle.cactus_tree.specs.Entries.{Read, top_first}
+use Rattle.rooted_cactus.specs.Entries.{Read, top_first}
 use Rattle.canonical_cactus.specs.Making.{AreNodesOf}
 use Rattle.canonical_cactus.specs.Taken.{wanted, all_drawn}
 use Rattle.canonical_cactus.proofs.Draws.{DrawsBlocks}

@@ -1,6 +1,6 @@
 use Rattle.std.proofs.Common.{◌∙◌, sym, take, arith}
-use Rattle.cactus_tree.specs.Entries.{top_first}
-use Rattle.cactus_tree.proofs.Entries.{top_length}
+use Rattle.rooted_cactus.specs.Entries.{top_first}
+use Rattle.rooted_cactus.proofs.Entries.{top_length}
 use Rattle.canonical_cactus.proofs.Draws.{drawn_many}
 use Rattle.canonical_cactus.proofs.put.draw_cycle.Goals as goal
 

@@ -1,9 +1,9 @@
 use Rattle.std.proofs.Common.{[], ◌∷◌, ◌≡◌, ◌+◌, length, drop, ◌∙◌, ap, sym, arith}
 use Rattle.std.proofs.lemmas.List.{length-append}
 use Rattle.cut_definitions.proofs.ListLaws.{popped_is}
-use Rattle.cactus_tree.specs.Entries.{top_first}
-use Rattle.cactus_tree.proofs.Entries.{top_push}
-use Rattle.cactus_tree.proofs.Makes.{dropped_one}
+use Rattle.rooted_cactus.specs.Entries.{top_first}
+use Rattle.rooted_cactus.proofs.Entries.{top_push}
+use Rattle.rooted_cactus.proofs.Makes.{dropped_one}
 use Rattle.canonical_cactus.proofs.Draws.{draws_none, draws_one, draws_all}
 use Rattle.canonical_cactus.proofs.put.draw_nodes.Goals as goal
 

@@ -1,5 +1,5 @@
 use Rattle.std.proofs.Common.{◌≡◌, ◌≤◌, ◌+◌, ◌-◌, List, drop, length}
-use Rattle.cactus_tree.specs.Entries.{Read, top_first}
+use Rattle.rooted_cactus.specs.Entries.{Read, top_first}
 use Rattle.canonical_cactus.specs.Making.{AreNodesOf}
 use Rattle.canonical_cactus.proofs.Draws.{DrawsNodes}
 use Rattle.canonical_cactus.proofs.put.draw_nodes.Given as goal

@@ -1,8 +1,8 @@
 use Rattle.std.proofs.Common.{◌∷◌, [], ◌∙◌, ap, sym, drop, length, arith}
 use Rattle.std.proofs.lemmas.List.{length-append}
 use Rattle.cut_definitions.proofs.ListLaws.{popped_is}
-use Rattle.cactus_tree.specs.Entries.{top_first}
-use Rattle.cactus_tree.proofs.Entries.{top_push}
+use Rattle.rooted_cactus.specs.Entries.{top_first}
+use Rattle.rooted_cactus.proofs.Entries.{top_push}
 use Rattle.canonical_cactus.proofs.Draws.{star_drawn}
 use Rattle.canonical_cactus.proofs.put.draw_star.Goals as goal
 

@@ -2,8 +2,8 @@ use Rattle.cut_definitions.specs.Cuts.{has}
 use Rattle.std.proofs.Common.{◌≡◌, [], ◌∷◌, List, length, ◌∙◌, ap, sym, subst, arith}
 use Rattle.std.proofs.lemmas.List.{length-append}
 use Rattle.cut_definitions.proofs.ListLaws.{popped_is}
-use Rattle.cactus_tree.specs.Entries.{top_first}
-use Rattle.cactus_tree.proofs.Entries.{top_push, top_length, none_popped, alone}
+use Rattle.rooted_cactus.specs.Entries.{top_first}
+use Rattle.rooted_cactus.proofs.Entries.{top_push, top_length, none_popped, alone}
 use Rattle.canonical_cactus.specs.Taken.{all_drawn, left, joints_of}
 use Rattle.canonical_cactus.specs.declared.entries.OpenNode.{OpenNode}
 use Rattle.canonical_cactus.specs.declared.parts.Placed.{Placed}

@@ -1,5 +1,5 @@
 use Rattle.std.proofs.Common.{◌≡◌, [], length}
-use Rattle.cactus_tree.specs.Entries.{top_first}
+use Rattle.rooted_cactus.specs.Entries.{top_first}
 use Rattle.canonical_cactus.proofs.Draws.{Puts}
 use Rattle.canonical_cactus.proofs.put.put_in_order.Given as goal
 

@@ -1,5 +1,5 @@
 use Rattle.std.proofs.Common.{cond, ◌∙◌, ap, sym}
-use Rattle.cactus_tree.specs.Entries.{top_first}
+use Rattle.rooted_cactus.specs.Entries.{top_first}
 use Rattle.canonical_cactus.specs.Making.{ends_rise}
 use Rattle.canonical_cactus.proofs.Ordered.{reversed_top}
 use Rattle.canonical_cactus.proofs.rows.face.Goals as goal

@@ -1,9 +1,9 @@
 use Rattle.std.proofs.Common.{[], ◌∷◌, ◌++◌, length, map, ◌∙◌, ap, sym, refl, arith}
 use Rattle.std.proofs.lemmas.List.{append-nil, length-append}
 use Rattle.cut_definitions.proofs.ListLaws.{popped_is}
-use Rattle.cactus_tree.specs.Entries.{top_first}
-use Rattle.cactus_tree.specs.Trees.{blocks_in}
-use Rattle.cactus_tree.proofs.Entries.{top_push, none_popped}
+use Rattle.rooted_cactus.specs.Entries.{top_first}
+use Rattle.rooted_cactus.specs.Trees.{blocks_in}
+use Rattle.rooted_cactus.proofs.Entries.{top_push, none_popped}
 use Rattle.canonical_cactus.specs.declared.parts.Hung.{Hung}
 use Rattle.canonical_cactus.proofs.Ordered.{block_in, lessers, filled_one, filled_all, lessers_one, lessers_all, node_finished}
 use Rattle.canonical_cactus.proofs.rows.node_of.Goals as goal

@@ -1,6 +1,6 @@
 use Rattle.std.proofs.Common.{◌≡◌, ◌++◌, length, map}
-use Rattle.cactus_tree.specs.Entries.{top_first}
-use Rattle.cactus_tree.specs.Trees.{blocks_in}
+use Rattle.rooted_cactus.specs.Entries.{top_first}
+use Rattle.rooted_cactus.specs.Trees.{blocks_in}
 use Rattle.canonical_cactus.specs.Standing.{least_in}
 use Rattle.canonical_cactus.specs.declared.parts.Hung.{Hung}
 use Rattle.canonical_cactus.proofs.Ordered.{block_in, lessers}

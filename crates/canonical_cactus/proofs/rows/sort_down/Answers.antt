@@ -1,7 +1,7 @@
 use Rattle.std.proofs.Common.{◌∙◌, ap, sym, subst, rules}
 use Rattle.std.specs.List.Sorted.{IsPermutation, IsNonDecreasingBy}
 use Rattle.std.proofs.lemmas.List.Sorted.{IsNonDecreasingBy-from_sort_by_key}
-use Rattle.cactus_tree.specs.Entries.{top_first}
+use Rattle.rooted_cactus.specs.Entries.{top_first}
 use Rattle.canonical_cactus.specs.Making.{key_of}
 use Rattle.canonical_cactus.proofs.Ordered.{reversed_top}
 use Rattle.canonical_cactus.proofs.Turned.{top_twice}

@@ -1,6 +1,6 @@
 use Rattle.std.proofs.Common.{◌≡◌, [], ◌∷◌, ◌++◌, List, ◌∙◌, ap, sym, subst}
 use Rattle.cut_definitions.specs.Cuts.{has}
-use Rattle.cactus_tree.specs.Entries.{bridge_read, node_read}
+use Rattle.rooted_cactus.specs.Entries.{bridge_read, node_read}
 use Rattle.canonical_cactus.specs.Making.{AreBlocksOf, IsNodeOf}
 use Rattle.canonical_cactus.specs.declared.parts.Hung.{Hung}
 use Rattle.canonical_cactus.proofs.Stars.{star_shown}

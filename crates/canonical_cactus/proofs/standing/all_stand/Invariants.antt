@@ -1,5 +1,5 @@
 use Rattle.std.proofs.Common.{length}
-use Rattle.cactus_tree.specs.Numbers.{seen}
+use Rattle.rooted_cactus.specs.Numbers.{seen}
 use Rattle.canonical_cactus.proofs.Inner.{Rising}
 use Rattle.canonical_cactus.proofs.standing.all_stand.Given as goal
 

@@ -2,9 +2,9 @@ use Rattle.std.proofs.Common.{◌≡◌, ◌∙◌, ◌-◌, ◌<◌, ◌++◌, 
 use Rattle.std.specs.Prelude.{nat_lt}
 use Rattle.std.specs.List.{filter, flat_map, list_all}
 use Rattle.cut_definitions.specs.Cuts.{least}
-use Rattle.cactus_tree.specs.Entries.{nodes_of}
-use Rattle.cactus_tree.specs.Numbers.{is_inner}
-use Rattle.cactus_tree.specs.Trees.{blocks_in}
+use Rattle.rooted_cactus.specs.Entries.{nodes_of}
+use Rattle.rooted_cactus.specs.Numbers.{is_inner}
+use Rattle.rooted_cactus.specs.Trees.{blocks_in}
 use Rattle.canonical_cactus.specs.Canonical.{Arranged, all_vertices, arranged_block, ascend, leasts}
 use Rattle.canonical_cactus.specs.Inner.{is_turned, leasts_of}
 use Rattle.canonical_cactus.specs.Standing.{least_in, lesser_of, or_zero}

@@ -1,8 +1,8 @@
 use Rattle.std.proofs.Common.{◌≡◌, ◌≤◌, ◌++◌, ℕ, List, Option, length, map, take, drop}
 use Rattle.std.specs.List.{filter, flat_map, list_all}
-use Rattle.cactus_tree.specs.Trees.{blocks_in}
-use Rattle.cactus_tree.specs.Entries.{nodes_of}
-use Rattle.cactus_tree.specs.Numbers.{is_inner}
+use Rattle.rooted_cactus.specs.Trees.{blocks_in}
+use Rattle.rooted_cactus.specs.Entries.{nodes_of}
+use Rattle.rooted_cactus.specs.Numbers.{is_inner}
 use Rattle.canonical_cactus.specs.Canonical.{all_vertices, arranged_block, ascend, leasts}
 use Rattle.canonical_cactus.specs.Inner.{is_turned, leasts_of}
 use Rattle.canonical_cactus.specs.Standing.{least_in}

@@ -2,8 +2,8 @@ use Rattle.std.proofs.Common.{◌≡◌, ◌∙◌, ◌-◌, ◌≤◌, ◌<◌,
 use Rattle.std.specs.List.{filter}
 use Rattle.std.proofs.lemmas.Bool.{cases_eq}
 use Rattle.cut_definitions.specs.Cuts.{least}
-use Rattle.cactus_tree.specs.Numbers.{is_inner}
-use Rattle.cactus_tree.specs.Trees.{nodes_in}
+use Rattle.rooted_cactus.specs.Numbers.{is_inner}
+use Rattle.rooted_cactus.specs.Trees.{nodes_in}
 use Rattle.canonical_cactus.specs.Canonical.{all_vertices, arranged, leasts}
 use Rattle.canonical_cactus.specs.Inner.{least_of, leasts_of}
 use Rattle.canonical_cactus.specs.Standing.{least_in, lesser_of, or_zero}

@@ -1,7 +1,7 @@
 use Rattle.std.proofs.Common.{◌≡◌, ◌≤◌, ◌++◌, ℕ, List, Option, length, map, take, drop}
 use Rattle.std.specs.List.{filter}
-use Rattle.cactus_tree.specs.Trees.{nodes_in}
-use Rattle.cactus_tree.specs.Numbers.{is_inner}
+use Rattle.rooted_cactus.specs.Trees.{nodes_in}
+use Rattle.rooted_cactus.specs.Numbers.{is_inner}
 use Rattle.canonical_cactus.specs.Canonical.{all_vertices, arranged, leasts}
 use Rattle.canonical_cactus.specs.Inner.{leasts_of}
 use Rattle.canonical_cactus.specs.Standing.{least_in}

@@ -1,6 +1,6 @@
 use Rattle.std.proofs.Common.{◌≡◌, ◌∙◌, false, ap, sym}
 use Rattle.std.specs.Prelude.{nat_lt}
-use Rattle.cactus_tree.specs.Numbers.{is_inner}
+use Rattle.rooted_cactus.specs.Numbers.{is_inner}
 use Rattle.canonical_cactus.proofs.Inner.{leaf_least}
 use Rattle.canonical_cactus.proofs.standing.draw_least.Goals as goal
 

@@ -1,5 +1,5 @@
 use Rattle.std.proofs.Common.{◌∙◌, map, ap, sym}
-use Rattle.cactus_tree.specs.Trees.{vertices, blocks}
+use Rattle.rooted_cactus.specs.Trees.{vertices, blocks}
 use Rattle.canonical_cactus.specs.Canonical.{Arranged, all_vertices, arranged_block}
 use Rattle.canonical_cactus.specs.Standing.{least_in, lesser_of}
 use Rattle.canonical_cactus.proofs.Arrangement.{arranged_out}

@@ -1,8 +1,8 @@
 use Rattle.std.proofs.Common.{◌∙◌, ◌++◌, ◌∷◌, [], ap}
 use Rattle.cut_definitions.proofs.ListLaws.{popped_is}
-use Rattle.cactus_tree.specs.Numbers.{seen}
-use Rattle.cactus_tree.proofs.Entries.{none_popped}
-use Rattle.cactus_tree.proofs.Tallies.{seen_push, fewer_inner}
+use Rattle.rooted_cactus.specs.Numbers.{seen}
+use Rattle.rooted_cactus.proofs.Entries.{none_popped}
+use Rattle.rooted_cactus.proofs.Tallies.{seen_push, fewer_inner}
 use Rattle.canonical_cactus.proofs.Inner.{begun, entered, listed}
 use Rattle.canonical_cactus.proofs.standing.inner_nodes.Goals as goal
 

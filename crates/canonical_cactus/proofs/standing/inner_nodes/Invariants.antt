@@ -1,5 +1,5 @@
-use Rattle.cactus_tree.specs.Numbers.{seen}
-use Rattle.cactus_tree.proofs.Tallies.{nodes_to_come}
+use Rattle.rooted_cactus.specs.Numbers.{seen}
+use Rattle.rooted_cactus.proofs.Tallies.{nodes_to_come}
 use Rattle.canonical_cactus.proofs.Inner.{Entering}
 use Rattle.canonical_cactus.proofs.standing.inner_nodes.Given as goal
 

@@ -4,8 +4,8 @@ use Rattle.std.specs.List.{All}
 use Rattle.std.proofs.lemmas.List.{map-append}
 use Rattle.std.proofs.lemmas.List.Elements.{All-append, All-cons, All-nil}
 use Rattle.vertex_set.specs.Side.{VertexList}
-use Rattle.cactus_tree.specs.Places.{side_at}
-use Rattle.cactus_tree.proofs.Stepping.{place_within}
+use Rattle.rooted_cactus.specs.Places.{side_at}
+use Rattle.cactus_walk.proofs.Stepping.{place_within}
 use Rattle.cut_listing.specs.Bands.{range_between, ranges_of}
 use Rattle.cut_listing.specs.Listings.{members_of}
 use Rattle.cut_listing.proofs.Bands.{band_more}

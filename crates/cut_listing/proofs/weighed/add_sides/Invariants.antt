@@ -1,6 +1,6 @@
 use Rattle.std.proofs.Common.{◌≡◌, ◌≤◌, ◌++◌, map, max}
 use Rattle.std.specs.List.{All}
-use Rattle.cactus_tree.specs.Places.{side_at}
+use Rattle.rooted_cactus.specs.Places.{side_at}
 use Rattle.cut_listing.specs.Bands.{ranges_of}
 use Rattle.cut_listing.specs.Listings.{members_of}
 use Rattle.cut_listing.proofs.weighed.add_sides.Given as goal

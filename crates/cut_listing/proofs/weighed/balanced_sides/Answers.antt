@@ -2,9 +2,9 @@
 use Rattle.std.proofs.Common.{◌≡◌, map, ap, ◌∙◌, sym, subst}
 use Rattle.std.specs.List.{filter}
 use Rattle.std.proofs.lemmas.Result.{IfOk-weaker}
-use Rattle.cactus_tree.specs.Different.{AreDifferent}
-use Rattle.cactus_tree.specs.Places.{side_at}
-use Rattle.cactus_tree.specs.Repeats.{ranges_kept}
+use Rattle.rooted_cactus.specs.Different.{AreDifferent}
+use Rattle.rooted_cactus.specs.Places.{side_at}
+use Rattle.cactus_walk.specs.Repeats.{ranges_kept}
 use Rattle.cut_listing.specs.Bands.{AreRising, is_heavy}
 use Rattle.cut_listing.specs.Listings.{different}
 use Rattle.cut_listing.proofs.Balanced.{balanced_all, balanced_differ, rising, weighed}

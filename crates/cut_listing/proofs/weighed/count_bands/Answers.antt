@@ -1,6 +1,6 @@
 -- The band of a border has as many ranges as are counted there.
 use Rattle.std.proofs.Common.{refl, arith}
-use Rattle.cactus_tree.specs.Repeats.{ranges_kept}
+use Rattle.cactus_walk.specs.Repeats.{ranges_kept}
 use Rattle.cut_listing.specs.Bands.{is_heavy}
 use Rattle.cut_listing.proofs.Bands.{band_counted, ends_next, few_pass}
 use Rattle.cut_listing.proofs.weighed.count_bands.Goals as goal

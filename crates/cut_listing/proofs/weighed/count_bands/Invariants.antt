@@ -1,6 +1,6 @@
 use Rattle.std.proofs.Common.{◌≡◌, ◌+◌, drop, length}
 use Rattle.std.specs.List.{filter}
-use Rattle.cactus_tree.specs.Repeats.{ranges_kept}
+use Rattle.cactus_walk.specs.Repeats.{ranges_kept}
 use Rattle.cut_listing.specs.Bands.{AreShort, is_heavy}
 use Rattle.cut_listing.proofs.weighed.count_bands.Given as goal
 

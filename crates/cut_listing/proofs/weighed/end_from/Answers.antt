@@ -1,6 +1,6 @@
 -- The moving end stays within its block.
 use Rattle.std.proofs.Common.{◌+◌, ◌<◌, length, arith}
-use Rattle.cactus_tree.specs.Borders.{border_at}
+use Rattle.rooted_cactus.specs.Borders.{border_at}
 use Rattle.cut_listing.proofs.Bands.{block_there, place_there}
 use Rattle.cut_listing.proofs.weighed.end_from.Goals as goal
 

@@ -1,5 +1,5 @@
 use Rattle.std.proofs.Common.{◌≡◌, ◌+◌, ◌-◌, ◌≤◌}
-use Rattle.cactus_tree.specs.Borders.{border_at}
+use Rattle.rooted_cactus.specs.Borders.{border_at}
 use Rattle.cut_listing.specs.Bands.{IsShort, mass_at}
 use Rattle.cut_listing.proofs.weighed.end_from.Given as goal
 

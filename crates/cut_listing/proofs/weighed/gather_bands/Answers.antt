@@ -2,9 +2,9 @@
 use Rattle.std.proofs.Common.{◌≡◌, ◌+◌, ◌-◌, ◌++◌, drop, length, map, refl, ap, ◌∙◌, sym, subst, arith, append_assoc}
 use Rattle.std.specs.List.{filter}
 use Rattle.std.proofs.lemmas.List.{map-append}
-use Rattle.cactus_tree.specs.Places.{side_at}
-use Rattle.cactus_tree.specs.Repeats.{ranges_kept}
-use Rattle.cactus_tree.specs.Walking.{AreBorders}
+use Rattle.rooted_cactus.specs.Places.{side_at}
+use Rattle.cactus_walk.specs.Repeats.{ranges_kept}
+use Rattle.cactus_walk.specs.Walking.{AreBorders}
 use Rattle.cut_listing.specs.Bands.{is_heavy, ranges_of}
 use Rattle.cut_listing.specs.Listings.{members_of}
 use Rattle.cut_listing.proofs.Bands.{band_of, band_within, ends_next}

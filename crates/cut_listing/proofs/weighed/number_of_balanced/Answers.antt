@@ -1,7 +1,7 @@
 -- What is counted along the borders of the tree is the number of the sides.
 use Rattle.std.proofs.Common.{◌<◌, ◌^◌, length, ap, ◌∙◌, sym, subst}
 use Rattle.std.specs.List.{filter}
-use Rattle.cactus_tree.specs.Repeats.{ranges_kept}
+use Rattle.cactus_walk.specs.Repeats.{ranges_kept}
 use Rattle.cut_listing.specs.Bands.{AreRising, is_heavy}
 use Rattle.cut_listing.proofs.Balanced.{balanced_number, kept_small, rising, weighed}
 use Rattle.cut_listing.proofs.weighed.number_of_balanced.Goals as goal

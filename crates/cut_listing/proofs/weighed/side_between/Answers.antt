@@ -1,4 +1,4 @@
-use Rattle.cactus_tree.proofs.Elements.{side_filled}
+use Rattle.rooted_cactus.proofs.Elements.{side_filled}
 use Rattle.cut_listing.proofs.weighed.side_between.Goals as goal
 
 pub returns-clause-side : goal.returns-clause-side

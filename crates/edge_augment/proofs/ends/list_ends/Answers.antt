@@ -1,9 +1,9 @@
 use Rattle.std.proofs.Common.{ℕ, ◌==◌, List, [], ◌++◌, ◌∙◌, ap, refl}
 use Rattle.std.specs.List.{flat_map}
 use Rattle.cut_definitions.proofs.ListLaws.{popped_is}
-use Rattle.cactus_tree.specs.Entered.{waiting}
-use Rattle.cactus_tree.specs.Trees.{blocks, vertices}
-use Rattle.cactus_tree.proofs.Orders.{waiting_push, walked}
+use Rattle.rooted_cactus.specs.Entered.{waiting}
+use Rattle.rooted_cactus.specs.Trees.{blocks, vertices}
+use Rattle.rooted_cactus.proofs.Orders.{waiting_push, walked}
 use Rattle.edge_augment.specs.Ends.{block_leaves}
 use Rattle.edge_augment.specs.Walks.{alone_if, leaves_waiting}
 use Rattle.edge_augment.proofs.Walked.{leaves_push, begun, passed}

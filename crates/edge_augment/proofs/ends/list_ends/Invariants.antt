@@ -1,5 +1,5 @@
 use Rattle.std.proofs.Common.{◌≡◌, ◌++◌, length}
-use Rattle.cactus_tree.specs.Entered.{waiting}
+use Rattle.rooted_cactus.specs.Entered.{waiting}
 use Rattle.edge_augment.specs.Ends.{end_sets}
 use Rattle.edge_augment.specs.Walks.{leaves_waiting}
 use Rattle.edge_augment.proofs.ends.list_ends.Given as goal

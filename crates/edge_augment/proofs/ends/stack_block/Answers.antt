@@ -1,6 +1,6 @@
 use Rattle.std.proofs.Common.{◌∙◌, ap}
-use Rattle.cactus_tree.specs.Entered.{waiting}
-use Rattle.cactus_tree.proofs.Orders.{waiting_push, entered_bridge, entered_cycle}
+use Rattle.rooted_cactus.specs.Entered.{waiting}
+use Rattle.rooted_cactus.proofs.Orders.{waiting_push, entered_bridge, entered_cycle}
 use Rattle.edge_augment.specs.Walks.{leaves_waiting}
 use Rattle.edge_augment.proofs.Leaves.{leaves_bridge}
 use Rattle.edge_augment.proofs.Walked.{leaves_push, cycle_leaves}

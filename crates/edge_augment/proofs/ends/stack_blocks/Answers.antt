@@ -1,8 +1,8 @@
 use Rattle.std.proofs.Common.{◌-◌, sym, arith}
 use Rattle.std.proofs.lemmas.Option.{get_or_from_slice_get}
-use Rattle.cactus_tree.specs.Trees.{blocks_in}
-use Rattle.cactus_tree.specs.Entered.{entered_block, waiting}
-use Rattle.cactus_tree.proofs.Orders.{stacked}
+use Rattle.rooted_cactus.specs.Trees.{blocks_in}
+use Rattle.rooted_cactus.specs.Entered.{entered_block, waiting}
+use Rattle.rooted_cactus.proofs.Orders.{stacked}
 use Rattle.edge_augment.specs.Ends.{block_leaves}
 use Rattle.edge_augment.specs.Walks.{leaves_waiting}
 use Rattle.edge_augment.proofs.ends.stack_blocks.Goals as goal

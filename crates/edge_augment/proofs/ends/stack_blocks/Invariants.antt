@@ -1,7 +1,7 @@
 use Rattle.std.proofs.Common.{◌≡◌, ◌≤◌, ◌++◌, length, drop}
 use Rattle.std.specs.List.{flat_map}
-use Rattle.cactus_tree.specs.Trees.{blocks_in}
-use Rattle.cactus_tree.specs.Entered.{entered_block, waiting}
+use Rattle.rooted_cactus.specs.Trees.{blocks_in}
+use Rattle.rooted_cactus.specs.Entered.{entered_block, waiting}
 use Rattle.edge_augment.specs.Ends.{block_leaves}
 use Rattle.edge_augment.specs.Walks.{leaves_waiting}
 use Rattle.edge_augment.proofs.ends.stack_blocks.Given as goal

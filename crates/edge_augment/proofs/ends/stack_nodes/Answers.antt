@@ -1,8 +1,8 @@
 use Rattle.std.proofs.Common.{◌-◌, ◌∙◌, ap, sym, arith}
 use Rattle.std.proofs.lemmas.Option.{get_or_from_slice_get}
-use Rattle.cactus_tree.specs.Trees.{nodes_in}
-use Rattle.cactus_tree.specs.Entered.{entered, waiting}
-use Rattle.cactus_tree.proofs.Orders.{stacked, waiting_push}
+use Rattle.rooted_cactus.specs.Trees.{nodes_in}
+use Rattle.rooted_cactus.specs.Entered.{entered, waiting}
+use Rattle.rooted_cactus.proofs.Orders.{stacked, waiting_push}
 use Rattle.edge_augment.specs.Ends.{leaves}
 use Rattle.edge_augment.specs.Walks.{leaves_waiting}
 use Rattle.edge_augment.proofs.Walked.{leaves_push}

@@ -1,7 +1,7 @@
 use Rattle.std.proofs.Common.{◌≡◌, ◌≤◌, ◌++◌, length, drop}
 use Rattle.std.specs.List.{flat_map}
-use Rattle.cactus_tree.specs.Trees.{nodes_in}
-use Rattle.cactus_tree.specs.Entered.{entered, waiting}
+use Rattle.rooted_cactus.specs.Trees.{nodes_in}
+use Rattle.rooted_cactus.specs.Entered.{entered, waiting}
 use Rattle.edge_augment.specs.Ends.{leaves}
 use Rattle.edge_augment.specs.Walks.{leaves_waiting}
 use Rattle.edge_augment.proofs.ends.stack_nodes.Given as goal

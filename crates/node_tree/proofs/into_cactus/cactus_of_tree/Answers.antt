@@ -1,9 +1,9 @@
 use Rattle.std.proofs.Common.{◌≡◌, ◌↔◌, ◌-◌, ◌<◌, ◌≤◌, ◌∙◌, ℕ, false, true, sym, subst, length, take, arith}
 use Rattle.std.specs.Prelude.{slice_index}
 use Rattle.std.specs.List.{All, Contains, filter, flat_map, range_with_len}
-use Rattle.cactus_tree.specs.Entered.{entered}
-use Rattle.cactus_tree.specs.Normal.{is_normal}
-use Rattle.cactus_tree.specs.Rooted.{Rooted, sides_of}
+use Rattle.rooted_cactus.specs.Entered.{entered}
+use Rattle.rooted_cactus.specs.Normal.{is_normal}
+use Rattle.rooted_cactus.specs.Rooted.{Rooted, sides_of}
 use Rattle.node_tree.specs.TreeSets.{IsTreeSide}
 use Rattle.node_tree.specs.Finished.{arrays_of}
 use Rattle.node_tree.specs.Flat.{NodeArrays, is_follower, sets_of}

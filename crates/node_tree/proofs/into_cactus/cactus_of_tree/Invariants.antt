@@ -1,7 +1,7 @@
 use Rattle.std.proofs.Common.{◌≡◌, ℕ, ◌<◌, ◌≤◌, true, length}
 use Rattle.std.specs.Prelude.{IsTrue}
 use Rattle.std.specs.List.{flat_map}
-use Rattle.cactus_tree.specs.Entered.{entered}
+use Rattle.rooted_cactus.specs.Entered.{entered}
 use Rattle.node_tree.specs.Finished.{arrays_of}
 use Rattle.node_tree.specs.Flat.{is_follower}
 use Rattle.node_tree.specs.Forest.{IsForest}

@@ -1,7 +1,7 @@
 use Rattle.std.proofs.Common.{◌≡◌, ℕ, ◌+◌, ◌<◌, ◌∙◌, arith, List, ap, sym, subst, length}
 use Rattle.std.specs.Prelude.{slice_index}
 use Rattle.std.proofs.lemmas.List.{get_or_default}
-use Rattle.cactus_tree.specs.declared.tree.Node.{Node}
+use Rattle.rooted_cactus.specs.declared.tree.Node.{Node}
 use Rattle.node_tree.specs.Forest.{AddsVertex, AreFrom, IsChangedAt, IsPlaced}
 use Rattle.node_tree.proofs.ForestBlocks.{written}
 use Rattle.node_tree.proofs.ForestChanges.{changed_length}

@@ -1,6 +1,6 @@
 use Rattle.std.proofs.Common.{[], ◌∷◌, ◌++◌, ◌∙◌, ap, sym}
-use Rattle.cactus_tree.specs.Trees.{vertices, blocks}
-use Rattle.cactus_tree.specs.declared.tree.Node.{Node}
+use Rattle.rooted_cactus.specs.Trees.{vertices, blocks}
+use Rattle.rooted_cactus.specs.declared.tree.Node.{Node}
 use Rattle.node_tree.specs.Forest.{AddsBlock}
 use Rattle.node_tree.proofs.ForestChanges.{changed}
 use Rattle.node_tree.proofs.into_cactus.hang.Goals as goal

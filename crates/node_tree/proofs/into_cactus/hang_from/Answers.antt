@@ -1,5 +1,5 @@
 use Rattle.std.proofs.Common.{◌≡◌, ◌∙◌, List, ap, sym, subst, length}
-use Rattle.cactus_tree.specs.declared.tree.Node.{Node}
+use Rattle.rooted_cactus.specs.declared.tree.Node.{Node}
 use Rattle.node_tree.specs.Forest.{AddsBlock, IsChangedAt}
 use Rattle.node_tree.proofs.ForestBlocks.{written}
 use Rattle.node_tree.proofs.ForestChanges.{changed_length}

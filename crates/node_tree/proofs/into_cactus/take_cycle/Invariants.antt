@@ -1,5 +1,5 @@
 use Rattle.std.proofs.Common.{◌≡◌, ◌≤◌, length, take, drop, reverse}
-use Rattle.cactus_tree.specs.Trees.{nodes_in}
+use Rattle.rooted_cactus.specs.Trees.{nodes_in}
 use Rattle.node_tree.proofs.into_cactus.take_cycle.Given as goal
 
 abbrev pub invariant-taken : goal.invariant-taken

@@ -1,5 +1,5 @@
 use Rattle.std.proofs.Common.{[], ◌∷◌, refl}
-use Rattle.cactus_tree.proofs.Built.{is_cactus}
+use Rattle.rooted_cactus.proofs.Built.{is_cactus}
 use Rattle.tree_tests.proofs.augments.small_ring.Goals as goal
 
 pub from_root-requires : goal.from_root-requires

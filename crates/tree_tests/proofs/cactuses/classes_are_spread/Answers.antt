@@ -3,7 +3,7 @@ use Rattle.std.proofs.Common.{◌≡◌, ◌≤◌, ℕ, [], ◌∷◌, refl, sy
 use Rattle.std.specs.List.{Contains}
 use Rattle.std.proofs.lemmas.Bool.{cases_eq}
 use Rattle.std.proofs.lemmas.List.Elements.{All-cons, All-nil}
-use Rattle.cactus_tree.specs.Spread.{AreClasses}
+use Rattle.rooted_cactus.specs.Spread.{AreClasses}
 use Rattle.tree_tests.proofs.cactuses.classes_are_spread.Goals as goal
 
 abbrev IsClass : ℕ → Type 0

@@ -1,6 +1,6 @@
 use Rattle.std.proofs.Common.{[], ◌∷◌, map, refl}
-use Rattle.cactus_tree.proofs.Built.{is_cactus}
-use Rattle.cactus_tree.specs.Sides.{cycle_of, with_below}
+use Rattle.rooted_cactus.proofs.Built.{is_cactus}
+use Rattle.rooted_cactus.specs.Sides.{cycle_of, with_below}
 use Rattle.tree_tests.specs.Leaves.{leaf_part, lone_part}
 use Rattle.tree_tests.proofs.Shown.{none_empty}
 use Rattle.tree_tests.proofs.canonicals.turned_ring.Goals as goal

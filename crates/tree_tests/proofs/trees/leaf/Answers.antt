@@ -1,4 +1,4 @@
-use Rattle.cactus_tree.proofs.Built.{leaf_entered, leaf_widths}
+use Rattle.rooted_cactus.proofs.Built.{leaf_entered, leaf_widths}
 use Rattle.tree_tests.proofs.Shown.{leaf_shown}
 use Rattle.tree_tests.proofs.trees.leaf.Goals as goal
 

@@ -1,7 +1,7 @@
 use Rattle.std.proofs.Common.{[], ◌∷◌, length, ap, arith}
 use Rattle.std.proofs.lemmas.List.{length-append}
-use Rattle.cactus_tree.specs.Trees.{nodes_in}
-use Rattle.cactus_tree.proofs.Built.{leaf_pushed, leaf_counted, leaves_done}
+use Rattle.rooted_cactus.specs.Trees.{nodes_in}
+use Rattle.rooted_cactus.proofs.Built.{leaf_pushed, leaf_counted, leaves_done}
 use Rattle.tree_tests.proofs.Shown.{part_pushed, parts_done}
 use Rattle.tree_tests.proofs.trees.leaves.Goals as goal
 

@@ -1,9 +1,9 @@
 use Rattle.std.proofs.Common.{◌≡◌, [], ◌∷◌, length, map, take}
 use Rattle.std.specs.List.{flat_map}
-use Rattle.cactus_tree.specs.Entered.{entered}
-use Rattle.cactus_tree.specs.Sides.{part}
-use Rattle.cactus_tree.specs.Trees.{nodes_in}
-use Rattle.cactus_tree.specs.Widths.{widths}
+use Rattle.rooted_cactus.specs.Entered.{entered}
+use Rattle.rooted_cactus.specs.Sides.{part}
+use Rattle.rooted_cactus.specs.Trees.{nodes_in}
+use Rattle.rooted_cactus.specs.Widths.{widths}
 use Rattle.tree_tests.specs.Leaves.{lone_part}
 use Rattle.tree_tests.proofs.trees.leaves.Given as goal
 

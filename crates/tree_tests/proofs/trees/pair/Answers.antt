@@ -1,9 +1,9 @@
 use Rattle.std.proofs.Common.{◌≡◌, List, [], ◌∷◌, ◌++◌, length, map, ap, ◌∙◌}
 use Rattle.std.specs.List.{flat_map}
 use Rattle.std.proofs.lemmas.List.{append-nil}
-use Rattle.cactus_tree.specs.Entered.{entered}
-use Rattle.cactus_tree.specs.Widths.{widths}
-use Rattle.cactus_tree.specs.Sides.{part}
+use Rattle.rooted_cactus.specs.Entered.{entered}
+use Rattle.rooted_cactus.specs.Widths.{widths}
+use Rattle.rooted_cactus.specs.Sides.{part}
 use Rattle.tree_tests.proofs.trees.pair.Goals as goal
 
 -- a list that had two elements appended

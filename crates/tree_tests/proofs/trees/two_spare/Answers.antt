@@ -1,6 +1,6 @@
 use Rattle.std.proofs.Common.{[], ◌∷◌, map, refl}
-use Rattle.cactus_tree.specs.Sides.{bridge_of, cycle_of, with_below}
-use Rattle.cactus_tree.proofs.Built.{is_cactus}
+use Rattle.rooted_cactus.specs.Sides.{bridge_of, cycle_of, with_below}
+use Rattle.rooted_cactus.proofs.Built.{is_cactus}
 use Rattle.tree_tests.specs.Leaves.{leaf_part, lone_part}
 use Rattle.tree_tests.proofs.Shown.{none_empty}
 use Rattle.tree_tests.proofs.trees.two_spare.Goals as goal

@@ -1,11 +1,11 @@
 use Rattle.std.proofs.Common.{◌++◌, ◌∙◌, ap, refl}
-use Rattle.cactus_tree.specs.Entered.{entered}
-use Rattle.cactus_tree.specs.Widths.{widths}
-use Rattle.cactus_tree.proofs.Orders.{hung_entered, entered_bridge}
-use Rattle.cactus_tree.proofs.Widths.{widths_bridge}
-use Rattle.cactus_tree.proofs.Built.{hung_widths}
-use Rattle.cactus_tree.specs.Sides.{part, bridge_of, with_below}
-use Rattle.cactus_tree.proofs.Parts.{hung_part, bridge_part}
+use Rattle.rooted_cactus.specs.Entered.{entered}
+use Rattle.rooted_cactus.specs.Widths.{widths}
+use Rattle.rooted_cactus.proofs.Orders.{hung_entered, entered_bridge}
+use Rattle.rooted_cactus.proofs.Widths.{widths_bridge}
+use Rattle.rooted_cactus.proofs.Built.{hung_widths}
+use Rattle.rooted_cactus.specs.Sides.{part, bridge_of, with_below}
+use Rattle.rooted_cactus.proofs.Parts.{hung_part, bridge_part}
 use Rattle.tree_tests.proofs.trees.with_bridge.Goals as goal
 
 pub returns-clause-entered : goal.returns-clause-entered

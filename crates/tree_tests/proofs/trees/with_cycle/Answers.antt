@@ -1,12 +1,12 @@
 use Rattle.std.proofs.Common.{◌++◌, ◌∷◌, [], length, ◌∙◌, ap, refl, arith, length-append}
-use Rattle.cactus_tree.specs.Entered.{entered}
-use Rattle.cactus_tree.specs.Trees.{blocks}
-use Rattle.cactus_tree.specs.Widths.{widths}
-use Rattle.cactus_tree.specs.declared.tree.Block.TheVariants.{Cycle}
-use Rattle.cactus_tree.proofs.Orders.{hung_entered, entered_cycle}
-use Rattle.cactus_tree.proofs.Built.{hung_widths, ring_widths}
-use Rattle.cactus_tree.specs.Sides.{part, with_below}
-use Rattle.cactus_tree.proofs.Parts.{hung_part, cycle_part}
+use Rattle.rooted_cactus.specs.Entered.{entered}
+use Rattle.rooted_cactus.specs.Trees.{blocks}
+use Rattle.rooted_cactus.specs.Widths.{widths}
+use Rattle.rooted_cactus.specs.declared.tree.Block.TheVariants.{Cycle}
+use Rattle.rooted_cactus.proofs.Orders.{hung_entered, entered_cycle}
+use Rattle.rooted_cactus.proofs.Built.{hung_widths, ring_widths}
+use Rattle.rooted_cactus.specs.Sides.{part, with_below}
+use Rattle.rooted_cactus.proofs.Parts.{hung_part, cycle_part}
 use Rattle.tree_tests.proofs.trees.with_cycle.Goals as goal
 
 pub returns-clause-entered : goal.returns-clause-entered

@@ -1,7 +1,7 @@
 -- The edges so far are joined; what all edges make of the labels is what the further ones make of those now.
 use Rattle.std.proofs.Common.{◌≡◌, ◌-◌, ℕ, List, length, slice_index, drop}
 use Rattle.std.specs.List.{fold}
-use Rattle.cactus_tree.specs.FlatCuts.{cycle_edges, edges_along}
+use Rattle.flat_cactus.specs.FlatCuts.{cycle_edges, edges_along}
 use Rattle.cactus_text.specs.Reading.{relabelled}
 use Rattle.cactus_text.specs.Labels.{IsLabelled}
 use Rattle.cactus_text.proofs.sets.Joined.join_along.Given as goal

@@ -1,5 +1,5 @@
 use Rattle.std.proofs.Common.{◌≡◌, ◌+◌, ◌-◌, ◌<◌}
-use Rattle.cactus_tree.specs.Borders.{border_at}
+use Rattle.rooted_cactus.specs.Borders.{border_at}
 use Rattle.canonical_cactus.specs.FirstBest.{AreLess}
 use Rattle.canonical_cactus.proofs.first_side.Ranked.end_from.Given as goal
 

@@ -1,7 +1,7 @@
 -- All ranges of the mass end side by side.
 use Rattle.std.proofs.Common.{◌≡◌, ◌≤◌, ◌∙◌, Some, inl, inr, ap, subst, sym, arith}
 use Rattle.std.specs.List.{Contains}
-use Rattle.cactus_tree.specs.Borders.{ranges_between}
+use Rattle.rooted_cactus.specs.Borders.{ranges_between}
 use Rattle.std.proofs.lemmas.Bool.{cases_eq, cases_lt}
 use Rattle.balanced_cut.specs.Ends.{IsRangeOf, range_between, range_of, span_mass}
 use Rattle.balanced_cut.proofs.Moving.{between_fits, between_is}

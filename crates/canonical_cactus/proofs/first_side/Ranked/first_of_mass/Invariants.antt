@@ -1,7 +1,7 @@
 use Rattle.std.proofs.Common.{◌≡◌, ℕ, ◌+◌, ◌-◌, ◌<◌, ◌≤◌}
 use Rattle.balanced_cut.specs.Ends.{range_between}
-use Rattle.cactus_tree.specs.Borders.{border_at}
-use Rattle.cactus_tree.specs.CutRanges.{Range}
+use Rattle.rooted_cactus.specs.Borders.{border_at}
+use Rattle.rooted_cactus.specs.CutRanges.{Range}
 use Rattle.canonical_cactus.specs.FirstBest.{IsFound, IsNotAfter}
 use Rattle.canonical_cactus.proofs.first_side.Ranked.first_of_mass.Given as goal
 

@@ -3,7 +3,7 @@ use Rattle.std.proofs.Common.{ap, arith}
 use Rattle.canonical_cactus.specs.FirstBest.{count_of}
 use Rattle.canonical_cactus.proofs.FirstBest.{last_there}
 use Rattle.canonical_cactus.proofs.first_side.Ranked.last_of.Goals as goal
-use Rattle.cactus_tree.proofs.Stepping.{border_is}
+use Rattle.cactus_walk.proofs.Stepping.{border_is}
 
 pub overflow_add-result : goal.overflow_add-result
 overflow_add-result c =

@@ -2,9 +2,9 @@ use Rattle.std.proofs.Common.{◌≡◌, ◌++◌, refl, sym, ◌∙◌, ap, sub
 use Rattle.std.specs.List.{All, filter}
 use Rattle.std.proofs.lemmas.List.Elements.{All-nil, All-head, All-tail}
 use Rattle.cut_definitions.specs.Cuts.{IsAscendingWithin}
-use Rattle.cactus_tree.specs.Rooted.{sides_of}
+use Rattle.rooted_cactus.specs.Rooted.{sides_of}
 use Rattle.vertex_set.specs.Side.{VertexList}
-use Rattle.cactus_tree.specs.Different.{AreDifferent}
+use Rattle.rooted_cactus.specs.Different.{AreDifferent}
 use Rattle.cut_listing.specs.Asks.{lets}
 use Rattle.cut_listing.specs.Listings.{different, members_of}
 use Rattle.cut_listing.proofs.Passes.{asked_differ, gathered, given_ascend, given_asked}

@@ -1,7 +1,7 @@
 use Rattle.std.proofs.Common.{◌≡◌, ◌++◌, length}
 use Rattle.std.specs.List.{All, filter}
 use Rattle.cut_definitions.specs.Cuts.{IsAscendingWithin}
-use Rattle.cactus_tree.specs.Different.{AreDifferent}
+use Rattle.rooted_cactus.specs.Different.{AreDifferent}
 use Rattle.cut_listing.specs.Asks.{lets}
 use Rattle.cut_listing.specs.Listings.{asked_sides, different, members_of}
 use Rattle.cut_listing.proofs.lister.Lister.walked_sides.Given as goal

@@ -1,5 +1,0 @@
-use Rattle.std.proofs.Common.{rules}
-use Rattle.cactus_tree.proofs.tree.number.own_cuts.Goals as goal
-
-pub returns-then-is_between : goal.returns-then-is_between
-returns-then-is_between c = search rules

@@ -1,9 +1,0 @@
-use Rattle.std.proofs.Common.{◌≡◌, ℕ, ◌+◌, [], length}
-use Rattle.cactus_tree.specs.Spread.{group_at}
-use Rattle.cactus_tree.proofs.tree.spread.no_groups.Given as goal
-
-abbrev pub invariant-groups : goal.invariant-groups
-invariant-groups l = record {
-  len : length l.groups.items ≡ l._class + 1;
-  empty : (c : ℕ) → group_at l.groups.items c ≡ [];
-}

@@ -1,0 +1,11 @@
+pub mod Bordered
+pub mod PlaceLaws
+pub mod Chained
+pub mod Stepping
+pub mod Kept
+pub mod Marked
+pub mod Counted
+pub mod Pigeons
+pub mod Placed
+pub mod RangeMasses
+pub mod Chains

@@ -1,0 +1,4 @@
+pub mod Walks
+pub mod Repeats
+pub mod Walking
+pub mod RangeMasses

@@ -1,0 +1,24 @@
+-- What is known of the borders of a tree, and what a walk keeps of its place among them.
+use Rattle.std.specs.Prelude.{ℕ, ◌+◌, ◌≡◌, ◌≤◌, ◌<◌, ⊤, Bool, List, [], ◌∷◌, map, drop, length}
+use Rattle.rooted_cactus.specs.Borders.{border_at}
+use Rattle.cactus_walk.specs.Repeats.{ranges_left}
+use Rattle.rooted_cactus.specs.Places.{side_at}
+use Rattle.rooted_cactus.specs.declared.tree.border.Border.{Border}
+
+-- the borders stand at places of a list so long, and those that follow each in its block follow it
+abbrev pub AreBorders : ℕ → List Border → Type 0
+AreBorders long [] = ⊤
+AreBorders long (b ∷ bs) = (b.place ≤ long) × (b.following ≤ length bs) × AreBorders long bs
+
+-- each border but the last of its block is followed by the next one of the block, which stands at no lesser place
+abbrev pub AreChained : List Border → Type 0
+AreChained [] = ⊤
+AreChained (b ∷ bs) = (0 < b.following → (b.place ≤ (border_at bs 0).place) × (b.following ≡ (border_at bs 0).following + 1)) × AreChained bs
+
+-- the sides from a border on, without those of its cuts that end at the first borders behind it, which were passed
+abbrev pub sides_left : ℕ → List ℕ → List Border → List Bool → ℕ → ℕ → List (List ℕ)
+sides_left n order borders repeats first passed = map (side_at n order) (ranges_left (drop first borders) (drop first repeats) passed)
+
+-- a cut that begins at the border is still to be given
+abbrev pub IsStart : List Border → ℕ → ℕ → Type 0
+IsStart borders first passed = first < length borders → passed < (border_at borders first).following

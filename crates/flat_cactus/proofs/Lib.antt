@@ -1,0 +1,11 @@
+pub mod Closing
+pub mod Pieces
+pub mod Hanging
+pub mod Rounds
+pub mod JoinsOut
+pub mod TreePieces
+pub mod FlatSides
+pub mod FlatShapes
+pub mod Flats
+pub mod Tasked
+pub mod Members

@@ -1,0 +1,10 @@
+use Rattle.std.proofs.Common.{◌∙◌, ◌≡◌, ap, sym, length, rules}
+use Rattle.flat_cactus.specs.Flat.{Flat}
+use Rattle.flat_cactus.proofs.Flats.{cut_length}
+use Rattle.flat_cactus.proofs.flat.FlatCactus.nodes.Goals as goal
+
+pub returns : goal.returns
+returns c =
+    let starts = c.self.inside.node_starts.items in
+    let e : c.len.result ≡ length starts = search rules in
+    e ∙ sym (cut_length starts c.self.inside.vertices.items) ∙ ap (λ (f : Flat). length f.nodes) c.self.view_is

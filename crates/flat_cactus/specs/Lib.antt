@@ -1,0 +1,5 @@
+pub mod Flat
+pub mod FlatCuts
+pub mod Flattened
+pub mod FlatLaws
+pub mod Tasks

@@ -1,0 +1,99 @@
+-- Whether a tree is normal, node by node.
+use Rattle.std.proofs.Common.{◌≡◌, ℕ, ◌+◌, inl, inr, Bool, true, false, ◌&&◌, ◌∷◌, List, [], ◌++◌, Some, length, take, get_or, ap, ◌∙◌, sym, refl}
+use Rattle.std.specs.Prelude.{nat_le, slice_get, cond}
+use Rattle.std.specs.List.{filter, list_all, flat_map}
+use Rattle.std.proofs.lemmas.List.Folds.{list_all_more, list_all_at, list_all-append}
+use Rattle.std.proofs.lemmas.Option.{get_or_from_slice_get, slice_get_within}
+use Rattle.std.specs.declared.boxed.Box.{Box}
+use Rattle.std.specs.declared.alloc.Global.{Global}
+use Rattle.std.proofs.Math.Bool.{and-false, and-true, and_assoc}
+use Rattle.cut_definitions.proofs.Bools.{four_and}
+use Rattle.rooted_cactus.specs.Normal.{shape, block_shape, child_fine}
+use Rattle.rooted_cactus.specs.Placed.{is_placed, is_set, placed_step}
+use Rattle.rooted_cactus.specs.Trees.{blocks, nodes_in}
+use Rattle.rooted_cactus.specs.Entries.{nodes_of}
+use Rattle.rooted_cactus.specs.declared.tree.Node.{Node}
+use Rattle.rooted_cactus.specs.declared.tree.Block.{Block}
+use Rattle.rooted_cactus.specs.declared.tree.Children.{Children}
+use Rattle.rooted_cactus.specs.declared.tree.Block.TheVariants.{Bridge, Cycle, outs-Bridge, outs-Cycle}
+use Rattle.rooted_cactus.proofs.Entries.{nodes_bridge, nodes_cycle}
+use Rattle.rooted_cactus.proofs.Shapes.{bridge_shape, cycle_fine, node_fine, child_parts, length_shapes}
+use Rattle.rooted_cactus.specs.Numbers.{is_inner}
+use Rattle.rooted_cactus.proofs.Tallies.{no_blocks}
+use Rattle.rooted_cactus.proofs.Views.{view}
+
+-- all below a node is as it must be
+abbrev pub is_fine : Node → Bool
+is_fine x = (shape x).fine
+
+abbrev pub all_fine : List Node → Bool
+all_fine = list_all is_fine
+
+pub child_is : (above : Bool) (x : Node) → child_fine above (shape x) ≡ (is_set above x && is_fine x)
+child_is above x = child_parts above x ∙ ap (λ b. is_set above x && b) (sym (node_fine x))
+
+children_are : (xs : List Node) → list_all (λ x. child_fine true (shape x)) xs ≡ (list_all (is_set true) xs && all_fine xs)
+children_are [] = refl
+children_are (x ∷ xs) =
+    ap (λ b. b && list_all (λ y. child_fine true (shape y)) xs) (child_is true x) ∙ ap (λ b. (is_set true x && is_fine x) && b) (children_are xs)
+    ∙ four_and (is_set true x) (is_fine x) (list_all (is_set true) xs) (all_fine xs)
+
+pub placed_bridge : (child : Box Node Global) → is_placed (Bridge child) ≡ is_set false child.value
+placed_bridge child = ap placed_step (outs-Bridge child)
+
+pub placed_cycle : (nodes : Children) → is_placed (Cycle nodes) ≡ (nat_le 2 (length (nodes_in nodes)) && list_all (is_set true) (nodes_in nodes))
+placed_cycle nodes = ap placed_step (outs-Cycle nodes)
+
+block_fine : (b : Block) → (block_shape b).fine ≡ (is_placed b && all_fine (nodes_of b))
+block_fine b = elim (view b) [
+  | inl h ↦ (
+      let x = h.0.value in
+      ap (λ c. (block_shape c).fine) h.1 ∙ ap (λ s. s.fine) (bridge_shape h.0) ∙ child_is false x
+      ∙ ap (λ k. is_set false x && k) (sym (and-true (is_fine x)))
+      ∙ sym (ap (λ c. is_placed c && all_fine (nodes_of c)) h.1 ∙ ap (λ k. k && all_fine (nodes_of (Bridge h.0))) (placed_bridge h.0) ∙ ap (λ l. is_set false x && all_fine l) (nodes_bridge h.0)))
+  | inr h ↦ (
+      let xs = nodes_in h.0 in
+      ap (λ c. (block_shape c).fine) h.1 ∙ cycle_fine h.0 ∙ ap (λ k. nat_le 2 k && list_all (λ x. child_fine true (shape x)) xs) (length_shapes xs) ∙ ap (λ k. nat_le 2 (length xs) && k) (children_are xs)
+      ∙ sym (and_assoc (nat_le 2 (length xs)) (list_all (is_set true) xs) (all_fine xs))
+      ∙ sym (ap (λ c. is_placed c && all_fine (nodes_of c)) h.1 ∙ ap (λ k. k && all_fine (nodes_of (Cycle h.0))) (placed_cycle h.0) ∙ ap (λ l. (nat_le 2 (length xs) && list_all (is_set true) xs) && all_fine l) (nodes_cycle h.0)))
+]
+
+blocks_fine : (bs : List Block) → list_all (λ b. (block_shape b).fine) bs ≡ (list_all is_placed bs && all_fine (flat_map nodes_of bs))
+blocks_fine [] = refl
+blocks_fine (b ∷ bs) =
+    ap (λ k. k && list_all (λ c. (block_shape c).fine) bs) (block_fine b) ∙ ap (λ k. (is_placed b && all_fine (nodes_of b)) && k) (blocks_fine bs)
+    ∙ four_and (is_placed b) (all_fine (nodes_of b)) (list_all is_placed bs) (all_fine (flat_map nodes_of bs))
+    ∙ ap (λ k. (is_placed b && list_all is_placed bs) && k) (sym (list_all-append is_fine (nodes_of b) (flat_map nodes_of bs)))
+
+fine_step : (x : Node) → is_fine x ≡ (list_all is_placed (blocks x) && all_fine (flat_map nodes_of (blocks x)))
+fine_step x = node_fine x ∙ blocks_fine (blocks x)
+
+-- nodes with no block below them need not be looked at
+inner_fine : (xs : List Node) → all_fine (filter is_inner xs) ≡ all_fine xs
+inner_fine [] = refl
+inner_fine (x ∷ xs) = first (inner_fine xs) (is_inner x) refl where
+  first : all_fine (filter is_inner xs) ≡ all_fine xs → (t : Bool) → is_inner x ≡ t → all_fine (cond t (x ∷ filter is_inner xs) (filter is_inner xs)) ≡ (is_fine x && all_fine xs)
+  first rest true h = ap (λ k. is_fine x && k) rest
+  first rest false h = rest ∙ sym (ap (λ k. k && all_fine xs) (fine_step x ∙ ap (λ bs. list_all is_placed bs && all_fine (flat_map nodes_of bs)) (no_blocks x h)))
+
+-- a node whose blocks are as they must be gives way to those below it
+pub taken_fine : (left before after : List Node) (x : Node) → before ≡ left ++ x ∷ [] → after ≡ left ++ filter is_inner (flat_map nodes_of (blocks x)) → list_all is_placed (blocks x) ≡ true → all_fine before ≡ all_fine after
+taken_fine left before after x b a h =
+    ap all_fine b ∙ list_all-append is_fine left (x ∷ []) ∙ ap (λ k. all_fine left && k) (and-true (is_fine x) ∙ fine_step x ∙ ap (λ k. k && all_fine (flat_map nodes_of (blocks x))) h)
+    ∙ sym (ap all_fine a ∙ list_all-append is_fine left (filter is_inner (flat_map nodes_of (blocks x))) ∙ ap (λ k. all_fine left && k) (inner_fine (flat_map nodes_of (blocks x))))
+
+-- and one whose blocks are not shows that all is not
+pub not_fine : (left before : List Node) (x : Node) → before ≡ left ++ x ∷ [] → list_all is_placed (blocks x) ≡ false → all_fine before ≡ false
+not_fine left before x b h =
+    ap all_fine b ∙ list_all-append is_fine left (x ∷ []) ∙ ap (λ k. all_fine left && k) (and-true (is_fine x) ∙ fine_step x ∙ ap (λ k. k && all_fine (flat_map nodes_of (blocks x))) h) ∙ and-false (all_fine left)
+
+pub begun_fine : (x : Node) → all_fine (x ∷ []) ≡ list_all (λ b. (block_shape b).fine) (blocks x)
+begun_fine x = and-true (is_fine x) ∙ node_fine x
+
+-- ---- lists that are gone through
+pub one_more : {X : Type 0} (p : X → Bool) (xs : List X) (i : ℕ) (x : X) → slice_get xs i ≡ Some x → p x ≡ true → list_all p (take i xs) ≡ true → list_all p (take (i + 1) xs) ≡ true
+one_more p xs i x at is before =
+    list_all_more p xs i x (slice_get_within xs i x at) ∙ ap (λ b. b && p (get_or xs i x)) before ∙ ap p (get_or_from_slice_get xs i x x at) ∙ is
+
+pub one_not : {X : Type 0} (p : X → Bool) (xs : List X) (i : ℕ) (x : X) → slice_get xs i ≡ Some x → p x ≡ false → list_all p xs ≡ false
+one_not p xs i x at is = list_all_at p xs i x (slice_get_within xs i x at) (ap p (get_or_from_slice_get xs i x x at) ∙ is)

@@ -1,0 +1,19 @@
+use Rattle.std.proofs.Common.{◌∙◌, ap, sym, drop}
+use Rattle.cut_definitions.proofs.ListLaws.{popped_is}
+use Rattle.rooted_cactus.specs.Entries.{top_first}
+use Rattle.rooted_cactus.proofs.Entries.{drawn_bridge, top_push}
+use Rattle.rooted_cactus.proofs.tree.entries.draw_bridge.Goals as goal
+
+pub returns-clause-block : goal.returns-clause-block
+returns-clause-block c = λ sets.
+    let node = c.unwrap-node.result in
+    let left = c.pop.new.self.items in
+    let popped = popped_is c.args.stack.now.items left c.pop.result node c.pop.ensures.items c.unwrap-node.ensures in
+    drawn_bridge sets c.in_ok-child.child node (top_first left) (top_first c.args.stack.now.items) (ap top_first popped ∙ top_push left node) c.in_ok-child.ensures.ok
+
+pub returns-clause-stack : goal.returns-clause-stack
+returns-clause-stack c =
+    let node = c.unwrap-node.result in
+    let left = c.pop.new.self.items in
+    let popped = popped_is c.args.stack.now.items left c.pop.result node c.pop.ensures.items c.unwrap-node.ensures in
+    sym (ap (drop 1) (ap top_first popped ∙ top_push left node))

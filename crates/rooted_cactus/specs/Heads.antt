@@ -1,0 +1,10 @@
+-- Nodes on a stack, with the heads that their entries get.
+use Rattle.std.specs.Prelude.{List, [], ◌∷◌, ◌++◌}
+use Rattle.rooted_cactus.specs.declared.tree.outline.NodeOutline.{NodeOutline}
+use Rattle.rooted_cactus.specs.declared.tree.outline.Seen.{Seen}
+use Rattle.rooted_cactus.specs.Outlines.{outline, entries_with}
+
+-- the entries of the nodes on a stack and of all below them, the last on the stack first
+abbrev pub entries_waiting : List Seen → List NodeOutline
+entries_waiting [] = []
+entries_waiting (s ∷ ss) = entries_waiting ss ++ entries_with s.head (outline s.node.now)

@@ -1,0 +1,22 @@
+//! The rooted cactus: its tree, the lists that it is built from, its sides, its normal form and the number of its sides.
+//!
+//! A `Cactus` over n vertices is a tree whose nodes hold the vertices 1 to n, each vertex in exactly one node and vertex
+//! 1 in the root, joined by bridges and cycles. Contracts see it as n and its root, and read the tree by a few words:
+//! `entered`, `cuts`, `sides_of`, `widths`. `cactus_tree` says what these are, and gives this crate together with
+//! `cactus_walk` and `flat_cactus`, which stand on it side by side.
+//!
+//! For these two it also lists the vertices with the place at which each node begins, `in_order`, and tells of each node,
+//! in the same order, how many nodes are right below it and in its block, `outline_of`, and from it down, `sizes_along`.
+#![tactic(auto)]
+
+mod cactus;
+pub mod laws;
+mod tree;
+mod vertex_list;
+
+pub use cactus::Cactus;
+pub use tree::{
+    Block, Blocks, Border, Children, InOrder, Node, NodeOutline, in_order, outline_of, rename_node,
+    sizes_along, stack_inner, subtree_sizes, vertices_by_class, vertices_in_order,
+};
+pub use vertex_list::VertexList;

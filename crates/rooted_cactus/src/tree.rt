@@ -1,0 +1,223 @@
+//! The tree of a cactus: nodes, and the bridges and cycles that join them.
+
+ghost use Rattle.std.specs.Prelude.{List, ◌≡◌, ℕ, [], ◌∷◌, ◌++◌, ◌<◌, length, option_to_list, IsSome, ◌↔◌, OnOk, OnErr, IfOk, map, slice_get, take, drop, ◌≤◌};
+ghost use Rattle.rooted_cactus.specs.Trees.{blocks_in, nodes_in};
+
+use crate::vertex_list::VertexList;
+use cut_definitions::NoMemory;
+use std::alloc::Global;
+
+mod border;
+mod count;
+mod entries;
+mod normal;
+mod number;
+mod order;
+mod outline;
+mod rename;
+mod spread;
+mod trim;
+
+pub use border::Border;
+pub use count::count_node;
+pub use normal::{blocks_are_normal, is_normal_below};
+pub use number::{count_cuts, number_of, stack_inner};
+pub use order::{InOrder, in_order, vertices_in_order};
+pub use outline::{NodeOutline, outline_of, sizes_along, subtree_sizes};
+pub use rename::rename_node;
+pub use spread::{spread_node, vertices_by_class};
+pub use trim::{entries_of, put_trimmed};
+
+/// A node: its vertices, and the blocks below it.
+#[cycle(tree)]
+#[derive(Drop)]
+pub struct Node {
+    pub vertices: VertexList,
+    pub blocks: Blocks,
+}
+
+/// A bridge to one node, or a cycle through two or more nodes and the node above.
+#[cycle(tree)]
+#[derive(Drop)]
+pub enum Block {
+    Bridge(Box<Node>),
+    Cycle(Children),
+}
+
+/// The blocks below a node, in order.
+#[cycle(tree)]
+pub struct Blocks {
+    items: Vec<Block>,
+}
+
+/// The nodes of a cycle below its upper node, in order.
+#[cycle(tree)]
+#[derive(Drop)]
+pub struct Children {
+    items: Vec<Node>,
+}
+
+impl Drop for Blocks {
+    /// Takes the tree apart in a loop, so that a deep one does not run out of stack.
+    #[cycle(drop)]
+    fn drop(self) {
+        let Blocks { mut items } = self;
+        while let Some(block) = items.pop() {
+            match block {
+                Block::Bridge(node) => {
+                    let mut node = Box::into_inner(node);
+                    let _moved = items.append(&mut node.blocks.items);
+                }
+                Block::Cycle(mut nodes) => {
+                    while let Some(mut node) = nodes.items.pop() {
+                        let _moved = items.append(&mut node.blocks.items);
+                    }
+                }
+            }
+        }
+    }
+}
+
+impl Blocks {
+    /// The empty list. It takes no memory.
+    pub fn new(alloc: Global) -> Blocks
+        ensures { blocks_in result ≡ [] }
+    {
+        Blocks {
+            items: Vec::new(alloc),
+        }
+    }
+
+    /// The empty list with room for so many blocks. For none it takes no memory.
+    pub fn with_capacity(alloc: Global, count: usize) -> Result<Blocks, NoMemory>
+        ensures { IfOk result (λ b. blocks_in b ≡ []) }
+    {
+        let items = Vec::with_capacity(alloc, count)?;
+        Ok(Blocks { items })
+    }
+
+    /// Appends a block. Where memory is wanting the list stays as it was, and the block is dropped.
+    pub fn push(&mut self, item: Block) -> Result<(), NoMemory>
+        ensures ok { OnOk result (blocks_in self.new ≡ blocks_in self.old ++ item ∷ []) }
+        ensures err { OnErr result (blocks_in self.new ≡ blocks_in self.old) }
+    {
+        self.items.push(item)?;
+        Ok(())
+    }
+
+    /// Takes the last block out; none exactly where the list is empty.
+    pub fn pop(&mut self) -> Option<Block>
+        ensures items { blocks_in self.old ≡ blocks_in self.new ++ option_to_list result }
+        ensures some { IsSome result ↔ (0 < length (blocks_in self.old)) }
+    {
+        self.items.pop()
+    }
+
+    /// Takes the blocks from the place `at` on out of the list, in order, and gives them as a list of their own. It takes
+    /// memory for that list; where it is wanting the list stays as it was.
+    pub fn split_off(&mut self, at: usize) -> Result<Blocks, NoMemory>
+        requires { at ≤ length (blocks_in self.old) }
+        ensures front { OnOk result (blocks_in self.new ≡ take at (blocks_in self.old)) }
+        ensures back { IfOk result (λ b. blocks_in b ≡ drop at (blocks_in self.old)) }
+        ensures err { OnErr result (blocks_in self.new ≡ blocks_in self.old) }
+    {
+        let behind = self.items.split_off(at)?;
+        Ok(Blocks { items: behind })
+    }
+
+    /// The number of blocks.
+    pub fn len(&self) -> usize
+        ensures { result ≡ length (blocks_in self.now) }
+    {
+        self.items.len()
+    }
+
+    /// The block at a place, counted from 0.
+    pub fn at(&self, i: usize) -> &Block
+        requires { i < length (blocks_in self.now) }
+        ensures { slice_get (blocks_in self.now) i ≡ Some result.now }
+    {
+        &self.items[i]
+    }
+}
+
+impl Children {
+    /// The empty list. It takes no memory.
+    pub fn new(alloc: Global) -> Children
+        ensures { nodes_in result ≡ [] }
+    {
+        Children {
+            items: Vec::new(alloc),
+        }
+    }
+
+    /// The empty list with room for so many nodes. For none it takes no memory.
+    pub fn with_capacity(alloc: Global, count: usize) -> Result<Children, NoMemory>
+        ensures { IfOk result (λ c. nodes_in c ≡ []) }
+    {
+        let items = Vec::with_capacity(alloc, count)?;
+        Ok(Children { items })
+    }
+
+    /// Appends a node. Where memory is wanting the list stays as it was, and the node is dropped.
+    pub fn push(&mut self, item: Node) -> Result<(), NoMemory>
+        ensures ok { OnOk result (nodes_in self.new ≡ nodes_in self.old ++ item ∷ []) }
+        ensures err { OnErr result (nodes_in self.new ≡ nodes_in self.old) }
+    {
+        self.items.push(item)?;
+        Ok(())
+    }
+
+    /// Appends the nodes of another list, in order. Where memory is wanting the list stays as it was, and the others are
+    /// dropped.
+    pub fn append(&mut self, more: Children) -> Result<(), NoMemory>
+        ensures ok { OnOk result (nodes_in self.new ≡ nodes_in self.old ++ nodes_in more) }
+        ensures err { OnErr result (nodes_in self.new ≡ nodes_in self.old) }
+    {
+        let Children { mut items } = more;
+        self.items.append(&mut items)?;
+        Ok(())
+    }
+
+    /// Takes the last node out; none exactly where the list is empty.
+    pub fn pop(&mut self) -> Option<Node>
+        ensures items { nodes_in self.old ≡ nodes_in self.new ++ option_to_list result }
+        ensures some { IsSome result ↔ (0 < length (nodes_in self.old)) }
+    {
+        self.items.pop()
+    }
+
+    /// Takes the nodes from the place `at` on out of the list, in order, and gives them as a list of their own. It takes
+    /// memory for that list; where it is wanting the list stays as it was.
+    pub fn split_off(&mut self, at: usize) -> Result<Children, NoMemory>
+        requires { at ≤ length (nodes_in self.old) }
+        ensures front { OnOk result (nodes_in self.new ≡ take at (nodes_in self.old)) }
+        ensures back { IfOk result (λ c. nodes_in c ≡ drop at (nodes_in self.old)) }
+        ensures err { OnErr result (nodes_in self.new ≡ nodes_in self.old) }
+    {
+        let items = self.items.split_off(at)?;
+        Ok(Children { items })
+    }
+
+    /// The number of nodes.
+    pub fn len(&self) -> usize
+        ensures { result ≡ length (nodes_in self.now) }
+    {
+        self.items.len()
+    }
+
+    /// All nodes, lent without a copy.
+    pub fn as_slice(&self) -> &[Node]
+        ensures { result.now ≡ nodes_in self.now }
+    {
+        &self.items
+    }
+
+    /// The node at a place, counted from 0.
+    pub fn at(&self, i: usize) -> &Node
+        requires { i < length (nodes_in self.now) }
+        ensures { slice_get (nodes_in self.now) i ≡ Some result.now }
+    {
+        &self.items[i]
+    }
+}

@@ -1,0 +1,127 @@
+//! Whether a tree is normal: no node and no block of it can be spared.
+
+ghost use Rattle.std.specs.Prelude.{◌≡◌, ◌==◌, ◌∷◌, length, map, true, IfOk};
+ghost use Rattle.std.specs.List.{list_all};
+ghost use Rattle.rooted_cactus.specs.Trees.{blocks, blocks_in, nodes_in, vertices};
+ghost use Rattle.rooted_cactus.specs.Normal.{BlockShape, shape, block_shape, child_fine, well_placed};
+ghost use Rattle.rooted_cactus.specs.Placed.{is_placed, is_set};
+
+use super::number::stack_inner;
+use super::{Block, Blocks, Children, Node};
+use cut_definitions::NoMemory;
+use std::alloc::Global;
+
+/// Whether a node below a block lies in blocks enough, where it has no vertex.
+fn is_well_placed(node: &Node, above_is_cycle: bool) -> bool
+    ensures { result ≡ well_placed (length (vertices node.now) == 0) (above_is_cycle ∷ map (λ b. (block_shape b).is_cycle) (blocks node.now)) }
+{
+    if node.vertices.len() > 0 {
+        return true;
+    }
+    match node.blocks.items.len() {
+        0 => false,
+        1 => above_is_cycle && is_cycle(&node.blocks.items[0]),
+        _ => true,
+    }
+}
+
+/// Whether a block is a cycle.
+pub fn is_cycle(block: &Block) -> bool
+    ensures { result ≡ (block_shape block.now).is_cycle }
+{
+    match block {
+        Block::Bridge(_) => false,
+        Block::Cycle(_) => true,
+    }
+}
+
+#[cycle(normal)]
+fn child_is_normal(node: &Node, above_is_cycle: bool) -> bool
+    ensures { result ≡ child_fine above_is_cycle (shape node.now) }
+{
+    is_well_placed(node, above_is_cycle) && blocks_are_normal(&node.blocks)
+}
+
+/// Whether all below the upper node of some blocks is normal.
+#[cycle(normal)]
+pub fn blocks_are_normal(blocks: &Blocks) -> bool
+    ensures { result ≡ list_all (λ b. (block_shape b).fine) (blocks_in blocks.now) }
+{
+    'each_block: for i in 0..blocks.items.len() {
+        if !block_is_normal(&blocks.items[i]) {
+            return false;
+        }
+    }
+    true
+}
+
+#[cycle(normal)]
+fn block_is_normal(block: &Block) -> bool
+    ensures { result ≡ (block_shape block.now).fine }
+{
+    match block {
+        Block::Bridge(node) => child_is_normal(node, false),
+        Block::Cycle(nodes) => nodes.len() >= 2 && children_are_normal(nodes),
+    }
+}
+
+#[cycle(normal)]
+fn children_are_normal(nodes: &Children) -> bool
+    ensures { result ≡ list_all (λ x. child_fine true (shape x)) (nodes_in nodes.now) }
+{
+    'each_node: for i in 0..nodes.items.len() {
+        if !child_is_normal(&nodes.items[i], true) {
+            return false;
+        }
+    }
+    true
+}
+
+/// Whether the nodes of a cycle below its upper node are well placed.
+fn nodes_are_placed(nodes: &Children) -> bool
+    ensures { result ≡ list_all (is_set true) (nodes_in nodes.now) }
+{
+    'each_node: for i in 0..nodes.len() {
+        if !is_well_placed(nodes.at(i), true) {
+            return false;
+        }
+    }
+    true
+}
+
+/// Whether the nodes of a block below its upper node are well placed, and enough of them where it is a cycle.
+fn block_is_placed(block: &Block) -> bool
+    ensures { result ≡ is_placed block.now }
+{
+    match block {
+        Block::Bridge(node) => is_well_placed(node, false),
+        Block::Cycle(nodes) => nodes.len() >= 2 && nodes_are_placed(nodes),
+    }
+}
+
+/// Whether this holds of all blocks.
+fn blocks_are_placed(blocks: &Blocks) -> bool
+    ensures { result ≡ list_all is_placed (blocks_in blocks.now) }
+{
+    'each_block: for i in 0..blocks.len() {
+        if !block_is_placed(blocks.at(i)) {
+            return false;
+        }
+    }
+    true
+}
+
+/// Whether all below a node is normal, as by `blocks_are_normal`, by a loop with a stack.
+pub fn is_normal_below(alloc: Global, root: &Node) -> Result<bool, NoMemory>
+    ensures { IfOk result (λ b. b ≡ list_all (λ b. (block_shape b).fine) (blocks root.now)) }
+{
+    let mut stack = Vec::new(alloc);
+    stack.push(root)?;
+    'walk: while let Some(node) = stack.pop() {
+        if !blocks_are_placed(&node.blocks) {
+            return Ok(false);
+        }
+        stack_inner(&mut stack, &node.blocks)?;
+    }
+    Ok(true)
+}
