@@ -10,10 +10,10 @@ use Rattle.metis_reader.specs.declared.fault.ReadRefusal.TheVariants.{Fault, NoM
 use Rattle.metis_reader.specs.File.{graph_of, fixed}
 use Rattle.metis_reader.specs.Fed.{HeaderEndsIn}
 use Rattle.outside.specs.Faults.{Rose}
-use Rattle.mincut_program.specs.declared.stop.Stop.{Stop}
-use Rattle.mincut_program.specs.declared.stop.Stop.TheVariants.{ReadFailed}
-use Rattle.mincut_program.specs.Stops.{stop_of}
-use Rattle.mincut_program.specs.Words.{ReadsGraph}
+use Rattle.stop_lines.specs.declared.stop.Stop.{Stop}
+use Rattle.stop_lines.specs.declared.stop.Stop.TheVariants.{ReadFailed}
+use Rattle.stop_lines.specs.Stops.{stop_of}
+use Rattle.program_words.specs.Words.{ReadsGraph}
 use Rattle.mincut_program.specs.Intake.{IsRead, IsOneRead, IsCause}
 
 pub read_none : (left : Option (List ℕ)) → IsRead left left []

@@ -23,11 +23,11 @@ use Rattle.cut_definitions.specs.Members.{SameMembers}
 use Rattle.cactus_text.specs.Text.{cactus_text, line}
 use Rattle.mincut_program.specs.Jobs.{AsksCuts, StandsFor, IsCactusOf, IsCactusText, IsBalancedText, IsTextFor, IsListed, IsListWithin, IsInRange, IsAnswerOf, IsStopFor, IsWithin, KeepsLimit, asked_cuts}
 use Rattle.mincut_program.specs.Solving.{IsSolved, IsListReply, IsListStop, cuts_for}
-use Rattle.mincut_program.specs.Listings.{listing_text, count_text, balanced_text}
+use Rattle.answer_pages.specs.Listings.{listing_text, count_text, balanced_text}
 use Rattle.mincut_program.specs.Trials.{ones, trial_text, IsFactsText}
 use Rattle.graph_maker.specs.Made.{made_graph}
-use Rattle.mincut_program.specs.declared.stop.Stop.{Stop}
-use Rattle.mincut_program.specs.declared.stop.Stop.TheVariants as stop
+use Rattle.stop_lines.specs.declared.stop.Stop.{Stop}
+use Rattle.stop_lines.specs.declared.stop.Stop.TheVariants as stop
 use Rattle.cut_definitions.specs.Balance.{balance, IsBest}
 use Rattle.vertex_set.specs.Side.{VertexList}
 use Rattle.cactus_solver.specs.declared.solver.Solved.{Solved}
@@ -40,9 +40,9 @@ use Rattle.cut_listing.specs.declared.ask.Ask.{Ask}
 use Rattle.cut_listing.specs.declared.ask.Ask.TheVariants as ask
 use Rattle.std.specs.List.{Contains, filter}
 use Rattle.cut_definitions.proofs.ListLaws.{some_long}
-use Rattle.mincut_program.specs.declared.command.Command.{Command}
-use Rattle.mincut_program.specs.declared.command.Job.{Job}
-use Rattle.mincut_program.specs.declared.command.Job.TheVariants.{Value, Cactus, Cuts, Part, Count, Balanced, Augment, Grow, Trial}
+use Rattle.program_words.specs.declared.command.Command.{Command}
+use Rattle.program_words.specs.declared.command.Job.{Job}
+use Rattle.program_words.specs.declared.command.Job.TheVariants.{Value, Cactus, Cuts, Part, Count, Balanced, Augment, Grow, Trial}
 
 -- the value of a graph that the program takes is small
 pub value_small : (g : Graph) → IsEdgeList g → 2 ≤ g.vertices → value g ≤ 2 ^ 62

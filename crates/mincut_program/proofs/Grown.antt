@@ -8,8 +8,8 @@ use Rattle.std.proofs.lemmas.List.Elements.{All-append, All-cons, All-contains, 
 use Rattle.cut_definitions.proofs.Lists.{Contains-here}
 use Rattle.cactus_tree.specs.FlatLaws.{LawOfFlatForm, LawOfFlatSides}
 use Rattle.cactus_tree.specs.Flattened.{flat_of}
-use Rattle.mincut_program.specs.Growing.{growth_text}
-use Rattle.mincut_program.specs.Texts.{disconnected_line}
+use Rattle.answer_pages.specs.Growing.{growth_text}
+use Rattle.program_words.specs.Texts.{disconnected_line}
 use Rattle.mincut_program.specs.declared.growth.Growing.{Growing}
 use Rattle.mincut_program.proofs.Graphs.{stands}
 use Rattle.cut_definitions.specs.Components.{IsConnected, HasComponents}
@@ -25,15 +25,16 @@ use Rattle.cactus_growth.specs.Laws.{KeepsSome, LawOfKeptCuts, LawOfWeights}
 use Rattle.cut_definitions.specs.Members.{SameMembers}
 use Rattle.cactus_solver.specs.declared.solver.Solved.{Solved}
 use Rattle.mincut_program.specs.Growth.{HasGrown, IsGrowing, IsGrowReply, IsGrowStop}
-use Rattle.mincut_program.specs.Insertions.{Insertion, grown, step_of, steps_of, with_insertion, IsFirstBeyond, IsInsertion, StaysWithin}
+use Rattle.program_words.specs.Insertions.{Insertion, IsInsertion}
+use Rattle.mincut_program.specs.GrownGraphs.{grown, step_of, steps_of, with_insertion, IsFirstBeyond, StaysWithin}
 use Rattle.mincut_program.specs.Jobs.{AreInRange, GoesByCactus, IsAnswerOf, IsCactusOf, IsFirstOutside, IsGrowText, IsOutsidePair, IsInRange, IsStopFor, IsTextOf, IsVertex, IsWithin, KeepsLimit, asked_cuts}
 use Rattle.mincut_program.specs.Solving.{IsSolved}
-use Rattle.mincut_program.specs.declared.command.Command.{Command}
-use Rattle.mincut_program.specs.declared.command.Job.{Job}
-use Rattle.mincut_program.specs.declared.command.Job.TheVariants.{Grow}
-use Rattle.mincut_program.specs.declared.growth_pages.Step.{Step}
-use Rattle.mincut_program.specs.declared.stop.Stop.{Stop}
-use Rattle.mincut_program.specs.declared.stop.Stop.TheVariants as stop
+use Rattle.program_words.specs.declared.command.Command.{Command}
+use Rattle.program_words.specs.declared.command.Job.{Job}
+use Rattle.program_words.specs.declared.command.Job.TheVariants.{Grow}
+use Rattle.answer_pages.specs.declared.growth_pages.Step.{Step}
+use Rattle.stop_lines.specs.declared.stop.Stop.{Stop}
+use Rattle.stop_lines.specs.declared.stop.Stop.TheVariants as stop
 
 -- ---- lists that grow at the end
 

@@ -27,7 +27,7 @@ use Rattle.edge_augment.specs.Ends.{block_leaves, end_sets, ends_of, leaves, lea
 use Rattle.edge_augment.specs.NewEdges.{new_edges}
 use Rattle.edge_augment.proofs.Leaves.{leaves_bridge, leaves_cycle, leaves_out}
 use Rattle.edge_augment.proofs.Sorted.{pair_total}
-use Rattle.mincut_program.specs.Augmenting.{augment_text}
+use Rattle.answer_pages.specs.Augmenting.{augment_text}
 use Rattle.mincut_program.specs.Jobs.{IsAugmentText, IsCactusOf}
 use Rattle.mincut_program.specs.TextLaws.{LawOfOneAugmentText}
 use Rattle.mincut_program.proofs.OneText.{same_sides}

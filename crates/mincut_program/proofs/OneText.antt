@@ -19,7 +19,7 @@ use Rattle.canonical_cactus.specs.FirstBest.{IsNoLater}
 use Rattle.canonical_cactus.specs.Laws.{over}
 use Rattle.canonical_cactus.proofs.OneTree.{one_flat}
 use Rattle.mincut_program.specs.Jobs.{IsCactusOf}
-use Rattle.mincut_program.specs.Listings.{balanced_text}
+use Rattle.answer_pages.specs.Listings.{balanced_text}
 use Rattle.mincut_program.specs.TextLaws.{LawOfOneBalancedText, LawOfOneCactusText}
 
 -- ---- the canonical cactus

@@ -15,7 +15,7 @@ use Rattle.canonical_cactus.specs.Canonical.{arranged, is_canonical}
 use Rattle.edge_augment.specs.Augmentations.{Augmentation, IsAugmentation, IsLeast, LawOfAugmentation}
 use Rattle.edge_augment.specs.Laws as ends
 use Rattle.mincut_program.specs.Jobs.{IsAugmentText, IsCactusOf, IsCutSet, IsLeastRaise, IsMinimalCutSet, IsVertex}
-use Rattle.mincut_program.specs.Augmenting.{augment_text}
+use Rattle.answer_pages.specs.Augmenting.{augment_text}
 use Rattle.cut_definitions.specs.Cuts.{value}
 use Rattle.cut_definitions.proofs.Bools.{and_first}
 use Rattle.mincut_program.proofs.Graphs.{some_block}

@@ -8,27 +8,28 @@ use Rattle.cut_definitions.specs.Components.{HasComponents}
 use Rattle.metis_reader.specs.declared.fault.Fault.{Fault}
 use Rattle.metis_reader.specs.File.{graph_of, masses_of}
 use Rattle.metis_reader.proofs.FixedFaults.{graph_of_fixed, fixed_stays}
-use Rattle.mincut_program.specs.declared.stop.Stop.{Stop}
-use Rattle.mincut_program.specs.declared.stop.Stop.TheVariants as stop
-use Rattle.mincut_program.specs.declared.status.Status.{Status}
-use Rattle.mincut_program.specs.declared.status.Status.TheVariants as status
-use Rattle.mincut_program.specs.declared.notice.Notice.{Notice}
-use Rattle.mincut_program.specs.Notices.{notice_of, text_of}
-use Rattle.mincut_program.specs.declared.command.Command.{Command}
-use Rattle.mincut_program.specs.declared.command.Job.{Job}
-use Rattle.mincut_program.specs.declared.command.Job.TheVariants.{Value, Cactus, Cuts, Part, Count, Balanced, Augment, Grow, Trial}
+use Rattle.stop_lines.specs.declared.stop.Stop.{Stop}
+use Rattle.stop_lines.specs.declared.stop.Stop.TheVariants as stop
+use Rattle.stop_lines.specs.declared.status.Status.{Status}
+use Rattle.stop_lines.specs.declared.status.Status.TheVariants as status
+use Rattle.program_words.specs.declared.notice.Notice.{Notice}
+use Rattle.program_words.specs.Notices.{notice_of, text_of}
+use Rattle.program_words.specs.declared.command.Command.{Command}
+use Rattle.program_words.specs.declared.command.Job.{Job}
+use Rattle.program_words.specs.declared.command.Job.TheVariants.{Value, Cactus, Cuts, Part, Count, Balanced, Augment, Grow, Trial}
 use Rattle.mincut_program.specs.Jobs.{IsAnswerOf, IsStopFor, IsInRange, IsVertex, IsListed, IsListWithin, IsOutside, IsWithin, KeepsLimit, asked_cuts, total_of}
-use Rattle.mincut_program.specs.Insertions.{Insertion, StaysWithin}
+use Rattle.program_words.specs.Insertions.{Insertion}
+use Rattle.mincut_program.specs.GrownGraphs.{StaysWithin}
 use Rattle.std.specs.List.{Contains}
 use Rattle.std.proofs.lemmas.List.Elements.{All-contains, Contains-append_right}
 use Rattle.cut_definitions.proofs.Lists.{Contains-here}
-use Rattle.mincut_program.specs.Words.{IsReading, ReadsGraph, command_of}
-use Rattle.mincut_program.specs.Stops.{status_of, line_of}
+use Rattle.program_words.specs.Words.{IsReading, ReadsGraph, command_of}
+use Rattle.stop_lines.specs.Stops.{status_of, line_of}
 use Rattle.mincut_program.specs.Intake.{IsRefused, IsAnswer, IsJobAnswer, IsJobReply, RepliesAs, IsStopped, IsReply, IsCause}
 use Rattle.mincut_program.specs.Answers.{over_status, Writes, Told, TellingFailed}
-use Rattle.mincut_program.proofs.NoticeWords.{notice_is_no_command}
+use Rattle.program_words.proofs.NoticeWords.{notice_is_no_command}
 use Rattle.mincut_program.proofs.Bytes.{read_all}
-use Rattle.mincut_program.proofs.Trials.{some_is, is_reading}
+use Rattle.program_words.proofs.Trials.{some_is, is_reading}
 
 -- ---- words
 

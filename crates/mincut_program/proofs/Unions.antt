@@ -14,14 +14,14 @@ use Rattle.cut_listing.specs.Asks.{lets}
 use Rattle.cut_listing.specs.declared.ask.Ask.{Ask}
 use Rattle.mincut_program.specs.Apart.{AreUnionsFew, IsApartGraph, IsCountStop, IsTableStop, IsUnionList, IsUnionStop}
 use Rattle.mincut_program.specs.Jobs.{AsksCuts, GoesByCactus, IsAnswerOf, IsBalancedText, IsInRange, IsListed, IsListWithin, IsStopFor, IsTextFor, IsWithin, KeepsLimit, asked_cuts, total_of}
-use Rattle.mincut_program.specs.Listings.{balanced_text, count_text, listing_text}
+use Rattle.answer_pages.specs.Listings.{balanced_text, count_text, listing_text}
 use Rattle.mincut_program.specs.Solving.{cuts_for}
-use Rattle.mincut_program.specs.Texts.{disconnected_line}
-use Rattle.mincut_program.specs.declared.command.Command.{Command}
-use Rattle.mincut_program.specs.declared.command.Job.{Job}
-use Rattle.mincut_program.specs.declared.command.Job.TheVariants.{Value, Cactus, Cuts, Part, Count, Balanced, Augment, Grow, Trial}
-use Rattle.mincut_program.specs.declared.stop.Stop.{Stop}
-use Rattle.mincut_program.specs.declared.stop.Stop.TheVariants as stop
+use Rattle.program_words.specs.Texts.{disconnected_line}
+use Rattle.program_words.specs.declared.command.Command.{Command}
+use Rattle.program_words.specs.declared.command.Job.{Job}
+use Rattle.program_words.specs.declared.command.Job.TheVariants.{Value, Cactus, Cuts, Part, Count, Balanced, Augment, Grow, Trial}
+use Rattle.stop_lines.specs.declared.stop.Stop.{Stop}
+use Rattle.stop_lines.specs.declared.stop.Stop.TheVariants as stop
 use Rattle.mincut_program.proofs.Graphs.{listed_keeps}
 use Rattle.weighted_graph.proofs.OneComponent.{law_of_one_component}
 

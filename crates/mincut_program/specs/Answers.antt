@@ -2,26 +2,13 @@
 use Rattle.std.specs.Prelude.{◌≡◌, ◌⊎◌, ℕ, List, Option}
 use Rattle.std.specs.Io.KnownBytes.{Appends}
 use Rattle.outside.specs.Faults.{Rose, AppendsPrefix}
-use Rattle.mincut_program.specs.declared.status.Status.{Status}
-use Rattle.mincut_program.specs.declared.status.Status.TheVariants.{Ok, Refused, BadWords, ReadFault, WriteFault, OutOfMemory, ListTooLarge, BadVertex, CountTooLarge, BalanceTooLarge, GrowTooLarge}
-use Rattle.mincut_program.specs.declared.stop.Stop.{Stop}
-use Rattle.mincut_program.specs.Stops.{line_of, status_of}
-use Rattle.mincut_program.specs.declared.command.Job.{Job}
-use Rattle.mincut_program.specs.declared.command.Job.TheVariants.{Count, Balanced, Grow}
+use Rattle.stop_lines.specs.declared.status.Status.{Status}
+use Rattle.stop_lines.specs.declared.status.Status.TheVariants.{WriteFault, ListTooLarge, CountTooLarge, BalanceTooLarge, GrowTooLarge}
+use Rattle.stop_lines.specs.declared.stop.Stop.{Stop}
+use Rattle.stop_lines.specs.Stops.{line_of, status_of}
+use Rattle.program_words.specs.declared.command.Job.{Job}
+use Rattle.program_words.specs.declared.command.Job.TheVariants.{Count, Balanced, Grow}
 use Rattle.mincut_program.specs.Intake.{IsReply, IsCause}
-
-abbrev pub code_of : Status → ℕ
-code_of Ok = 0
-code_of Refused = 1
-code_of BadWords = 2
-code_of ReadFault = 3
-code_of WriteFault = 4
-code_of OutOfMemory = 5
-code_of ListTooLarge = 6
-code_of BadVertex = 7
-code_of CountTooLarge = 8
-code_of BalanceTooLarge = 9
-code_of GrowTooLarge = 10
 
 -- the status of a job that is above its limit
 abbrev pub over_status : Job → Status

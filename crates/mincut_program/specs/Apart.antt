@@ -5,10 +5,10 @@ use Rattle.cut_definitions.specs.Cuts.{value, mincuts}
 use Rattle.component_cuts.specs.Parts.{Parts, AreComponents}
 use Rattle.cut_listing.specs.declared.ask.Ask.{Ask}
 use Rattle.mincut_program.specs.Jobs.{total_of, IsBalancedText}
-use Rattle.mincut_program.specs.Listings.{listing_text, count_text}
+use Rattle.answer_pages.specs.Listings.{listing_text, count_text}
 use Rattle.mincut_program.specs.Solving.{cuts_for}
-use Rattle.mincut_program.specs.declared.stop.Stop.{Stop}
-use Rattle.mincut_program.specs.declared.stop.Stop.TheVariants.{TooManyUnions, CountTooLarge, BalanceTooLarge, NoMemory}
+use Rattle.stop_lines.specs.declared.stop.Stop.{Stop}
+use Rattle.stop_lines.specs.declared.stop.Stop.TheVariants.{TooManyUnions, CountTooLarge, BalanceTooLarge, NoMemory}
 
 -- a graph of two or more vertices and its components, of which there are two or more
 pub record IsApartGraph (g : Graph) (p : Parts) : Type 0 where

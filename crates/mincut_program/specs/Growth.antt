@@ -2,14 +2,15 @@
 use Rattle.std.specs.Prelude.{ℕ, ◌≡◌, ◌≤◌, ◌⊎◌, ⊤, List}
 use Rattle.cut_definitions.specs.Components.{IsConnected, HasComponents}
 use Rattle.cut_definitions.specs.Graph.{Graph}
-use Rattle.mincut_program.specs.Insertions.{Insertion, grown, steps_of, IsFirstBeyond, StaysWithin}
+use Rattle.program_words.specs.Insertions.{Insertion}
+use Rattle.mincut_program.specs.GrownGraphs.{grown, steps_of, IsFirstBeyond, StaysWithin}
 use Rattle.mincut_program.specs.Jobs.{IsGrowText}
 use Rattle.mincut_program.specs.Solving.{IsSolved}
-use Rattle.mincut_program.specs.Texts.{disconnected_line}
+use Rattle.program_words.specs.Texts.{disconnected_line}
 use Rattle.mincut_program.specs.declared.growth.Growing.{Growing}
-use Rattle.mincut_program.specs.declared.growth_pages.Step.{Step}
-use Rattle.mincut_program.specs.declared.stop.Stop.{Stop}
-use Rattle.mincut_program.specs.declared.stop.Stop.TheVariants.{GrowTooLarge, NoMemory}
+use Rattle.answer_pages.specs.declared.growth_pages.Step.{Step}
+use Rattle.stop_lines.specs.declared.stop.Stop.{Stop}
+use Rattle.stop_lines.specs.declared.stop.Stop.TheVariants.{GrowTooLarge, NoMemory}
 
 -- a connected graph with a cut, and its value and all its minimum cuts
 pub record IsGrowing (growing : Growing) : Type 0 where

@@ -6,15 +6,15 @@ use Rattle.cut_definitions.specs.Graph.{Graph}
 use Rattle.metis_reader.specs.declared.fault.Fault.{Fault}
 use Rattle.metis_reader.specs.File.{graph_of, masses_of, fixed}
 use Rattle.metis_reader.specs.Fed.{HeaderEndsIn}
-use Rattle.mincut_program.specs.declared.stop.Stop.{Stop}
-use Rattle.mincut_program.specs.declared.stop.Stop.TheVariants.{BadWords, Refused, ReadFailed, NoMemory, BadVertex, TooLarge, TooManyUnions, CountTooLarge, BalanceTooLarge, GrowTooLarge}
-use Rattle.mincut_program.specs.declared.command.Command.{Command}
-use Rattle.mincut_program.specs.declared.command.Job.{Job}
-use Rattle.mincut_program.specs.declared.command.Job.TheVariants.{Trial}
-use Rattle.mincut_program.specs.Words.{command_of, ReadsGraph, AsksNothing}
+use Rattle.stop_lines.specs.declared.stop.Stop.{Stop}
+use Rattle.stop_lines.specs.declared.stop.Stop.TheVariants.{BadWords, Refused, ReadFailed, NoMemory, BadVertex, TooLarge, TooManyUnions, CountTooLarge, BalanceTooLarge, GrowTooLarge}
+use Rattle.program_words.specs.declared.command.Command.{Command}
+use Rattle.program_words.specs.declared.command.Job.{Job}
+use Rattle.program_words.specs.declared.command.Job.TheVariants.{Trial}
+use Rattle.program_words.specs.Words.{command_of, ReadsGraph, AsksNothing}
 use Rattle.mincut_program.specs.Jobs.{IsAnswerOf, IsStopFor}
 use Rattle.mincut_program.specs.Trials.{IsTrialText}
-use Rattle.mincut_program.specs.Notices.{notice_of, text_of}
+use Rattle.program_words.specs.Notices.{notice_of, text_of}
 
 -- these bytes were read of those that were left, where the source tells them
 abbrev pub IsRead : Option (List ℕ) → Option (List ℕ) → List ℕ → Type 0

@@ -17,16 +17,17 @@ use Rattle.canonical_cactus.specs.FirstBest.{IsFirstBest}
 use Rattle.edge_augment.specs.Augmentations.{Augmentation, IsAugmentation}
 use Rattle.edge_augment.specs.Laws.{IsSublist}
 use Rattle.edge_augment.specs.NewEdges.{with_unit_edges, IsParted}
-use Rattle.mincut_program.specs.declared.command.Command.{Command}
-use Rattle.mincut_program.specs.declared.command.Job.{Job}
-use Rattle.mincut_program.specs.declared.command.Job.TheVariants.{Value, Cactus, Cuts, Part, Count, Balanced, Augment, Grow, Trial}
-use Rattle.mincut_program.specs.declared.stop.Stop.{Stop}
-use Rattle.mincut_program.specs.declared.stop.Stop.TheVariants.{BadVertex, TooLarge, TooManyUnions, CountTooLarge, BalanceTooLarge, GrowTooLarge, NoMemory}
-use Rattle.mincut_program.specs.Augmenting.{augment_text}
-use Rattle.mincut_program.specs.Growing.{growth_text}
-use Rattle.mincut_program.specs.Insertions.{Insertion, grown, steps_of, IsFirstBeyond, StaysWithin}
-use Rattle.mincut_program.specs.Listings.{listing_text, count_text, balanced_text}
-use Rattle.mincut_program.specs.Texts.{no_cut_line, disconnected_line, value_line}
+use Rattle.program_words.specs.declared.command.Command.{Command}
+use Rattle.program_words.specs.declared.command.Job.{Job}
+use Rattle.program_words.specs.declared.command.Job.TheVariants.{Value, Cactus, Cuts, Part, Count, Balanced, Augment, Grow, Trial}
+use Rattle.stop_lines.specs.declared.stop.Stop.{Stop}
+use Rattle.stop_lines.specs.declared.stop.Stop.TheVariants.{BadVertex, TooLarge, TooManyUnions, CountTooLarge, BalanceTooLarge, GrowTooLarge, NoMemory}
+use Rattle.answer_pages.specs.Augmenting.{augment_text}
+use Rattle.answer_pages.specs.Growing.{growth_text}
+use Rattle.program_words.specs.Insertions.{Insertion}
+use Rattle.mincut_program.specs.GrownGraphs.{grown, steps_of, IsFirstBeyond, StaysWithin}
+use Rattle.answer_pages.specs.Listings.{listing_text, count_text, balanced_text}
+use Rattle.program_words.specs.Texts.{no_cut_line, disconnected_line, value_line}
 
 -- the cactus is over the vertices of the graph, and the sides of its cuts are just the minimum cuts
 pub record StandsFor (flat : Flat) (g : Graph) : Type 0 where

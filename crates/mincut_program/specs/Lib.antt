@@ -1,13 +1,4 @@
-pub mod Texts
-pub mod Notices
-pub mod Numbers
-pub mod Line
-pub mod Words
-pub mod Stops
-pub mod Listings
-pub mod Augmenting
-pub mod Growing
-pub mod Insertions
+pub mod GrownGraphs
 pub mod Trials
 pub mod Jobs
 pub mod Replies

@@ -5,9 +5,9 @@ use Rattle.cactus_text.specs.Text.{cactus_text}
 use Rattle.mincut_program.specs.declared.reply.Reply.{Reply}
 use Rattle.mincut_program.specs.declared.reply.Reply.TheVariants.{Text, Cactus, Listing, Balanced, Growth, Augmentation}
 use Rattle.cut_listing.specs.Listings.{members_of}
-use Rattle.mincut_program.specs.Augmenting.{augment_text}
-use Rattle.mincut_program.specs.Growing.{growth_text}
-use Rattle.mincut_program.specs.Listings.{listing_text, balanced_text}
+use Rattle.answer_pages.specs.Augmenting.{augment_text}
+use Rattle.answer_pages.specs.Growing.{growth_text}
+use Rattle.answer_pages.specs.Listings.{listing_text, balanced_text}
 
 abbrev pub text_of : Reply → List ℕ
 text_of (Text text) = string_bytes text

@@ -9,9 +9,9 @@ use Rattle.cut_definitions.specs.Members.{SameMembers}
 use Rattle.cactus_solver.specs.declared.solver.Solved.{Solved}
 use Rattle.cut_listing.specs.Asks.{lets}
 use Rattle.cut_listing.specs.declared.ask.Ask.{Ask}
-use Rattle.mincut_program.specs.Listings.{listing_text}
-use Rattle.mincut_program.specs.declared.stop.Stop.{Stop}
-use Rattle.mincut_program.specs.declared.stop.Stop.TheVariants.{TooLarge, NoMemory}
+use Rattle.answer_pages.specs.Listings.{listing_text}
+use Rattle.stop_lines.specs.declared.stop.Stop.{Stop}
+use Rattle.stop_lines.specs.declared.stop.Stop.TheVariants.{TooLarge, NoMemory}
 
 -- the value of the graph, and a normal cactus whose sides are just its minimum cuts
 pub record IsSolved (g : Graph) (solved : Solved) : Type 0 where

@@ -7,24 +7,23 @@ ghost use Rattle.cut_definitions.specs.Graph.{IsEdgeList};
 ghost use Rattle.mincut_program.specs.Jobs.{AreInRange, AsksCuts, IsAnswerOf, IsFirstOutside, IsInRange, IsOutside, IsOutsidePair, IsStopFor, IsVertex};
 ghost use Rattle.mincut_program.specs.Solving.{IsSolved};
 ghost use Rattle.mincut_program.specs.Replies.{text_of, IsPrintable};
-ghost use Rattle.mincut_program.specs.Texts.{no_cut_line, value_line};
-ghost use Rattle.mincut_program.specs.Words.{IsMakeable, IsReading};
+ghost use Rattle.program_words.specs.Texts.{no_cut_line, value_line};
+ghost use Rattle.program_words.specs.Words.{IsMakeable, IsReading};
 
 use crate::apart::apart_reply;
-use crate::command::{Command, Job};
 use crate::cuts::cuts_reply;
 use crate::growth::grow_reply;
-use crate::insertions::Insertions;
 use crate::read_graph::ReadGraph;
 use crate::reply::Reply;
-use crate::stop::Stop;
 use cactus_solver::{Solved, solve, solve_at, solve_by_list};
 use cut_definitions::{EdgeList, VertexWeights};
 use metis_reader::MetisGraph;
 use min_value::{value_by_list, value_of_list};
 use outside::{Gate, NoMemory};
+use program_words::{Command, Insertions, Job};
 use std::alloc::Global;
 use std::thread::Threads;
+use stop_lines::Stop;
 use weighted_graph::Graph;
 
 // A graph of fewer than two vertices has no cut.

@@ -8,17 +8,17 @@ ghost use Rattle.cut_listing.specs.Listings.{members_of};
 ghost use Rattle.mincut_program.specs.Apart.{AreUnionsFew, IsApartGraph, IsCountStop, IsTableStop, IsUnionBalance, IsUnionCount, IsUnionList, IsUnionStop};
 ghost use Rattle.mincut_program.specs.Jobs.{AsksCuts, IsAnswerOf, IsInRange, IsStopFor};
 ghost use Rattle.mincut_program.specs.Replies.{text_of, IsPrintable};
-ghost use Rattle.mincut_program.specs.Texts.{disconnected_line};
+ghost use Rattle.program_words.specs.Texts.{disconnected_line};
 
-use crate::command::{Command, Job};
 use crate::cuts::{ask_of, copied};
 use crate::reply::Reply;
-use crate::stop::Stop;
 use balanced_cut::balance_of;
 use component_cuts::{BestRefusal, Components, laws};
 use cut_definitions::{NoMemory, VertexWeights};
 use cut_listing::{Ask, Lister};
+use program_words::{Command, Job};
 use std::alloc::Global;
+use stop_lines::Stop;
 use vertex_set::Side;
 use weighted_graph::Graph;
 

@@ -7,16 +7,14 @@ ghost use Rattle.cut_definitions.specs.Graph.{Graph as EdgeGraph};
 ghost use Rattle.cactus_tree.specs.Different.{HasNoEmptySide};
 ghost use Rattle.cactus_tree.specs.Normal.{is_normal};
 ghost use Rattle.mincut_program.specs.Jobs.{asked_of, AsksCuts, IsAnswerOf, IsInRange, IsStopFor, IsCactusOf, IsCactusText, IsBalancedText, IsAugmentText};
-ghost use Rattle.mincut_program.specs.Listings.{count_text};
+ghost use Rattle.answer_pages.specs.Listings.{count_text};
 ghost use Rattle.mincut_program.specs.Solving.{cuts_for, IsSolved, IsListReply, IsListStop};
 ghost use Rattle.cut_listing.specs.Asks.{IsAskWithin};
 ghost use Rattle.cut_listing.specs.Listings.{IsList, IsRefusal};
 ghost use Rattle.mincut_program.specs.Replies.{text_of, IsPrintable};
 
-use crate::command::{Command, Job};
 use crate::read_graph::ReadGraph;
 use crate::reply::Reply;
-use crate::stop::Stop;
 use balanced_cut::balance_of;
 use cactus_solver::Solved;
 use cactus_tree::{Cactus, laws};
@@ -26,7 +24,9 @@ use cut_listing::laws::{count_of_minimum_cuts, minimum_cuts_in_order, number_of_
 use cut_listing::{Ask, ListRefusal, Lister};
 use edge_augment::augment;
 use edge_augment::laws::augmentation;
+use program_words::{Command, Job};
 use std::alloc::Global;
+use stop_lines::Stop;
 use vertex_set::Side;
 
 // All minimum cuts, by their sides in order, or their number where they are too many.

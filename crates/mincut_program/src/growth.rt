@@ -8,25 +8,26 @@ ghost use Rattle.std.specs.List.{All};
 ghost use Rattle.cut_definitions.specs.Components.{IsConnected};
 ghost use Rattle.cut_definitions.specs.Graph.{IsEdgeList};
 ghost use Rattle.mincut_program.specs.Growth.{HasGrown, IsGrowing, IsGrowReply, IsGrowStop};
-ghost use Rattle.mincut_program.specs.Insertions.{step_of, with_insertion, IsFirstBeyond, IsInsertion, StaysWithin};
+ghost use Rattle.program_words.specs.Insertions.{IsInsertion};
+ghost use Rattle.mincut_program.specs.GrownGraphs.{step_of, with_insertion, IsFirstBeyond, StaysWithin};
 ghost use Rattle.mincut_program.specs.Jobs.{AreInRange, IsGrowText, IsVertex};
 ghost use Rattle.mincut_program.specs.Replies.{text_of, IsPrintable};
 ghost use Rattle.mincut_program.specs.Solving.{IsSolved};
 
 use crate::apart::disconnected;
 use crate::cuts::canonical_of;
-use crate::growth_pages::Step;
-use crate::insertions::Insertions;
 use crate::reply::Reply;
-use crate::stop::Stop;
+use answer_pages::Step;
 use cactus_growth::{Grown, grow, is_within_limits, laws, with_edge};
 use cactus_solver::{Solved, solve};
 use cactus_tree::laws as tree_laws;
 use cut_definitions::EdgeList;
 use cut_listing::laws::number_of_minimum_cuts;
 use outside::{Gate, NoMemory};
+use program_words::Insertions;
 use std::alloc::Global;
 use std::thread::Threads;
+use stop_lines::Stop;
 use weighted_graph::Graph;
 
 /// A graph, and its value and all its minimum cuts.

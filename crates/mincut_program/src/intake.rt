@@ -3,13 +3,13 @@
 ghost use Rattle.std.specs.Prelude.{◌≡◌, ◌≢◌, ℕ, List, Ok, IfOk, IfErr, IfSome, length};
 ghost use Rattle.std.specs.Io.KnownBytes.{IsAtEnd};
 ghost use Rattle.metis_reader.specs.File.{graph_of, masses_of};
-ghost use Rattle.mincut_program.specs.Words.{ReadsGraph};
+ghost use Rattle.program_words.specs.Words.{ReadsGraph};
 ghost use Rattle.mincut_program.specs.Intake.{IsCause};
 
-use crate::stop::Stop;
 use metis_reader::{MetisGraph, Reader};
 use outside::Source;
 use std::alloc::Global;
+use stop_lines::Stop;
 
 /// Reads the source to its end, and the graph that its bytes give.
 ///

@@ -6,7 +6,7 @@ use Rattle.cut_listing.specs.declared.ask.Ask.TheVariants.{Parting}
 use Rattle.mincut_program.specs.Apart.{IsCountStop, IsTableStop, IsUnionBalance, IsUnionCount, IsUnionList, IsUnionStop}
 use Rattle.mincut_program.specs.Jobs.{GoesByCactus, IsAnswerOf, IsListed, IsStopFor, IsTextOf, KeepsLimit, asked_cuts, asked_of}
 use Rattle.mincut_program.specs.Replies.{text_of}
-use Rattle.mincut_program.specs.declared.command.Job.{Job}
+use Rattle.program_words.specs.declared.command.Job.{Job}
 use Rattle.mincut_program.proofs.Graphs.{over_err}
 use Rattle.mincut_program.proofs.Unions.{count_stop, list_answer, table_stop, union_stop, union_text}
 use Rattle.mincut_program.proofs.apart.apart_reply.Goals as goal

@@ -1,6 +1,6 @@
 use Rattle.std.proofs.Common.{◌∙◌, ap, sym, rules}
 use Rattle.cut_definitions.specs.Cuts.{mincuts}
-use Rattle.mincut_program.specs.declared.command.Job.TheVariants.{Cuts}
+use Rattle.program_words.specs.declared.command.Job.TheVariants.{Cuts}
 use Rattle.mincut_program.specs.Jobs.{asked_of}
 use Rattle.mincut_program.proofs.Graphs.{cuts_of_all}
 use Rattle.mincut_program.proofs.cuts.ask_of.Goals as goal

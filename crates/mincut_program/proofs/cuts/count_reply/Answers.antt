@@ -1,5 +1,5 @@
 use Rattle.std.proofs.Common.{◌∙◌, arith}
-use Rattle.mincut_program.specs.Listings.{count_text}
+use Rattle.answer_pages.specs.Listings.{count_text}
 use Rattle.mincut_program.proofs.Graphs.{two_lines}
 use Rattle.mincut_program.proofs.cuts.count_reply.Goals as goal
 

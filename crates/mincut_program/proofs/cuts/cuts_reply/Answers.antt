@@ -1,7 +1,7 @@
 use Rattle.std.proofs.Common.{◌∙◌, ap, sym, subst}
 use Rattle.cut_listing.specs.declared.ask.Ask.{Ask}
 use Rattle.cut_listing.specs.declared.ask.Ask.TheVariants.{Parting}
-use Rattle.mincut_program.specs.declared.command.Job.{Job}
+use Rattle.program_words.specs.declared.command.Job.{Job}
 use Rattle.cut_definitions.specs.Cuts.{mincuts}
 use Rattle.cut_definitions.proofs.Results.{if_ok_more}
 use Rattle.mincut_program.specs.Jobs.{IsAnswerOf, IsListed, IsStopFor, IsTextOf, asked_cuts, asked_of}

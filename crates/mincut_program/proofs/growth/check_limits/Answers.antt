@@ -1,5 +1,5 @@
 use Rattle.std.proofs.Common.{arith, refl}
-use Rattle.mincut_program.specs.Insertions.{IsInsertion}
+use Rattle.program_words.specs.Insertions.{IsInsertion}
 use Rattle.mincut_program.proofs.Grown.{grown_next, holds_at, limit_stop, none_inserted, there_now, within_more}
 use Rattle.mincut_program.proofs.growth.check_limits.Goals as goal
 

@@ -1,7 +1,7 @@
 -- The list after the insertions so far, each of which leaves it within the limits.
 use Rattle.std.proofs.Common.{◌≡◌, ℕ, ◌≤◌, take}
 use Rattle.cut_definitions.specs.Graph.{IsEdgeList}
-use Rattle.mincut_program.specs.Insertions.{grown}
+use Rattle.mincut_program.specs.GrownGraphs.{grown}
 use Rattle.mincut_program.proofs.growth.check_limits.Given as goal
 
 abbrev pub invariant-limits : goal.invariant-limits

@@ -1,5 +1,5 @@
 use Rattle.std.proofs.Common.{arith, refl}
-use Rattle.mincut_program.specs.Insertions.{IsInsertion}
+use Rattle.program_words.specs.Insertions.{IsInsertion}
 use Rattle.mincut_program.proofs.Grown.{all_told, fits_now, holds_at, there_now, told_next}
 use Rattle.mincut_program.proofs.growth.grow_all.Goals as goal
 

@@ -1,7 +1,7 @@
 use Rattle.std.proofs.Common.{take, ◌++◌, ℕ, List, [], Err, ◌∙◌, ap, refl, arith}
 use Rattle.metis_reader.proofs.StillFed.{still_fed}
-use Rattle.mincut_program.specs.declared.stop.Stop.{Stop}
-use Rattle.mincut_program.specs.Words.{ReadsGraph}
+use Rattle.stop_lines.specs.declared.stop.Stop.{Stop}
+use Rattle.program_words.specs.Words.{ReadsGraph}
 use Rattle.mincut_program.specs.Intake.{IsCause}
 use Rattle.mincut_program.proofs.Bytes.{read_none, read_more, read_nothing, read_cause, finish_cause, feed_cause, fewer, handed_on, one_read}
 use Rattle.mincut_program.proofs.intake.take_in.Goals as goal
