@@ -1,11 +1,4 @@
-pub mod GrownGraphs
-pub mod Trials
-pub mod Jobs
 pub mod Replies
 pub mod Solving
-pub mod Apart
 pub mod Growth
-pub mod Intake
-pub mod Answers
-pub mod TextLaws
 pub mod ReadGraphs

@@ -7,13 +7,12 @@ mod answer;
 mod apart;
 mod cuts;
 mod growth;
-mod intake;
-pub mod laws;
 mod program;
 mod read_graph;
 mod reply;
 mod trial;
 
+pub use job_answers::laws;
 pub use program::run;
 pub use program_words::{Command, Insertions, Job, WordsRefusal, read_words};
 pub use stop_lines::Status;

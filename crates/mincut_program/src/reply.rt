@@ -1,7 +1,7 @@
 //! What is written to `out`.
 
 ghost use Rattle.std.specs.Prelude.{◌≡◌, ◌≢◌, Err, IsErrOf, OnOk};
-ghost use Rattle.mincut_program.specs.Answers.{Wrote, Failed};
+ghost use Rattle.job_answers.specs.Answers.{Wrote, Failed};
 ghost use Rattle.mincut_program.specs.Replies.{text_of, IsPrintable, TakesMemory};
 
 use answer_pages::{Step, print_augmentation, print_balanced, print_growth, print_listing};
