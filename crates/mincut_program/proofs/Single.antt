@@ -2,8 +2,8 @@
 use Rattle.std.proofs.Common.{◌≡◌, [], List, map, ap}
 use Rattle.std.specs.List.{filter, range_with_len}
 use Rattle.cut_definitions.specs.Weight.{VertexSet}
-use Rattle.cactus_tree.specs.Trees.{blocks}
-use Rattle.cactus_tree.specs.Rooted.{Rooted, sides_of}
+use Rattle.rooted_cactus.specs.Trees.{blocks}
+use Rattle.rooted_cactus.specs.Rooted.{Rooted, sides_of}
 use Rattle.node_tree.proofs.ForestFilling.{placed_cuts}
 
 pub no_sides : (c : Rooted) → blocks c.root ≡ [] → sides_of c ≡ []

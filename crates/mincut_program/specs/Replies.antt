@@ -1,13 +1,13 @@
 -- What there is to write to `out`.
 use Rattle.std.specs.Prelude.{ℕ, ◌≤◌, ◌^◌, ⊤, List, string_bytes}
-use Rattle.cactus_tree.specs.Flattened.{flat_of}
+use Rattle.flat_cactus.specs.Flattened.{flat_of}
 use Rattle.cactus_text.specs.Text.{cactus_text}
 use Rattle.mincut_program.specs.declared.reply.Reply.{Reply}
 use Rattle.mincut_program.specs.declared.reply.Reply.TheVariants.{Text, Cactus, Listing, Balanced, Growth, Augmentation}
 use Rattle.cut_listing.specs.Listings.{members_of}
-use Rattle.mincut_program.specs.Augmenting.{augment_text}
-use Rattle.mincut_program.specs.Growing.{growth_text}
-use Rattle.mincut_program.specs.Listings.{listing_text, balanced_text}
+use Rattle.answer_pages.specs.Augmenting.{augment_text}
+use Rattle.answer_pages.specs.Growing.{growth_text}
+use Rattle.answer_pages.specs.Listings.{listing_text, balanced_text}
 
 abbrev pub text_of : Reply → List ℕ
 text_of (Text text) = string_bytes text

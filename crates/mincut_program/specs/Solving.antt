@@ -1,17 +1,11 @@
 -- What is known of a graph that is solved.
-use Rattle.std.specs.Prelude.{ℕ, ◌≡◌, ◌<◌, ◌≤◌, ◌*◌, ◌^◌, ⊤, List, length, true}
-use Rattle.std.specs.List.{filter}
+use Rattle.std.specs.Prelude.{◌≡◌, true}
 use Rattle.cut_definitions.specs.Graph.{Graph}
 use Rattle.cut_definitions.specs.Cuts.{value, mincuts}
-use Rattle.cactus_tree.specs.Normal.{is_normal}
-use Rattle.cactus_tree.specs.Rooted.{sides_of}
+use Rattle.rooted_cactus.specs.Normal.{is_normal}
+use Rattle.rooted_cactus.specs.Rooted.{sides_of}
 use Rattle.cut_definitions.specs.Members.{SameMembers}
 use Rattle.cactus_solver.specs.declared.solver.Solved.{Solved}
-use Rattle.cut_listing.specs.Asks.{lets}
-use Rattle.cut_listing.specs.declared.ask.Ask.{Ask}
-use Rattle.mincut_program.specs.Listings.{listing_text}
-use Rattle.mincut_program.specs.declared.stop.Stop.{Stop}
-use Rattle.mincut_program.specs.declared.stop.Stop.TheVariants.{TooLarge, NoMemory}
 
 -- the value of the graph, and a normal cactus whose sides are just its minimum cuts
 pub record IsSolved (g : Graph) (solved : Solved) : Type 0 where
@@ -19,21 +13,3 @@ pub record IsSolved (g : Graph) (solved : Solved) : Type 0 where
   pub over : solved.cactus.vertices ≡ g.vertices
   pub sides : SameMembers (sides_of solved.cactus) (mincuts g)
   pub normal : is_normal solved.cactus.root ≡ true
-
--- the minimum cuts that are asked for
-abbrev pub cuts_for : Ask → Graph → List (List ℕ)
-cuts_for ask g = filter (lets ask) (mincuts g)
-
-pub record IsListReply (ask : Ask) (g : Graph) (text : List ℕ) : Type 0 where
-  pub within : length (cuts_for ask g) * g.vertices ≤ 2 ^ 30
-  pub text_is : text ≡ listing_text (value g) (cuts_for ask g)
-
-pub record IsTooLargeList (ask : Ask) (g : Graph) (cuts n : ℕ) : Type 0 where
-  pub counted : cuts ≡ length (cuts_for ask g)
-  pub over : n ≡ g.vertices
-  pub large : 2 ^ 30 < cuts * n
-
-abbrev pub IsListStop : Ask → Graph → Stop → Type 0
-IsListStop ask g (TooLarge cuts n) = IsTooLargeList ask g cuts n
-IsListStop ask g NoMemory = ⊤
-IsListStop ask g _ = ⊥

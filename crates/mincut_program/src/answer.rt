@@ -1,30 +1,30 @@
 //! From the graph to what is written.
 
-ghost use Rattle.std.specs.Prelude.{◌≡◌, ◌≤◌, IfOk, IfErr, IfSome, IsNone, length, true, false};
+ghost use Rattle.std.specs.Prelude.{◌≡◌, ◌≤◌, IfOk, IfErr, length};
 ghost use Rattle.cut_definitions.specs.Components.{IsConnected};
 ghost use Rattle.cut_definitions.specs.Cuts.{value, value as least_value};
 ghost use Rattle.cut_definitions.specs.Graph.{IsEdgeList};
-ghost use Rattle.mincut_program.specs.Jobs.{AreInRange, AsksCuts, IsAnswerOf, IsFirstOutside, IsInRange, IsOutside, IsOutsidePair, IsStopFor, IsVertex};
+ghost use Rattle.job_answers.specs.Jobs.{AsksCuts, IsAnswerOf, IsInRange, IsStopFor};
 ghost use Rattle.mincut_program.specs.Solving.{IsSolved};
 ghost use Rattle.mincut_program.specs.Replies.{text_of, IsPrintable};
-ghost use Rattle.mincut_program.specs.Texts.{no_cut_line, value_line};
-ghost use Rattle.mincut_program.specs.Words.{IsMakeable, IsReading};
+ghost use Rattle.program_words.specs.Texts.{no_cut_line, value_line};
+ghost use Rattle.program_words.specs.Words.{IsMakeable, IsReading};
 
 use crate::apart::apart_reply;
-use crate::command::{Command, Job};
 use crate::cuts::cuts_reply;
 use crate::growth::grow_reply;
-use crate::insertions::Insertions;
 use crate::read_graph::ReadGraph;
 use crate::reply::Reply;
-use crate::stop::Stop;
 use cactus_solver::{Solved, solve, solve_at, solve_by_list};
 use cut_definitions::{EdgeList, VertexWeights};
+use job_answers::first_outside;
 use metis_reader::MetisGraph;
 use min_value::{value_by_list, value_of_list};
 use outside::{Gate, NoMemory};
+use program_words::{Command, Job};
 use std::alloc::Global;
 use std::thread::Threads;
+use stop_lines::Stop;
 use weighted_graph::Graph;
 
 // A graph of fewer than two vertices has no cut.
@@ -68,52 +68,6 @@ fn value_reply<R: Threads + Sync, G: Gate>(
 {
     let value = value_of_list(rt, alloc, list, workers, gate)?;
     value_text(alloc, value)
-}
-
-// Whether a number is a vertex of 1 to n.
-fn is_vertex(n: u32, v: u64) -> bool
-    ensures yes { result ≡ true → IsVertex n v }
-    ensures out { result ≡ false → ¬ IsVertex n v }
-{
-    1 <= v && v <= n as u64
-}
-
-// The first of two vertices that is not of 1 to n.
-fn check_pair(u: u64, v: u64, n: u32) -> Option<u64>
-    ensures none { IsNone result → IsVertex n u × IsVertex n v }
-    ensures some { IfSome result (IsOutsidePair n u v) }
-{
-    if !is_vertex(n, u) {
-        return Some(u);
-    }
-    if is_vertex(n, v) { None } else { Some(v) }
-}
-
-// The first vertex of insertions that is not of 1 to n.
-fn check_insertions(insertions: &Insertions, n: u32) -> Option<u64>
-    ensures none { IsNone result → AreInRange n insertions.now }
-    ensures some { IfSome result (IsFirstOutside n insertions.now) }
-{
-    'insertions: for i in 0..insertions.len() {
-        let (u, v, _) = insertions.at(i);
-        match check_pair(u, v, n) {
-            Some(vertex) => return Some(vertex),
-            None => {}
-        }
-    }
-    None
-}
-
-// The first vertex that a job names that is not of 1 to n.
-fn first_outside(job: &Job, n: u32) -> Option<u64>
-    ensures none { IsNone result → IsInRange job.now n }
-    ensures some { IfSome result (IsOutside job.now n) }
-{
-    match job {
-        Job::Part(u, v) => check_pair(*u, *v, n),
-        Job::Grow(insertions) => check_insertions(insertions, n),
-        _ => None,
-    }
 }
 
 // The answer of a job on the cuts themselves, by the graph with rows.

@@ -1,22 +1,21 @@
 //! From a solved graph to what is written.
 
-ghost use Rattle.std.specs.Prelude.{◌≡◌, ◌≢◌, ◌≤◌, ◌^◌, ℕ, IfOk, IfErr, length, true};
+ghost use Rattle.std.specs.Prelude.{◌≡◌, ◌≢◌, ◌≤◌, ◌^◌, IfOk, IfErr, length, true};
 ghost use Rattle.cut_definitions.specs.Components.{HasComponents};
 ghost use Rattle.cut_definitions.specs.Cuts.{mincuts, value};
 ghost use Rattle.cut_definitions.specs.Graph.{Graph as EdgeGraph};
-ghost use Rattle.cactus_tree.specs.Different.{HasNoEmptySide};
-ghost use Rattle.cactus_tree.specs.Normal.{is_normal};
-ghost use Rattle.mincut_program.specs.Jobs.{asked_of, AsksCuts, IsAnswerOf, IsInRange, IsStopFor, IsCactusOf, IsCactusText, IsBalancedText, IsAugmentText};
-ghost use Rattle.mincut_program.specs.Listings.{count_text};
-ghost use Rattle.mincut_program.specs.Solving.{cuts_for, IsSolved, IsListReply, IsListStop};
+ghost use Rattle.rooted_cactus.specs.Different.{HasNoEmptySide};
+ghost use Rattle.rooted_cactus.specs.Normal.{is_normal};
+ghost use Rattle.job_answers.specs.Jobs.{AsksCuts, IsAnswerOf, IsInRange, IsStopFor, IsCactusOf, IsCactusText, IsBalancedText, IsAugmentText};
+ghost use Rattle.answer_pages.specs.Listings.{count_text};
+ghost use Rattle.job_answers.specs.Asked.{IsListReply, IsListStop};
+ghost use Rattle.mincut_program.specs.Solving.{IsSolved};
 ghost use Rattle.cut_listing.specs.Asks.{IsAskWithin};
 ghost use Rattle.cut_listing.specs.Listings.{IsList, IsRefusal};
 ghost use Rattle.mincut_program.specs.Replies.{text_of, IsPrintable};
 
-use crate::command::{Command, Job};
 use crate::read_graph::ReadGraph;
 use crate::reply::Reply;
-use crate::stop::Stop;
 use balanced_cut::balance_of;
 use cactus_solver::Solved;
 use cactus_tree::{Cactus, laws};
@@ -26,7 +25,10 @@ use cut_listing::laws::{count_of_minimum_cuts, minimum_cuts_in_order, number_of_
 use cut_listing::{Ask, ListRefusal, Lister};
 use edge_augment::augment;
 use edge_augment::laws::augmentation;
+use job_answers::{ask_of, copied};
+use program_words::{Command, Job};
 use std::alloc::Global;
+use stop_lines::Stop;
 use vertex_set::Side;
 
 // All minimum cuts, by their sides in order, or their number where they are too many.
@@ -65,16 +67,6 @@ fn parting_sides(
     };
     let lister = Lister::new(graph.n(), Ask::Parting(u, v), keep);
     lister.list(alloc, &solved.cactus)
-}
-
-/// A copy of weights.
-pub fn copied(alloc: Global, weights: &VertexWeights) -> Result<VertexWeights, NoMemory>
-    ensures { IfOk result (λ copy. copy ≡ weights.now) }
-{
-    // known by this call: there are few enough
-    let _few = weights.len();
-    let list = weights.as_slice().to_vec(alloc)?;
-    Ok(VertexWeights::from_list(list))
 }
 
 // Those of at least a balance. A boxed test borrows nothing, so it has weights of its own.
@@ -186,17 +178,6 @@ fn balanced_reply(
         balance,
         side,
     })
-}
-
-/// What the job `cuts` lists: all minimum cuts, or those of at least a balance.
-pub fn ask_of(least: Option<u64>, weights: &VertexWeights) -> Ask
-    ensures cuts { (g : EdgeGraph) → cuts_for result g ≡ asked_of Job.Cuts least weights.now (mincuts g) }
-    ensures within { (n : ℕ) → length weights.now ≡ n → IsAskWithin n result }
-{
-    match least {
-        Some(number) => Ask::Least(number, weights),
-        None => Ask::All,
-    }
 }
 
 /// What a job on the cuts of a connected graph answers, from all its minimum cuts.

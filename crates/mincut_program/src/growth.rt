@@ -3,30 +3,33 @@
 //! The cactus of all minimum cuts is kept from step to step: an insertion leaves just the cuts that do not part its two
 //! vertices, as long as there is one, and then the value stays. Where none is left the graph is solved anew.
 
-ghost use Rattle.std.specs.Prelude.{ℕ, ◌≡◌, ◌≤◌, ◌⊎◌, ◌+◌, IfOk, IfErr, OnOk, IsErrOf, length};
+ghost use Rattle.std.specs.Prelude.{◌≡◌, ◌≤◌, ◌+◌, IfOk, IfErr, IsErrOf, length};
 ghost use Rattle.std.specs.List.{All};
 ghost use Rattle.cut_definitions.specs.Components.{IsConnected};
 ghost use Rattle.cut_definitions.specs.Graph.{IsEdgeList};
-ghost use Rattle.mincut_program.specs.Growth.{HasGrown, IsGrowing, IsGrowReply, IsGrowStop};
-ghost use Rattle.mincut_program.specs.Insertions.{step_of, with_insertion, IsFirstBeyond, IsInsertion, StaysWithin};
-ghost use Rattle.mincut_program.specs.Jobs.{AreInRange, IsGrowText, IsVertex};
+ghost use Rattle.job_answers.specs.GrowReplies.{IsGrowReply, IsGrowStop};
+ghost use Rattle.mincut_program.specs.Growth.{HasGrown, IsGrowing};
+ghost use Rattle.program_words.specs.Insertions.{IsInsertion};
+ghost use Rattle.job_answers.specs.GrownGraphs.{step_of, with_insertion, StaysWithin};
+ghost use Rattle.job_answers.specs.Jobs.{AreInRange, IsGrowText, IsVertex};
 ghost use Rattle.mincut_program.specs.Replies.{text_of, IsPrintable};
 ghost use Rattle.mincut_program.specs.Solving.{IsSolved};
 
 use crate::apart::disconnected;
 use crate::cuts::canonical_of;
-use crate::growth_pages::Step;
-use crate::insertions::Insertions;
 use crate::reply::Reply;
-use crate::stop::Stop;
-use cactus_growth::{Grown, grow, is_within_limits, laws, with_edge};
+use answer_pages::Step;
+use cactus_growth::{Grown, grow, laws, with_edge};
 use cactus_solver::{Solved, solve};
 use cactus_tree::laws as tree_laws;
 use cut_definitions::EdgeList;
 use cut_listing::laws::number_of_minimum_cuts;
+use job_answers::check_limits;
 use outside::{Gate, NoMemory};
+use program_words::Insertions;
 use std::alloc::Global;
 use std::thread::Threads;
+use stop_lines::Stop;
 use weighted_graph::Graph;
 
 /// A graph, and its value and all its minimum cuts.
@@ -34,57 +37,6 @@ use weighted_graph::Graph;
 pub struct Growing {
     pub list: EdgeList,
     pub solved: Solved,
-}
-
-// A copy of an edge list.
-fn copied_list(alloc: Global, list: &EdgeList) -> Result<EdgeList, NoMemory>
-    ensures { IfOk result (λ copy. copy ≡ list.now) }
-{
-    let edges = list.edges().to_vec(alloc)?;
-    Ok(EdgeList::from_edges(list.n(), edges))
-}
-
-// The list with one insertion, or the stop where the graph would be too large after it.
-fn inserted(
-    alloc: Global,
-    list: &EdgeList,
-    insertion: (u64, u64, u64),
-    number: usize,
-) -> Result<EdgeList, Stop>
-    requires first { IsVertex list.now.vertices insertion.0 }
-    requires second { IsVertex list.now.vertices insertion.1 }
-    requires insertion { IsInsertion insertion }
-    ensures list { IfOk result (λ l. l ≡ with_insertion list.now insertion) }
-    ensures within { OnOk result (IsEdgeList (with_insertion list.now insertion)) }
-    ensures stop { IfErr result (λ stop. (stop ≡ Stop.NoMemory) ⊎ ((stop ≡ Stop.GrowTooLarge number) × (IsEdgeList (with_insertion list.now insertion) → ⊥))) }
-{
-    let (u, v, w) = insertion;
-    // known by this call: there are at most 4,194,304 vertices
-    let _n = list.n();
-    if !is_within_limits(list, u as u32, v as u32, w) {
-        return Err(Stop::GrowTooLarge { number });
-    }
-    let longer = with_edge(alloc, list, u as u32, v as u32, w)?;
-    Ok(longer)
-}
-
-// The first insertion after which the graph would be too large.
-fn check_limits(alloc: Global, insertions: &Insertions, list: &EdgeList) -> Result<(), Stop>
-    requires in_range { AreInRange list.now.vertices insertions.now }
-    requires insertions { All IsInsertion insertions.now }
-    ensures within { OnOk result (StaysWithin list.now insertions.now) }
-    ensures stop { IfErr result (λ stop. (stop ≡ Stop.NoMemory) ⊎ ((number : ℕ) × (stop ≡ Stop.GrowTooLarge number) × IsFirstBeyond list.now insertions.now number)) }
-{
-    // known by this call: that it is an edge list
-    let _n = list.n();
-    let mut current = copied_list(alloc, list)?;
-    'limits: for i in 0..insertions.len() {
-        match inserted(alloc, &current, insertions.at(i), i + 1) {
-            Ok(next) => current = next,
-            Err(stop) => return Err(stop),
-        }
-    }
-    Ok(())
 }
 
 // The value and all minimum cuts of a graph, found anew.

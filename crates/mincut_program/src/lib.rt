@@ -5,26 +5,14 @@
 
 mod answer;
 mod apart;
-mod augment_pages;
-mod command;
 mod cuts;
 mod growth;
-mod growth_pages;
-mod insertions;
-mod intake;
-pub mod laws;
-mod line;
-mod notice;
-mod number;
-mod pages;
 mod program;
 mod read_graph;
 mod reply;
-mod status;
-mod stop;
 mod trial;
 
-pub use command::{Command, Job, WordsRefusal, read_words};
-pub use insertions::Insertions;
+pub use job_answers::laws;
 pub use program::run;
-pub use status::Status;
+pub use program_words::{Command, Insertions, Job, WordsRefusal, read_words};
+pub use stop_lines::Status;

@@ -2,29 +2,27 @@ ghost use Rattle.std.specs.Prelude.{◌≡◌, ◌≢◌, ◌≤◌, ◌⊎◌, 
 ghost use Rattle.std.specs.Io.KnownBytes.{Appends, IsAtEnd};
 ghost use Rattle.outside.specs.Faults.{Rose};
 ghost use Rattle.cut_definitions.specs.Graph.{Graph};
-ghost use Rattle.mincut_program.specs.declared.command.Command.{Command};
-ghost use Rattle.mincut_program.specs.Jobs.{IsInRange, IsWithin};
+ghost use Rattle.program_words.specs.declared.command.Command.{Command};
+ghost use Rattle.job_answers.specs.Jobs.{IsInRange, IsWithin};
 ghost use Rattle.metis_reader.specs.declared.fault.Fault.{Fault};
 ghost use Rattle.metis_reader.specs.File.{graph_of, masses_of};
-ghost use Rattle.mincut_program.specs.Words.{texts, command_of, AsksNothing, IsMakeable, IsReading, ReadsGraph};
-ghost use Rattle.mincut_program.specs.Intake.{IsCause, IsJobAnswer, IsJobReply, IsReply};
+ghost use Rattle.program_words.specs.Words.{texts, command_of, AsksNothing, IsMakeable, IsReading, ReadsGraph};
+ghost use Rattle.job_answers.specs.Intake.{IsCause, IsJobAnswer, IsJobReply, IsReply};
 ghost use Rattle.mincut_program.specs.Replies.{text_of, IsPrintable, TakesMemory};
-ghost use Rattle.mincut_program.specs.Stops.{status_of, line_of};
-ghost use Rattle.mincut_program.specs.Notices as notices;
-ghost use Rattle.mincut_program.specs.Answers.{over_status, Writes, TakesReply, ReplyFailed, Told, TellingFailed};
+ghost use Rattle.stop_lines.specs.Stops.{status_of, line_of};
+ghost use Rattle.program_words.specs.Notices as notices;
+ghost use Rattle.job_answers.specs.Answers.{over_status, Writes, TakesReply, ReplyFailed, Told, TellingFailed};
 
 use crate::answer::answer;
-use crate::command::{Command, Job, WordsRefusal, read_words};
-use crate::intake::take_in;
-use crate::notice::{Notice, notice_of};
 use crate::reply::{Reply, write_reply};
-use crate::status::Status;
-use crate::stop::{Stop, line_for, status_for};
 use crate::trial::trial_reply;
 use cactus_text::PrintRefusal;
+use job_answers::take_in;
 use outside::{Gate, Sink, Source, write_whole};
+use program_words::{Command, Job, Notice, WordsRefusal, notice_of, read_words};
 use std::alloc::Global;
 use std::thread::Threads;
+use stop_lines::{Status, Stop, line_for, status_for};
 
 // Tells why there is nothing to write to `out`. It takes no memory.
 fn tell<E: Sink>(err: &mut E, stop: Stop) -> Status

@@ -1,12 +1,10 @@
 //! What is written to `out`.
 
 ghost use Rattle.std.specs.Prelude.{◌≡◌, ◌≢◌, Err, IsErrOf, OnOk};
-ghost use Rattle.mincut_program.specs.Answers.{Wrote, Failed};
+ghost use Rattle.job_answers.specs.Answers.{Wrote, Failed};
 ghost use Rattle.mincut_program.specs.Replies.{text_of, IsPrintable, TakesMemory};
 
-use crate::augment_pages::print_augmentation;
-use crate::growth_pages::{Step, print_growth};
-use crate::pages::{print_balanced, print_listing};
+use answer_pages::{Step, print_augmentation, print_balanced, print_growth, print_listing};
 use cactus_solver::Solved;
 use cactus_text::{PrintRefusal, print};
 use edge_augment::Plan;

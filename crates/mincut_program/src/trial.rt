@@ -3,7 +3,7 @@
 ghost use Rattle.std.specs.Prelude.{◌≡◌, ◌≤◌, IfOk, string_bytes};
 ghost use Rattle.mincut_program.specs.Replies.{text_of, IsPrintable, TakesMemory};
 ghost use Rattle.mincut_program.specs.Solving.{IsSolved};
-ghost use Rattle.mincut_program.specs.Trials.{ones, trial_text, IsFactsText, IsTrialText};
+ghost use Rattle.job_answers.specs.Trials.{ones, trial_text, IsFactsText, IsTrialText};
 
 use crate::cuts::count_of_cuts;
 use crate::reply::Reply;

@@ -1,9 +1,9 @@
 use Rattle.std.proofs.Common.{◌≤◌, ◌∙◌, subst, sym, IfOk, arith, rules}
 use Rattle.std.specs.Prelude.{IfErr}
 use Rattle.cut_definitions.specs.Graph.{Graph}
-use Rattle.mincut_program.specs.Jobs.{IsAnswerOf, IsStopFor}
+use Rattle.job_answers.specs.Jobs.{IsAnswerOf, IsStopFor}
 use Rattle.mincut_program.specs.Replies.{text_of}
-use Rattle.mincut_program.proofs.Graphs.{connected_of, one_component}
+use Rattle.job_answers.proofs.Answering.{connected_of, one_component}
 use Rattle.mincut_program.proofs.answer.reply_by_rows.Goals as goal
 
 pub solve-requires-clause-connected : goal.solve-requires-clause-connected

@@ -3,7 +3,7 @@ use Rattle.std.proofs.Common.{◌≡◌, ◌∙◌, arith}
 use Rattle.std.specs.Option.{unwrap_or}
 use Rattle.cut_definitions.specs.Components.{IsConnected}
 use Rattle.cut_definitions.specs.Cuts.{value}
-use Rattle.mincut_program.proofs.Connected.{connected_by_value, one_of_connected, found_value}
+use Rattle.job_answers.proofs.Connected.{connected_by_value, one_of_connected, found_value}
 use Rattle.mincut_program.proofs.answer.reply_on_cuts.Goals as goal
 
 pub solved_at-requires-clause-connected : goal.solved_at-requires-clause-connected

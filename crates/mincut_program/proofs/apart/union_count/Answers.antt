@@ -1,6 +1,6 @@
 use Rattle.std.proofs.Common.{◌∙◌}
-use Rattle.mincut_program.proofs.Graphs.{two_lines}
-use Rattle.mincut_program.proofs.Unions.{counted}
+use Rattle.job_answers.proofs.Answering.{two_lines}
+use Rattle.job_answers.proofs.Unions.{counted}
 use Rattle.mincut_program.proofs.apart.union_count.Goals as goal
 
 pub returns-clause-text : goal.returns-clause-text

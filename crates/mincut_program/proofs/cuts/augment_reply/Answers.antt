@@ -1,5 +1,6 @@
 use Rattle.mincut_program.proofs.Graphs.{none_empty}
-use Rattle.mincut_program.proofs.Raised.{block_of, normal_of, raise_text}
+use Rattle.job_answers.proofs.Raises.{raise_text}
+use Rattle.mincut_program.proofs.Raised.{block_of, normal_of}
 use Rattle.mincut_program.proofs.cuts.augment_reply.Goals as goal
 
 pub augment-requires-clause-normal : goal.augment-requires-clause-normal

@@ -1,5 +1,6 @@
 use Rattle.std.proofs.Common.{arith}
-use Rattle.mincut_program.proofs.Graphs.{canonical_text, none_empty, value_small}
+use Rattle.job_answers.proofs.Answering.{canonical_text, value_small}
+use Rattle.mincut_program.proofs.Graphs.{none_empty}
 use Rattle.mincut_program.proofs.cuts.cactus_reply.Goals as goal
 
 pub returns-clause-text : goal.returns-clause-text

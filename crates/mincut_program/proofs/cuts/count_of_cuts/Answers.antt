@@ -1,8 +1,8 @@
 use Rattle.std.proofs.Common.{◌≡◌, length}
 use Rattle.cut_definitions.specs.Cuts.{mincuts}
 use Rattle.cut_definitions.proofs.Results.{if_ok_more}
-use Rattle.cactus_tree.specs.Different.{HasDifferent}
-use Rattle.cactus_tree.specs.Rooted.{sides_of}
+use Rattle.rooted_cactus.specs.Different.{HasDifferent}
+use Rattle.rooted_cactus.specs.Rooted.{sides_of}
 use Rattle.mincut_program.proofs.cuts.count_of_cuts.Goals as goal
 
 pub returns : goal.returns

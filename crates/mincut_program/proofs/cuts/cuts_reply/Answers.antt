@@ -1,13 +1,13 @@
 use Rattle.std.proofs.Common.{◌∙◌, ap, sym, subst}
 use Rattle.cut_listing.specs.declared.ask.Ask.{Ask}
 use Rattle.cut_listing.specs.declared.ask.Ask.TheVariants.{Parting}
-use Rattle.mincut_program.specs.declared.command.Job.{Job}
+use Rattle.program_words.specs.declared.command.Job.{Job}
 use Rattle.cut_definitions.specs.Cuts.{mincuts}
 use Rattle.cut_definitions.proofs.Results.{if_ok_more}
-use Rattle.mincut_program.specs.Jobs.{IsAnswerOf, IsListed, IsStopFor, IsTextOf, asked_cuts, asked_of}
-use Rattle.mincut_program.specs.Solving.{IsListReply, IsListStop}
+use Rattle.job_answers.specs.Jobs.{IsAnswerOf, IsListed, IsStopFor, IsTextOf, asked_cuts, asked_of}
+use Rattle.job_answers.specs.Asked.{IsListReply, IsListStop}
 use Rattle.mincut_program.specs.Replies.{text_of}
-use Rattle.mincut_program.proofs.Graphs.{over_err, listed_answer, listed_stop, whole_answer}
+use Rattle.job_answers.proofs.Answering.{over_err, listed_answer, listed_stop, whole_answer}
 use Rattle.mincut_program.proofs.cuts.cuts_reply.Goals as goal
 
 pub returns-in-Cuts-clause-text : goal.returns-in-Cuts-clause-text

@@ -1,8 +1,8 @@
 use Rattle.std.proofs.Common.{◌≤◌, arith, sym, subst}
 use Rattle.cut_definitions.specs.Components.{IsConnected}
 use Rattle.cut_definitions.specs.Graph.{Graph}
-use Rattle.mincut_program.proofs.Graphs.{connected_of, one_component}
-use Rattle.mincut_program.proofs.Grown.{growth_stop, whole_growth}
+use Rattle.job_answers.proofs.Answering.{connected_of, one_component}
+use Rattle.job_answers.proofs.Inserted.{growth_stop, whole_growth}
 use Rattle.mincut_program.proofs.growth.grow_reply.Goals as goal
 
 pub returns-in-Err-clause-stop : goal.returns-in-Err-clause-stop

@@ -1,5 +1,6 @@
 use Rattle.std.proofs.Common.{arith}
-use Rattle.mincut_program.proofs.Graphs.{none_empty, value_small}
+use Rattle.job_answers.proofs.Answering.{value_small}
+use Rattle.mincut_program.proofs.Graphs.{none_empty}
 use Rattle.mincut_program.proofs.Grown.{grow_text}
 use Rattle.mincut_program.proofs.growth.growth_reply.Goals as goal
 

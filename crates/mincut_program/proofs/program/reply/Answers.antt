@@ -1,8 +1,8 @@
 use Rattle.std.proofs.Common.{sym, ◌∙◌}
 use Rattle.std.specs.Io.KnownBytes.{IsAtEnd}
-use Rattle.mincut_program.specs.Words.{texts}
-use Rattle.mincut_program.proofs.Telling.{only_notice}
-use Rattle.mincut_program.proofs.Trials.{is_makeable}
+use Rattle.program_words.specs.Words.{texts}
+use Rattle.job_answers.proofs.Telling.{only_notice}
+use Rattle.program_words.proofs.Trials.{is_makeable}
 use Rattle.mincut_program.proofs.program.reply.Goals as goal
 
 pub returns-in-Some-clause-ended : goal.returns-in-Some-clause-ended

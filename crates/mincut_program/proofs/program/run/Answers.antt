@@ -1,10 +1,10 @@
 use Rattle.std.proofs.Common.{◌≡◌, inr, refl, rules}
 use Rattle.metis_reader.specs.File.{masses_of}
-use Rattle.mincut_program.specs.Words.{texts}
-use Rattle.mincut_program.specs.Intake.{IsCause}
+use Rattle.program_words.specs.Words.{texts}
+use Rattle.job_answers.specs.Intake.{IsCause}
 use Rattle.mincut_program.specs.Replies.{TakesMemory}
-use Rattle.mincut_program.specs.declared.stop.Stop.TheVariants.{NoMemory}
-use Rattle.mincut_program.proofs.Telling.{telling, telling_failed, graph_told, outside_told, over_limit_told, told, answered, reading_of_large, reading_of_outside, too_large_reply, trial_told, has_command, no_reply}
+use Rattle.stop_lines.specs.declared.stop.Stop.TheVariants.{NoMemory}
+use Rattle.job_answers.proofs.Telling.{telling, telling_failed, graph_told, outside_told, over_limit_told, told, answered, reading_of_large, reading_of_outside, too_large_reply, trial_told, has_command, no_reply}
 use Rattle.mincut_program.proofs.program.run.Goals as goal
 
 pub returns-in-Ok-write_reply-clause-faulty : goal.returns-in-Ok-write_reply-clause-faulty

@@ -1,11 +1,11 @@
 use Rattle.std.proofs.Common.{List, map, ap, ◌∙◌, sym}
 use Rattle.vertex_set.specs.Side.{VertexList}
-use Rattle.cactus_tree.specs.Flattened.{flat_of}
-use Rattle.mincut_program.specs.Growing.{growth_text}
-use Rattle.mincut_program.specs.declared.growth_pages.Step.{Step}
-use Rattle.mincut_program.specs.Listings.{listing_text}
+use Rattle.flat_cactus.specs.Flattened.{flat_of}
+use Rattle.answer_pages.specs.Growing.{growth_text}
+use Rattle.answer_pages.specs.declared.growth_pages.Step.{Step}
+use Rattle.answer_pages.specs.Listings.{listing_text}
 use Rattle.mincut_program.specs.Replies.{text_of}
-use Rattle.mincut_program.proofs.Writing.{wrote_by, failed_by}
+use Rattle.job_answers.proofs.Writing.{wrote_by, failed_by}
 use Rattle.mincut_program.proofs.reply.write_reply.Goals as goal
 
 pub returns-in-Cactus-clause-failed : goal.returns-in-Cactus-clause-failed

@@ -1,7 +1,7 @@
 use Rattle.std.proofs.Common.{◌≡◌, ◌∙◌, ap, length, string_bytes, sym, arith}
 use Rattle.std.proofs.lemmas.List.{length-replicate}
 use Rattle.cut_definitions.proofs.Results.{if_ok_more}
-use Rattle.mincut_program.specs.Trials.{trial_text, IsFactsText}
+use Rattle.job_answers.specs.Trials.{trial_text, IsFactsText}
 use Rattle.mincut_program.proofs.Graphs.{facts_known, has_block}
 use Rattle.mincut_program.proofs.trial.describe.Goals as goal
 

@@ -1,6 +1,6 @@
 use Rattle.std.proofs.Common.{◌≤◌, ◌∙◌, sym, subst}
 use Rattle.cut_definitions.specs.Graph.{Graph}
-use Rattle.mincut_program.proofs.Graphs.{made_enough}
+use Rattle.job_answers.proofs.Answering.{made_enough}
 use Rattle.mincut_program.proofs.trial.trial_reply.Goals as goal
 
 pub solve-requires-clause-enough : goal.solve-requires-clause-enough

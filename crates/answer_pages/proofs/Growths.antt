@@ -1,0 +1,65 @@
+-- The lines of the steps, of one step after another, and what was written whole.
+use Rattle.std.proofs.Common.{◌≡◌, ℕ, suc, ◌+◌, ◌<◌, ◌≤◌, List, [], ◌∷◌, ◌++◌, length, get_or, take, drop, ap, ◌∙◌, sym, refl, append_assoc, append-nil, add-zero, arith}
+use Rattle.std.specs.Prelude.{Option, Result, Ok, Err, OnOk, OnErr}
+use Rattle.std.specs.Io.KnownBytes.{Appends}
+use Rattle.std.proofs.lemmas.List.{take_more, take-append-drop, length-take}
+use Rattle.outside.specs.Faults.{HasCause, AppendsPrefix}
+use Rattle.cactus_text.specs.Puts.{IsSplit, Puts}
+use Rattle.cactus_text.proofs.Putting.{all_taken}
+use Rattle.answer_pages.specs.declared.growth_pages.Step.{Step}
+use Rattle.answer_pages.specs.Growing.{step_line, step_lines}
+
+step_lines_append : (first : ℕ) (xs ys : List Step) → step_lines first (xs ++ ys) ≡ step_lines first xs ++ step_lines (first + length xs) ys
+step_lines_append first [] ys = ap (λ n. step_lines n ys) (sym (add-zero first))
+step_lines_append first (x ∷ xs) ys =
+    let rest : (first + 1) + length xs ≡ first + suc (length xs) = omega arith in
+    ap (λ (l : List ℕ). step_line first x ++ l) (step_lines_append (first + 1) xs ys ∙ ap (λ n. step_lines (first + 1) xs ++ step_lines n ys) rest)
+    ∙ sym (append_assoc (step_line first x) (step_lines (first + 1) xs) (step_lines (first + suc (length xs)) ys))
+
+from_taken : (xs ys : List Step) (i : ℕ) → i ≤ length xs → step_lines 1 (take i xs ++ ys) ≡ step_lines 1 (take i xs) ++ step_lines (i + 1) ys
+from_taken xs ys i h =
+    let count : 1 + length (take i xs) ≡ i + 1 = omega (arith, length-take i xs, h) in
+    step_lines_append 1 (take i xs) ys ∙ ap (λ n. step_lines 1 (take i xs) ++ step_lines n ys) count
+
+-- the lines of the first steps, with one more
+pub step_put : (a : List ℕ) (xs : List Step) (i : ℕ) (x : Step) → x ≡ get_or xs i x → i < length xs
+    → (a ++ step_lines 1 (take i xs)) ++ step_line (i + 1) x ≡ a ++ step_lines 1 (take (i + 1) xs)
+step_put a xs i x is h =
+    append_assoc a (step_lines 1 (take i xs)) (step_line (i + 1) x)
+    ∙ ap (λ (l : List ℕ). a ++ (step_lines 1 (take i xs) ++ l)) (sym (append-nil (step_line (i + 1) x)))
+    ∙ ap (λ (l : List ℕ). a ++ l) (sym (from_taken xs (x ∷ []) i (omega (arith, h))))
+    ∙ ap (λ y. a ++ step_lines 1 (take i xs ++ y ∷ [])) is
+    ∙ ap (λ ys. a ++ step_lines 1 ys) (sym (take_more xs i x h))
+
+rest_put : (a : List ℕ) (xs : List Step) (i : ℕ) → i ≤ length xs → (a ++ step_lines 1 (take i xs)) ++ step_lines (i + 1) (drop i xs) ≡ a ++ step_lines 1 xs
+rest_put a xs i h =
+    append_assoc a (step_lines 1 (take i xs)) (step_lines (i + 1) (drop i xs))
+    ∙ ap (λ (l : List ℕ). a ++ l) (sym (from_taken xs (drop i xs) i h) ∙ ap (step_lines 1) (take-append-drop i xs))
+
+-- and with all that follow
+pub steps_put : (a : List ℕ) (xs : List Step) (i : ℕ) (x : Step) → x ≡ get_or xs i x → i < length xs
+    → ((a ++ step_lines 1 (take i xs)) ++ step_line (i + 1) x) ++ step_lines (i + 1 + 1) (drop (i + 1) xs) ≡ a ++ step_lines 1 xs
+steps_put a xs i x is h = ap (λ (l : List ℕ). l ++ step_lines (i + 1 + 1) (drop (i + 1) xs)) (step_put a xs i x is h) ∙ rest_put a xs (i + 1) (omega (arith, h))
+
+-- the parts of a line behind what was there
+pub entry_first : (p a b c d e f g : List ℕ) → (p ++ (a ++ b)) ++ ((c ++ d) ++ (e ++ f) ++ g) ≡ p ++ (a ++ b ++ c ++ d ++ e ++ f ++ g)
+entry_first p a b c d e f g = simp append_assoc
+
+pub entry_second : (p a b c d e f g : List ℕ) → ((p ++ (a ++ b)) ++ (c ++ d)) ++ ((e ++ f) ++ g) ≡ p ++ (a ++ b ++ c ++ d ++ e ++ f ++ g)
+entry_second p a b c d e f g = simp append_assoc
+
+pub entry_parts : (p a b c d e f g : List ℕ) → (((p ++ (a ++ b)) ++ (c ++ d)) ++ (e ++ f)) ++ g ≡ p ++ (a ++ b ++ c ++ d ++ e ++ f ++ g)
+entry_parts p a b c d e f g = simp append_assoc
+
+-- ---- a text that was written whole, as by a page that holds nothing at the end
+
+written : {T E : Type 0} (r : Result T E) (b : List ℕ) (t0 t1 : Option (List ℕ)) → OnOk r (Appends t0 t1 b) → OnOk r (IsSplit b t0 t1 [])
+written (Ok x) b t0 t1 h = record { gone = b; parts = sym (append-nil b); taken = h }
+written (Err e) b t0 t1 h = tt
+
+pub puts_whole : {T E : Type 0} (r : Result T E) (b : List ℕ) (t0 t1 : Option (List ℕ)) (m n : ℕ) → OnOk r (Appends t0 t1 b) → OnErr r (AppendsPrefix t0 t1 b) → HasCause m n r → Puts b t0 t1 m n [] r
+puts_whole r b t0 t1 m n whole prefix cause = record { ok = written r b t0 t1 whole; err = prefix; cause = cause }
+
+pub all_written : {T E : Type 0} (r : Result T E) (b : List ℕ) (t0 t1 : Option (List ℕ)) → OnOk r (IsSplit b t0 t1 []) → OnOk r (Appends t0 t1 b)
+all_written {E = E} (Ok x) b t0 t1 p = all_taken {E = E} (Ok x) b [] t0 t1 p refl
+all_written {E = E} (Err e) b t0 t1 p = tt

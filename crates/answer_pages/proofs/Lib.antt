@@ -1,0 +1,3 @@
+mod Above
+mod Augmented
+mod Growths

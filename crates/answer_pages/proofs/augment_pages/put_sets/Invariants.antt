@@ -1,0 +1,12 @@
+-- The sets so far were put, and no write failed.
+use Rattle.std.proofs.Common.{◌≡◌, ◌++◌, take}
+use Rattle.std.specs.List.{flat_map}
+use Rattle.cactus_text.specs.Puts.{IsSplit}
+use Rattle.answer_pages.specs.Augmenting.{set_line}
+use Rattle.answer_pages.proofs.augment_pages.put_sets.Given as goal
+
+abbrev pub invariant-each_set : goal.invariant-each_set
+invariant-each_set g l = record {
+  put : IsSplit (l.initial.page ++ flat_map set_line (take l.i l.plan.sets)) (g.K.Sink.taken l.initial.sink) (g.K.Sink.taken l.sink) l.page;
+  same : g.K.Sink.faults l.sink ≡ g.K.Sink.faults l.initial.sink;
+}

@@ -1,0 +1,33 @@
+use Rattle.std.proofs.Common.{◌≡◌, ◌++◌, ◌∷◌, [], ℕ, List, ◌∙◌, ap, sym}
+use Rattle.std.proofs.lemmas.Result.{err_from_is_err_and}
+use Rattle.std.specs.Fmt.{decimal}
+use Rattle.cactus_text.specs.Text.{spaced}
+use Rattle.cactus_text.proofs.Putting.{split_then, puts_as, puts_after, puts_failed, line_word, three_parts}
+use Rattle.answer_pages.specs.Listings.{above, side_line}
+use Rattle.answer_pages.proofs.pages.put_from.Goals as goal
+
+pub returns-in_err-put : goal.returns-in_err-put
+returns-in_err-put g c =
+    let rest = spaced (above c.args.least c.args.side.now.members) in
+    let bytes : c.as_bytes.result.now ≡ decimal c.args.least = c.as_bytes.ensures.value ∙ c.format.ensures.text in
+    let whole = ap (λ (l : List ℕ). c.args.page.now ++ (l ++ rest ++ 10 ∷ [])) bytes ∙ ap (λ (l : List ℕ). c.args.page.now ++ side_line l) (sym c.requires) in
+    puts_as (line_word c.args.page.now c.as_bytes.result.now rest (10 ∷ []) ∙ whole)
+    (puts_failed (rest ++ 10 ∷ []) c.put.new.self (err_from_is_err_and c.from_residual.result c.from_residual.ensures.1).1 c.in_err-put.ensures)
+
+pub returns-in_err-put_above : goal.returns-in_err-put_above
+returns-in_err-put_above g c =
+    let rest = spaced (above c.args.least c.args.side.now.members) in
+    let bytes : c.as_bytes.result.now ≡ decimal c.args.least = c.as_bytes.ensures.value ∙ c.format.ensures.text in
+    let whole = ap (λ (l : List ℕ). c.args.page.now ++ (l ++ rest ++ 10 ∷ [])) bytes ∙ ap (λ (l : List ℕ). c.args.page.now ++ side_line l) (sym c.requires) in
+    puts_as (three_parts c.args.page.now c.as_bytes.result.now rest (10 ∷ []) ∙ whole)
+    (puts_failed (10 ∷ []) c.put_above.new.page (err_from_is_err_and c.from_residual-in_err-put_above.result c.from_residual-in_err-put_above.ensures.1).1
+    (puts_after rest c.in_ok-put.ensures.ok c.in_ok-put.ensures.cause.ok c.in_err-put_above.ensures.puts))
+
+pub returns : goal.returns
+returns g c =
+    let rest = spaced (above c.args.least c.args.side.now.members) in
+    let bytes : c.as_bytes.result.now ≡ decimal c.args.least = c.as_bytes.ensures.value ∙ c.format.ensures.text in
+    let whole = ap (λ (l : List ℕ). c.args.page.now ++ (l ++ rest ++ 10 ∷ [])) bytes ∙ ap (λ (l : List ℕ). c.args.page.now ++ side_line l) (sym c.requires) in
+    puts_as (three_parts c.args.page.now c.as_bytes.result.now rest (10 ∷ []) ∙ whole)
+    (puts_after (10 ∷ []) (split_then rest c.in_ok-put.ensures.ok c.in_ok-put_above.ensures.puts.ok)
+    (c.in_ok-put_above.ensures.puts.cause.ok ∙ c.in_ok-put.ensures.cause.ok) c.put-2.ensures)

@@ -1,0 +1,23 @@
+use Rattle.std.proofs.lemmas.Result.{err_from_is_err_and}
+use Rattle.cactus_text.proofs.Putting.{all_taken}
+use Rattle.answer_pages.specs.Listings.{balanced_text}
+use Rattle.answer_pages.proofs.Above.{flushed, not_flushed}
+use Rattle.answer_pages.proofs.pages.write_balanced.Goals as goal
+
+pub returns-in_err-put_balanced-clause-prefix : goal.returns-in_err-put_balanced-clause-prefix
+returns-in_err-put_balanced-clause-prefix g c =
+    let text = balanced_text c.args.value c.args.balance c.args.side.now.members in
+    let p = not_flushed text c.requires (err_from_is_err_and c.from_residual.result c.from_residual.ensures.1).1 c.in_err-put_balanced.ensures in
+    p.err
+
+pub returns-clause-whole : goal.returns-clause-whole
+returns-clause-whole g c =
+    let text = balanced_text c.args.value c.args.balance c.args.side.now.members in
+    let p = flushed text c.requires c.in_ok-put_balanced.ensures.ok c.in_ok-put_balanced.ensures.cause.ok c.flush.ensures.puts in
+    all_taken c.flush.result text c.flush.new.self (g.K.Sink.taken c.args.sink.now) (g.K.Sink.taken c.flush.new.sink) p.ok c.flush.ensures.empty
+
+pub returns-clause-prefix : goal.returns-clause-prefix
+returns-clause-prefix g c =
+    let text = balanced_text c.args.value c.args.balance c.args.side.now.members in
+    let p = flushed text c.requires c.in_ok-put_balanced.ensures.ok c.in_ok-put_balanced.ensures.cause.ok c.flush.ensures.puts in
+    p.err
