@@ -11,7 +11,6 @@ use Rattle.rooted_cactus.specs.Borders.{ranges_to, ranges_between, borders_along
 use Rattle.rooted_cactus.specs.Places.{places_from, side_at}
 use Rattle.cactus_walk.specs.Walking.{AreBorders}
 use Rattle.rooted_cactus.specs.Entered.{entered}
-use Rattle.rooted_cactus.specs.Trees.{vertices}
 use Rattle.rooted_cactus.specs.Sides.{cuts}
 use Rattle.rooted_cactus.specs.declared.tree.outline.NodeOutline.{NodeOutline}
 use Rattle.rooted_cactus.specs.declared.tree.border.Border.{Border}

@@ -1,7 +1,10 @@
 -- The mass of a side is that of its range.
-use Rattle.std.proofs.Common.{◌≡◌, ℕ, zero, suc, ◌+◌, ◌-◌, ◌*◌, ◌≤◌, ◌<◌, ◌^◌, ◌⊎◌, inl, inr, true, ◌||◌, ◌==◌, List, [], ◌∷◌, ◌++◌, length, get_or, take, ap, ◌∙◌, sym, refl, subst, arith}
+use Rattle.std.proofs.Common.{◌≡◌, ℕ, zero, suc, ◌+◌, ◌-◌, ◌*◌, ◌≤◌, ◌<◌, ◌^◌, ◌⊎◌, inl, inr, ⊎_elim, true, ◌||◌, ◌==◌, List, [], ◌∷◌, ◌++◌, length, get_or, take, ap, ◌∙◌, sym, refl, subst, arith}
 use Rattle.std.specs.List.{All, sum_by}
-use Rattle.std.proofs.Math.Seq.{take-suc}
+use Rattle.std.specs.Prelude.{◌≢◌}
+use Rattle.std.proofs.Math.Seq.{get_or-append_seam, take-suc}
+use Rattle.std.proofs.lemmas.Bool.{cases_eq}
+use Rattle.std.proofs.lemmas.List.{get_or_append_left}
 use Rattle.std.proofs.lemmas.List.Elements.{All-get_or}
 use Rattle.std.proofs.lemmas.List.Sums.{sum_by-cons, sum_by-append}
 use Rattle.cut_definitions.specs.Balance.{AreMasses, mass, mass_of}
@@ -25,6 +28,16 @@ before_next masses order k h =
     let more : mass_before masses order (k + 1) ≡ sum_by (mass_of masses) (take k order ++ get_or order k 0 ∷ []) =
     ap (λ i. sum_by (mass_of masses) (take i order)) next ∙ ap (sum_by (mass_of masses)) (take-suc order k 0 h) in
     omega (arith, more, sum_by-append (mass_of masses) (take k order) (get_or order k 0 ∷ []), sum_by-cons (mass_of masses) (get_or order k 0) [])
+
+-- the masses before the places so far, with one more
+pub sums_more : (masses order sums more : List ℕ) (count total sum : ℕ) → length sums ≡ count + 1 → count < length order → total ≡ mass_before masses order count → sum ≡ total + mass_of masses (get_or order count 0) →
+    more ≡ sums ++ sum ∷ [] → ((k : ℕ) → k ≤ count → get_or sums k 0 ≡ mass_before masses order k) → (k : ℕ) → k ≤ count + 1 → get_or more k 0 ≡ mass_before masses order k
+sums_more masses order sums more count total sum long l so_far next is h k le =
+    ap (λ (s : List ℕ). get_or s k 0) is
+    ∙ ⊎_elim
+    (λ (e : k ≡ count + 1). rw (e, ← long) (get_or-append_seam sums sum [] 0) ∙ (next ∙ (rw so_far (sym (before_next masses order count l)) ∙ ap (mass_before masses order) (sym e))))
+    (λ (ne : k ≢ count + 1). get_or_append_left sums (sum ∷ []) 0 k (omega arith) ∙ h k (omega arith))
+    (cases_eq k (count + 1))
 
 -- no place comes before the first
 pub before_first : (masses order : List ℕ) → mass_before masses order 0 ≡ 0

@@ -1,8 +1,9 @@
 -- A list cut at places: what it is after one more place or one more item, and what each part of it is.
-use Rattle.std.proofs.Common.{◌≡◌, ℕ, zero, suc, ◌+◌, ◌-◌, ◌≤◌, ◌<◌, inl, inr, List, [], ◌∷◌, ◌++◌, length, take, drop, ap, ◌∙◌, sym, refl, arith, add-one, length-drop}
-use Rattle.std.specs.Prelude.{Some, slice_range, slice_get}
-use Rattle.std.proofs.lemmas.List.{take_all, drop_all, take-append-le, drop-append-le, get_or_past, get_or_default}
-use Rattle.std.proofs.lemmas.Bool.{cases_lt}
+use Rattle.std.proofs.Common.{◌≡◌, ℕ, zero, suc, ◌+◌, ◌-◌, ◌≤◌, ◌<◌, inl, inr, ⊎_elim, List, [], ◌∷◌, ◌++◌, length, take, drop, ap, ◌∙◌, sym, refl, arith, add-one, length-append, length-drop}
+use Rattle.std.specs.Prelude.{◌≢◌, Some, slice_range, slice_get}
+use Rattle.std.proofs.lemmas.List.{take_all, drop_all, take-append-le, drop-append-le, get_or_append_left, get_or_past, get_or_default}
+use Rattle.std.proofs.Math.Seq.{get_or-append_seam}
+use Rattle.std.proofs.lemmas.Bool.{cases_eq, cases_lt}
 use Rattle.flat_cactus.specs.Flat.{appended_from, appended_to_last, cut_from, cut_at, start_of, AreStarts}
 
 cut_from_length : (start : ℕ) (more items : List ℕ) → length (cut_from start more items) ≡ suc (length more)
@@ -80,6 +81,25 @@ starts_item starts count h =
       | inr g ↦ omega (arith, start_past starts count (i + 1) g, within i)
     ] in
     record { ascend = ascend; within = within }
+
+-- one place more at the end: what was past all places begins there, and what is there ends where all end
+start_more : (starts : List ℕ) (count i : ℕ) → start_of (starts ++ count ∷ []) count i ≡ start_of starts count i
+start_more starts count i =
+    elim (cases_lt i (length starts)) as (λ _. start_of (starts ++ count ∷ []) count i ≡ start_of starts count i) [
+      | inl l ↦ get_or_append_left starts (count ∷ []) count i l
+      | inr g ↦ ⊎_elim
+          (λ (e : i ≡ length starts). rw e (get_or-append_seam starts count [] count) ∙ sym (get_or_past starts i count g))
+          (λ (ne : i ≢ length starts). get_or_past (starts ++ count ∷ []) i count (omega (arith, length-append starts (count ∷ []))) ∙ sym (get_or_past starts i count g))
+          (cases_eq i (length starts))
+    ]
+
+-- the places stay right with one more at the end
+pub starts_place : (starts more : List ℕ) (count : ℕ) → AreStarts starts count → more ≡ starts ++ count ∷ [] → AreStarts more count
+starts_place starts more count h is =
+    rw is (record {
+      ascend = λ i. omega (arith, start_more starts count i, start_more starts count (i + 1), h.ascend i);
+      within = λ i. omega (arith, start_more starts count i, h.within i);
+    })
 
 appended_from_last : (first : List ℕ) (front : List (List ℕ)) (last : List ℕ) (x : ℕ)
     → appended_from first (front ++ last ∷ []) x ≡ first ∷ (front ++ (last ++ x ∷ []) ∷ [])

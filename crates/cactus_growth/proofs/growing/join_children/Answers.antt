@@ -1,4 +1,5 @@
 use Rattle.std.proofs.Common.{refl}
+use Rattle.std.proofs.lemmas.Option.{slice_get_within}
 use Rattle.rooted_cactus.specs.Trees.{nodes_in}
 use Rattle.cactus_growth.specs.declared.ways.Step.{Step}
 use Rattle.cactus_growth.proofs.GrownJoin.{absorbed, grown_join}
@@ -46,3 +47,22 @@ returns c =
     (leads_inside c.args.u b.near _ (near_leads c.args.node c.args.u c.args.v c.args.u_way.now c.args.v_way.now none c.requires.u_way c.requires.v_way c.requires.ordered c.in_ok-opened.far c.in_ok-opened.ensures.child (nodes_in o.before) c.in_ok-opened.ensures.before b.near b.ensures.here))
     (leads_inside c.args.v c.in_ok-opened.far _ (far_leads c.args.node c.args.u c.args.v c.args.u_way.now c.args.v_way.now none c.requires.u_way c.requires.v_way c.requires.ordered c.in_ok-opened.far c.in_ok-opened.ensures.child))
     c.in_ok-near.ensures c.in_ok-far.ensures (absorbed c.in_ok-near.near c.in_ok-far.far c.in_ok-joint.joint c.in_ok-joint-2.joint c.in_ok-joint.ensures c.in_ok-joint-2.ensures) c.in_ok-joint-3.ensures c.in_ok-node.ensures
+
+-- both ways have a first step
+pub bounds-v_way-0 : goal.bounds-v_way-0
+bounds-v_way-0 c = slice_get_within c.args.v_way.now 0 c.requires.ordered.1 c.requires.ordered.3
+
+pub bounds-u_way-0 : goal.bounds-u_way-0
+bounds-u_way-0 c = slice_get_within c.args.u_way.now 0 c.requires.ordered.0 c.requires.ordered.2
+
+pub slice_bounds-pull-count : goal.slice_bounds-pull-count
+slice_bounds-pull-count c = slice_get_within c.args.u_way.now 0 c.requires.ordered.0 c.requires.ordered.2
+
+pub slice_bounds-pull-start : goal.slice_bounds-pull-start
+slice_bounds-pull-start c = slice_get_within c.args.u_way.now 0 c.requires.ordered.0 c.requires.ordered.2
+
+pub slice_bounds-pull-count-2 : goal.slice_bounds-pull-count-2
+slice_bounds-pull-count-2 c = slice_get_within c.args.v_way.now 0 c.requires.ordered.1 c.requires.ordered.3
+
+pub slice_bounds-pull-start-2 : goal.slice_bounds-pull-start-2
+slice_bounds-pull-start-2 c = slice_get_within c.args.v_way.now 0 c.requires.ordered.1 c.requires.ordered.3

@@ -1,6 +1,6 @@
 use Rattle.std.proofs.Common.{◌∙◌, ◌≡◌, ◌++◌, ◌∷◌, [], ℕ, List, ap, length, rules}
 use Rattle.flat_cactus.specs.Flat.{Flat, cut_at}
-use Rattle.flat_cactus.proofs.Flats.{cut_list}
+use Rattle.flat_cactus.proofs.Flats.{cut_list, starts_place}
 use Rattle.flat_cactus.proofs.flat.FlatCactus.push_cycle.Goals as goal
 
 pub returns-clause-ok : goal.returns-clause-ok
@@ -12,3 +12,10 @@ returns-clause-ok c =
     let holding : List (List ℕ) → Flat = λ ls. record { vertices = c.self.inside.n; nodes = cut_at c.self.inside.node_starts.items c.self.inside.vertices.items; bridges = c.self.inside.bridges.items; cycles = ls } in
     let grow : Flat → Flat = λ f. record f { cycles = f.cycles ++ [] ∷ [] } in
     ap holding lists ∙ ap grow c.self.view_is
+
+pub invariant_of-self-2 : goal.invariant_of-self-2
+invariant_of-self-2 c =
+    let starts = c.self.inside.cycle_starts.items in
+    let items = c.self.inside.members.items in
+    let grown : c.push.new.self.items ≡ starts ++ length items ∷ [] = search rules in
+    (c.self.invariant.0, starts_place starts c.push.new.self.items (length items) c.self.invariant.1 grown)
