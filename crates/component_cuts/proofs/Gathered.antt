@@ -1,10 +1,10 @@
 -- Sides that are gathered vertex by vertex and side by side.
-use Rattle.std.proofs.Common.{◌≡◌, ℕ, ◌+◌, ◌≤◌, ◌<◌, ⊎_elim, Bool, true, false, ◌&&◌, ◌||◌, eqb, leb, List, [], ◌∷◌, ◌++◌, length, map, take, get_or, refl, sym, ◌∙◌, ap, arith}
+use Rattle.std.proofs.Common.{◌≡◌, ℕ, ◌+◌, ◌≤◌, ◌<◌, ⊎_elim, Bool, true, false, ◌&&◌, ◌||◌, eqb, leb, List, [], ◌∷◌, ◌++◌, length, length-append, map, take, get_or, refl, sym, ◌∙◌, ap, arith}
 use Rattle.std.specs.Prelude.{◌≢◌}
 use Rattle.std.proofs.lemmas.Bool.{cases_eq, eq-eqb, ne_eqb, or_right, and_right, le-leb, lt-leb}
 use Rattle.std.specs.List.{All}
-use Rattle.std.proofs.lemmas.List.{append_assoc, map-append, take_more}
-use Rattle.std.proofs.lemmas.List.Elements.{All-append, All-map, All-cons, All-nil}
+use Rattle.std.proofs.lemmas.List.{append_assoc, get_or_append_left, map-append, take_all, take_more}
+use Rattle.std.proofs.lemmas.List.Elements.{All-append, All-get_or, All-map, All-cons, All-nil}
 use Rattle.cut_definitions.specs.Weight.{VertexSet, either}
 use Rattle.cut_definitions.specs.Cuts.{has}
 use Rattle.cut_definitions.specs.Scan.{single}
@@ -72,6 +72,21 @@ one_joined part old items i d l e =
     ap (λ (xs : List VertexList). xs ++ f (get_or old i d) ∷ []) e
     ∙ (append_assoc old (map f (take i old)) (f (get_or old i d) ∷ [])
     ∙ ap (λ (xs : List VertexList). old ++ xs) (sym (map-append f (take i old) (get_or old i d ∷ [])) ∙ ap (map f) (sym (take_more old i d l))))
+
+-- a place of the old list is one of the list so far, and holds what it held
+pub old_place : (part : VertexList) (old items : List VertexList) (i : ℕ) → i < length old → items ≡ old ++ map (joined_with part) (take i old) → i < length items
+old_place part old items i l e = omega (arith, ap (λ (xs : List VertexList). length xs) e, length-append old (map (joined_with part) (take i old)))
+
+pub old_side : (part : VertexList) (old items : List VertexList) (i : ℕ) (d : VertexList) → i < length old → items ≡ old ++ map (joined_with part) (take i old) → d ≡ get_or items i d → d ≡ get_or old i d
+old_side part old items i d l e at = at ∙ (ap (λ (xs : List VertexList). get_or xs i d) e ∙ get_or_append_left old (map (joined_with part) (take i old)) d i l)
+
+pub side_over : (part : VertexList) (old : List VertexList) (i : ℕ) (d : VertexList) → i < length old → All (λ (s : VertexList). s.vertices ≡ part.vertices) old → d ≡ get_or old i d → d.vertices ≡ part.vertices
+side_over part old i d l over at = ap (λ (s : VertexList). s.vertices) at ∙ All-get_or (λ (s : VertexList). s.vertices ≡ part.vertices) old i d l over
+
+-- all sides are joined, and the part stands last
+pub all_doubled : (part : VertexList) (old items : List VertexList) (i : ℕ) → length old ≤ i → items ≡ old ++ map (joined_with part) (take i old) → items ++ part ∷ [] ≡ doubled part old
+all_doubled part old items i le e =
+    ap (λ (xs : List VertexList). xs ++ part ∷ []) (e ∙ ap (λ (xs : List VertexList). old ++ map (joined_with part) xs) (take_all i old le)) ∙ append_assoc old (map (joined_with part) old) (part ∷ [])
 
 pub joined_from : (part side first second : VertexList) (n : ℕ) (empty : VertexList) → n ≡ part.vertices → empty ≡ record { vertices = n; members = [] } →
     first ≡ listed empty.vertices (either (has empty.members) (has part.members)) → second ≡ listed first.vertices (either (has first.members) (has side.members)) → second ≡ joined_with part side

@@ -1,5 +1,5 @@
 -- Rows of sums in a table of bits.
-use Rattle.std.proofs.Common.{◌≡◌, ℕ, zero, suc, ◌+◌, ◌-◌, ◌*◌, ◌<◌, ◌≤◌, ⊎_elim, Bool, true, false, not, ◌&&◌, ◌||◌, eqb, ltb, List, [], length, set, get_or, length-set, get_or-set_same, get_or-set_other, refl, sym, ◌∙◌, ap, subst, arith}
+use Rattle.std.proofs.Common.{◌^◌, ◌≡◌, ℕ, zero, suc, ◌+◌, ◌-◌, ◌*◌, ◌<◌, ◌≤◌, ⊎_elim, Bool, true, false, not, ◌&&◌, ◌||◌, eqb, ltb, List, [], length, set, get_or, length-set, get_or-set_same, get_or-set_other, refl, sym, ◌∙◌, ap, subst, arith}
 use Rattle.std.specs.Prelude.{◌≢◌, if◌then◌else◌}
 use Rattle.std.proofs.Math.Nat.{mul-le-mul_left}
 use Rattle.std.proofs.lemmas.Bool.{cases_eq, cases_lt, cases_Bool, eq-eqb, eqb-true, ne_eqb, false≢true, or_right}
@@ -208,6 +208,23 @@ sum_more weights f g at (suc row) l out is same =
 
 abbrev pub as_choice : List Bool → ℕ → Bool
 as_choice chosen i = get_or chosen i false
+
+pub row_back : (width row rows n : ℕ) → row ≤ rows → rows * width ≤ n → (row - 1) * width ≤ n
+row_back width row rows n l le =
+    let low : row - 1 ≤ rows = omega arith in
+    omega (arith, mul-le-mul_left width low)
+
+-- a product that is small, with two factors of which one is two at least
+pub few_sums : (k m : ℕ) → 2 ≤ k → k * (m + 1) ≤ 2 ^ 32 → m < 2 ^ 31
+few_sums k m two le =
+    let more : (m + 1) * 2 ≤ (m + 1) * k = mul-le-mul_left (m + 1) two in
+    omega arith
+
+-- a table of one row less is smaller
+pub few_places : (k width rows n : ℕ) → n ≡ rows * width → rows + 1 ≡ k → 1 ≤ width → k * width ≤ 2 ^ 32 → n < 2 ^ 32
+few_places k width rows n e next some le =
+    let whole : (rows + 1) * width ≤ 2 ^ 32 = subst (λ (j : ℕ). j * width ≤ 2 ^ 32) (sym next) le in
+    omega arith
 
 -- what is left of a sum before a row, and what is chosen after it
 pub record IsChoosing (weights : List ℕ) (width rows sum : ℕ) (table : VertexList) (row left : ℕ) (chosen : List Bool) : Type 0 where

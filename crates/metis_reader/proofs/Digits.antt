@@ -155,3 +155,9 @@ digits_held parser line part word longer r digits all apart grows holds =
         same_word = subst (λ bytes. IsWord longer bytes) (sym read.word) (grows r.word holds.same_word);
       },
     )
+
+-- where nothing is read, all stays as it was
+pub none_read : (parser : Parser) (line : ℕ) (part : LinePart) (word : Word) (r : Reading) (from : ℕ) (bytes : List ℕ) → Holds parser line part word r →
+    (bytes_findings r (run from from bytes) ≡ []) × Holds parser line part word (reading_from r (run from from bytes))
+none_read parser line part word r from bytes holds =
+    subst (λ (read : List ℕ). (bytes_findings r read ≡ []) × Holds parser line part word (reading_from r read)) (sym (run_none from bytes)) (refl, holds)

@@ -1,5 +1,6 @@
 -- The vertices of a class one after another, what their rows add up to, and the edges that are made of it.
-use Rattle.std.proofs.Common.{◌≡◌, ℕ, zero, suc, ◌+◌, ◌-◌, ◌*◌, ◌<◌, ◌≤◌, inl, inr, ⊎_elim, Bool, true, false, ◌&&◌, ◌||◌, cond, eqb, ltb, List, [], ◌∷◌, ◌++◌, length, map, get_or, set, refl, sym, ◌∙◌, subst, ap, arith, length-append}
+use Rattle.std.proofs.Common.{◌≡◌, ℕ, zero, suc, ◌+◌, ◌-◌, ◌*◌, ◌<◌, ◌≤◌, inl, inr, ⊎_elim, Bool, true, false, ◌&&◌, ◌||◌, cond, eqb, ltb, List, [], ◌∷◌, ◌++◌, length, map, replicate, get_or, set, refl, sym, ◌∙◌, subst, ap, arith, length-append}
+use Rattle.std.proofs.lemmas.List.{get_or-replicate, get_or_past, length-replicate}
 use Rattle.std.specs.Prelude.{◌≢◌}
 use Rattle.std.specs.List.{filter, flat_map, range_with_len}
 use Rattle.std.proofs.lemmas.Bool.{cases_eq, cases_lt, eq-eqb, ne_eqb, and_left, and_right}
@@ -285,3 +286,10 @@ unfolding relabel
 relabel_made g labels k edges e f =
     ap (λ (x : ℕ). let r : Graph = record { vertices = x; edges = edges } in r) e
     ∙ ap (λ (es : List Edge). let r : Graph = record { vertices = classes labels; edges = es } in r) f
+
+-- ---- a list of zeros is 0 everywhere, past its end too
+pub zeros_at : (n i : ℕ) → get_or (replicate {A = ℕ} n 0) i 0 ≡ 0
+zeros_at n i = ⊎_elim
+    (λ (l : i < n). get_or-replicate n i 0 0 l)
+    (λ (le : n ≤ i). get_or_past (replicate {A = ℕ} n 0) i 0 (omega (arith, length-replicate {A = ℕ} n 0)))
+    (cases_lt i n)

@@ -3,7 +3,7 @@ use Rattle.std.proofs.Common.{◌≡◌, ◌≤◌, ◌-◌, ℕ, length, subst,
 use Rattle.metis_reader.specs.Reading.{reading_from}
 use Rattle.metis_reader.specs.Holding.{Holds}
 use Rattle.metis_reader.proofs.Runs.{run}
-use Rattle.metis_reader.proofs.Digits.{run_length, digits_held, in_words}
+use Rattle.metis_reader.proofs.Digits.{run_length, digits_held, in_words, none_read}
 use Rattle.metis_reader.proofs.reader.lengthened.Goals as goal
 
 pub returns : goal.returns
@@ -22,3 +22,13 @@ returns c =
             subst (λ part. Holds parser line part c.with_digits-end.result.0 (reading_from r (run from end bytes))) (in_words c.args.part (run from end bytes) (omega arith)) held.1,
           );
     }
+
+-- in a comment and without a digit nothing is read
+pub returns-in-Comment-clause-holds : goal.returns-in-Comment-clause-holds
+returns-in-Comment-clause-holds c parser line r holds = none_read parser line c.args.part c.args.word r c.args.from c.args.bytes.now holds
+
+pub returns-then-end-from : goal.returns-then-end-from
+returns-then-end-from c = record {
+  within = (omega arith, omega (arith, c.requires));
+  holds = λ parser line r holds. none_read parser line c.args.part c.args.word r c.args.from c.args.bytes.now holds;
+}

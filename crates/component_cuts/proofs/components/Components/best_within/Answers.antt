@@ -6,9 +6,34 @@ use Rattle.component_cuts.specs.Parts.{Parts, part_at, divided, unions}
 use Rattle.component_cuts.specs.Doubling.{chosen_vertices}
 use Rattle.component_cuts.specs.Sums.{has_sum, mass_of_number, sum_of_rows, AreRows}
 use Rattle.component_cuts.proofs.Divided.{length_divided}
-use Rattle.component_cuts.proofs.Rows.{sums_made, sum_none}
+use Rattle.component_cuts.proofs.Rows.{sums_made, sum_none, few_sums, few_places}
 use Rattle.component_cuts.proofs.Best.{AreSums, best_second, best_chosen}
 use Rattle.component_cuts.proofs.components.Components.best_within.Goals as goal
+
+pub mass_by_number-requires-clause-long : goal.mass_by_number-requires-clause-long
+mass_by_number-requires-clause-long c =
+    omega (arith, ap (λ (xs : List ℕ). length xs) c.deref.ensures.value, c.self.invariant.long, c.requires.weights, ap (λ (p : Parts). p.vertices) c.self.view_is)
+
+pub mass_by_number-requires-clause-within : goal.mass_by_number-requires-clause-within
+mass_by_number-requires-clause-within c = subst (λ (xs : List ℕ). (v : ℕ) → get_or xs v 0 ≤ c.self.inside.count) (sym c.deref.ensures.value) c.self.invariant.to_count
+
+pub mass_by_number-requires-clause-small : goal.mass_by_number-requires-clause-small
+mass_by_number-requires-clause-small c = omega (arith, few_sums (length c.args.self.now.parts) (mass c.args.weights.now (λ v. true)) c.requires.two c.requires.small)
+
+pub overflow_add-width : goal.overflow_add-width
+overflow_add-width c = omega (arith, few_sums (length c.args.self.now.parts) (mass c.args.weights.now (λ v. true)) c.requires.two c.requires.small, c.requires.total)
+
+pub fill_rows-requires-clause-some : goal.fill_rows-requires-clause-some
+fill_rows-requires-clause-some c =
+    let s = c.self.inside in
+    omega (
+      arith,
+      ap (λ (xs : List ℕ). length xs) c.deref-2.ensures.value,
+      c.in_ok-sums.ensures.long,
+      c.requires.two,
+      length_divided s.n s.count s.part_of.items,
+      ap (λ (p : Parts). length p.parts) c.self.view_is,
+    )
 
 pub fill_rows-requires-clause-count : goal.fill_rows-requires-clause-count
 fill_rows-requires-clause-count c =
@@ -37,9 +62,86 @@ best_sum-sum-requires-clause-none c =
     let none : sum_of_rows now (λ i. false) (s.count - 1) ≡ 0 = sum_none now (λ i. false) (s.count - 1) (λ i. refl) in
     subst (λ (k : ℕ). has_sum table width (s.count - 1) k ≡ true) none (sums_made now width (s.count - 1) table rows (λ i. false) (s.count - 1) (omega arith) (omega arith))
 
+pub best_sum-sum-requires-clause-row : goal.best_sum-sum-requires-clause-row
+best_sum-sum-requires-clause-row c =
+    let rows_is : length c.deref-2.result.now - 2 ≡ c.self.inside.count - 1 = omega (arith, ap (λ (xs : List ℕ). length xs) c.deref-2.ensures.value, c.in_ok-sums.ensures.long) in
+    omega (arith, c.in_ok-table.ensures.vertices, ap (λ (k : ℕ). k * (c.args.total + 1)) rows_is)
+
+pub best_sum-sum-requires-clause-few : goal.best_sum-sum-requires-clause-few
+best_sum-sum-requires-clause-few c =
+    let s = c.self.inside in
+    let parts = length c.args.self.now.parts in
+    let rows : length c.deref-2.result.now - 2 + 1 ≡ parts = omega (
+      arith,
+      ap (λ (xs : List ℕ). length xs) c.deref-2.ensures.value,
+      c.in_ok-sums.ensures.long,
+      c.requires.two,
+      length_divided s.n s.count s.part_of.items,
+      ap (λ (p : Parts). length p.parts) c.self.view_is,
+    ) in
+    few_places parts (c.args.total + 1) (length c.deref-2.result.now - 2) c.in_ok-table.table.vertices c.in_ok-table.ensures.vertices rows (omega arith)
+    (subst (λ (t : ℕ). parts * (t + 1) ≤ 2 ^ 32) (sym c.requires.total) c.requires.small)
+
+pub choose-requires-clause-few : goal.choose-requires-clause-few
+choose-requires-clause-few c =
+    let s = c.self.inside in
+    let parts = length c.args.self.now.parts in
+    let rows : length c.deref-2.result.now - 2 + 1 ≡ parts = omega (
+      arith,
+      ap (λ (xs : List ℕ). length xs) c.deref-2.ensures.value,
+      c.in_ok-sums.ensures.long,
+      c.requires.two,
+      length_divided s.n s.count s.part_of.items,
+      ap (λ (p : Parts). length p.parts) c.self.view_is,
+    ) in
+    few_places parts (c.args.total + 1) (length c.deref-2.result.now - 2) c.in_ok-table.table.vertices c.in_ok-table.ensures.vertices rows (omega arith)
+    (subst (λ (t : ℕ). parts * (t + 1) ≤ 2 ^ 32) (sym c.requires.total) c.requires.small)
+
+pub choose-requires-clause-vertices : goal.choose-requires-clause-vertices
+choose-requires-clause-vertices c =
+    let same : length c.deref-3.result.now - 2 ≡ length c.deref-2.result.now - 2 = ap (λ (xs : List ℕ). length xs - 2) (c.deref-3.ensures.value ∙ sym c.deref-2.ensures.value) in
+    omega (arith, c.in_ok-table.ensures.vertices, ap (λ (k : ℕ). k * (c.args.total + 1)) same)
+
+pub choose-requires-clause-sum : goal.choose-requires-clause-sum
+choose-requires-clause-sum c = c.best_sum-sum.ensures.within
+
+pub choose-requires-clause-made : goal.choose-requires-clause-made
+choose-requires-clause-made c =
+    let rows_is : length c.deref-3.result.now - 2 ≡ c.self.inside.count - 1 = omega (arith, ap (λ (xs : List ℕ). length xs) c.deref-3.ensures.value, c.in_ok-sums.ensures.long) in
+    subst (λ (k : ℕ). has_sum c.in_ok-table.table (c.args.total + 1) k c.best_sum-sum.result ≡ true) (sym rows_is) c.best_sum-sum.ensures.made
+
 pub choose-requires-clause-rows : goal.choose-requires-clause-rows
 choose-requires-clause-rows c =
     subst (λ (xs : List ℕ). AreRows xs (c.args.total + 1) (length xs - 2) c.in_ok-table.table) (c.deref-2.ensures.value ∙ sym c.deref-3.ensures.value) c.in_ok-table.ensures.rows
+
+pub chosen_side-requires-clause-long : goal.chosen_side-requires-clause-long
+chosen_side-requires-clause-long c = omega (arith, ap (λ (xs : List ℕ). length xs) c.deref-4.ensures.value, c.self.invariant.long)
+
+pub chosen_side-requires-clause-within : goal.chosen_side-requires-clause-within
+chosen_side-requires-clause-within c v =
+    let at = ap (λ (xs : List ℕ). get_or xs v 0) c.deref-4.ensures.value in
+    omega (
+      arith,
+      at,
+      c.self.invariant.to_count v,
+      ap (λ (xs : List Bool). length xs) c.deref-5.ensures.value,
+      c.in_ok-chosen.ensures.long,
+      ap (λ (xs : List ℕ). length xs) c.deref-3.ensures.value,
+      c.in_ok-sums.ensures.long,
+    )
+
+pub part_side-requires : goal.part_side-requires
+part_side-requires c = (omega arith, c.requires.two)
+
+pub returns-then-min-eq0-clause-over_n : goal.returns-then-min-eq0-clause-over_n
+returns-then-min-eq0-clause-over_n c =
+    if_ok_more (λ (t : VertexList). t ≡ record { vertices = c.args.self.now.vertices; members = part_at c.args.self.now 2 }) (λ (t : VertexList). t.vertices ≡ c.args.self.now.vertices) c.part_side.result
+    (λ t e. ap (λ (s : VertexList). s.vertices) e) c.part_side.ensures
+
+pub returns-clause-over_n : goal.returns-clause-over_n
+returns-clause-over_n c =
+    if_ok_more (λ (t : VertexList). t ≡ listed c.self.inside.n (chosen_vertices c.deref-4.result.now c.deref-5.result.now)) (λ (t : VertexList). t.vertices ≡ c.args.self.now.vertices) c.chosen_side.result
+    (λ t e. ap (λ (s : VertexList). s.vertices) e ∙ ap (λ (p : Parts). p.vertices) c.self.view_is) c.chosen_side.ensures
 
 pub returns-then-min-eq0-clause-best : goal.returns-then-min-eq0-clause-best
 returns-then-min-eq0-clause-best c =

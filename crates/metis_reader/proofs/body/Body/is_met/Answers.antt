@@ -1,9 +1,11 @@
 use Rattle.std.proofs.Common.{◌≡◌, ◌≤◌, ◌+◌, ◌*◌, ◌++◌, ℕ, List, length, arith, ap, sym, subst, ◌∙◌, length-append}
+use Rattle.std.specs.List.{AllPairs}
 use Rattle.std.specs.List.Sorted.{IsPermutation}
 use Rattle.std.proofs.lemmas.Grind.{common_steps}
 use Rattle.std.proofs.lemmas.List.{append-nil, nil_from_length}
 use Rattle.std.proofs.lemmas.List.Sorted.{IsPermutation-refl}
 use Rattle.cut_definitions.specs.declared.edge_list.Edge.{Edge}
+use Rattle.cut_definitions.specs.Graph.{IsBefore}
 use Rattle.metis_reader.specs.Meeting.{met_from, with_met}
 use Rattle.metis_reader.proofs.Meeting.{all_met, met_length}
 use Rattle.metis_reader.proofs.body.Body.is_met.Goals as goal
@@ -23,3 +25,6 @@ returns-clause-lesser c = λ yes.
     let none : length c.args.self.now.lesser.items ≡ 0 = grind (arith, common_steps) in
     let most : 2 * length c.args.self.now.greater.items ≤ c.args.self.now.entries = grind (arith, common_steps) in
     whole c.args.self.now.greater.items c.args.self.now.cursors.items c.args.self.now.lesser.items c.args.self.now.entries none most c.args.self.now.counted
+
+pub returns-clause-ascends : goal.returns-clause-ascends
+returns-clause-ascends c = λ met. subst (λ (es : List Edge). AllPairs IsBefore es) c.deref.ensures.value (c.is_strict.ensures met)
