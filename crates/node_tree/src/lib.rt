@@ -18,6 +18,6 @@ mod tree;
 pub use branches::tree_of_branches;
 pub use homed_tree::HomedTree;
 pub use homes::Homes;
-pub use into_cactus::{cactus_of_tree, normal_form};
+pub use into_cactus::{MadeCactus, cactus_of_tree, normal_form};
 pub use part_nodes::hang_parts;
 pub use tree::{FlatTree, grafted_at};
