@@ -11,7 +11,7 @@ use Rattle.cut_definitions.proofs.Running.{cut_part_le}
 use Rattle.cut_definitions.proofs.Bools.{parts_from_same, same_from_parts}
 use Rattle.weighted_graph.specs.RowLaws.{edge_at}
 use Rattle.weighted_graph.proofs.Rows.{no_edge}
-use Rattle.edge_certificates.specs.Certificates.{edge_weight, IsHeavyVertex, IsTriangle}
+use Rattle.edge_certificates.specs.Certificates.{edge_weight, IsHeavyAt, IsHeavyVertex, IsTriangle}
 use Rattle.edge_certificates.proofs.SafeTests.{edge_weight-swap, heavy_vertex_safe, triangle_safe, weight_of_edge-le}
 use Rattle.forest_contraction.specs.declared.leaning.Hubs.{Hubs}
 use Rattle.vertex_classes.specs.Classes.{AreJoined, HasJoined}
@@ -39,6 +39,18 @@ hub_seen g h new v x w are v_in x_in some small joined degrees hubs weights = re
       (subst (λ (k : ℕ). IsHub g u (get_or h.hubs.items u 0) k) (sym (get_or-set_other h.weights.items v u w 0 ne)) (are.hubs u u_in)))
       (cases_eq u v)));
 }
+
+-- what the edge to a hub weighs fits
+pub hub_weight_small : (g : Graph) (h : Hubs) (v found : ℕ) → AreHubs g h → v ≤ g.vertices → found ≡ get_or h.weights.items v found → found ≤ 2 ^ 61
+hub_weight_small g h v found are v_in is =
+    let at : found ≡ get_or h.weights.items v 0 = is ∙ get_or_default h.weights.items v found 0 (omega (arith, v_in, are.weights_long)) in
+    omega (arith, at, (are.hubs v v_in).small)
+
+-- an edge that is more than half of the degree of one end leans on that end
+pub leans_on_end : (g : Graph) (h : Hubs) (v w bound found : ℕ) → AreHubs g h → v ≤ g.vertices → found ≡ get_or h.degrees.items v found → bound ≤ found → found < 2 * w → IsHeavyAt g v w bound
+leans_on_end g h v w bound found are v_in is low heavy =
+    let at : found ≡ get_or h.degrees.items v 0 = is ∙ get_or_default h.degrees.items v found 0 (omega (arith, v_in, are.degrees_long)) in
+    record { reaches = omega (arith, at, are.degrees v, low); more_than_half = omega (arith, at, are.degrees v, heavy) }
 
 -- an edge that is heavy with those to a common hub closes a heavy triangle
 pub leans_on_hub : (g : Graph) (h : Hubs) (e : Edge) (bound near far hub other first second : ℕ) → AreHubs g h → e.u ≤ g.vertices → e.v ≤ g.vertices →

@@ -35,6 +35,12 @@ depth_fits n arcs goes outside part_of marks stack back next borders height dept
     let depth_some = h.some_set some in
     (depth_some, omega (arith, h.spaced (depth - 1) (omega arith), h.to_current (depth - 1) (omega arith), h.current_in some))
 
+-- the place that is looked at, and how many places there are
+pub place_within : {n first : ℕ} → {arcs : SearchArcs} → {goes : ℕ → ℕ → Bool} → {old outside : List ℕ} → {start parts : ℕ} → {part_of marks stack back next borders : List ℕ} → {height depth current : ℕ} →
+    IsPassing n first arcs goes old outside start parts part_of marks stack back next borders height depth current → length outside ≡ n → 0 < height → (current < height) × (height ≤ n)
+place_within {n} {first} {arcs} {goes} {old} {outside} {start} {parts} {part_of} {marks} {stack} {back} {next} {borders} {height} {depth} {current} h long some =
+    (h.path.current_in some, omega (arith, height_fits n first arcs goes old outside start parts part_of marks stack back next borders height depth current h long))
+
 -- a vertex without a mark
 pub one_unmarked : (n : ℕ) (marks : List ℕ) (w : ℕ) → length marks ≡ n → 1 ≤ w → w ≤ n → mark_of marks w ≡ 0 → 1 ≤ unmarked marks
 one_unmarked n marks w long a b none =

@@ -2,6 +2,7 @@
 use Rattle.std.proofs.Common.{◌-◌, get_or, refl, arith}
 use Rattle.max_flow.proofs.Closed.{arc_from}
 use Rattle.max_flow.proofs.Preflows.{preflow_drawn, arc_back, held_small, small_set}
+use Rattle.max_flow.proofs.Reaching.{edge_weight_small}
 use Rattle.max_flow.proofs.preflow.draw.Goals as goal
 
 pub send-requires-clause-fits : goal.send-requires-clause-fits
@@ -29,3 +30,9 @@ returns-then-amount-gt0 c =
           (preflow_drawn g ok c.args.source.entered.now c.args.excess.now c.args.toward.now c.args.arc.now.to c.min-amount.result _
           c.requires.preflow (arc_back g c.args.need.vertex c.args.arc.now c.requires.arc) there.to_n (omega arith) (omega arith) _ refl);
     }
+
+pub residual_on-requires-clause-small : goal.residual_on-requires-clause-small
+residual_on-requires-clause-small c = rw c.requires.arc.same_weight (edge_weight_small c.args.source.graph.now c.requires.edge_list.is_graph c.args.arc.now.edge c.requires.arc.within)
+
+pub send-requires-clause-small : goal.send-requires-clause-small
+send-requires-clause-small c = rw c.requires.arc.same_weight (edge_weight_small c.args.source.graph.now c.requires.edge_list.is_graph c.args.arc.now.edge c.requires.arc.within)

@@ -2,6 +2,7 @@
 use Rattle.std.proofs.Common.{arith}
 use Rattle.max_flow.proofs.Closed.{arc_from}
 use Rattle.max_flow.proofs.Preflows.{preflow_fed, held_small}
+use Rattle.max_flow.proofs.Reaching.{edge_weight_small}
 use Rattle.max_flow.proofs.preflow.feed.Goals as goal
 
 pub send-requires-clause-fits : goal.send-requires-clause-fits
@@ -18,3 +19,9 @@ returns-then-not-source-arc c = record {
       (preflow_fed c.args.source.graph.now c.requires.edge_list.is_graph c.args.source.entered.now c.args.excess.now c.args.toward.now c.args.v c.residual_on-amount.result c.args.arc.now
       c.requires.preflow c.requires.arc c.requires.source (omega (arith, c.residual_on-amount.ensures)));
 }
+
+pub residual_on-amount-requires-clause-small : goal.residual_on-amount-requires-clause-small
+residual_on-amount-requires-clause-small c = rw c.requires.arc.same_weight (edge_weight_small c.args.source.graph.now c.requires.edge_list.is_graph c.args.arc.now.edge c.requires.arc.within)
+
+pub send-requires-clause-small : goal.send-requires-clause-small
+send-requires-clause-small c = rw c.requires.arc.same_weight (edge_weight_small c.args.source.graph.now c.requires.edge_list.is_graph c.args.arc.now.edge c.requires.arc.within)

@@ -1,5 +1,6 @@
 -- One arc more, and at the end the root.
 use Rattle.std.proofs.Common.{◌≡◌, ℕ, ◌≤◌, subst, arith}
+use Rattle.max_flow.proofs.Reaching.{edge_weight_small}
 use Rattle.region_flow.specs.Tree.{IsWide, wide_root, wide_more}
 use Rattle.region_flow.proofs.pulling.bottleneck.Goals as goal
 
@@ -25,3 +26,8 @@ returns-after-loop-at-clause-fits c = λ some.
     let root = wide_root c.args.toward.now c.args.places.order.now c.args.places.links.now c.loop-at.amount in
     c.loop-at.invariant.fits c.loop-at.amount (omega arith)
     (subst (λ (j : ℕ). IsWide c.args.toward.now c.args.places.order.now c.args.places.links.now c.loop-at.amount j) z root)
+
+pub residual_on-requires-clause-small : goal.residual_on-requires-clause-small
+residual_on-requires-clause-small c =
+    let arc = (c.requires.path.linked c.loop-at.at c.loop-at-test.true c.loop-at.invariant.inside).arc in
+    rw arc.same_weight (edge_weight_small c.args.task.graph.now c.requires.edge_list.is_graph _ arc.within)

@@ -2,14 +2,14 @@
 use Rattle.std.proofs.Common.{◌≡◌, ℕ, ◌+◌, ◌-◌, ◌*◌, ◌<◌, ◌≤◌, ⊎_elim, List, length, set, ◌∙◌, ap, arith}
 use Rattle.std.specs.Prelude.{slice_index}
 use Rattle.std.proofs.lemmas.Bool.{cases_lt}
-use Rattle.std.proofs.lemmas.List.{length-set}
+use Rattle.std.proofs.lemmas.List.{length-set, with_items_is}
 use Rattle.weighted_graph.specs.declared.graph.Arc.{Arc}
 use Rattle.max_flow.specs.Flow.{arc_at}
 use Rattle.residual_chain.specs.Search.{unmarked}
 use Rattle.residual_chain.specs.Paths.{arcs_in_rows}
 use Rattle.residual_chain.proofs.Marking.{unmarked-set}
 use Rattle.residual_chain.proofs.Pushed.{IsPushable}
-use Rattle.residual_chain.proofs.Passing.{IsPassing-push, IsPassing-begin, IsPassing-back, IsPassing-off, IsPassing-end, height_fits, depth_fits, seen_at, new_arc, fewer_unmarked, same_unmarked}
+use Rattle.residual_chain.proofs.Passing.{IsPassing-push, IsPassing-begin, IsPassing-back, IsPassing-off, IsPassing-end, height_fits, place_within, one_unmarked, depth_fits, seen_at, new_arc, fewer_unmarked, same_unmarked}
 use Rattle.residual_chain.proofs.walking.walk.Goals as goal
 
 pub loop-height-init : goal.loop-height-init
@@ -216,3 +216,61 @@ loop-height-smaller g c =
     let current = c.loop-height.current in
     same_unmarked (2 * (g.A.StepArcs.vertices c.args.arcs.now) + 3) (unmarked c.loop-height.marks) c.loop-height.height c.loop-height.height current (slice_index c.loop-height.back current)
     (omega (arith, seen.passing.path.back_below current (omega (arith, seen.border_in, c.if-borders-depth.false)) seen.in_height))
+
+-- the place that is looked at is one of the path, and the lists have room for the path
+pub bounds-stack-current : goal.bounds-stack-current
+bounds-stack-current g c =
+    let within = place_within c.loop-height.invariant c.requires.marks c.loop-height-test.true in
+    omega (arith, within, c.requires.memory, c.memory.view_is, c.as_mut_slice-stack.ensures.len, c.memory.inside.stack.ok.0)
+
+pub bounds-next-current : goal.bounds-next-current
+bounds-next-current g c =
+    let within = place_within c.loop-height.invariant c.requires.marks c.loop-height-test.true in
+    omega (arith, within, c.requires.memory, c.memory.view_is, c.as_mut_slice-next.ensures.len, c.memory.inside.next.ok.0, c.memory.invariant.for_next)
+
+pub bounds-next-current-in-loop-height : goal.bounds-next-current-in-loop-height
+bounds-next-current-in-loop-height g c =
+    let within = place_within c.loop-height.invariant c.requires.marks c.loop-height-test.true in
+    omega (arith, within, c.requires.memory, c.memory.view_is, c.as_mut_slice-next.ensures.len, c.memory.inside.next.ok.0, c.memory.invariant.for_next)
+
+pub bounds-back-current : goal.bounds-back-current
+bounds-back-current g c =
+    let within = place_within c.loop-height.invariant c.requires.marks c.loop-height-test.true in
+    omega (arith, within, c.requires.memory, c.memory.view_is, c.as_mut_slice-back.ensures.len, c.memory.inside.back.ok.0, c.memory.invariant.for_back)
+
+pub bounds-back-current-else-borders-depth : goal.bounds-back-current-else-borders-depth
+bounds-back-current-else-borders-depth g c =
+    let within = place_within c.loop-height.invariant c.requires.marks c.loop-height-test.true in
+    omega (arith, within, c.requires.memory, c.memory.view_is, c.as_mut_slice-back.ensures.len, c.memory.inside.back.ok.0, c.memory.invariant.for_back)
+
+pub number-requires-clause-within : goal.number-requires-clause-within
+number-requires-clause-within g c =
+    let within = place_within c.loop-height.invariant c.requires.marks c.loop-height-test.true in
+    omega (arith, within, c.requires.memory, c.memory.view_is, c.as_mut_slice-stack.ensures.len, c.memory.inside.stack.ok.0)
+
+pub put-requires-then-seen-row-clause-fits : goal.put-requires-then-seen-row-clause-fits
+put-requires-then-seen-row-clause-fits g c =
+    let has = g.met.A.StepArcs.has_arcs c.args.arcs.now c.requires.can in
+    let seen = seen_at has c.requires.split c.requires.marks (omega (arith, c.requires.memory, c.memory.view_is, c.as_mut_slice-next.ensures.len, c.memory.inside.next.ok.0, c.memory.invariant.for_next)) c.loop-height.invariant c.loop-height-test.true c.look-seen.ensures in
+    let arc = new_arc (g.A.StepArcs.rows c.args.arcs.now) (g.A.StepArcs.open_at c.args.arcs.now) has seen c.look-seen.ensures c.row-row.result.now c.row-row.ensures c.if-seen-row.true in
+    let free = one_unmarked (g.A.StepArcs.vertices c.args.arcs.now) c.loop-height.marks (arc_at c.row-row.result.now c.look-seen.result.place).to seen.passing.path.long arc.from_one arc.to_n arc.no_mark in
+    omega (arith, free, c.loop-height.invariant.room, c.requires.split.few)
+
+-- the lists of the memory keep their lengths
+pub returns-clause-memory : goal.returns-clause-memory
+returns-clause-memory g c =
+    rw (with_items_is c.memory.inside.stack c.loop-height.stack (omega (arith, c.as_mut_slice-stack.ensures.len, c.memory.inside.stack.ok.0))) (omega (arith, c.memory.view_is, c.as_mut_slice-stack.ensures.len))
+
+pub invariant_of-memory : goal.invariant_of-memory
+invariant_of-memory g c =
+    rw (
+      with_items_is c.memory.inside.stack c.loop-height.stack (omega (arith, c.as_mut_slice-stack.ensures.len, c.memory.inside.stack.ok.0)),
+      with_items_is c.memory.inside.back c.loop-height.back (omega (arith, c.as_mut_slice-back.ensures.len, c.memory.inside.back.ok.0)),
+      with_items_is c.memory.inside.next c.loop-height.next (omega (arith, c.as_mut_slice-next.ensures.len, c.memory.inside.next.ok.0)),
+      with_items_is c.memory.inside.borders c.loop-height.borders (omega (arith, c.as_mut_slice-borders.ensures.len, c.memory.inside.borders.ok.0)),
+    )
+    (record {
+      for_back = omega (arith, c.memory.invariant.for_back, c.as_mut_slice-stack.ensures.len, c.as_mut_slice-back.ensures.len);
+      for_next = omega (arith, c.memory.invariant.for_next, c.as_mut_slice-stack.ensures.len, c.as_mut_slice-next.ensures.len);
+      for_borders = omega (arith, c.memory.invariant.for_borders, c.as_mut_slice-stack.ensures.len, c.as_mut_slice-borders.ensures.len);
+    })

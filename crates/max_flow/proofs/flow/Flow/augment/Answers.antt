@@ -1,10 +1,11 @@
 -- Where no path is left the marked vertices are the source side; else the amount went from s to t.
-use Rattle.std.proofs.Common.{arith, ap}
+use Rattle.std.proofs.Common.{refl, sym, ◌∙◌, subst, ap, arith}
 use Rattle.std.proofs.lemmas.List.{with_items_is}
 use Rattle.cut_definitions.specs.Cuts.{has}
-use Rattle.max_flow.specs.Flow.{FlowState}
+use Rattle.max_flow.specs.Flow.{FlowState, HasSizesOf}
 use Rattle.max_flow.specs.Tree.{seen}
 use Rattle.max_flow.proofs.Augmenting.{source_side, IsSourceSide-same}
+use Rattle.max_flow.proofs.Showing.{laid_out-same}
 use Rattle.max_flow.proofs.flow.Flow.augment.Goals as goal
 
 pub returns-then-mark-eq0-clause-source : goal.returns-then-mark-eq0-clause-source
@@ -24,3 +25,54 @@ returns-clause-pushed c = λ some side.
     let toward = with_items_is c.self.inside.toward c.push.new.toward (omega arith) in
     let at_t = c.search-count.ensures.tree.marking.stands c.args.ends.t (omega arith) in
     rw toward (rw (c.search-count.ensures.first, at_t, c.as_mut_slice-toward.ensures.value, before) at (c.push.ensures.balance side))
+
+-- the memory keeps its sizes, and no vertex is marked any more
+pub invariant_of-self : goal.invariant_of-self
+invariant_of-self c =
+    let i = c.self.inside in
+    rw (with_items_is i.marks c.clear.new.marks (omega arith), with_items_is i.steps c.search-count.new.steps (omega arith))
+    (laid_out-same i.n i.starts.items i.residuals.items i.residuals.items i.marks.items c.clear.new.marks i.steps.items c.search-count.new.steps i.source c.assign.new.side
+    c.self.invariant refl (omega arith) (omega arith) (omega (arith, c.assign.ensures.vertices, c.self.invariant.source_vertices)) c.clear.ensures)
+
+pub invariant_of-self-2 : goal.invariant_of-self-2
+invariant_of-self-2 c =
+    let i = c.self.inside in
+    rw (with_items_is i.marks c.clear-2.new.marks (omega arith), with_items_is i.steps c.search-count.new.steps (omega arith))
+    (laid_out-same i.n i.starts.items i.residuals.items i.residuals.items i.marks.items c.clear-2.new.marks i.steps.items c.search-count.new.steps i.source i.source
+    c.self.invariant refl (omega arith) (omega arith) c.self.invariant.source_vertices c.clear-2.ensures)
+
+-- what contracts see of the flow changes in nothing but `toward`, and in the source where no path is left
+pub returns-then-mark-eq0-clause-sizes : goal.returns-then-mark-eq0-clause-sizes
+returns-then-mark-eq0-clause-sizes c =
+    let i = c.self.inside in
+    let sizes = subst (λ (f : FlowState). HasSizesOf f c.args.graph.now) (sym c.self.view_is) c.requires.sizes in
+    record {
+      vertices = sizes.vertices;
+      edges = rw (with_items_is i.toward c.as_mut_slice-toward.result.now (omega arith)) (omega (arith, c.as_mut_slice-toward.ensures.len, sizes.edges));
+      rows = sizes.rows;
+      source = omega (arith, c.assign.ensures.vertices, sizes.source);
+    }
+
+pub returns-clause-sizes : goal.returns-clause-sizes
+returns-clause-sizes c =
+    let i = c.self.inside in
+    let sizes = subst (λ (f : FlowState). HasSizesOf f c.args.graph.now) (sym c.self.view_is) c.requires.sizes in
+    record {
+      vertices = sizes.vertices;
+      edges = rw (with_items_is i.toward c.push.new.toward (omega arith)) (omega (arith, c.as_mut_slice-toward.ensures.len, sizes.edges));
+      rows = sizes.rows;
+      source = sizes.source;
+    }
+
+pub returns-then-mark-eq0-clause-toward_kept : goal.returns-then-mark-eq0-clause-toward_kept
+returns-then-mark-eq0-clause-toward_kept c = λ _.
+    with_items_is c.self.inside.toward c.as_mut_slice-toward.result.now (omega arith) ∙ c.as_mut_slice-toward.ensures.value ∙ ap (λ (f : FlowState). f.toward) c.self.view_is
+
+pub returns-then-mark-eq0-clause-residual : goal.returns-then-mark-eq0-clause-residual
+returns-then-mark-eq0-clause-residual c =
+    let toward = with_items_is c.self.inside.toward c.as_mut_slice-toward.result.now (omega arith) in
+    let before = ap (λ (f : FlowState). f.toward) c.self.view_is in
+    rw (toward, c.as_mut_slice-toward.ensures.value, before) c.requires.residual
+
+pub returns-clause-residual : goal.returns-clause-residual
+returns-clause-residual c = rw (with_items_is c.self.inside.toward c.push.new.toward (omega arith)) c.push.ensures.residual

@@ -1,5 +1,5 @@
 -- The rows that were written are those that contracts see.
-use Rattle.std.proofs.Common.{Some, subst, sym, ◌∙◌, ap, arith}
+use Rattle.std.proofs.Common.{Some, refl, subst, sym, ◌∙◌, ap, arith}
 use Rattle.std.proofs.lemmas.List.{with_items_is}
 use Rattle.max_flow.specs.Flow.{FlowState, HasSizesOf}
 use Rattle.max_flow.specs.Rows.{AreStarts, rows_within}
@@ -39,3 +39,10 @@ returns-clause-rows c =
     let residuals = with_items_is i.residuals c.fill.new.residuals (omega arith) in
     λ v to_n. rw residuals (residuals_at-rows_within i.n c.fill.new.residuals i.starts.items v (omega arith)
     ∙ rw (← toward) (rw c.as_slice-2.ensures.value at (rw c.as_slice.ensures.value at (c.fill.ensures v to_n))))
+
+pub invariant_of-self : goal.invariant_of-self
+invariant_of-self c =
+    let i = c.self.inside in
+    rw (with_items_is i.residuals c.fill.new.residuals (omega arith))
+    (laid_out-same i.n i.starts.items i.residuals.items c.fill.new.residuals i.marks.items i.marks.items i.steps.items i.steps.items i.source i.source
+    c.self.invariant (omega arith) refl refl c.self.invariant.source_vertices c.self.invariant.unmarked)
