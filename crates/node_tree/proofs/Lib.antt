@@ -1,7 +1,5 @@
-pub mod Growing
 pub mod Listing
 pub mod Making
-pub mod Opening
 pub mod KindLaws
 pub mod PartWeights
 pub mod Linking

@@ -6,7 +6,7 @@ use Rattle.std.proofs.lemmas.Bool.Decides.{nat_tests}
 use Rattle.cut_definitions.specs.Graph.{Graph}
 use Rattle.cut_definitions.specs.Chain.{SameOn, one_part}
 use Rattle.cut_definitions.proofs.Bools.{contrary, kept_or}
-use Rattle.node_tree.specs.Parted.{later_parts}
+use Rattle.region_flow.specs.Parted.{later_parts}
 use Rattle.node_tree.specs.Flat.{NodeArrays, is_above, is_below, is_follower, sets_of, IsMadeBelow, IsMadeAfter, IsMadeBeyond, AreMade, IsSteadyAt}
 use Rattle.node_tree.specs.Laws.{LawOfMaking}
 

@@ -12,7 +12,7 @@ use Rattle.cut_definitions.proofs.Bridge.{weight-agree}
 use Rattle.cut_definitions.proofs.Numbers.{apart_later}
 use Rattle.node_tree.specs.declared.tree.Hanging.{Hanging}
 use Rattle.node_tree.specs.declared.tree.Hanging.TheVariants.{Bridged, Followed, Touching}
-use Rattle.node_tree.specs.Parted.{later_parts, IsRegionChain}
+use Rattle.region_flow.specs.Parted.{later_parts, IsRegionChain}
 use Rattle.node_tree.specs.Linked.{IsWeighedChain, AreSmall, MayHang}
 use Rattle.node_tree.proofs.KindLaws.{kinds}
 

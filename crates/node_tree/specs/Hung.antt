@@ -2,7 +2,7 @@
 use Rattle.std.specs.Prelude.{ℕ, ◌≡◌, ◌+◌, ◌<◌, ◌≤◌, ◌⊎◌, true, false, List, slice_index}
 use Rattle.cut_definitions.specs.Graph.{Graph}
 use Rattle.cut_definitions.specs.Chain.{SameOn, IsMinimumInterval, one_part}
-use Rattle.node_tree.specs.Parted.{later_parts}
+use Rattle.region_flow.specs.Parted.{later_parts}
 use Rattle.node_tree.specs.TreeSets.{TreeSets}
 
 -- part i is no minimum cut: all later parts are under its node, and the next part hangs from it

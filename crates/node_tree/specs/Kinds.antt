@@ -3,7 +3,7 @@ use Rattle.std.specs.Prelude.{ℕ, ◌≡◌, ◌+◌, ◌*◌, ◌<◌, ◌≤�
 use Rattle.cut_definitions.specs.Graph.{Graph, IsGraph}
 use Rattle.cut_definitions.specs.Weight.{VertexSet, weight, between, IsMinimumCut}
 use Rattle.cut_definitions.specs.Chain.{IsMinimumInterval, one_part}
-use Rattle.node_tree.specs.Parted.{IsRegionChain}
+use Rattle.region_flow.specs.Parted.{IsRegionChain}
 
 -- an inner part is a minimum cut where it weighs the value, and two neighbours where they do without what lies between them
 abbrev pub LawOfKinds : Type 0

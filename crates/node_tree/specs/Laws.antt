@@ -1,13 +1,10 @@
 -- What a split of a region does to a tree of minimum cuts, as facts that the functions of the module `laws` state.
 use Rattle.std.specs.Prelude.{ℕ, ◌≡◌, ◌==◌, ◌+◌, ◌*◌, ◌<◌, ◌≤◌, ◌⊎◌, ◌↔◌, false, List, length, slice_index, slice_set, IsTrue}
-use Rattle.std.specs.List.{Contains}
-use Rattle.cut_definitions.specs.declared.edge_list.Edge.{Edge}
 use Rattle.cut_definitions.specs.Graph.{Graph, IsGraph}
-use Rattle.cut_definitions.specs.Weight.{VertexSet, weight, between, minus, joins, HasVertex, IsMinimumCut}
-use Rattle.cut_definitions.specs.Chain.{IsWithin, IsInOnePart, IsJoined, IsMinimumInterval, one_part, parts_between}
-use Rattle.cut_definitions.specs.Components.{IsConnected}
-use Rattle.region_flow.specs.Inflow.{IsAround, IsStopReached}
-use Rattle.node_tree.specs.Parted.{IsRegionChain, IsLaterParts, IsLightInterval, AreLightParts}
+use Rattle.cut_definitions.specs.Weight.{VertexSet, weight, between, IsMinimumCut}
+use Rattle.cut_definitions.specs.Chain.{IsWithin, IsInOnePart, IsMinimumInterval, one_part, parts_between}
+use Rattle.region_flow.specs.Inflow.{IsStopReached}
+use Rattle.region_flow.specs.Parted.{IsRegionChain, IsLaterParts, IsLightInterval, AreLightParts}
 use Rattle.node_tree.specs.TreeSets.{TreeSets, IsTreeSide, IsTreeOfCuts}
 use Rattle.node_tree.specs.Hung.{AreHung, IsGrown, IsRegrouped}
 use Rattle.node_tree.specs.Flat.{NodeArrays, AreNodes, AreMade, sets_of}
@@ -60,18 +57,6 @@ abbrev pub LawOfParts : Type 0
 LawOfParts = (g : Graph) (labels : List ℕ) (t count amount : ℕ) (part : ℕ → ℕ) → IsGraph g → 1 ≤ slice_index labels t →
     (some : VertexSet) → IsMinimumCut g some → weight g some ≡ amount → AreLightParts g labels t count amount part →
     IsRegionChain g (region_of labels (slice_index labels t)) t count part
-
--- of two sets around t that are minimum cuts one has all that the other has, where an edge leads from t out of the region
-abbrev pub LawOfNested : Type 0
-LawOfNested = (g : Graph) (labels : List ℕ) (s t : ℕ) → IsGraph g → IsJoined g s t → ¬ (slice_index labels s ≡ slice_index labels t) →
-    (x y : VertexSet) → IsAround labels t x → IsAround labels t y → IsMinimumCut g x → IsMinimumCut g y →
-    IsWithin g.vertices x y ⊎ IsWithin g.vertices y x
-
--- where one minimum cut has all of another and more, an edge joins that one to the rest
-abbrev pub LawOfBorder : Type 0
-LawOfBorder = (g : Graph) → IsGraph g → IsConnected g → (x y : VertexSet) → IsMinimumCut g x → IsMinimumCut g y →
-    ((v : ℕ) → IsTrue (x v) → IsTrue (y v)) → HasVertex g.vertices (minus y x) →
-    (e : Edge) × Contains g.edges e × IsTrue (joins x (minus y x) e.u e.v)
 
 -- an interval of inner parts is a minimum cut just where it weighs the value
 abbrev pub LawOfLightIntervals : Type 0

@@ -1,11 +1,8 @@
-pub mod Parted
 pub mod TreeSets
 pub mod Hung
-pub mod Growing
 pub mod Flat
 pub mod Laws
 pub mod Sweeping
-pub mod Open
 pub mod Kinds
 pub mod Homes
 pub mod Weighed

@@ -5,7 +5,7 @@ use Rattle.cut_definitions.specs.Weight.{VertexSet, weight, IsMinimumCut}
 use Rattle.cut_definitions.specs.Chain.{IsMinimumInterval}
 use Rattle.node_tree.specs.declared.tree.Hanging.{Hanging}
 use Rattle.node_tree.specs.declared.tree.Hanging.TheVariants.{Bridged, Followed, Touching}
-use Rattle.node_tree.specs.Parted.{IsRegionChain}
+use Rattle.region_flow.specs.Parted.{IsRegionChain}
 use Rattle.node_tree.specs.Weighed.{AreWeights}
 
 -- a chain of a region, the weight of the minimum cuts, and what lies between the parts of the chain

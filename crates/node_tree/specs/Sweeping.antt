@@ -5,7 +5,7 @@ use Rattle.cut_definitions.specs.Weight.{VertexSet, weight, IsMinimumCut}
 use Rattle.region_flow.specs.Inflow.{IsStopReached}
 use Rattle.node_tree.specs.TreeSets.{IsTreeOfCuts}
 use Rattle.node_tree.specs.Hung.{IsRegrouped}
-use Rattle.node_tree.specs.Parted.{AreLightParts}
+use Rattle.region_flow.specs.Parted.{AreLightParts}
 use Rattle.node_tree.specs.Flat.{NodeArrays, AreNodes, AreLinked, sets_of}
 
 -- vertex 1 has entered; the tree has the minimum cuts that do not lie inside a region; and a region is all in one node

@@ -6,7 +6,7 @@ use Rattle.cut_definitions.specs.Graph.{Graph}
 use Rattle.cut_definitions.specs.Weight.{VertexSet, between}
 use Rattle.cut_definitions.specs.Chain.{one_part}
 use Rattle.weighted_graph.specs.declared.graph.Arc.{Arc}
-use Rattle.node_tree.specs.Parted.{later_parts}
+use Rattle.region_flow.specs.Parted.{later_parts}
 
 -- an edge from v in one set to u in another counts at v: where v is in the second set, or u is not listed
 abbrev pub counts_at : VertexSet → VertexSet → VertexSet → ℕ → ℕ → Bool

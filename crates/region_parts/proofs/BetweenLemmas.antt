@@ -21,11 +21,11 @@ use Rattle.region_parts.specs.declared.hub.Hub.TheVariants.{Outside, At}
 use Rattle.region_parts.specs.declared.hub.HubSearch.{HubSearch}
 use Rattle.region_parts.specs.declared.splitter.Splitter.{Splitter}
 use Rattle.region_parts.specs.Between.{IsInnerSettled, IsOuterSettled}
-use Rattle.node_tree.specs.Growing.{IsMember, IsPartOf, listed_upto}
+use Rattle.region_flow.specs.Growing.{IsMember, IsPartOf, listed_upto}
 use Rattle.region_parts.specs.Fronts.{FrontsState, list_at}
 use Rattle.region_parts.specs.Hubs.{HaveBegun, HasAll, IsHubSearch, hub_vertex}
 use Rattle.region_parts.specs.Listing.{ListingState, IsKept, IsVertex}
-use Rattle.node_tree.specs.Parted.{AreLightParts}
+use Rattle.region_flow.specs.Parted.{AreLightParts}
 use Rattle.region_parts.specs.Sides.{IsListed}
 use Rattle.region_parts.specs.Regional.{IsRest, IsNoneBetween, BringsHub, outer_turn, two_sided}
 use Rattle.region_parts.specs.Sided.{AreHalves, IsRegionOf, IsSettled, fed_in, other_side}

@@ -16,11 +16,11 @@ use Rattle.weighted_graph.specs.declared.graph.Arc.{Arc}
 use Rattle.weighted_graph.specs.Rows.{row_of}
 use Rattle.weighted_graph.specs.RowLaws.{IsArcAt}
 use Rattle.weighted_graph.proofs.RowLaws.{row_arcs}
-use Rattle.node_tree.specs.Open.{IsShutAt}
+use Rattle.region_flow.specs.Open.{IsShutAt}
 use Rattle.region_parts.specs.Fronts.{list_at}
 use Rattle.region_parts.specs.Covered.{LawOfCovering, LawOfOneRegion, LawOfRefiningOne, LawOfStayingOpen, LawOfFedOpen, LawOfFedOthers, LawOfFedByFlow, LawOfFedStart}
-use Rattle.node_tree.proofs.Opening.{stands, arc_joined}
-use Rattle.node_tree.proofs.Growing.{some_term}
+use Rattle.region_flow.proofs.Opening.{stands, arc_joined}
+use Rattle.region_flow.proofs.Growing.{some_term}
 
 -- ---- joined vertices
 

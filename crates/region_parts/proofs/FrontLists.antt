@@ -12,7 +12,7 @@ use Rattle.weighted_graph.specs.declared.graph.Arc.{Arc}
 use Rattle.weighted_graph.specs.Rows.{row_of}
 use Rattle.region_flow.specs.Regions.{IsOpenAt}
 use Rattle.region_parts.specs.Fronts.{FrontsState, IsLaidOut, KeepsAll, KeepsFronts, HasEnds, AreApart, IsCovered, list_at, lists_of, taken_out}
-use Rattle.node_tree.specs.Open.{IsShutAt}
+use Rattle.region_flow.specs.Open.{IsShutAt}
 use Rattle.region_parts.proofs.Covering.{joined_arc, open_not_shut}
 
 -- ---- the lists as contracts see them

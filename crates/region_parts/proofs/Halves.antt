@@ -14,7 +14,7 @@ use Rattle.region_flow.specs.Regions.{RegionState}
 use Rattle.region_parts.specs.declared.side.Side.{Side}
 use Rattle.region_parts.specs.declared.side.Side.TheVariants.{Inner, Outer}
 use Rattle.region_parts.specs.Steps.{steps_in}
-use Rattle.node_tree.specs.Growing.{listed_upto}
+use Rattle.region_flow.specs.Growing.{listed_upto}
 use Rattle.region_parts.specs.Sides.{IsListed}
 use Rattle.region_parts.specs.Listing.{ListingState, IsKept, IsNothingListed, IsBordered}
 use Rattle.region_parts.specs.Regional.{outer_turn}

@@ -7,9 +7,9 @@ use Rattle.cut_definitions.specs.Weight.{VertexSet, complement, minus, HasVertex
 use Rattle.cut_definitions.specs.Chain.{IsWithin}
 use Rattle.cut_definitions.proofs.ChainLists.{IsMinimumCut-complement}
 use Rattle.cut_definitions.proofs.Bools.{contrary, join_cases, minus_parts}
-use Rattle.node_tree.specs.Growing.{IsMember, IsPartOf}
+use Rattle.region_flow.specs.Growing.{IsMember, IsPartOf}
 use Rattle.region_parts.specs.Regional.{IsAtBorder, IsRest, HoldsAround, BringsHub, ComesWithHub, LawOfNestedSides, LawOfNoneBetween}
-use Rattle.node_tree.proofs.Growing.{nested, border, member_minimum}
+use Rattle.region_flow.proofs.Growing.{nested, border, member_minimum}
 
 twice : (b : Bool) → not (not b) ≡ b
 twice true = refl

@@ -18,12 +18,12 @@ use Rattle.region_flow.specs.Regions.{RegionState, IsOpenAt}
 use Rattle.region_parts.specs.declared.side.Side.{Side}
 use Rattle.region_parts.specs.declared.side.Side.TheVariants.{Inner, Outer}
 use Rattle.region_parts.specs.Steps.{steps_in}
-use Rattle.node_tree.specs.Growing.{listed_upto}
+use Rattle.region_flow.specs.Growing.{listed_upto}
 use Rattle.region_parts.specs.Listing.{ListingState, IsMet, IsRowMet}
 use Rattle.region_parts.specs.Regional.{BringsHub, ComesWithHub, outer_turn}
 use Rattle.region_parts.specs.Taking.{IsFedIn}
 use Rattle.region_parts.specs.Sided.{IsRegionOf, IsHalf, AreHalves, IsGood, IsRoundDone, IsSettled, fed_in, stops, goes_from}
-use Rattle.node_tree.proofs.Opening.{stands}
+use Rattle.region_flow.proofs.Opening.{stands}
 use Rattle.region_parts.proofs.Listings.{in_upto, upto_range, not_upto}
 use Rattle.region_parts.proofs.Taking.{closed_out, bringing, brought, coming}
 use Rattle.region_parts.proofs.Halves.{IsFound, MayBeTaken, found_inside, is_fed, outer_inside, outer_one, inner_has_t}

@@ -18,7 +18,7 @@ use Rattle.region_flow.specs.Regions.{RegionState}
 use Rattle.region_parts.specs.declared.side.Side.{Side}
 use Rattle.region_parts.specs.declared.side.Side.TheVariants.{Inner, Outer}
 use Rattle.region_parts.specs.Steps.{steps_in}
-use Rattle.node_tree.specs.Growing.{listed_upto}
+use Rattle.region_flow.specs.Growing.{listed_upto}
 use Rattle.region_parts.specs.Found.{SearchState, IsSearch}
 use Rattle.region_parts.specs.Listing.{ListingState, IsVertex, IsKept, IsNothingListed, IsBordered, AreTaken}
 use Rattle.region_parts.specs.Sided.{IsRegionOf, IsHalf, AreHalves, direction_of, fed_in, goes_from, stops}

@@ -12,7 +12,7 @@ use Rattle.cut_definitions.proofs.Vertices.{within_or_minus}
 use Rattle.cut_definitions.proofs.Numbers.{upto_none}
 use Rattle.cut_definitions.proofs.Bools.{same_tests, contrary}
 use Rattle.residual_chain.specs.Residuals.{IsClosed}
-use Rattle.node_tree.specs.Growing.{IsMember, IsPartOf, listed_upto}
+use Rattle.region_flow.specs.Growing.{IsMember, IsPartOf, listed_upto}
 use Rattle.region_parts.specs.Regional.{IsAtBorder, IsRest}
 use Rattle.region_parts.specs.Taking.{IsSearched, IsFedIn, with_outside, LawOfFirstInner, LawOfFirstOuter, LawOfFurtherInner, LawOfFurtherOuter, LawOfBringing, LawOfBrought, LawOfComing, LawOfNoMember}
 use Rattle.region_parts.proofs.Listings.{in_upto, upto_range, listed_after}

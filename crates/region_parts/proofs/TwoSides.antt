@@ -9,8 +9,8 @@ use Rattle.cut_definitions.specs.Chain.{SameOn}
 use Rattle.cut_definitions.proofs.Bridge.{weight-agree}
 use Rattle.cut_definitions.proofs.Bools.{turned, minus_parts, contrary}
 use Rattle.cut_definitions.proofs.Numbers.{cases_zero}
-use Rattle.node_tree.specs.Parted.{later_parts}
-use Rattle.node_tree.specs.Growing.{IsMember, IsPartOf, listed_upto}
+use Rattle.region_flow.specs.Parted.{later_parts}
+use Rattle.region_flow.specs.Growing.{IsMember, IsPartOf, listed_upto}
 use Rattle.region_parts.specs.Regional.{AreTwoSided, two_sided, LawOfTwoSides}
 use Rattle.region_parts.proofs.Listings.{in_upto, upto_range, not_upto}
 use Rattle.region_parts.proofs.Regional.{not_not}

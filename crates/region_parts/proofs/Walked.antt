@@ -16,7 +16,7 @@ use Rattle.residual_chain.specs.Parts.{marked, marked_upto}
 use Rattle.residual_chain.specs.Paths.{SearchArcs, HasArcs}
 use Rattle.residual_chain.specs.Split.{IsToSplit, IsSplitOff}
 use Rattle.residual_chain.proofs.Growing.{IsClosed-agree, upto_same, upto_yes, upto_marked}
-use Rattle.node_tree.specs.Growing.{listed_upto}
+use Rattle.region_flow.specs.Growing.{listed_upto}
 use Rattle.region_parts.specs.Taking.{AreFurther}
 use Rattle.region_parts.specs.Listing.{IsVertex, AreTaken}
 

@@ -8,8 +8,8 @@ use Rattle.cut_definitions.specs.Chain.{IsJoined}
 use Rattle.cut_definitions.specs.Components.{IsConnected}
 use Rattle.residual_chain.specs.Residuals.{IsClosed}
 use Rattle.region_flow.specs.Inflow.{IsAround}
-use Rattle.node_tree.specs.Parted.{AreLightParts}
-use Rattle.node_tree.specs.Growing.{IsMember, IsPartOf, listed_upto}
+use Rattle.region_flow.specs.Parted.{AreLightParts}
+use Rattle.region_flow.specs.Growing.{IsMember, IsPartOf, listed_upto}
 use Rattle.region_parts.specs.Sides.{IsNested, IsListed}
 
 -- what is known of a region and t: t is joined to a vertex outside, and the amount is the least weight of a cut

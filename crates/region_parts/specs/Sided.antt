@@ -10,7 +10,7 @@ use Rattle.region_flow.specs.Regions.{RegionState}
 use Rattle.region_parts.specs.declared.side.Side.{Side}
 use Rattle.region_parts.specs.declared.side.Side.TheVariants.{Inner, Outer}
 use Rattle.region_parts.specs.Steps.{steps_in}
-use Rattle.node_tree.specs.Growing.{IsMember, listed_upto}
+use Rattle.region_flow.specs.Growing.{IsMember, listed_upto}
 use Rattle.region_parts.specs.Sides.{IsListed}
 use Rattle.region_parts.specs.Listing.{ListingState, IsKept, IsBordered}
 use Rattle.region_parts.specs.Regional.{IsRest, BringsHub, ComesWithHub, outer_turn, HoldsAround}

@@ -2,7 +2,7 @@
 use Rattle.std.specs.Prelude.{ℕ, ◌≡◌, ◌==◌, ◌<◌, ◌≤◌, ◌⊎◌, IsTrue}
 use Rattle.cut_definitions.specs.Weight.{VertexSet, minus, HasVertex}
 use Rattle.cut_definitions.specs.Chain.{SameOn, IsWithin}
-use Rattle.node_tree.specs.Growing.{IsPartOf, listed_upto}
+use Rattle.region_flow.specs.Growing.{IsPartOf, listed_upto}
 
 -- of two sets of the kind one has all of the other
 abbrev pub IsNested : ℕ → (VertexSet → Type 0) → Type 0

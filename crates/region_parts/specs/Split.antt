@@ -11,7 +11,7 @@ use Rattle.region_parts.specs.declared.hub.Hub.{Hub}
 use Rattle.region_parts.specs.declared.hub.Hub.TheVariants.{Outside, At}
 use Rattle.region_parts.specs.declared.splitter.Splitter.{Splitter}
 use Rattle.region_parts.specs.Found.{IsNoneFound, IsQuiet, IsSearch}
-use Rattle.node_tree.specs.Growing.{listed_upto}
+use Rattle.region_flow.specs.Growing.{listed_upto}
 use Rattle.region_parts.specs.Fronts.{FrontsState, IsCovered}
 use Rattle.region_parts.specs.Hubs.{IsHubSearch, hub_vertex}
 use Rattle.region_parts.specs.Listing.{ListingState, HasMore, IsNothingListed}

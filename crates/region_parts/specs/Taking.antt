@@ -4,7 +4,7 @@ use Rattle.cut_definitions.specs.Graph.{Graph}
 use Rattle.cut_definitions.specs.Weight.{VertexSet, HasVertex}
 use Rattle.residual_chain.specs.Residuals.{IsClosed}
 use Rattle.region_flow.specs.Inflow.{IsStopReached}
-use Rattle.node_tree.specs.Growing.{IsMember, listed_upto}
+use Rattle.region_flow.specs.Growing.{IsMember, listed_upto}
 use Rattle.region_parts.specs.Sides.{IsListed}
 use Rattle.region_parts.specs.Regional.{IsAtBorder, IsRest, AreClosedSets, BringsHub, ComesWithHub}
 

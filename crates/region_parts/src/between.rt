@@ -8,7 +8,7 @@ ghost use Rattle.region_parts.specs.declared.hub.Hub.TheVariants.{At};
 ghost use Rattle.region_parts.specs.Found.{IsNoneFound};
 ghost use Rattle.region_parts.specs.Fronts.{list_at};
 ghost use Rattle.region_parts.specs.Hubs.{HaveBegun};
-ghost use Rattle.node_tree.specs.Parted.{AreLightParts};
+ghost use Rattle.region_flow.specs.Parted.{AreLightParts};
 ghost use Rattle.region_parts.specs.Passed.{ArePassed, IsLeft, IsPassed};
 ghost use Rattle.region_parts.specs.Regional.{IsNoneBetween, two_sided};
 ghost use Rattle.region_parts.specs.Between.{IsInnerSettled, IsOuterSettled, parts_between};

@@ -6,7 +6,7 @@ ghost use Rattle.cut_definitions.specs.Components.{IsConnected};
 ghost use Rattle.weighted_graph.specs.RowLaws.{IsArcAt};
 ghost use Rattle.weighted_graph.specs.Rows.{row_of};
 ghost use Rattle.region_flow.specs.Regions.{IsOpenAt};
-ghost use Rattle.node_tree.specs.Open.{IsShutAt};
+ghost use Rattle.region_flow.specs.Open.{IsShutAt};
 ghost use Rattle.region_parts.specs.Beside.{IsFirstToOpen, IsOpenIn, LeadsToNoneBefore};
 ghost use Rattle.region_parts.specs.Fronts.{FrontsState, list_at, lists_of, IsCovered, KeepsAll, KeepsFronts, HasEnds, AreFew, AreApart, IsAtFront, taken_out};
 

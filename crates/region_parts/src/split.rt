@@ -19,7 +19,7 @@ ghost use Rattle.region_parts.specs.Found.{IsNoneFound};
 ghost use Rattle.region_parts.specs.Fronts.{IsCovered};
 ghost use Rattle.region_parts.specs.Listing.{IsKept};
 ghost use Rattle.region_parts.specs.Listed.{AreListed, part_in};
-ghost use Rattle.node_tree.specs.Parted.{AreLightParts};
+ghost use Rattle.region_flow.specs.Parted.{AreLightParts};
 ghost use Rattle.region_parts.specs.Regional.{two_sided};
 ghost use Rattle.region_parts.specs.Sided.{IsRegionOf};
 ghost use Rattle.region_parts.specs.Split.{AreAtFront, IsBetween, IsReady, outer_of};

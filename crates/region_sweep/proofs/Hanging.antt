@@ -7,7 +7,7 @@ use Rattle.cut_definitions.specs.Weight.{VertexSet}
 use Rattle.cut_definitions.specs.Chain.{SameOn, IsMinimumInterval, one_part, parts_between}
 use Rattle.cut_definitions.proofs.Bools.{same_tests, second_in}
 use Rattle.cut_definitions.proofs.Numbers.{one_between}
-use Rattle.node_tree.specs.Parted.{IsRegionChain, IsLaterParts, IsLightInterval, later_parts}
+use Rattle.region_flow.specs.Parted.{IsRegionChain, IsLaterParts, IsLightInterval, later_parts}
 use Rattle.node_tree.specs.TreeSets.{TreeSets, IsUnder, AreInCycle}
 use Rattle.node_tree.specs.Hung.{IsBridged, IsFollowed, IsTouching, AreHung}
 use Rattle.node_tree.specs.Laws.{LawOfHanging}

@@ -10,7 +10,7 @@ use Rattle.cut_definitions.proofs.Vertices.{all_or_one, IsMinimumCut-agree}
 use Rattle.cut_definitions.proofs.ChainLists.{IsMinimumCut-complement}
 use Rattle.cut_definitions.proofs.Bools.{not_then_never, in_neither, not_in_minus, in_minus, passes, fails, peel}
 use Rattle.cut_definitions.proofs.Numbers.{in_interval, above_interval, below_interval, cut_right, cut_left, join_tests, after}
-use Rattle.node_tree.specs.Parted.{IsRegionChain, IsLaterParts, IsLightInterval}
+use Rattle.region_flow.specs.Parted.{IsRegionChain, IsLaterParts, IsLightInterval}
 use Rattle.node_tree.specs.Laws.{IsStepSide, LawOfRegionCover}
 
 -- ---- inside the region

@@ -14,7 +14,7 @@ use Rattle.cut_definitions.proofs.ChainLists.{IsMinimumCut-complement}
 use Rattle.cut_definitions.proofs.Bools.{turned, and_second, same_tests, passes, fails}
 use Rattle.cut_definitions.proofs.Numbers.{one_between}
 use Rattle.region_flow.specs.Inflow.{IsAround}
-use Rattle.node_tree.specs.Parted.{IsLaterParts, IsLightInterval, later_parts}
+use Rattle.region_flow.specs.Parted.{IsLaterParts, IsLightInterval, later_parts}
 use Rattle.node_tree.specs.TreeSets.{TreeSets, IsTreeSide, IsInRegion}
 use Rattle.node_tree.specs.Hung.{IsGrown, IsRegrouped, IsPartAlone}
 use Rattle.node_tree.specs.Laws.{region_of, IsStepSide, LawOfSplitting, LawOfEntering, LawOfStart, LawOfEnd, LawOfParts}

@@ -13,7 +13,7 @@ use Rattle.region_parts.specs.Fronts.{FrontsState, IsCovered, KeepsAll, HasEnds}
 use Rattle.node_tree.specs.Homes.{HomesState, home_of}
 use Rattle.node_tree.specs.Hung.{IsRegrouped}
 use Rattle.region_parts.specs.Listed.{PartsState, part_in}
-use Rattle.node_tree.specs.Parted.{AreLightParts}
+use Rattle.region_flow.specs.Parted.{AreLightParts}
 use Rattle.node_tree.specs.Sweeping.{IsSweeping, IsFiner}
 use Rattle.region_sweep.specs.UnderWay.{IsLeastWeight, nodes_of}
 use Rattle.region_parts.proofs.Covering.{covering}

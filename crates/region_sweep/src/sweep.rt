@@ -8,7 +8,7 @@ ghost use Rattle.region_flow.specs.Regions.{IsOpenAt};
 ghost use Rattle.node_tree.specs.Finished.{IsFinished};
 ghost use Rattle.region_parts.specs.Fronts.{AreFew, HasEnds, KeepsAll};
 ghost use Rattle.region_parts.specs.Listed.{AreListed, IsPartList, part_in, part_list};
-ghost use Rattle.node_tree.specs.Parted.{AreLightParts};
+ghost use Rattle.region_flow.specs.Parted.{AreLightParts};
 ghost use Rattle.region_sweep.specs.UnderWay.{IsLeastWeight, IsUnderWay};
 
 use crate::regroup::regroup;

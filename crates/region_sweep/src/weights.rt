@@ -6,7 +6,7 @@ ghost use Rattle.cut_definitions.specs.Weight.{between};
 ghost use Rattle.cut_definitions.specs.Chain.{one_part};
 ghost use Rattle.weighted_graph.specs.Rows.{row_of};
 ghost use Rattle.region_flow.specs.Regions.{IsRegionFlow};
-ghost use Rattle.node_tree.specs.Parted.{later_parts};
+ghost use Rattle.region_flow.specs.Parted.{later_parts};
 ghost use Rattle.region_parts.specs.Searched.{is_listed};
 ghost use Rattle.region_parts.specs.Listed.{part_in, AreListed};
 ghost use Rattle.node_tree.specs.Weighed.{arc_adds, listed_below, AreWeighed};

@@ -6,7 +6,7 @@ use Rattle.weighted_graph.specs.declared.graph.Arc.{Arc}
 use Rattle.weighted_graph.specs.Rows.{row_of, no_arc}
 use Rattle.weighted_graph.proofs.Searched.{arc_within}
 use Rattle.max_flow.proofs.Preflows.{row_arc}
-use Rattle.node_tree.proofs.Opening.{arc_joined}
+use Rattle.region_flow.proofs.Opening.{arc_joined}
 use Rattle.region_parts.proofs.fronts.is_open.Goals as goal
 
 pub label-requires : goal.label-requires

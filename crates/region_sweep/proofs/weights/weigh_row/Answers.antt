@@ -5,7 +5,7 @@ use Rattle.cut_definitions.specs.Chain.{one_part}
 use Rattle.weighted_graph.specs.Rows.{no_arc}
 use Rattle.weighted_graph.proofs.Searched.{arc_within}
 use Rattle.max_flow.proofs.Preflows.{row_arc}
-use Rattle.node_tree.specs.Parted.{later_parts}
+use Rattle.region_flow.specs.Parted.{later_parts}
 use Rattle.region_parts.specs.Searched.{is_listed}
 use Rattle.region_parts.specs.Listed.{part_in}
 use Rattle.node_tree.specs.Weighed.{arc_adds}

@@ -1,8 +1,8 @@
 -- An entry that has another label, or is not open, is taken out. Where none is left, no vertex is open.
 use Rattle.std.proofs.Common.{◌≡◌, ◌<◌, ◌≤◌, ◌-◌, length, get_or, ap, sym, ◌∙◌, subst, arith}
-use Rattle.node_tree.specs.Open.{IsShutAt}
+use Rattle.region_flow.specs.Open.{IsShutAt}
 use Rattle.region_parts.specs.Fronts.{FrontsState, IsCovered, list_at}
-use Rattle.node_tree.proofs.Opening.{open_vertices}
+use Rattle.region_flow.proofs.Opening.{open_vertices}
 use Rattle.region_parts.proofs.Covering.{none_open_shut}
 use Rattle.region_parts.proofs.FrontLists.{shut_covered, none_open}
 use Rattle.region_parts.proofs.fronts.Fronts.next.Goals as goal

@@ -15,8 +15,8 @@ use Rattle.cut_definitions.proofs.ChainLists.{IsMinimumCut-complement}
 use Rattle.cut_definitions.proofs.Lists.{Contains-here, Contains-there}
 use Rattle.cut_definitions.proofs.Bools.{put_back}
 use Rattle.region_flow.specs.Inflow.{IsAround}
-use Rattle.node_tree.specs.Growing.{IsMember}
-use Rattle.node_tree.specs.Laws.{LawOfNested, LawOfBorder}
+use Rattle.region_flow.specs.Growing.{IsMember}
+use Rattle.region_flow.specs.Growing.{LawOfNested, LawOfBorder}
 
 -- ---- plain tests
 

@@ -13,8 +13,8 @@ use Rattle.weighted_graph.specs.declared.graph.Arc.{Arc}
 use Rattle.weighted_graph.specs.Rows.{row_of}
 use Rattle.weighted_graph.specs.RowLaws.{IsArcAt, no_edge, edge_at, StandsInRows}
 use Rattle.weighted_graph.proofs.RowLaws.{law_of_edges_in_rows}
-use Rattle.node_tree.specs.Open.{IsShutAt, LawOfOpenVertices}
-use Rattle.node_tree.proofs.Growing.{some_term}
+use Rattle.region_flow.specs.Open.{IsShutAt, LawOfOpenVertices}
+use Rattle.region_flow.proofs.Growing.{some_term}
 
 -- the arcs of an edge of the list
 pub stands : (g : Graph) → IsGraph g → (e : Edge) → (c : Contains g.edges e) → StandsInRows g c.0 e
