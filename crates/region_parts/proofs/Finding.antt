@@ -1,10 +1,10 @@
 -- A search grows by one vertex.
-use Rattle.std.proofs.Common.{◌≡◌, ℕ, suc, ◌+◌, ◌<◌, ◌≤◌, ◌⊎◌, inl, inr, ⊎_elim, Bool, true, false, not, List, [], ◌∷◌, ◌++◌, take, drop, set, length, get_or, refl, sym, ◌∙◌, subst, ap, arith}
+use Rattle.std.proofs.Common.{◌≡◌, ℕ, suc, ◌+◌, ◌-◌, ◌<◌, ◌≤◌, ◌⊎◌, inl, inr, ⊎_elim, Bool, true, false, not, List, [], ◌∷◌, ◌++◌, take, drop, set, length, get_or, refl, sym, ◌∙◌, subst, ap, arith}
 use Rattle.std.specs.Prelude.{◌≢◌, if◌then◌else◌}
 use Rattle.std.specs.List.{count_by}
 use Rattle.std.proofs.lemmas.Bool.{cases_lt, cases_eq, cases_Bool, false≢true}
 use Rattle.std.proofs.Math.ListN.{drop_of_length-le}
-use Rattle.std.proofs.lemmas.List.{append-nil, get_or-set_same, get_or-set_other, length-set, take_all}
+use Rattle.std.proofs.lemmas.List.{append-nil, get_or-set_same, get_or-set_other, length-set, take_all, get_or_default}
 use Rattle.std.proofs.lemmas.List.Sums.{sum_by-cons}
 use Rattle.cut_definitions.specs.Weight.{VertexSet}
 use Rattle.weighted_graph.specs.declared.graph.Arc.{Arc}
@@ -12,7 +12,7 @@ use Rattle.weighted_graph.specs.Searches.{is_seen}
 use Rattle.weighted_graph.proofs.Searched.{seen-more, seen-before, unseen_fewer}
 use Rattle.max_flow.specs.Flow.{arc_at}
 use Rattle.residual_chain.specs.Paths.{HasArcs, arcs_in_rows}
-use Rattle.region_parts.specs.Found.{SearchState, Leads, StandsAt, IsFoundFrom, IsKnown, IsSearch, IsNoneFound, IsQuiet, GoesOn, with_vertex, IsKept}
+use Rattle.region_parts.specs.Found.{SearchState, Leads, StandsAt, IsFoundFrom, IsKnown, HasHalted, IsSearch, IsNoneFound, IsQuiet, GoesOn, with_vertex, IsKept}
 
 -- ---- one vertex more
 
@@ -225,6 +225,19 @@ pass_search n goes halts turns starts s h left known = record {
 }
 
 -- the vertex that was put last does not halt, so none does
+-- a mark that was read is in the list
+pub seen_there : (xs seen : List Bool) (v : ℕ) (mark : Bool) → xs ≡ seen → v < length seen → mark ≡ get_or xs v mark → mark ≡ true → is_seen seen v ≡ true
+seen_there xs seen v mark same within at is =
+    let l : v < length xs = subst (λ (bs : List Bool). v < length bs) (sym same) within in
+    ap (λ (bs : List Bool). get_or bs v false) (sym same) ∙ get_or_default xs v false mark l ∙ sym at ∙ is
+
+-- the vertex that was put last halts
+pub halted_put : (halts : ℕ → Bool) (s : SearchState) (x parent : ℕ) → s.count < length s.order → halts x ≡ true → HasHalted halts (with_vertex s x parent)
+halted_put halts s x parent fits halting =
+    let last : s.count + 1 - 1 ≡ s.count = omega arith in
+    let here : get_or (set s.order s.count x) (s.count + 1 - 1) 0 ≡ x = ap (λ (k : ℕ). get_or (set s.order s.count x) k 0) last ∙ get_or-set_same s.order s.count x 0 fits in
+    record { some = omega arith; halting = subst (λ (v : ℕ). halts v ≡ true) (sym here) halting }
+
 pub quiet_put : (halts : ℕ → Bool) (s : SearchState) (x parent : ℕ) → s.count < length s.order → IsQuiet halts s → halts x ≡ false → IsQuiet halts (with_vertex s x parent)
 quiet_put halts s x parent fits quiet last = each_vertex (λ k. halts k ≡ false) s.order s.count x fits quiet last
 

@@ -1,5 +1,5 @@
 -- What a race around the list of a side shows, and what stays while vertices are settled.
-use Rattle.std.proofs.Common.{◌≡◌, ℕ, ◌+◌, ◌-◌, ◌<◌, ◌≤◌, inl, inr, ⊎_elim, Bool, true, false, eqb, List, take, length, get_or, refl, sym, ◌∙◌, subst, ap, arith}
+use Rattle.std.proofs.Common.{◌≡◌, ℕ, ◌+◌, ◌-◌, ◌<◌, ◌≤◌, ◌⊎◌, inl, inr, ⊎_elim, Bool, true, false, eqb, List, take, length, get_or, refl, sym, ◌∙◌, subst, ap, arith}
 use Rattle.std.specs.Prelude.{◌≢◌, Result, Ok, Err, OnOk, None, Some, slice_get}
 use Rattle.std.specs.List.{Contains}
 use Rattle.std.proofs.lemmas.Bool.{cases_lt, eqb-true, eq-eqb, false≢true}
@@ -35,6 +35,10 @@ use Rattle.region_parts.proofs.Rounds.{good_stop, good_way}
 pub on_ok_both : {T E : Type 0} {P Q R : Type 0} (r : Result T E) → (P → Q → R) → OnOk r P → OnOk r Q → OnOk r R
 on_ok_both (Ok x) f p q = f p q
 on_ok_both (Err x) f p q = p
+
+pub on_ok_always : {T E P : Type 0} (r : Result T E) → P → OnOk r P
+on_ok_always (Ok x) p = p
+on_ok_always (Err x) p = tt
 
 -- ---- the two sides
 
@@ -76,6 +80,10 @@ goes_on_same side s s' same hub good seen unread = record {
   unread = unread;
 }
 
+-- before anything changes
+pub goes_on_start : (side : Side) (s : Splitter) → GoesOnSettling side s s
+goes_on_start side s = goes_on_same side s s (record { inner = refl; outer = refl; memory = refl }) refl (λ v is. is) (λ v is. is) (λ no. refl)
+
 pub goes_on_more : (side : Side) (s s' s'' : Splitter) → GoesOnSettling side s s' → GoesOnSettling side s' s'' → GoesOnSettling side s s''
 goes_on_more side s s' s'' h k = record {
   stays = record {
@@ -102,6 +110,17 @@ settled_on side g f t s s' v on h e = ⊎_elim
     (λ good. inr (inr (subst (λ (u : Hub). IsGood side g f.labels t (get_or f.feed t 0) (hub_vertex u) v) (sym on.hub) good)))
     p)
     (h e)
+
+-- a vertex that is listed or has its mark is settled
+pub known_settled : (side : Side) (g : Graph) (f : RegionState) (t : ℕ) (s : Splitter) (v : ℕ) → IsSearching side g f t s →
+    (get_or f.labels v 0 ≡ get_or f.labels t 0 → (1 ≤ get_or s.inner.turns v 0) ⊎ ((1 ≤ get_or s.outer.turns v 0) ⊎ (is_seen s.good.items v ≡ true))) → IsSettledIn side g f t s v
+known_settled side g f t s v h known e = ⊎_elim
+    (λ l. inl l)
+    (λ p. ⊎_elim
+    (λ l. inr (inl l))
+    (λ is. inr (inr (h.good v is)))
+    p)
+    (known e)
 
 -- the marks of good vertices, and the list of those that have one
 pub record AreMarks (g : Graph) (s : Splitter) : Type 0 where
@@ -193,6 +212,13 @@ pub good_on_way : (side : Side) (g : Graph) (f : RegionState) (t : ℕ) (s : Spl
 good_on_way side g f t s x h b met v on =
     good_way side g f t (hub_vertex s.hub.hub) (last_of s.near) v h.between.region (good_last side g f t s h met)
     ((way g.vertices (goes_from side g f) (stops side f t) (half_of side s).turns s.near (from_first side g f t s x b) b.some).1 v on)
+
+-- what was found is within the marks
+pub order_within : (g : Graph) (goes : ℕ → ℕ → Bool) (halts : ℕ → Bool) (turns : List ℕ) (starts : VertexSet) (s : SearchState) (order : List ℕ) (marks : List Bool) (count : ℕ) →
+    IsSearch g.vertices goes halts turns starts s → order ≡ s.order → count ≡ s.count → length marks ≡ g.vertices + 1 → (j : ℕ) → j < count → get_or order j 0 < length marks
+order_within g goes halts turns starts s order marks count h same e long j l =
+    let le = h.to_n j (omega (arith, l, e)) in
+    subst (λ (xs : List ℕ). get_or xs j 0 < length marks) (sym same) (omega (arith, le, long))
 
 -- ---- marks on the way
 

@@ -1,10 +1,10 @@
 -- The list of the parts from one side, and the border.
-use Rattle.std.proofs.Common.{◌≡◌, ℕ, zero, suc, ◌+◌, ◌<◌, ◌≤◌, ◌⊎◌, inl, inr, ⊎_elim, Bool, true, false, List, [], ◌∷◌, ◌-◌, ◌++◌, length, get_or, take, refl, sym, ◌∙◌, subst, ap, arith}
+use Rattle.std.proofs.Common.{◌≡◌, ℕ, zero, suc, ◌+◌, ◌<◌, ◌≤◌, ◌⊎◌, inl, inr, ⊎_elim, Bool, true, false, List, [], ◌∷◌, ◌-◌, ◌++◌, length, get_or, set, take, refl, sym, ◌∙◌, subst, ap, arith}
 use Rattle.std.specs.Prelude.{◌≢◌, if◌then◌else◌}
 use Rattle.std.specs.List.{All, AllPairs, Contains}
-use Rattle.std.proofs.lemmas.Bool.{cases_lt, cases_Bool, false≢true}
-use Rattle.std.proofs.lemmas.List.{get_or-append_right, get_or_append_left, length-append, append_assoc, take_more}
-use Rattle.std.proofs.lemmas.List.Elements.{All-nil, All-weaker, All-append, All-contains, All-contains_itself, All-get_or, Contains-append_left, Contains-append_right}
+use Rattle.std.proofs.lemmas.Bool.{cases_lt, cases_eq, cases_Bool, false≢true}
+use Rattle.std.proofs.lemmas.List.{get_or-append_right, get_or_append_left, length-append, length-set, get_or-set_same, append_assoc, take_more}
+use Rattle.std.proofs.lemmas.List.Elements.{All-nil, All-cons, All-weaker, All-append, All-contains, All-contains_itself, All-get_or, Contains-append_left, Contains-append_right, Contains-push}
 use Rattle.cut_definitions.specs.Graph.{Graph, IsGraph}
 use Rattle.cut_definitions.specs.Cuts.{has}
 use Rattle.cut_definitions.proofs.Bools.{at_most_one, one_seen}
@@ -13,7 +13,7 @@ use Rattle.cut_definitions.proofs.Ascending.{contains_has, has_contains}
 use Rattle.weighted_graph.specs.declared.graph.Arc.{Arc}
 use Rattle.weighted_graph.specs.Rows.{row_of}
 use Rattle.weighted_graph.specs.Searches.{is_seen}
-use Rattle.weighted_graph.proofs.Searched.{arc_within}
+use Rattle.weighted_graph.proofs.Searched.{arc_within, seen-before, seen-more, unseen_fewer}
 use Rattle.max_flow.proofs.Preflows.{no_arc, row_arc}
 use Rattle.region_parts.proofs.Finding.{none_seen}
 use Rattle.region_parts.specs.Listing.{ListingState, IsVertex, IsBorder, IsKept, IsNothingListed, IsMet, IsRowMet, IsBordered, StaysAtBorder, HasMore, AreTaken}
@@ -204,3 +204,23 @@ nothing_after n s turns list border at_border h long border_long written leaving
   border = no_border;
   at_border = λ v. left (has s.border v) (is_seen at_border v) (is_seen s.at_border v) (leaving v) (λ is. contains_has s.border v (h.border.has_all v is));
 }
+
+-- ---- one vertex more at the border
+
+pub border_more : (n v : ℕ) (border new : List ℕ) (at_border : List Bool) → new ≡ border ++ v ∷ [] → 1 ≤ v → v < length at_border → is_seen at_border v ≡ false → IsBorder n border at_border →
+    IsBorder n new (set at_border v true)
+border_more n v border new at_border items one within free h =
+    let fewer = unseen_fewer at_border v within free in
+    let to_n : v ≤ n = omega (arith, within, h.at_border_length) in
+    let P : ℕ → Type 0 = λ u. IsVertex n u × (is_seen (set at_border v true) u ≡ true) in
+    subst (λ (xs : List ℕ). IsBorder n xs (set at_border v true)) (sym items) (record {
+      at_border_length = length-set at_border v true ∙ h.at_border_length;
+      has_all = λ u is. ⊎_elim
+          (λ (e : u ≡ v). subst (Contains (border ++ v ∷ [])) (sym e) (Contains-push border v))
+          (λ (ne : u ≢ v). Contains-append_left border (v ∷ []) u (h.has_all u (seen-before at_border v u ne is)))
+          (cases_eq u v);
+      within = All-append P border (v ∷ [])
+          (All-weaker (λ (u : ℕ). IsVertex n u × (is_seen at_border u ≡ true)) P (λ u p. (p.0, seen-more at_border v u within p.1)) border h.within)
+          (All-cons P v [] ((one, to_n), get_or-set_same at_border v true false within) (All-nil P));
+      rest = omega (arith, fewer, h.rest, length-append border (v ∷ []));
+    })

@@ -32,6 +32,10 @@ pub on_ok : {T E A B : Type 0} (r : Result T E) → OnOk r A → (A → B) → O
 on_ok (Ok x) a h = h a
 on_ok (Err e) a h = tt
 
+pub on_ok_two : {T E A B C : Type 0} (r : Result T E) → OnOk r A → OnOk r B → (A → B → C) → OnOk r C
+on_ok_two (Ok x) a b h = h a b
+on_ok_two (Err e) a b h = tt
+
 pub on_ok_three : {T E A B C D : Type 0} (r : Result T E) → OnOk r A → OnOk r B → OnOk r C → (A → B → C → D) → OnOk r D
 on_ok_three (Ok x) a b c h = h a b c
 on_ok_three (Err e) a b c h = tt
@@ -271,6 +275,28 @@ outer_same side g f t s new e b none = subst (λ (k : Side). IsSameButHalf k s (
   other = refl;
   border = more_of_nothing s.outer.border new.border (b.halves.outer_half.bare none);
   more = omega (arith, none);
+})
+
+pub inner_taken_same : (side : Side) (s : Splitter) (new : ListingState) (m : ℕ) → side ≡ Inner → HasMore s.inner.border new.border → s.inner.count ≤ new.count → IsSameButHalf side s (with_inner s new m)
+inner_taken_same side s new m e border more = subst (λ (k : Side). IsSameButHalf k s (with_inner s new m)) (sym e) (record {
+  near = refl;
+  hub = refl;
+  good = refl;
+  touched = refl;
+  other = refl;
+  border = border;
+  more = more;
+})
+
+pub outer_taken_same : (side : Side) (s : Splitter) (new : ListingState) (m : ℕ) → side ≡ Outer → HasMore s.outer.border new.border → s.outer.count ≤ new.count → IsSameButHalf side s (with_outer s new m)
+outer_taken_same side s new m e border more = subst (λ (k : Side). IsSameButHalf k s (with_outer s new m)) (sym e) (record {
+  near = refl;
+  hub = refl;
+  good = refl;
+  touched = refl;
+  other = refl;
+  border = border;
+  more = more;
 })
 
 pub inner_stays_first : (g : Graph) (f : RegionState) (t : ℕ) (s : Splitter) (new : ListingState) → IsBetween g f t s → s.inner.count ≡ 0 → StaysListed s (with_inner s new s.memory)

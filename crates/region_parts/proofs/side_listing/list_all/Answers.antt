@@ -1,5 +1,7 @@
 -- One vertex more is on the list, and its row is met.
-use Rattle.std.proofs.Common.{◌∙◌, take}
+use Rattle.std.proofs.Common.{ℕ, ◌++◌, List, take, ◌∙◌, subst, ap}
+use Rattle.std.specs.List.{All}
+use Rattle.std.proofs.lemmas.List.{take_all}
 use Rattle.std.proofs.lemmas.List.Elements.{All-more, All-weaker}
 use Rattle.region_parts.specs.Listing.{IsRowMet}
 use Rattle.region_parts.proofs.SideLists.{list_more, row_met_more, more_twice}
@@ -24,3 +26,11 @@ loop-v-preserved c =
           (λ v h. row_met_more g labels turns c.loop-v.at_border c.put_ends.new.at_border v step.stays h) (take k found) inv.met)
           step.met;
     }
+
+pub returns-clause-list : goal.returns-clause-list
+returns-clause-list c =
+    c.loop-v.invariant.list ∙ ap (λ (xs : List ℕ). c.args.list.now.items ++ xs) (take_all c.loop-v.v-index c.args.found.now c.loop-v-test.false)
+
+pub returns-clause-met : goal.returns-clause-met
+returns-clause-met c =
+    subst (All (IsRowMet c.args.graph.now c.args.flow.now.labels c.args.turns.now c.loop-v.at_border)) (take_all c.loop-v.v-index c.args.found.now c.loop-v-test.false) c.loop-v.invariant.met

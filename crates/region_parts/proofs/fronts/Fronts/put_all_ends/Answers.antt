@@ -1,5 +1,7 @@
 -- One vertex more, or all.
-use Rattle.std.proofs.Common.{take, ◌∙◌}
+use Rattle.std.proofs.Common.{take, subst, ◌∙◌}
+use Rattle.std.specs.List.{All}
+use Rattle.std.proofs.lemmas.List.{take_all}
 use Rattle.std.proofs.lemmas.List.Elements.{All-more, All-weaker}
 use Rattle.region_parts.specs.Fronts.{HasEnds}
 use Rattle.region_parts.proofs.FrontLists.{ends_kept}
@@ -18,3 +20,7 @@ loop-i-preserved c =
           (All-weaker (HasEnds g labels c.loop-i.self) (HasEnds g labels c.put_ends.new.self) (λ v. ends_kept g labels c.loop-i.self c.put_ends.new.self v step.kept) (take c.loop-i.i c.args.moved.now) inv.ends)
           step.ends;
     }
+
+pub returns-clause-ends : goal.returns-clause-ends
+returns-clause-ends c =
+    subst (All (HasEnds c.args.graph.now c.args.flow.now.labels c.loop-i.self)) (take_all c.loop-i.i c.args.moved.now c.loop-i-test.false) c.loop-i.invariant.ends

@@ -1,5 +1,7 @@
 -- An entry that has another label is taken out.
-use Rattle.std.proofs.Common.{◌≢◌, ◌<◌, length, get_or, take, ap, ◌∙◌, arith}
+use Rattle.std.proofs.Common.{ℕ, ◌≢◌, ◌<◌, length, get_or, take, ap, sym, ◌∙◌, arith}
+use Rattle.std.specs.Prelude.{Some}
+use Rattle.std.proofs.lemmas.Option.{slice_get-get_or}
 use Rattle.region_parts.specs.Fronts.{list_at}
 use Rattle.region_parts.proofs.FrontLists.{shrunk_here, shrunk_other, removed_before, removed_length, stale_kept}
 use Rattle.region_parts.proofs.fronts.Fronts.read.Goals as goal
@@ -23,3 +25,8 @@ loop-self-preserved c =
       others = λ other ne. shrunk_other f.lists region place other ne ∙ inv.others other ne;
       kept = λ v h. stale_kept labels f region place l stale v (inv.kept v h);
     })
+
+pub returns-then-label-region-clause-at : goal.returns-then-label-region-clause-at
+returns-then-label-region-clause-at c =
+    let xs = list_at c.loop-self.self.lists c.args.region in
+    slice_get-get_or xs c.args.place 0 (omega (arith, c.loop-self-test.true, c.count.ensures)) ∙ ap (λ (v : ℕ). Some v) (sym c.at-v.ensures.value)

@@ -31,3 +31,12 @@ loop-preserved c =
           (begun_read f t old_list new_list s (rw label at read.before) (rw label at read.no_longer) (inv.begun h));
       search = λ turns free h. look.search g turns (omega (arith, some)) le (free v) (inv.search turns free h);
     }
+
+pub returns-in-None-clause-begun : goal.returns-in-None-clause-begun
+returns-in-None-clause-begun c = λ h.
+    let f = c.args.region.flow.now in
+    let t = c.args.region.t in
+    let r = get_or f.labels t 0 in
+    let label = c.label.ensures in
+    let read = c.in-None.ensures in
+    begun_read f t (list_at c.loop.fronts.lists r) (list_at c.read.new.self.lists r) c.loop.self (rw label at read.before) (rw label at read.no_longer) (c.loop.invariant.begun h)

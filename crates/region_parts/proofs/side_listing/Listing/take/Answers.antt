@@ -56,3 +56,21 @@ returns-clause-bordered g c =
     rw (turns, at_border)
     (bordered_after c.args.graph.now c.args.flow.now.labels s new found c.list_all.new.list.items c.list_all.new.border.items c.list_all.new.at_border c.take_parts-self-inside.result
     c.requires.bordered grown stays c.in_ok-list_all.ensures.met)
+
+pub invariant_of-self : goal.invariant_of-self
+invariant_of-self g c =
+    let made = c.take_parts-self-inside in
+    let turns = with_items_is c.self.inside.turns made.new.turns (omega (arith, made.auto.turns, c.as_mut_slice-turns.ensures.len)) in
+    let marks = with_items_is c.self.inside.marks made.new.marks (omega (arith, made.auto.marks, c.as_mut_slice-marks.ensures.len)) in
+    let long = ap (λ (xs : List ℕ). length xs) c.as_mut_slice-turns.ensures.value in
+    let long_marks = ap (λ (xs : List ℕ). length xs) c.as_mut_slice-marks.ensures.value in
+    rw (turns, marks) (record { as_long = omega (arith, made.auto.turns, made.auto.marks, long, long_marks, c.self.invariant.as_long); marked = made.ensures.marked })
+
+pub invariant_of-self-2 : goal.invariant_of-self-2
+invariant_of-self-2 g c =
+    let made = c.take_parts-self-inside in
+    let turns = with_items_is c.self.inside.turns made.new.turns (omega (arith, made.auto.turns, c.as_mut_slice-turns.ensures.len)) in
+    let marks = with_items_is c.self.inside.marks made.new.marks (omega (arith, made.auto.marks, c.as_mut_slice-marks.ensures.len)) in
+    let long = ap (λ (xs : List ℕ). length xs) c.as_mut_slice-turns.ensures.value in
+    let long_marks = ap (λ (xs : List ℕ). length xs) c.as_mut_slice-marks.ensures.value in
+    rw (turns, marks) (record { as_long = omega (arith, made.auto.turns, made.auto.marks, long, long_marks, c.self.invariant.as_long); marked = made.ensures.marked })

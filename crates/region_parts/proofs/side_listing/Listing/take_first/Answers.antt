@@ -69,3 +69,15 @@ returns-clause-bordered c =
     let labels = c.args.flow.now.labels in
     rw (turns, at_border)
     (bordered_after g labels s new found c.list_all.new.list.items c.list_all.new.border.items c.list_all.new.at_border 1 (bordered_nothing g labels s none) grown stays c.in_ok-list_all.ensures.met)
+
+pub invariant_of-self : goal.invariant_of-self
+invariant_of-self c =
+    let turns = with_items_is c.self.inside.turns c.write.new.numbers (omega (arith, c.write.auto.numbers, c.as_mut_slice-turns.ensures.len)) in
+    let long = ap (λ (xs : List ℕ). length xs) c.as_mut_slice-turns.ensures.value in
+    rw turns (record { as_long = omega (arith, c.write.auto.numbers, long, c.self.invariant.as_long); marked = c.self.invariant.marked })
+
+pub invariant_of-self-2 : goal.invariant_of-self-2
+invariant_of-self-2 c =
+    let turns = with_items_is c.self.inside.turns c.write.new.numbers (omega (arith, c.write.auto.numbers, c.as_mut_slice-turns.ensures.len)) in
+    let long = ap (λ (xs : List ℕ). length xs) c.as_mut_slice-turns.ensures.value in
+    rw turns (record { as_long = omega (arith, c.write.auto.numbers, long, c.self.invariant.as_long); marked = c.self.invariant.marked })

@@ -1,11 +1,11 @@
 -- The vertices on the way are good, or what was found is listed.
-use Rattle.std.proofs.Common.{◌≡◌, ℕ, ◌<◌, Bool, true, List, get_or, refl, ◌∙◌, sym, subst, ap, arith}
+use Rattle.std.proofs.Common.{◌≡◌, ℕ, ◌<◌, Bool, true, List, length, get_or, refl, ◌∙◌, sym, subst, ap, arith}
 use Rattle.std.specs.Vec.{with_items}
 use Rattle.std.proofs.lemmas.List.{with_items_is}
 use Rattle.std.proofs.lemmas.Result.{on_ok_weaker}
 use Rattle.weighted_graph.specs.Searches.{is_seen}
 use Rattle.region_parts.specs.declared.splitter.Splitter.{Splitter}
-use Rattle.region_parts.proofs.RacesAround.{on_ok_both, near_earlier, way_of, marked_searching, marked_settled, goes_on_same, ended_beside, taken_searching, taken_goes_on, listed_settled, first_seen}
+use Rattle.region_parts.proofs.RacesAround.{on_ok_always, on_ok_both, order_within, near_earlier, way_of, marked_searching, marked_settled, goes_on_same, ended_beside, taken_searching, taken_goes_on, listed_settled, first_seen}
 use Rattle.region_parts.proofs.splitter.Splitter.end_race.Goals as goal
 
 pub mark_way-requires-clause-earlier : goal.mark_way-requires-clause-earlier
@@ -79,3 +79,15 @@ returns-in-Ended-clause-settled c =
     (λ taken x beside no. listed_settled c.args.side c.args.region.graph.now c.args.region.flow.now c.args.region.t c.take_near.new.self x
     (taken x (first_seen c.args.side c.args.region.graph.now c.args.region.flow.now c.args.region.t c.args.self.now x beside)))
     c.take_near.ensures.taken
+
+pub mark_way-requires-clause-within : goal.mark_way-requires-clause-within
+mark_way-requires-clause-within c =
+    let b = c.requires.beside in
+    order_within c.args.region.graph.now _ _ _ _ c.args.self.now.near c.order.result.now c.as_mut_slice.result.now c.count.result b.1.search c.order.ensures c.count.ensures
+    (ap length c.as_mut_slice.ensures.value ∙ c.requires.searching.between.good_length)
+
+pub returns-in-Met-clause-near : goal.returns-in-Met-clause-near
+returns-in-Met-clause-near c = on_ok_always c.mark_way.result refl
+
+pub returns-in-Met-clause-hub : goal.returns-in-Met-clause-hub
+returns-in-Met-clause-hub c = on_ok_always c.mark_way.result refl

@@ -74,3 +74,7 @@ returns-clause-passed c =
     let shorter : length read ≤ length old = rw label at c.read.ensures.no_longer in
     let before : take c.front.place read ≡ take c.front.place old = rw label at c.read.ensures.before in
     front_kept f t c.args.self.now old read c.front.place c.front.place (omega arith) before shorter c.front.invariant.passed
+
+pub returns-then-is_left-clause-front : goal.returns-then-is_left-clause-front
+returns-then-is_left-clause-front c =
+    front_read c.args.region.graph.now c.args.region.flow.now c.args.region.t c.front.fronts c.read.new.self c.front.invariant.front c.read.ensures.vertices c.read.ensures.kept

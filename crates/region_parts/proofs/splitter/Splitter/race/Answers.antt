@@ -5,7 +5,7 @@ use Rattle.region_parts.specs.Found.{IsSearch}
 use Rattle.region_parts.specs.Hubs.{IsHubSearch}
 use Rattle.region_parts.specs.Sided.{goes_from, other_side, stops}
 use Rattle.region_parts.specs.Split.{half_of}
-use Rattle.region_parts.proofs.RacesAround.{searched_on, beside_on}
+use Rattle.region_parts.proofs.RacesAround.{goes_on_same, outer_not_inner, searched_on, beside_on}
 use Rattle.region_parts.proofs.splitter.Splitter.race.Goals as goal
 
 pub returns-in-Inner-clause-searching : goal.returns-in-Inner-clause-searching
@@ -53,3 +53,16 @@ returns-in-Outer-clause-beside c = λ x b.
     beside_on side g f t s _ x b (record { inner = refl; outer = refl; memory = refl }) c.run_race-in-Outer.ensures.kept
     (subst (λ (xs : List ℕ). IsSearch g.vertices (goes_from side g f) (stops side f t) xs (λ v. eqb v x) c.run_race-in-Outer.new.near) e
     (c.run_race-in-Outer.ensures.near (λ v. eqb v x) (subst (λ (xs : List ℕ). IsSearch g.vertices (goes_from side g f) (stops side f t) xs (λ v. eqb v x) s.near) (sym e) b.search)))
+
+pub run_race-requires-in-Outer-clause-from_outside : goal.run_race-requires-in-Outer-clause-from_outside
+run_race-requires-in-Outer-clause-from_outside c = λ out. absurd (outer_not_inner (sym c.in-Outer.is ∙ (c.requires.searching.outside out).0))
+
+pub returns-in-Inner-clause-goes_on : goal.returns-in-Inner-clause-goes_on
+returns-in-Inner-clause-goes_on c =
+    let on = c.run_race.ensures.hub_goes_on in
+    goes_on_same c.args.side c.args.self.now _ (record { inner = refl; outer = refl; memory = refl }) on.same (λ v is. is) on.seen_kept on.unread
+
+pub returns-in-Outer-clause-goes_on : goal.returns-in-Outer-clause-goes_on
+returns-in-Outer-clause-goes_on c =
+    let on = c.run_race-in-Outer.ensures.hub_goes_on in
+    goes_on_same c.args.side c.args.self.now _ (record { inner = refl; outer = refl; memory = refl }) on.same (λ v is. is) on.seen_kept on.unread

@@ -89,3 +89,7 @@ returns-clause-raced c =
           let all = race.hub_ended is in
           (all.all, fed_found g f t r c.run_race.new.fronts c.run_race.new.hub (front_after g f t c.args.fronts.now c.run_race.new.fronts Outside c.requires.front (subst (λ (x : Hub). KeepsFrontsFor f.labels x c.args.fronts.now c.run_race.new.fronts) c.start.ensures.hub race.fronts)) all (race.begun no_place) outside);
     }
+
+pub returns-clause-front : goal.returns-clause-front
+returns-clause-front c =
+    front_after c.args.region.graph.now c.args.region.flow.now c.args.region.t c.args.fronts.now c.run_race.new.fronts c.start.new.self.hub c.requires.front c.run_race.ensures.fronts

@@ -57,3 +57,14 @@ returns-clause-further c =
     let new = c.search_outer.new.self in
     IfOk-weaker c.search_outer.result (λ done. done ≡ false → IsFurther mid new) (λ done. done ≡ false → IsFurther old new)
     (λ done h no. further_on old mid new c.in_ok-search_inner.ensures.stays c.in_ok-search_inner.ensures.some.1 (h no)) c.search_outer.ensures.further
+
+pub returns-then-not-branch-clause-some : goal.returns-then-not-branch-clause-some
+returns-then-not-branch-clause-some c = c.in_ok-search_inner.ensures.some
+
+pub returns-then-not-branch-clause-further : goal.returns-then-not-branch-clause-further
+returns-then-not-branch-clause-further c = λ no. c.in_ok-search_inner.ensures.further c.if-not-branch.true
+
+pub returns-clause-some : goal.returns-clause-some
+returns-clause-some c =
+    let some = c.in_ok-search_inner.ensures.some in
+    on_ok_weaker c.search_outer.result (λ last. (λ k. last.0 (some.0 k), λ k. last.1 (some.1 k))) c.search_outer.ensures.some

@@ -118,3 +118,6 @@ returns-clause-passed c =
     (λ e. ap (λ (x : ListingState). x.count) c.forget.ensures.outer ∙ (c.requires.hub.outside (sym c.start.ensures.hub ∙ e)).0) c.settle_border.ensures.fronts in
     all_with c.args.region.flow.now c.args.region.t c.settle_border.new.fronts c.settle_border.new.self c.take_hub.new.self c.args.passed passed c.in_ok-take_hub.ensures.stays
     (more_taken Outer c.settle_border.new.self c.take_hub.new.self c.in_ok-take_hub.ensures.same) (λ z. absurd (omega (arith, z, c.in_ok-take_hub.ensures.some)))
+
+pub take_hub-requires-clause-all : goal.take_hub-requires-clause-all
+take_hub-requires-clause-all c = (c.in_ok-done.ensures.ended c.if-done.false).all

@@ -5,7 +5,7 @@ use Rattle.region_parts.specs.declared.splitter.Splitter.{Splitter}
 use Rattle.region_parts.specs.Found.{SearchState}
 use Rattle.region_parts.specs.Fronts.{list_at}
 use Rattle.region_parts.specs.Hubs.{HaveBegun, HasAll}
-use Rattle.region_parts.proofs.RacesAround.{begin_beside, searched_on, goes_on_same, goes_on_more}
+use Rattle.region_parts.proofs.RacesAround.{begin_beside, known_settled, searched_on, goes_on_same, goes_on_more}
 use Rattle.region_parts.proofs.splitter.Splitter.settle.Goals as goal
 
 pub race-race-requires-clause-beside : goal.race-race-requires-clause-beside
@@ -92,3 +92,14 @@ returns-clause-ended c = λ ended.
     let f = c.args.region.flow.now in
     let list = list_at c.race-race.new.fronts.lists (get_or f.labels c.args.region.t 0) in
     subst (λ (u : HubSearch). HasAll list u) (sym c.in_ok-end_race.ensures.hub) (c.race-race.ensures.hub_ended (c.has_settled.ensures.no ended))
+
+pub returns-then-is_settled-clause-settled : goal.returns-then-is_settled-clause-settled
+returns-then-is_settled-clause-settled c = λ yes.
+    known_settled c.args.side c.args.region.graph.now c.args.region.flow.now c.args.region.t c.args.self.now c.args.v c.requires.searching (c.is_settled.ensures.yes c.if-is_settled.true)
+
+pub race-race-requires-clause-searching : goal.race-race-requires-clause-searching
+race-race-requires-clause-searching c =
+    let s = c.args.self.now in
+    let begun : Splitter = record { near = c.begin.new.self; hub = s.hub; inner = s.inner; outer = s.outer; good = s.good; touched = s.touched; memory = s.memory } in
+    searched_on c.args.side c.args.region.graph.now c.args.region.flow.now c.args.region.t s begun c.requires.searching (record { inner = refl; outer = refl; memory = refl }) refl refl refl
+    c.requires.searching.hub_search

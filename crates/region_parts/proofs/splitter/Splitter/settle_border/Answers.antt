@@ -1,7 +1,9 @@
 -- One place more is settled.
-use Rattle.std.proofs.Common.{◌+◌, ◌-◌, ◌<◌, sym, ◌∙◌, arith}
-use Rattle.region_parts.proofs.HubSteps.{fronts_more}
-use Rattle.region_parts.proofs.RacesAround.{goes_on_more, border_vertex, border_settled, all_settled}
+use Rattle.std.proofs.Common.{◌+◌, ◌-◌, ◌<◌, get_or, sym, ◌∙◌, arith}
+use Rattle.region_parts.specs.Split.{half_of}
+use Rattle.region_parts.proofs.HubSteps.{fronts_more, fronts_same}
+use Rattle.region_parts.proofs.Passing.{listed_settled}
+use Rattle.region_parts.proofs.RacesAround.{front_on, goes_on_more, goes_on_start, border_vertex, border_settled, all_settled}
 use Rattle.region_parts.proofs.splitter.Splitter.settle_border.Goals as goal
 
 pub settle-requires-clause-from_one : goal.settle-requires-clause-from_one
@@ -47,3 +49,18 @@ border-preserved c =
 pub returns-clause-settled : goal.returns-clause-settled
 returns-clause-settled c = λ _ v there.
     all_settled c.args.side c.args.region.graph.now c.args.region.flow.now c.args.region.t c.border.self c.border.place (sym c.beside.ensures.at ∙ c.in_default.is) c.border.invariant.settled v there
+
+pub border-init : goal.border-init
+border-init c = record {
+  searching = c.requires.searching;
+  near = c.requires.near;
+  goes_on = goes_on_start c.args.side c.args.self.now;
+  fronts = fronts_same c.args.region.flow.now.labels c.args.self.now.hub.hub c.args.fronts.now;
+  begun = c.requires.begun;
+  settled = λ i l.
+      listed_settled c.args.side c.args.region.graph.now c.args.region.flow.now c.args.region.t (get_or (half_of c.args.side c.args.self.now).border i 0) c.args.self.now (c.requires.passed.listed i l);
+}
+
+pub settle-requires-clause-front : goal.settle-requires-clause-front
+settle-requires-clause-front c =
+    front_on c.args.region.graph.now c.args.region.flow.now c.args.region.t c.args.self.now.hub.hub c.args.fronts.now c.border.fronts c.requires.front c.border.invariant.fronts

@@ -4,9 +4,9 @@ use Rattle.std.specs.Prelude.{Some, slice_get}
 use Rattle.std.proofs.lemmas.Option.{slice_get_within}
 use Rattle.region_parts.specs.declared.side.Side.TheVariants.{Outer}
 use Rattle.region_parts.specs.Fronts.{FrontsState, list_at}
-use Rattle.region_parts.proofs.RacesAround.{goes_on_more, hub_inside, begun_none, front_on as fronts_on, front_read, front_settled, open_settled}
+use Rattle.region_parts.proofs.RacesAround.{goes_on_more, goes_on_start, hub_inside, begun_none, front_on as fronts_on, front_read, front_settled, open_settled}
 use Rattle.region_parts.specs.Passed.{IsFrontPassed}
-use Rattle.region_parts.proofs.Passing.{front_kept, front_on}
+use Rattle.region_parts.proofs.Passing.{front_kept, front_on, listed_settled}
 use Rattle.region_parts.proofs.splitter.Splitter.settle_front.Goals as goal
 
 pub settle-requires-clause-begun : goal.settle-requires-clause-begun
@@ -133,3 +133,23 @@ returns-clause-passed c =
     let shorter : length read ≤ length old = rw label at c.read.ensures.no_longer in
     let before : take c.front.place read ≡ take c.front.place old = rw label at c.read.ensures.before in
     front_kept f c.args.region.t c.front.self old read c.args.from c.front.place inv.onward before shorter inv.passed
+
+pub front-init : goal.front-init
+front-init c = record {
+  searching = c.requires.searching;
+  near = c.requires.near;
+  goes_on = goes_on_start Outer c.args.self.now;
+  fronts = c.requires.front;
+  settled = λ i v l is.
+      listed_settled Outer c.args.region.graph.now c.args.region.flow.now c.args.region.t v c.args.self.now (c.requires.passed i v l is);
+  onward = omega arith;
+  passed = c.requires.passed;
+}
+
+pub settle-requires-clause-front : goal.settle-requires-clause-front
+settle-requires-clause-front c =
+    front_read c.args.region.graph.now c.args.region.flow.now c.args.region.t c.front.fronts c.read.new.self c.front.invariant.fronts c.read.ensures.vertices c.read.ensures.kept
+
+pub returns-clause-fronts : goal.returns-clause-fronts
+returns-clause-fronts c =
+    front_read c.args.region.graph.now c.args.region.flow.now c.args.region.t c.front.fronts c.read.new.self c.front.invariant.fronts c.read.ensures.vertices c.read.ensures.kept

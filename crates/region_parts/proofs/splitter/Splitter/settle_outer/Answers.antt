@@ -1,15 +1,17 @@
 -- First the open vertices are settled, then those beside the list.
-use Rattle.std.proofs.Common.{ℕ, ◌≡◌, true, arith}
-use Rattle.std.proofs.lemmas.Result.{on_ok_weaker}
+use Rattle.std.proofs.Common.{ℕ, ◌≡◌, get_or, false, true, arith}
+use Rattle.std.proofs.lemmas.Result.{IfOk-weaker, on_ok_weaker}
 use Rattle.std.specs.List.{Contains}
 use Rattle.cut_definitions.proofs.Results.{if_both}
 use Rattle.region_parts.specs.declared.side.Side.TheVariants.{Outer}
 use Rattle.region_parts.specs.Between.{IsOuterSettled}
+use Rattle.region_parts.specs.Fronts.{list_at}
+use Rattle.region_parts.specs.Hubs.{HasAll}
 use Rattle.region_parts.specs.Passed.{ArePassed}
 use Rattle.region_parts.specs.Split.{GoesOnSettling, IsSearching, IsSettledIn}
 use Rattle.region_parts.proofs.BetweenLemmas.{outer_settled}
 use Rattle.region_parts.proofs.Passing.{all_on, all_settling, more_settling, passed_on}
-use Rattle.region_parts.proofs.RacesAround.{hub_inside, on_ok_both, goes_on_more}
+use Rattle.region_parts.proofs.RacesAround.{front_on, hub_inside, on_ok_both, goes_on_more}
 use Rattle.region_parts.proofs.splitter.Splitter.settle_outer.Goals as goal
 
 pub returns-clause-goes_on : goal.returns-clause-goes_on
@@ -58,3 +60,13 @@ returns-clause-passed c =
     all_settling Outer f t mid.hub.hub c.settle_front.new.fronts c.settle_border.new.fronts mid new c.args.passed passed on
     (λ z. absurd (omega (arith, z, searching.some))) (λ e. absurd (hub_inside g f t mid first.searching e)) c.settle_border.ensures.fronts)
     c.settle_border.ensures.searching c.settle_border.ensures.goes_on
+
+pub returns-clause-front : goal.returns-clause-front
+returns-clause-front c =
+    front_on c.args.region.graph.now c.args.region.flow.now c.args.region.t c.settle_front.new.self.hub.hub c.settle_front.new.fronts c.settle_border.new.fronts c.settle_front.ensures.fronts c.settle_border.ensures.fronts
+
+pub returns-clause-ended : goal.returns-clause-ended
+returns-clause-ended c =
+    let new = c.settle_border.new.self.hub in
+    IfOk-weaker c.settle_border.result (λ done. done ≡ false → HasAll (list_at c.settle_border.new.fronts.lists (get_or c.args.region.flow.now.labels c.args.region.t 0)) new)
+    (λ done. done ≡ false → new.search.place ≡ new.search.count) (λ done h no. (h no).all) c.settle_border.ensures.ended

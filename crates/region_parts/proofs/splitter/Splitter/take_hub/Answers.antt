@@ -3,7 +3,7 @@ use Rattle.std.proofs.Common.{◌≡◌, ◌≤◌, arith}
 use Rattle.region_parts.specs.declared.side.Side.TheVariants.{Inner, Outer}
 use Rattle.region_parts.specs.Split.{half_of}
 use Rattle.region_parts.proofs.SplitterLemmas.{taken_stays}
-use Rattle.region_parts.proofs.SplitterStates.{on_ok, on_ok_three, on_ok_four, hub_at, fit_in, inner_in, outer_in, inner_stays, outer_stays, each_taken, list_within, list_apart, first_each, inner_nothing, outer_nothing, inner_begun, outer_begun, inner_same, outer_same, inner_stays_first, outer_stays_first}
+use Rattle.region_parts.proofs.SplitterStates.{on_ok, on_ok_two, inner_taken_same, outer_taken_same, on_ok_three, on_ok_four, hub_at, fit_in, inner_in, outer_in, inner_stays, outer_stays, each_taken, list_within, list_apart, first_each, inner_nothing, outer_nothing, inner_begun, outer_begun, inner_same, outer_same, inner_stays_first, outer_stays_first}
 use Rattle.region_parts.proofs.splitter.Splitter.take_hub.Goals as goal
 
 pub take_first-requires-clause-nothing : goal.take_first-requires-clause-nothing
@@ -209,3 +209,27 @@ returns-in-Outer-2-clause-stays c = on_ok c.take-in-Outer-2.result c.take-in-Out
 pub returns-in-Outer-2-clause-taken : goal.returns-in-Outer-2-clause-taken
 returns-in-Outer-2-clause-taken c = rw c.in-Outer.is
     (on_ok c.take-in-Outer-2.result c.take-in-Outer-2.ensures.taken (λ taken. each_taken _ _ _ _ _ c.args.self.now.hub.search _ _ _ _ _ _ _ c.requires.search c.found-found.ensures taken))
+
+pub returns-in-Inner-clause-some : goal.returns-in-Inner-clause-some
+returns-in-Inner-clause-some c = rw c.in-Inner.is (on_ok c.take_first.result c.take_first.ensures.count (λ one. let some : 1 ≤ c.take_first.new.self.count = omega (arith, one) in some))
+
+pub returns-in-Inner-2-clause-same : goal.returns-in-Inner-2-clause-same
+returns-in-Inner-2-clause-same c = on_ok_two c.take.result c.take.ensures.taken c.take.ensures.border (λ taken border.
+    inner_taken_same c.args.side c.args.self.now c.take.new.self c.take.new.memory c.in-Inner.is border taken.further.more)
+
+pub returns-in-Inner-2-clause-some : goal.returns-in-Inner-2-clause-some
+returns-in-Inner-2-clause-some c =
+    let own_some : 1 ≤ c.args.self.now.inner.count = omega (arith, c.count.ensures, c.if-count-eq0.false) in
+    rw c.in-Inner.is (on_ok c.take.result c.take.ensures.taken (λ taken. let some : 1 ≤ c.take.new.self.count = omega (arith, own_some, taken.further.more) in some))
+
+pub returns-in-Outer-clause-some : goal.returns-in-Outer-clause-some
+returns-in-Outer-clause-some c = rw c.in-Outer.is (on_ok c.take_first-in-Outer.result c.take_first-in-Outer.ensures.count (λ one. let some : 1 ≤ c.take_first-in-Outer.new.self.count = omega (arith, one) in some))
+
+pub returns-in-Outer-2-clause-same : goal.returns-in-Outer-2-clause-same
+returns-in-Outer-2-clause-same c = on_ok_two c.take-in-Outer-2.result c.take-in-Outer-2.ensures.taken c.take-in-Outer-2.ensures.border (λ taken border.
+    outer_taken_same c.args.side c.args.self.now c.take-in-Outer-2.new.self c.take-in-Outer-2.new.memory c.in-Outer.is border taken.further.more)
+
+pub returns-in-Outer-2-clause-some : goal.returns-in-Outer-2-clause-some
+returns-in-Outer-2-clause-some c =
+    let own_some : 1 ≤ c.args.self.now.outer.count = omega arith in
+    rw c.in-Outer.is (on_ok c.take-in-Outer-2.result c.take-in-Outer-2.ensures.taken (λ taken. let some : 1 ≤ c.take-in-Outer-2.new.self.count = omega (arith, own_some, taken.further.more) in some))
