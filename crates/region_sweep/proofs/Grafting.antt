@@ -1,8 +1,7 @@
 -- A region enters, and the tree of the minimum cuts inside it stands on its node.
 use Rattle.std.proofs.Common.{◌≡◌, ℕ, zero, suc, ◌+◌, ◌-◌, ◌<◌, ◌≤◌, ◌⊎◌, inl, inr, ⊎_elim, Bool, true, false, ◌&&◌, ◌||◌, eqb, ltb, List, length, get_or, refl, sym, ◌∙◌, subst, ap, arith}
 use Rattle.std.specs.Prelude.{◌≢◌, if◌then◌else◌}
-use Rattle.std.proofs.lemmas.Bool.{cases_lt, cases_eq, ne_eqb, eq-eqb}
-use Rattle.std.proofs.lemmas.Bool.Decides.{nat_tests}
+use Rattle.std.proofs.lemmas.Bool.{cases_lt, cases_eq, ne_eqb, eq-eqb, eqb-true, lt-ltb, ltb-true}
 use Rattle.cut_definitions.specs.Graph.{Graph, IsGraph}
 use Rattle.cut_definitions.specs.Weight.{VertexSet, weight, IsCut, IsMinimumCut}
 use Rattle.cut_definitions.specs.Chain.{SameOn}
@@ -45,7 +44,10 @@ at_before node count i j low lt = ⊎_elim
 
 -- the tests on two nodes are those on their places
 moved_test : (count i j k x : ℕ) (r : Bool) → x + 1 ≡ count + j → k + 1 ≡ count + i → (eqb x k || (ltb k x && r)) ≡ (eqb j i || (ltb i j && r))
-moved_test count i j k x r e f = grind (arith, nat_tests)
+moved_test count i j k x r e f =
+    let equal : eqb x k ≡ eqb j i = same_tests (eqb x k) (eqb j i) (λ t. eq-eqb j i (omega (arith, eqb-true x k t, e, f))) (λ t. eq-eqb x k (omega (arith, eqb-true j i t, e, f))) in
+    let less : ltb k x ≡ ltb i j = same_tests (ltb k x) (ltb i j) (λ t. lt-ltb i j (omega (arith, ltb-true k x t, e, f))) (λ t. lt-ltb k x (omega (arith, ltb-true i j t, e, f))) in
+    ap (λ (b : Bool). b || (ltb k x && r)) equal ∙ ap (λ (b : Bool). eqb j i || (b && r)) less
 
 module _ (a b a' : NodeArrays) (node : ℕ) (an : AreNodes a) (bn : AreNodes b) (low : node < length a.links.uppers) (graft : IsGrafted node a.links b.links a'.links) where
   -- the upper of an added node, by its place and by its number in its own tree

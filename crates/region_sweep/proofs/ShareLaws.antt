@@ -12,8 +12,7 @@ use Rattle.cut_definitions.specs.Contraction.{label, classes, relabel, IsLabels}
 use Rattle.cut_definitions.specs.Cuts.{has}
 use Rattle.cut_definitions.proofs.ListLaws.{All-back, All-front, label_at, fold_max-bound}
 use Rattle.region_sweep.specs.declared.shares.Share.{Share}
-use Rattle.node_tree.specs.Flat.{AddsNode, TreeLinks, is_follower}
-use Rattle.node_tree.specs.Grafted.{IsGrafted, IsRegionGraph, grafted_at}
+use Rattle.node_tree.specs.Grafted.{IsRegionGraph}
 use Rattle.region_sweep.specs.Shares.{AddsClass, AreClasses, HasLeft, HaveLeft, IsShare, IsSolvedShare, regions_of}
 
 -- ---- the classes, one after another

@@ -1,12 +1,12 @@
 -- What holds of a sweep between two steps.
-use Rattle.std.specs.Prelude.{ℕ, ◌≡◌, ◌+◌, List, length}
+use Rattle.std.specs.Prelude.{ℕ, ◌≡◌, ◌+◌, ◌≤◌, List, length, slice_index}
 use Rattle.cut_definitions.specs.Graph.{Graph}
 use Rattle.cut_definitions.specs.Weight.{VertexSet, weight, IsMinimumCut}
-use Rattle.region_flow.specs.Regions.{IsRegionFlow}
+use Rattle.region_flow.specs.Regions.{RegionState, IsRegionFlow}
 use Rattle.region_sweep.specs.declared.sweep.Sweep.{Sweep}
 use Rattle.region_parts.specs.Covered.{FedAreOpen}
 use Rattle.node_tree.specs.Flat.{NodeArrays, TreeLinks}
-use Rattle.region_parts.specs.Fronts.{IsCovered}
+use Rattle.region_parts.specs.Fronts.{FrontsState, IsCovered}
 use Rattle.node_tree.specs.Homes.{AreNumbered, HomesState, home_of}
 use Rattle.region_parts.specs.Split.{IsReady}
 use Rattle.node_tree.specs.Sweeping.{IsSweeping}
@@ -20,6 +20,16 @@ pub record IsLeastWeight (g : Graph) (amount : ℕ) : Type 0 where
 -- a tree in which each vertex is in its home
 abbrev pub nodes_of : HomesState → List ℕ → TreeLinks → NodeArrays
 nodes_of homes labels links = record { homes = home_of homes labels; links = links }
+
+-- the flow and its fronts as the sweep starts: vertex 1 has entered, and all others are in region 1
+pub record IsStarted (g : Graph) (f : RegionState) (s : FrontsState) : Type 0 where
+  pub flow : IsRegionFlow g f
+  pub root : slice_index f.labels 1 ≡ 0
+  pub others : (v : ℕ) → 2 ≤ v → v ≤ g.vertices → slice_index f.labels v ≡ 1
+  pub numbered : AreNumbered g.vertices f.labels 2
+  pub fed : FedAreOpen g f
+  pub covered : IsCovered g f.labels s
+  pub vertices : s.vertices ≡ g.vertices
 
 -- memory for n vertices, labels up to n + 1 and n parts
 pub record HasRoom (n : ℕ) (s : Sweep) : Type 0 where

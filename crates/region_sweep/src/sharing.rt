@@ -17,7 +17,7 @@ use crate::sweep::Sweep;
 use cut_definitions::NoMemory;
 use node_tree::{Homes, grafted_at};
 use region_flow::RegionFlow;
-use std::alloc::Global;
+use std::alloc::{AllocError, Global};
 use std::thread::Threads;
 use weighted_graph::{Graph, Labels};
 
@@ -118,33 +118,43 @@ impl Sweep {
     }
 
     /// Lets a region enter, with the tree of its share grafted on its node.
-    fn graft(&mut self, graph: &Graph, share: Share) -> Result<(), NoMemory>
+    fn graft(&mut self, graph: &Graph, share: &Share) -> Result<(), NoMemory>
+        requires enough { 2 ≤ graph.now.vertices }
+        requires under_way { IsUnderWay graph.now self.old }
+        requires share { IsSolvedShare graph.now self.old.flow.labels share.now }
+        ensures under_way { OnOk result (IsUnderWay graph.now self.new) }
+        ensures left { OnOk result (HasLeft self.old.flow.labels share.now.region self.new.flow.labels) }
+    {
+        let _n = graph.n();
+        let Some(answer) = &share.tree else {
+            return Err(AllocError);
+        };
+        let Ok(found) = answer else {
+            return Err(AllocError);
+        };
+        if share.own.is_empty() {
+            return Ok(());
+        }
+        let node = self.homes.of_region(share.region);
+        let count = self.tree.len();
+        self.tree.graft(node, &found.tree)?;
+        // known by this call: the numbers of the nodes fit
+        let _nodes = self.tree.len();
+        put_away(&mut self.homes, &share.classes, &found.homes, node, count);
+        self.flow.cut_off(graph, &share.own, share.region, 0);
+        self.fronts.put_all_ends(graph, &self.flow, &share.own)?;
+        Ok(())
+    }
+
+    /// Does so, and lets the share go.
+    fn graft_owned(&mut self, graph: &Graph, share: Share) -> Result<(), NoMemory>
         requires enough { 2 ≤ graph.now.vertices }
         requires under_way { IsUnderWay graph.now self.old }
         requires share { IsSolvedShare graph.now self.old.flow.labels share }
         ensures under_way { OnOk result (IsUnderWay graph.now self.new) }
         ensures left { OnOk result (HasLeft self.old.flow.labels share.region self.new.flow.labels) }
     {
-        let _n = graph.n();
-        let Share {
-            region,
-            own,
-            classes,
-            tree,
-        } = share;
-        let found = tree.unwrap()?;
-        if own.is_empty() {
-            return Ok(());
-        }
-        let node = self.homes.of_region(region);
-        let count = self.tree.len();
-        self.tree.graft(node, &found.tree)?;
-        // known by this call: the numbers of the nodes fit
-        let _nodes = self.tree.len();
-        put_away(&mut self.homes, &classes, &found.homes, node, count);
-        self.flow.cut_off(graph, &own, region, 0);
-        self.fronts.put_all_ends(graph, &self.flow, &own)?;
-        Ok(())
+        self.graft(graph, &share)
     }
 
     /// Does so for all shares, which are of different regions.
@@ -157,7 +167,7 @@ impl Sweep {
         ensures left { OnOk result (HaveLeft self.old.flow.labels (regions_of shares.items) self.new.flow.labels) }
     {
         'shares: while let Some(share) = shares.pop() {
-            self.graft(graph, share)?;
+            self.graft_owned(graph, share)?;
         }
         Ok(())
     }
@@ -190,7 +200,7 @@ impl Sweep {
         self.graft_all(graph, shares)
     }
 
-    /// Goes on until all vertices have entered, with large regions solved side by side.
+    /// Goes on until all vertices have entered, with large regions solved side by side where there are two or more workers.
     pub fn run_shared<R: Threads + Sync>(
         &mut self,
         rt: &R,
@@ -209,6 +219,9 @@ impl Sweep {
     {
         // known by this call: the graph is an edge list
         let _n = graph.n();
+        if workers == 1 {
+            return self.run(graph, value);
+        }
         'steps: while let Some(t) = self.next(graph) {
             let is_split = self.step(graph, t, value)?;
             if is_split {

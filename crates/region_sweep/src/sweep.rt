@@ -1,6 +1,6 @@
 //! The sweep over regions.
 
-ghost use Rattle.std.specs.Prelude.{◌≡◌, ◌+◌, ◌≤◌, ℕ, None, true, false, IfOk, IfSome, OnOk, length, slice_index, slice_set};
+ghost use Rattle.std.specs.Prelude.{◌≡◌, ◌+◌, ◌≤◌, ◌∷◌, [], ℕ, None, true, false, IfOk, IfSome, OnOk, length, replicate, slice_index, slice_set};
 ghost use Rattle.cut_definitions.specs.Components.{IsConnected};
 ghost use Rattle.cut_definitions.specs.Cuts.{value as least_value};
 ghost use Rattle.region_flow.specs.Inflow.{IsStopReached};
@@ -8,8 +8,9 @@ ghost use Rattle.region_flow.specs.Regions.{IsOpenAt};
 ghost use Rattle.node_tree.specs.Finished.{IsFinished};
 ghost use Rattle.region_parts.specs.Fronts.{AreFew, HasEnds, KeepsAll};
 ghost use Rattle.region_parts.specs.Listed.{AreListed, IsPartList, part_in, part_list};
+ghost use Rattle.region_parts.specs.Split.{IsReady};
 ghost use Rattle.region_flow.specs.Parted.{AreLightParts};
-ghost use Rattle.region_sweep.specs.UnderWay.{IsLeastWeight, IsUnderWay};
+ghost use Rattle.region_sweep.specs.UnderWay.{IsLeastWeight, IsStarted, IsUnderWay};
 
 use crate::regroup::regroup;
 use crate::supply::Supply;
@@ -69,6 +70,53 @@ fn put_listed(
     Ok(())
 }
 
+/// The flow and its fronts as the sweep starts: vertex 1 has entered, and all others are in one region.
+fn enter_first(alloc: Global, graph: &Graph) -> Result<(RegionFlow, Fronts), NoMemory>
+    requires { 1 ≤ graph.now.vertices }
+    ensures { IfOk result (λ start. IsStarted graph.now start.0 start.1) }
+{
+    let n = graph.n();
+    let mut flow = RegionFlow::new(alloc, graph)?;
+    flow.enter(graph, ROOT);
+    let mut fronts = Fronts::new(alloc, n)?;
+    fronts.put_ends(graph, &flow, ROOT)?;
+    Ok((flow, fronts))
+}
+
+/// Memory for the search for parts of n vertices, and for its answer.
+fn part_search(alloc: Global, n: u32) -> Result<(Splitter, Parts), NoMemory>
+    ensures splitter { IfOk result (λ search. IsReady n search.0) }
+    ensures numbers { IfOk result (λ search. length search.1.numbers ≡ n + 1) }
+{
+    let splitter = Splitter::new(alloc, n)?;
+    let parts = Parts::new(alloc, n)?;
+    Ok((splitter, parts))
+}
+
+/// A tree of one node, which is the home of n vertices and of their regions.
+fn first_node(alloc: Global, n: u32) -> Result<(FlatTree, Homes), NoMemory>
+    ensures tree { IfOk result (λ first. first.0 ≡ record { uppers = 0 ∷ []; follows = false ∷ [] }) }
+    ensures entered { IfOk result (λ first. first.1.entered ≡ replicate (n + 1) 0) }
+    ensures regions { IfOk result (λ first. first.1.regions ≡ replicate (n + 2) 0) }
+{
+    let tree = FlatTree::new(alloc)?;
+    let homes = Homes::new(alloc, n)?;
+    Ok((tree, homes))
+}
+
+/// Memory for the parts of a region of n vertices: their nodes, and what lies between each and all later parts, and the next.
+fn part_rows(alloc: Global, n: u32) -> Result<(Vec<usize>, Vec<u64>, Vec<u64>), NoMemory>
+    ensures nodes { IfOk result (λ rows. length rows.0.items ≡ n + 2) }
+    ensures later { IfOk result (λ rows. length rows.1.items ≡ n + 2) }
+    ensures next { IfOk result (λ rows. length rows.2.items ≡ n + 2) }
+{
+    let size = n as usize + 2;
+    let nodes = vec![in alloc; 0usize; size]?;
+    let later = vec![in alloc; 0u64; size]?;
+    let next = vec![in alloc; 0u64; size]?;
+    Ok((nodes, later, next))
+}
+
 impl Sweep {
     /// Vertex 1 has entered, and all others are in one region.
     fn new(alloc: Global, graph: &Graph) -> Result<Sweep, NoMemory>
@@ -76,18 +124,13 @@ impl Sweep {
         ensures { IfOk result (IsUnderWay graph.now) }
     {
         let n = graph.n();
-        let mut flow = RegionFlow::new(alloc, graph)?;
-        flow.enter(graph, ROOT);
-        let mut fronts = Fronts::new(alloc, n)?;
-        fronts.put_ends(graph, &flow, ROOT)?;
-        let splitter = Splitter::new(alloc, n)?;
-        let parts = Parts::new(alloc, n)?;
-        let tree = FlatTree::new(alloc)?;
-        let homes = Homes::new(alloc, n)?;
-        let size = n as usize + 2;
-        let nodes = vec![in alloc; 0usize; size]?;
-        let later = vec![in alloc; 0u64; size]?;
-        let next = vec![in alloc; 0u64; size]?;
+        let start = enter_first(alloc, graph)?;
+        let first = first_node(alloc, n)?;
+        let rows = part_rows(alloc, n)?;
+        let (splitter, parts) = part_search(alloc, n)?;
+        let (flow, fronts) = start;
+        let (tree, homes) = first;
+        let (nodes, later, next) = rows;
         Ok(Sweep {
             flow,
             fronts,
@@ -262,7 +305,7 @@ impl Sweep {
     }
 
     /// Goes on until all vertices have entered.
-    fn run(&mut self, graph: &Graph, value: u64) -> Result<(), NoMemory>
+    pub(crate) fn run(&mut self, graph: &Graph, value: u64) -> Result<(), NoMemory>
         requires under_way { IsUnderWay graph.now self.old }
         requires connected { IsConnected graph.now }
         requires least { IsLeastWeight graph.now value }
@@ -275,12 +318,11 @@ impl Sweep {
         Ok(())
     }
 
-    /// The tree and the nodes of the vertices, once all have entered. All other memory of the sweep is given back.
+    /// The tree and the nodes of the vertices, which are those of the minimum cuts once all have entered. All other memory of
+    /// the sweep is given back.
     fn into_tree(self, graph: &Graph) -> HomedTree
-        requires some { 1 ≤ graph.now.vertices }
-        requires under_way { IsUnderWay graph.now self }
-        requires all { (v : ℕ) → slice_index self.flow.labels v ≡ 0 }
-        ensures { IsFinished graph.now result }
+        requires { 1 ≤ graph.now.vertices }
+        ensures { IsUnderWay graph.now self → ((v : ℕ) → slice_index self.flow.labels v ≡ 0) → IsFinished graph.now result }
     {
         // known by this call: the graph is an edge list
         let _n = graph.n();
@@ -303,8 +345,11 @@ pub fn tree_of(alloc: Global, graph: &Graph, value: u64) -> Result<HomedTree, No
     // known by this call: the graph is an edge list
     let _n = graph.n();
     let mut sweep = Sweep::new(alloc, graph)?;
-    sweep.run(graph, value)?;
-    Ok(sweep.into_tree(graph))
+    let done = sweep.run(graph, value);
+    // taken before the outcome is asked, so that only here a sweep is taken apart
+    let tree = sweep.into_tree(graph);
+    done?;
+    Ok(tree)
 }
 
 /// The same tree, by so many workers, of whom each takes some of the large regions, where a split leaves two or more of them.
@@ -321,12 +366,11 @@ pub fn tree_by_workers<R: Threads + Sync>(
     requires workers { 1 ≤ workers }
     ensures { IfOk result (IsFinished graph.now) }
 {
-    if workers == 1 {
-        return tree_of(alloc, graph, value);
-    }
     // known by this call: the graph is an edge list
     let _n = graph.n();
     let mut sweep = Sweep::new(alloc, graph)?;
-    sweep.run_shared(rt, alloc, graph, value, workers)?;
-    Ok(sweep.into_tree(graph))
+    let done = sweep.run_shared(rt, alloc, graph, value, workers);
+    let tree = sweep.into_tree(graph);
+    done?;
+    Ok(tree)
 }

@@ -8,12 +8,11 @@ use Rattle.region_sweep.proofs.Regrouping.{home_entered}
 use Rattle.region_sweep.proofs.sweep.Sweep.into_tree.Goals as goal
 
 pub returns : goal.returns
-returns c =
+returns c = λ way all.
     let g = c.args.graph.now in
     let s = c.args.self in
     let labels = s.flow.labels in
-    let way = c.requires.under_way in
-    let same = settled s.homes labels c.requires.all in
+    let same = settled s.homes labels all in
     let is = c.into_entered-homes.ensures in
     record {
       long = ap length is ∙ way.room.entered;
@@ -21,6 +20,6 @@ returns c =
           (tree_of_all g labels (record { homes = λ v. get_or s.homes.entered v 0; links = s.tree })
           (subst (λ (k : ℕ → ℕ). AreNodes (record { homes = k; links = s.tree })) same way.sweeping.nodes)
           (subst (λ (k : ℕ → ℕ). IsTreeOfCuts g labels (sets_of (record { homes = k; links = s.tree }))) same way.sweeping.cuts)
-          (sym (home_entered s.homes labels 1 (c.requires.all 1)) ∙ way.first)
-          c.requires.all);
+          (sym (home_entered s.homes labels 1 (all 1)) ∙ way.first)
+          all);
     }

@@ -1,54 +1,38 @@
 -- Vertex 1 has entered, and all others are in one region.
-use Rattle.std.proofs.Common.{◌≡◌, ◌+◌, ◌≤◌, ℕ, List, length, get_or, sym, ◌∙◌, ap, subst, arith}
+use Rattle.std.proofs.Common.{◌≡◌, ◌+◌, ℕ, List, length, ◌∙◌, ap, subst, arith}
 use Rattle.std.proofs.lemmas.List.{length-replicate}
-use Rattle.region_parts.specs.Covered.{IsRefined}
-use Rattle.region_parts.specs.Fronts.{IsCovered, HasEnds}
 use Rattle.region_parts.specs.Split.{IsReady}
-use Rattle.region_parts.proofs.Covering.{fed_open, fed_start, one_region, refining_one}
-use Rattle.region_sweep.proofs.Stepping.{all_in_root, covered_entering, started_sweeping}
-use Rattle.region_sweep.proofs.UnderWay.{few_labels, first_numbered}
+use Rattle.region_sweep.proofs.Stepping.{all_in_root, started_sweeping}
 use Rattle.region_sweep.proofs.sweep.Sweep.new.Goals as goal
-
-pub put_ends-requires-clause-few : goal.put_ends-requires-clause-few
-put_ends-requires-clause-few c =
-    let n = c.args.graph.now.vertices in
-    let f = c.in_ok-flow.ensures in
-    few_labels n c.enter.new.self.labels 2 (first_numbered n c.in_ok-flow.flow.labels c.enter.new.self.labels c.requires f.flow.labels_length f.flow.nobody f.one c.enter.ensures.labels).numbered
 
 pub returns : goal.returns
 returns c =
     let g = c.args.graph.now in
     let n = g.vertices in
-    let ok = c.n-n.ensures.edge_list.is_graph in
-    let f = c.in_ok-flow.flow in
-    let labels = c.enter.new.self.labels in
-    let before = c.in_ok-flow.ensures in
-    let e = c.enter.ensures in
-    let ends = c.in_ok-put_ends.ensures in
-    let first = first_numbered n f.labels labels c.requires before.flow.labels_length before.flow.nobody before.one e.labels in
-    let same = λ (u v : ℕ) (u1 : 1 ≤ u) (un : u ≤ n) (v1 : 1 ≤ v) (vn : v ≤ n). (let r : get_or f.labels u 0 ≡ get_or f.labels v 0 = before.one u u1 un ∙ sym (before.one v v1 vn) in r) in
-    let homes = c.in_ok-homes.ensures in
+    let start = c.in_ok-start.ensures in
+    let labels = c.in_ok-start.start.0.labels in
+    let homes = c.in_ok-first.first.1 in
+    let first = c.in_ok-first.ensures in
+    let rows = c.in_ok-rows.ensures in
     let at_n : c.n-n.result ≡ n = c.n-n.ensures.value in
-    let entered = rw at_n at homes.entered in
-    let regions = rw at_n at homes.regions in
+    let entered = rw at_n at first.entered in
+    let regions = rw at_n at first.regions in
     let size = λ (l : List ℕ). length l in
     record {
-      flow = e.flow;
-      sweeping = started_sweeping g labels c.in_ok-homes.homes c.in_ok-tree.tree entered regions c.in_ok-tree.ensures first.root first.others;
-      first = all_in_root n labels c.in_ok-homes.homes entered regions 1;
-      numbered = first.numbered;
-      fed = fed_open g f c.enter.new.self (fed_start g f ok before.flow same) (subst (λ (l : List ℕ). IsRefined f.labels l) (sym e.labels) (refining_one f.labels 1)) e.fed;
-      covered = subst (λ (l : List ℕ). IsCovered g l c.put_ends.new.self) (sym e.labels)
-          (covered_entering g f.labels 1 c.in_ok-fronts.fronts c.put_ends.new.self ok (one_region g f.labels c.in_ok-fronts.fronts ok same) ends.kept
-          (subst (λ (l : List ℕ). HasEnds g l c.put_ends.new.self 1) e.labels ends.ends));
-      ready = subst (λ (k : ℕ). IsReady k c.in_ok-splitter.splitter) at_n c.in_ok-splitter.ensures;
+      flow = start.flow;
+      sweeping = started_sweeping g labels homes c.in_ok-first.first.0 entered regions first.tree start.root start.others;
+      first = all_in_root n labels homes entered regions 1;
+      numbered = start.numbered;
+      fed = start.fed;
+      covered = start.covered;
+      ready = subst (λ (k : ℕ). IsReady k c.in_ok-splitter.splitter) at_n c.in_ok-splitter.ensures.splitter;
       room = record {
-        vertices = ends.vertices ∙ c.in_ok-fronts.ensures.vertices ∙ at_n;
-        numbers = omega (arith, ap size c.in_ok-parts.ensures.numbers, length-replicate {A = ℕ} (c.n-n.result + 1) 0, at_n);
+        vertices = start.vertices;
+        numbers = omega (arith, c.in_ok-splitter.ensures.numbers, at_n);
         entered = ap size entered ∙ length-replicate {A = ℕ} (n + 1) 0;
         regions = ap size regions ∙ length-replicate {A = ℕ} (n + 2) 0;
-        nodes = omega (arith, c.in_ok-nodes.ensures.len, at_n);
-        later = omega (arith, c.in_ok-later.ensures.len, at_n);
-        next = omega (arith, c.in_ok-next.ensures.len, at_n);
+        nodes = omega (arith, rows.nodes, at_n);
+        later = omega (arith, rows.later, at_n);
+        next = omega (arith, rows.next, at_n);
       };
     }

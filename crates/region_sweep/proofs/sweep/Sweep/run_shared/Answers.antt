@@ -26,3 +26,6 @@ steps-smaller g c =
     let f = c.in_ok-is_split.ensures in
     left_falls c.steps.self.flow.labels c.step.new.self.flow.labels c.in-Some.t (f.under_way.flow.labels_length ∙ sym c.steps.invariant.flow.labels_length)
     (λ v e. f.stay v (ap (λ (l : List ℕ). get_or l v 0) c.next.ensures.labels ∙ e)) c.in-Some.ensures.some.outside f.entered
+
+pub run-requires-clause-least : goal.run-requires-clause-least
+run-requires-clause-least g c = subst (λ (k : ℕ). IsLeastWeight c.args.graph.now k) (sym c.requires.value) (least_weight c.args.graph.now c.n-n.ensures.edge_list.is_graph c.requires.enough)
