@@ -17,7 +17,7 @@ use crate::sweep::Sweep;
 use cut_definitions::NoMemory;
 use node_tree::{Homes, grafted_at};
 use region_flow::RegionFlow;
-use std::alloc::{AllocError, Global};
+use std::alloc::Global;
 use std::thread::Threads;
 use weighted_graph::{Graph, Labels};
 
@@ -126,11 +126,9 @@ impl Sweep {
         ensures left { OnOk result (HasLeft self.old.flow.labels share.now.region self.new.flow.labels) }
     {
         let _n = graph.n();
-        let Some(answer) = &share.tree else {
-            return Err(AllocError);
-        };
-        let Ok(found) = answer else {
-            return Err(AllocError);
+        let found = match share.tree.as_ref().unwrap() {
+            Ok(found) => found,
+            Err(refusal) => return Err(*refusal),
         };
         if share.own.is_empty() {
             return Ok(());

@@ -1,5 +1,5 @@
 -- A region has entered.
-use Rattle.std.proofs.Common.{◌≤◌, length, get_or, sym, arith}
+use Rattle.std.proofs.Common.{◌≡◌, ◌≤◌, Some, rules, length, get_or, sym, arith}
 use Rattle.std.proofs.lemmas.Bool.{eqb-false, eqb-true}
 use Rattle.std.specs.Prelude.{vec_len}
 use Rattle.cut_definitions.proofs.ContractionLaws.{vertices-relabel}
@@ -19,7 +19,8 @@ of_region-node-requires c =
 pub put_away-requires-clause-nodes : goal.put_away-requires-clause-nodes
 put_away-requires-clause-nodes c = λ k to.
     let g = c.args.graph.now in
-    let part = tree_found g c.args.share.now c.in-Some.answer c.in-Ok.found c.requires.share.tree c.in-Some.is c.in-Ok.is in
+    let there : c.args.share.now.tree ≡ Some c.unwrap.result.now = search rules in
+    let part = tree_found g c.args.share.now c.unwrap.result.now c.in-Ok.found c.requires.share.tree there c.in-Ok.is in
     let count = vertices-relabel g c.args.share.now.classes in
     omega (arith, to, part.long, count, c.deref.ensures.len, c.in-Ok.found.homes.ok.0)
 
@@ -45,7 +46,8 @@ returns-clause-under_way c =
     let is_share = c.requires.share.share in
     let own = share.own in
     let some : 1 ≤ length own.items = omega (arith, eqb-false (vec_len own) 0 (sym c.if-is_empty.ensures), own.ok.0) in
-    let part = tree_found g share c.in-Some.answer c.in-Ok.found c.requires.share.tree c.in-Some.is c.in-Ok.is in
+    let there : share.tree ≡ Some c.unwrap.result.now = search rules in
+    let part = tree_found g share c.unwrap.result.now c.in-Ok.found c.requires.share.tree there c.in-Ok.is in
     let ends = c.in_ok-put_all_ends.ensures in
     grafted_on g s share c.in-Ok.found c.cut_off.new.self c.put_away.new.homes c.graft.new.self c.put_all_ends.new.self c.n-n.ensures.edge_list.is_graph c.requires.enough
     c.requires.under_way is_share part some
