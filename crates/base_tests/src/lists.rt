@@ -4,7 +4,7 @@ use cut_definitions::{Edge, EdgeList, VertexWeights};
 use graph_maker::make;
 use std::test::Fail;
 
-// Whether a list has these edges first.
+/// Whether a list has these edges first.
 fn begins_with(list: &EdgeList, edges: &[Edge]) -> bool {
     edges.len() <= list.len() && &list.edges()[..edges.len()] == edges
 }

@@ -4,7 +4,7 @@ use cut_definitions::Edge;
 use metis_reader::{Fault, FaultKind, MetisGraph, ReadRefusal, Reader};
 use std::alloc::Global;
 
-// What the reader answers of a text that comes in pieces of this length.
+/// What the reader answers of a text that comes in pieces of this length.
 pub(crate) fn graph(alloc: Global, text: &[u8], length: usize) -> Result<MetisGraph, ReadRefusal> {
     let mut reader = Reader::new(alloc);
     for piece in text.chunks(length.max(1)) {
@@ -13,7 +13,7 @@ pub(crate) fn graph(alloc: Global, text: &[u8], length: usize) -> Result<MetisGr
     reader.finish()
 }
 
-// The edges of the graph.
+/// The edges of the graph.
 pub(crate) fn edges(alloc: Global, text: &[u8], length: usize) -> Result<Vec<Edge>, ReadRefusal> {
     let graph = graph(alloc, text, length)?;
     Ok(Vec::from_slice(alloc, graph.edges.edges())?)

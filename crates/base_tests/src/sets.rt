@@ -4,7 +4,7 @@ use std::cmp::Ordering;
 use std::test::Fail;
 use vertex_set::Side;
 
-// Whether these are the members, 1, 3 and 5, of a set of 5 vertices.
+/// Whether these are the members, 1, 3 and 5, of a set of 5 vertices.
 fn has_odd(side: &Side) -> bool {
     side.n() == 5
         && side.len() == 3
@@ -29,7 +29,7 @@ fn odd_vertices_of_five(rt: HostRuntime) -> Result<(), Fail> {
     Ok(())
 }
 
-// Whether the first of two sets is before the other, and equal to itself.
+/// Whether the first of two sets is before the other, and equal to itself.
 fn is_before(side: &Side, other: &Side) -> bool {
     side.compare(other) == Ordering::Less
         && other.compare(side) == Ordering::Greater

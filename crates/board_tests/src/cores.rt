@@ -12,8 +12,8 @@ use std::test::Fail;
 use vertex_set::Side;
 use weighted_graph::Graph;
 
-// The machine on the uneven triangle, opened with the weight 6 of vertex 1. Its value is 5, and the cut around vertex 3 parts
-// the edges 1 and 2.
+/// The machine on the uneven triangle, opened with the weight 6 of vertex 1. Its value is 5, and the cut around vertex 3 parts
+/// the edges 1 and 2.
 fn open_triangle(alloc: Global, graph: &Graph) -> Result<Core, NoMemory>
     requires { graph.now ≡ record { vertices = 3; edges = record { u = 1; v = 2; w = 5 } ∷ record { u = 1; v = 3; w = 1 } ∷ record { u = 2; v = 3; w = 4 } ∷ [] } }
     ensures { IfOk result (λ core. Shows core (opening_machine graph.now 0 6)) }
@@ -21,7 +21,7 @@ fn open_triangle(alloc: Global, graph: &Graph) -> Result<Core, NoMemory>
     Core::open(alloc, graph, 6, 0, 5, [1, 2].as_slice())
 }
 
-// The side of one vertex.
+/// The side of one vertex.
 fn side_of(alloc: Global, v: u32) -> Result<Side, NoMemory>
     requires { (1 ≤ v) × (v ≤ 3) }
     ensures { IfOk result (λ s. s.vertices ≡ 3) }
@@ -31,7 +31,7 @@ fn side_of(alloc: Global, v: u32) -> Result<Side, NoMemory>
     Ok(side)
 }
 
-// Plays events on the machine as it was opened, and answers how many were allowed.
+/// Plays events on the machine as it was opened, and answers how many were allowed.
 fn replayed(core: &mut Core, graph: &Graph, events: &[Event]) -> Result<u64, NoMemory>
     requires { Shows core.old (opening_machine graph.now 0 6) }
     ensures { IfOk result (λ _. core.new.graph ≡ graph.now) }
@@ -57,7 +57,7 @@ fn a_vertex_that_is_there_is_taken(rt: HostRuntime) -> Result<(), Fail> {
     Ok(())
 }
 
-// The second mark of seat 2 is refused, since it saw 6 and the cut around vertex 3, of weight 5, parts the edge.
+/// The second mark of seat 2 is refused, since it saw 6 and the cut around vertex 3, of weight 5, parts the edge.
 #[test]
 fn a_stale_mark_is_refused(rt: HostRuntime) -> Result<(), Fail> {
     let graph = uneven_triangle(rt.alloc())?;
@@ -80,8 +80,8 @@ fn a_stale_mark_is_refused(rt: HostRuntime) -> Result<(), Fail> {
     Ok(())
 }
 
-// Refused are a mark of an edge that the lowered cut parts, a step of a seat that was joined away, a seat joined to itself, and
-// a vertex that is not there.
+/// Refused are a mark of an edge that the lowered cut parts, a step of a seat that was joined away, a seat joined to itself, and
+/// a vertex that is not there.
 #[test]
 fn seats_join_and_take(rt: HostRuntime) -> Result<(), Fail> {
     let graph = uneven_triangle(rt.alloc())?;

@@ -24,7 +24,7 @@ impl Promise<BoardSeat> for SameBoard {
     ghost kept_by = { λ p r. r.board ≡ p.was.value.board };
 }
 
-// Marks an edge that weighs 5, where the seat sees the bound 5.
+/// Marks an edge that weighs 5, where the seat sees the bound 5.
 fn mark_heavy(board: &Board, graph: &Graph, mut seat: BoardSeat, edge: usize) -> BoardSeat
     requires seat { seat.board ≡ board.now }
     requires graph { board.now.graph ≡ graph.now }
@@ -39,7 +39,7 @@ fn mark_heavy(board: &Board, graph: &Graph, mut seat: BoardSeat, edge: usize) ->
     seat
 }
 
-// Four threads mark an edge each, and their seats are joined; none where a thread cannot be started.
+/// Four threads mark an edge each, and their seats are joined; none where a thread cannot be started.
 fn four_threads<R: Threads + Wait + Sync>(
     rt: &R,
     board: &Board,
@@ -93,7 +93,7 @@ fn four_threads<R: Threads + Wait + Sync>(
     )
 }
 
-// The path of five vertices whose edges weigh 5.
+/// The path of five vertices whose edges weigh 5.
 fn heavy_path(alloc: Global) -> Result<Graph, NoMemory>
     ensures vertices { IfOk result (λ g. g.vertices ≡ 5) }
     ensures edges { IfOk result (λ g. length g.edges ≡ 4) }

@@ -37,7 +37,7 @@ pub fn copied(alloc: Global, weights: &VertexWeights) -> Result<VertexWeights, N
     Ok(VertexWeights::from_list(list))
 }
 
-// Those of some sides that part two vertices.
+/// Those of some sides that part two vertices.
 fn select_parting(
     alloc: Global,
     u: u32,
@@ -59,7 +59,7 @@ fn select_parting(
     Ok(lister.select(sides))
 }
 
-// Those of at least a balance. A boxed test borrows nothing, so it has weights of its own.
+/// Those of at least a balance. A boxed test borrows nothing, so it has weights of its own.
 fn select_balanced(
     alloc: Global,
     least: u64,

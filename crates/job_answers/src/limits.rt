@@ -13,7 +13,7 @@ use program_words::Insertions;
 use std::alloc::Global;
 use stop_lines::Stop;
 
-// A copy of an edge list.
+/// A copy of an edge list.
 fn copied_list(alloc: Global, list: &EdgeList) -> Result<EdgeList, NoMemory>
     ensures { IfOk result (λ copy. copy ≡ list.now) }
 {
@@ -21,7 +21,7 @@ fn copied_list(alloc: Global, list: &EdgeList) -> Result<EdgeList, NoMemory>
     Ok(EdgeList::from_edges(list.n(), edges))
 }
 
-// The list with one insertion, or the stop where the graph would be too large after it.
+/// The list with one insertion, or the stop where the graph would be too large after it.
 fn inserted(
     alloc: Global,
     list: &EdgeList,

@@ -5,7 +5,7 @@ ghost use Rattle.job_answers.specs.Jobs.{AreInRange, IsFirstOutside, IsInRange, 
 
 use program_words::{Insertions, Job};
 
-// Whether a number is a vertex of 1 to n.
+/// Whether a number is a vertex of 1 to n.
 fn is_vertex(n: u32, v: u64) -> bool
     ensures yes { result ≡ true → IsVertex n v }
     ensures out { result ≡ false → ¬ IsVertex n v }
@@ -13,7 +13,7 @@ fn is_vertex(n: u32, v: u64) -> bool
     1 <= v && v <= n as u64
 }
 
-// The first of two vertices that is not of 1 to n.
+/// The first of two vertices that is not of 1 to n.
 fn check_pair(u: u64, v: u64, n: u32) -> Option<u64>
     ensures none { IsNone result → IsVertex n u × IsVertex n v }
     ensures some { IfSome result (IsOutsidePair n u v) }
@@ -24,7 +24,7 @@ fn check_pair(u: u64, v: u64, n: u32) -> Option<u64>
     if is_vertex(n, v) { None } else { Some(v) }
 }
 
-// The first vertex of insertions that is not of 1 to n.
+/// The first vertex of insertions that is not of 1 to n.
 fn check_insertions(insertions: &Insertions, n: u32) -> Option<u64>
     ensures none { IsNone result → AreInRange n insertions.now }
     ensures some { IfSome result (IsFirstOutside n insertions.now) }

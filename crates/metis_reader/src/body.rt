@@ -17,7 +17,7 @@ const BATCH: usize = 1024;
 
 const MAX_TOTAL: u64 = 4_611_686_018_427_387_904;
 
-// The fault of the line of this vertex.
+/// The fault of the line of this vertex.
 fn fault_of_vertex(kind: FaultKind, vertex: u32, numbers: &[u64]) -> Fault
     requires from_one { 1 ≤ vertex }
     requires has_line { vertex ≤ length numbers.now }
@@ -147,7 +147,7 @@ impl Body {
         self.entries >= 2 * self.header.edges as usize
     }
 
-    // The vertex of the present line.
+    /// The vertex of the present line.
     fn vertex(&self) -> u32
         ensures { result ≡ vertex_of self.now }
     {
@@ -256,7 +256,7 @@ impl Body {
         }
     }
 
-    // Looks for the entries to lesser neighbours that were not yet looked for.
+    /// Looks for the entries to lesser neighbours that were not yet looked for.
     #[inline(never)]
     fn settle(&mut self)
         ensures same_header { self.new.header ≡ self.old.header }
@@ -275,7 +275,7 @@ impl Body {
         self.strays = left;
     }
 
-    // Whether each entry has its mate, which is known where all to lesser neighbours were met.
+    /// Whether each entry has its mate, which is known where all to lesser neighbours were met.
     fn is_met(&self) -> bool
         ensures ascends { IsTrue result → AllPairs IsBefore (greater_of self.now) }
         ensures lesser { IsTrue result → IsPermutation (lesser_of self.now) (greater_of self.now) }
@@ -324,7 +324,7 @@ impl Body {
         })
     }
 
-    // The graph and the masses of all lines and entries, where some entries may be without their mates: it sorts them.
+    /// The graph and the masses of all lines and entries, where some entries may be without their mates: it sorts them.
     #[inline(never)]
     fn finish_by_sorting(self) -> Result<MetisGraph, Fault>
         requires lines { self.header.vertices ≤ length self.numbers.items }

@@ -73,7 +73,7 @@ fn least_repeated(edges: &[Edge], end: End) -> Option<u32>
     found
 }
 
-// Which list has the first entry of those from these places on.
+/// Which list has the first entry of those from these places on.
 fn next_of(greater: &[Edge], i: usize, lesser: &[Edge], j: usize) -> Next
     requires some { (i < length greater.now) ⊎ (j < length lesser.now) }
     requires greater { AllPairs IsBefore greater.now }
@@ -168,7 +168,7 @@ pub fn sort_row(edges: &mut [Edge], start: usize)
     }
 }
 
-// Whether the entry at a place was met: the cursor of its row is behind it.
+/// Whether the entry at a place was met: the cursor of its row is behind it.
 fn is_behind(greater: &[Edge], cursors: &[u32], place: usize) -> bool
     requires { place < length greater.now }
     ensures { (d : Edge) → result ≡ is_met_at cursors.now place (slice_index_or greater.now place d) }
@@ -177,7 +177,7 @@ fn is_behind(greater: &[Edge], cursors: &[u32], place: usize) -> bool
     row < cursors.len() && place < cursors[row] as usize
 }
 
-// Moves the cursor of the entry's row on, where the entry is there. It tells whether it is.
+/// Moves the cursor of the entry's row on, where the entry is there. It tells whether it is.
 fn advance(greater: &[Edge], entry: Edge, cursors: &mut [u32]) -> bool
     requires { length greater.now < 2 ^ 32 }
     ensures met { IsTrue result → IsPermutation (entry ∷ met_from 0 cursors.old greater.now) (met_from 0 cursors.new greater.now) }

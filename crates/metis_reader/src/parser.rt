@@ -20,7 +20,7 @@ const MAX_EDGES: u32 = 16_777_216;
 
 const MAX_CONSTRAINTS: u64 = 32;
 
-// The number of weights per vertex that the word names, or the default where vertices have none.
+/// The number of weights per vertex that the word names, or the default where vertices have none.
 fn constraints(header: Header, word: Word) -> Result<u32, FaultKind>
     ensures few { IfOk result (λ k. k ≤ 32) }
     ensures exact { (k : Piece) → IsWord word k.bytes → Judges result (weights_faults header.format.has_vertex_weights k) (λ n. n ≡ (if header.format.has_vertex_weights then value k else 1)) }
@@ -35,7 +35,7 @@ fn constraints(header: Header, word: Word) -> Result<u32, FaultKind>
     Ok(value as u32)
 }
 
-// What is due where so many leading words are still to come.
+/// What is due where so many leading words are still to come.
 fn after_leading(left: u32) -> Due
     ensures { result ≡ after_leading_of left }
 {
@@ -46,7 +46,7 @@ fn after_leading(left: u32) -> Due
     }
 }
 
-// What is due in the next line.
+/// What is due in the next line.
 fn first_due(body: &Body) -> Due
     ensures { result ≡ first_due_of body.now }
 {
@@ -94,7 +94,7 @@ impl Parser {
         }
     }
 
-    // Takes a neighbour.
+    /// Takes a neighbour.
     #[inline(always)]
     fn neighbour(&mut self, word: Word) -> Result<(), FaultKind>
         requires { self.old.due ≡ Due.Neighbour }

@@ -50,7 +50,7 @@ fn is_blank(byte: u8) -> bool
     byte == 32 || byte == 9 || byte == 13
 }
 
-// Whether the byte makes the line a comment.
+/// Whether the byte makes the line a comment.
 fn begins_comment(part: LinePart, byte: u8) -> bool
     ensures { MatchBool result ((part ≡ LinePart.Start) × (byte ≡ 37)) (part ≡ LinePart.Start → byte ≢ 37) }
 {
@@ -60,7 +60,7 @@ fn begins_comment(part: LinePart, byte: u8) -> bool
     }
 }
 
-// The part of the line and the word with the digits from a place on, as most bytes are, and where they end.
+/// The part of the line and the word with the digits from a place on, as most bytes are, and where they end.
 fn lengthened(part: LinePart, word: Word, bytes: &[u8], from: usize) -> (LinePart, Word, usize)
     requires { from < length bytes.now }
     ensures within { (from ≤ result.2) × (result.2 ≤ length bytes.now) }
@@ -106,7 +106,7 @@ impl Reader {
         }
     }
 
-    // Takes the end of a word, if there is one.
+    /// Takes the end of a word, if there is one.
     #[inline(always)]
     fn end_word(&mut self, word: Word) -> Result<(), ReadRefusal>
         ensures same_line { self.new.line ≡ self.old.line }
@@ -123,7 +123,7 @@ impl Reader {
         }
     }
 
-    // Takes the end of a line that is no comment.
+    /// Takes the end of a line that is no comment.
     #[inline(always)]
     fn end_line(&mut self, word: Word) -> Result<(), ReadRefusal>
         ensures line { OnOk result (self.old.line < 2 ^ 64 - 1 → self.new.line ≡ suc self.old.line) }
@@ -143,7 +143,7 @@ impl Reader {
         Ok(())
     }
 
-    // Takes a byte, where the present line was read so far and a word so far.
+    /// Takes a byte, where the present line was read so far and a word so far.
     fn byte(
         &mut self,
         part: LinePart,
@@ -167,7 +167,7 @@ impl Reader {
         self.word_byte(part, word, byte)
     }
 
-    // Takes a byte of a line that is no comment.
+    /// Takes a byte of a line that is no comment.
     fn word_byte(
         &mut self,
         part: LinePart,
@@ -195,8 +195,8 @@ impl Reader {
         Ok((LinePart::Words, word.with(byte)))
     }
 
-    // Takes the words from a place on that are digits, each with the blank or line feed that ends it, as nearly all words are. It
-    // takes none where a word or a comment is begun. It tells how far the present line was read then, and where those words end.
+    /// Takes the words from a place on that are digits, each with the blank or line feed that ends it, as nearly all words are. It
+    /// takes none where a word or a comment is begun. It tells how far the present line was read then, and where those words end.
     #[inline(never)]
     fn plain_words(
         &mut self,
@@ -242,7 +242,7 @@ impl Reader {
         Ok((part, place))
     }
 
-    // Takes bytes of which there may still be so many.
+    /// Takes bytes of which there may still be so many.
     fn take(&mut self, piece: &[u8]) -> Result<(), ReadRefusal>
         ensures same_refusal { self.new.refusal ≡ self.old.refusal }
         ensures exact { (r : Reading) → Holds self.old.parser self.old.line self.old.part self.old.word r → suc r.ended + length piece.now < 2 ^ 64 - 1
@@ -277,7 +277,7 @@ impl Reader {
         Ok(())
     }
 
-    // Takes the bytes, of which those past the limit are a fault.
+    /// Takes the bytes, of which those past the limit are a fault.
     fn take_within(&mut self, piece: &[u8]) -> Result<(), ReadRefusal>
         ensures same_refusal { self.new.refusal ≡ self.old.refusal }
         ensures exact { (bytes : List ℕ) → IsOpen self.old bytes
@@ -298,7 +298,7 @@ impl Reader {
         }
     }
 
-    // Takes the end of the last line, where no line feed ended it.
+    /// Takes the end of the last line, where no line feed ended it.
     fn end_input(&mut self) -> Result<(), ReadRefusal>
         ensures { (r : Reading) → Holds self.old.parser self.old.line self.old.part self.old.word r → suc r.ended < 2 ^ 64 - 1
             → MatchResult result (λ _. (last_line r ≡ []) × ParserShows self.new.parser (end_state r) × (self.new.line ≡ suc (line_count r))) (λ refusal. RefusedFirst refusal (last_line r) (ByteEndsHeader r 10)) }

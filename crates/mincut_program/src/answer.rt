@@ -27,7 +27,7 @@ use std::thread::Threads;
 use stop_lines::Stop;
 use weighted_graph::Graph;
 
-// A graph of fewer than two vertices has no cut.
+/// A graph of fewer than two vertices has no cut.
 fn no_cut(alloc: Global) -> Result<Reply, NoMemory>
     ensures text { IfOk result (λ reply. text_of reply ≡ no_cut_line) }
     ensures printable { IfOk result IsPrintable }
@@ -36,7 +36,7 @@ fn no_cut(alloc: Global) -> Result<Reply, NoMemory>
     Ok(Reply::Text(text))
 }
 
-// The graph with rows, which takes the list over.
+/// The graph with rows, which takes the list over.
 fn with_rows(alloc: Global, list: EdgeList) -> Result<Graph, NoMemory>
     ensures { IfOk result (λ graph. graph ≡ list) }
 {
@@ -44,7 +44,7 @@ fn with_rows(alloc: Global, list: EdgeList) -> Result<Graph, NoMemory>
     Ok(graph)
 }
 
-// The line that tells a value.
+/// The line that tells a value.
 fn value_text(alloc: Global, value: u64) -> Result<Reply, NoMemory>
     ensures text { IfOk result (λ reply. text_of reply ≡ value_line value) }
     ensures printable { IfOk result IsPrintable }
@@ -53,7 +53,7 @@ fn value_text(alloc: Global, value: u64) -> Result<Reply, NoMemory>
     Ok(Reply::Text(text))
 }
 
-// The line of the job `value`.
+/// The line of the job `value`.
 fn value_reply<R: Threads + Sync, G: Gate>(
     rt: &R,
     alloc: Global,
@@ -70,7 +70,7 @@ fn value_reply<R: Threads + Sync, G: Gate>(
     value_text(alloc, value)
 }
 
-// The answer of a job on the cuts themselves, by the graph with rows.
+/// The answer of a job on the cuts themselves, by the graph with rows.
 fn reply_by_rows<R: Threads + Sync, G: Gate>(
     rt: &R,
     alloc: Global,
@@ -98,7 +98,7 @@ fn reply_by_rows<R: Threads + Sync, G: Gate>(
     cuts_reply(alloc, command, &graph, weights, solved)
 }
 
-// The minimum cuts of a connected graph whose value is given, and the graph as it is kept.
+/// The minimum cuts of a connected graph whose value is given, and the graph as it is kept.
 fn solved_at<R: Threads + Sync, G: Gate>(
     rt: &R,
     alloc: Global,
@@ -122,8 +122,8 @@ fn solved_at<R: Threads + Sync, G: Gate>(
     Ok((ReadGraph::with_rows(graph), solved))
 }
 
-// The answer of a job on the cuts themselves. A graph whose value is above 0 is connected, and where its list of edges tells
-// the value, the whole graph gets rows only where the list does not tell the cuts.
+/// The answer of a job on the cuts themselves. A graph whose value is above 0 is connected, and where its list of edges tells
+/// the value, the whole graph gets rows only where the list does not tell the cuts.
 fn reply_on_cuts<R: Threads + Sync, G: Gate>(
     rt: &R,
     alloc: Global,

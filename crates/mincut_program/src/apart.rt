@@ -28,7 +28,7 @@ pub fn disconnected(alloc: Global, components: u32) -> Result<Reply, NoMemory>
     Ok(Reply::Text(text))
 }
 
-// The list of the unions that are asked for.
+/// The list of the unions that are asked for.
 fn union_listing(alloc: Global, ask: Ask, graph: &Graph, parts: &Components) -> Result<Reply, Stop>
     requires apart { IsApartGraph graph.now parts.now }
     requires within { IsAskWithin graph.now.vertices ask }
@@ -47,7 +47,7 @@ fn union_listing(alloc: Global, ask: Ask, graph: &Graph, parts: &Components) -> 
     Ok(Reply::Listing { value: 0, sides })
 }
 
-// The number of the unions.
+/// The number of the unions.
 fn union_count(alloc: Global, graph: &Graph, parts: &Components) -> Result<Reply, Stop>
     requires apart { IsApartGraph graph.now parts.now }
     ensures text { IfOk result (λ reply. IsUnionCount graph.now (length parts.now.parts) (text_of reply)) }
@@ -65,7 +65,7 @@ fn union_count(alloc: Global, graph: &Graph, parts: &Components) -> Result<Reply
     Ok(Reply::Text(text))
 }
 
-// A union of best balance.
+/// A union of best balance.
 fn balanced_union(
     alloc: Global,
     graph: &Graph,

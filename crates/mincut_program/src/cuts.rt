@@ -31,7 +31,7 @@ use std::alloc::Global;
 use stop_lines::Stop;
 use vertex_set::Side;
 
-// All minimum cuts, by their sides in order, or their number where they are too many.
+/// All minimum cuts, by their sides in order, or their number where they are too many.
 fn all_sides(alloc: Global, graph: &ReadGraph, solved: &Solved) -> Result<Vec<Side>, ListRefusal>
     requires { IsSolved graph.now solved.now }
     ensures list { IfOk result (λ sides. IsList (2 ^ 30) graph.now.vertices Ask.All solved.now.cactus sides.items) }
@@ -44,7 +44,7 @@ fn all_sides(alloc: Global, graph: &ReadGraph, solved: &Solved) -> Result<Vec<Si
     lister.list(alloc, &solved.cactus)
 }
 
-// Those that part two vertices.
+/// Those that part two vertices.
 fn parting_sides(
     alloc: Global,
     u: u32,
@@ -69,7 +69,7 @@ fn parting_sides(
     lister.list(alloc, &solved.cactus)
 }
 
-// Those of at least a balance. A boxed test borrows nothing, so it has weights of its own.
+/// Those of at least a balance. A boxed test borrows nothing, so it has weights of its own.
 fn balanced_sides(
     alloc: Global,
     least: u64,
@@ -95,7 +95,7 @@ fn balanced_sides(
     lister.list(alloc, &solved.cactus)
 }
 
-// The sides of the minimum cuts that are asked for, in order, or their number where they are too many.
+/// The sides of the minimum cuts that are asked for, in order, or their number where they are too many.
 fn asked_sides(
     alloc: Global,
     ask: Ask,
@@ -114,7 +114,7 @@ fn asked_sides(
     }
 }
 
-// The list of the minimum cuts that are asked for.
+/// The list of the minimum cuts that are asked for.
 fn listing_reply(alloc: Global, ask: Ask, graph: &ReadGraph, solved: Solved) -> Result<Reply, Stop>
     requires solved { IsSolved graph.now solved }
     requires within { IsAskWithin graph.now.vertices ask }
@@ -144,7 +144,7 @@ pub fn count_of_cuts(alloc: Global, solved: &Solved) -> Result<u64, NoMemory>
     solved.cactus.count_within(alloc)
 }
 
-// The number of all minimum cuts.
+/// The number of all minimum cuts.
 fn count_reply(alloc: Global, graph: &ReadGraph, solved: &Solved) -> Result<Reply, NoMemory>
     requires solved { IsSolved graph.now solved.now }
     ensures text { IfOk result (λ reply. text_of reply ≡ count_text (value graph.now) (length (mincuts graph.now))) }
@@ -158,7 +158,7 @@ fn count_reply(alloc: Global, graph: &ReadGraph, solved: &Solved) -> Result<Repl
     Ok(Reply::Text(text))
 }
 
-// The first of the most balanced minimum cuts, in the order of lists.
+/// The first of the most balanced minimum cuts, in the order of lists.
 fn balanced_reply(
     alloc: Global,
     graph: &ReadGraph,
@@ -220,7 +220,7 @@ pub fn canonical_of(alloc: Global, solved: Solved) -> Result<Cactus, NoMemory>
     Ok(cactus)
 }
 
-// All minimum cuts.
+/// All minimum cuts.
 fn cactus_reply(alloc: Global, graph: &ReadGraph, solved: Solved) -> Result<Reply, NoMemory>
     requires enough { 2 ≤ graph.now.vertices }
     requires solved { IsSolved graph.now solved }
@@ -236,7 +236,7 @@ fn cactus_reply(alloc: Global, graph: &ReadGraph, solved: Solved) -> Result<Repl
     Ok(Reply::Cactus(Solved { value, cactus }))
 }
 
-// The fewest unit edges that raise the value.
+/// The fewest unit edges that raise the value.
 fn augment_reply(alloc: Global, graph: &ReadGraph, solved: Solved) -> Result<Reply, NoMemory>
     requires enough { 2 ≤ graph.now.vertices }
     requires solved { IsSolved graph.now solved }

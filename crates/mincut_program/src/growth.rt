@@ -39,7 +39,7 @@ pub struct Growing {
     pub solved: Solved,
 }
 
-// The value and all minimum cuts of a graph, found anew.
+/// The value and all minimum cuts of a graph, found anew.
 fn solve_list<R: Threads + Sync, G: Gate>(
     rt: &R,
     alloc: Global,
@@ -57,7 +57,7 @@ fn solve_list<R: Threads + Sync, G: Gate>(
     Ok(solved)
 }
 
-// The graph with one insertion.
+/// The graph with one insertion.
 fn grow_by<R: Threads + Sync, G: Gate>(
     rt: &R,
     alloc: Global,
@@ -98,7 +98,7 @@ fn grow_by<R: Threads + Sync, G: Gate>(
     }
 }
 
-// What is told of a graph: its value and the number of its minimum cuts.
+/// What is told of a graph: its value and the number of its minimum cuts.
 fn step_for(alloc: Global, growing: &Growing) -> Result<Step, NoMemory>
     requires { IsGrowing growing.now }
     ensures { IfOk result (λ step. step ≡ step_of growing.now.list) }
@@ -113,7 +113,7 @@ fn step_for(alloc: Global, growing: &Growing) -> Result<Step, NoMemory>
     })
 }
 
-// The graph after all insertions, and what is told of it after each.
+/// The graph after all insertions, and what is told of it after each.
 fn grow_all<R: Threads + Sync, G: Gate>(
     rt: &R,
     alloc: Global,
@@ -138,7 +138,7 @@ fn grow_all<R: Threads + Sync, G: Gate>(
     Ok((growing, steps))
 }
 
-// The answer for a connected graph that stays within the limits.
+/// The answer for a connected graph that stays within the limits.
 fn growth_reply<R: Threads + Sync, G: Gate>(
     rt: &R,
     alloc: Global,

@@ -24,7 +24,7 @@ use std::alloc::Global;
 use std::thread::Threads;
 use stop_lines::{Status, Stop, line_for, status_for};
 
-// Tells why there is nothing to write to `out`. It takes no memory.
+/// Tells why there is nothing to write to `out`. It takes no memory.
 fn tell<E: Sink>(err: &mut E, stop: Stop) -> Status
     ensures { Writes (status_of stop) (line_of stop) (E.taken err.old) (E.taken err.new) (E.faults err.old) (E.faults err.new) result }
 {
@@ -35,7 +35,7 @@ fn tell<E: Sink>(err: &mut E, stop: Stop) -> Status
     }
 }
 
-// The text of a notice.
+/// The text of a notice.
 fn notice_reply(alloc: Global, notice: Notice) -> Result<Reply, Stop>
     ensures text { IfOk result (λ reply. text_of reply ≡ notices.text_of notice) }
     ensures printable { IfOk result IsPrintable }
@@ -48,7 +48,7 @@ fn notice_reply(alloc: Global, notice: Notice) -> Result<Reply, Stop>
     }
 }
 
-// What a command that reads a graph answers for the one that the source gives.
+/// What a command that reads a graph answers for the one that the source gives.
 fn reading_reply<R: Threads + Sync, S: Source, G: Gate>(
     rt: &R,
     alloc: Global,
@@ -71,7 +71,7 @@ fn reading_reply<R: Threads + Sync, S: Source, G: Gate>(
     answer(rt, alloc, command, graph, gate)
 }
 
-// What a command answers. A trial leaves the source as it is.
+/// What a command answers. A trial leaves the source as it is.
 fn job_reply<R: Threads + Sync, S: Source, G: Gate>(
     rt: &R,
     alloc: Global,
@@ -104,7 +104,7 @@ fn job_reply<R: Threads + Sync, S: Source, G: Gate>(
     }
 }
 
-// What the words ask for. Nothing is written yet.
+/// What the words ask for. Nothing is written yet.
 fn reply<R: Threads + Sync, S: Source, G: Gate>(
     rt: &R,
     alloc: Global,

@@ -42,7 +42,7 @@ pub enum Reply {
     },
 }
 
-// Writes a text that is in memory.
+/// Writes a text that is in memory.
 fn write_text<K: Sink>(out: &mut K, text: &str) -> Result<(), PrintRefusal>
     ensures whole { OnOk result (Wrote text.now (K.taken out.old) (K.taken out.new) (K.faults out.old) (K.faults out.new)) }
     ensures failed { IsErrOf result PrintRefusal.SinkFailed → Failed text.now (K.taken out.old) (K.taken out.new) (K.faults out.old) (K.faults out.new) }

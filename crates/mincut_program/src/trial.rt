@@ -17,7 +17,7 @@ use std::alloc::Global;
 use std::thread::Threads;
 use weighted_graph::Graph;
 
-// The five lines.
+/// The five lines.
 fn facts_text(
     alloc: Global,
     n: u32,
@@ -31,7 +31,7 @@ fn facts_text(
     format!(in alloc; "vertices {n}\nedges {m}\nvalue {value}\ncount {count}\nbalance {balance}\n")
 }
 
-// Masses of 1, one for each vertex of the graph.
+/// Masses of 1, one for each vertex of the graph.
 fn masses_of_one(alloc: Global, graph: &Graph) -> Result<VertexWeights, NoMemory>
     ensures { IfOk result (λ weights. weights ≡ ones graph.now.vertices) }
 {
@@ -39,7 +39,7 @@ fn masses_of_one(alloc: Global, graph: &Graph) -> Result<VertexWeights, NoMemory
     Ok(VertexWeights::from_list(list))
 }
 
-// The text of a solved graph.
+/// The text of a solved graph.
 fn describe(alloc: Global, graph: &Graph, solved: &Solved) -> Result<String, NoMemory>
     requires enough { 2 ≤ graph.now.vertices }
     requires solved { IsSolved graph.now solved.now }

@@ -174,7 +174,7 @@ fn vertices_that_are_not_there_are_told(rt: HostRuntime) -> Result<(), Fail> {
     Ok(())
 }
 
-// The text of a ring of three or more vertices.
+/// The text of a ring of three or more vertices.
 fn ring_of(alloc: Global, n: u32) -> Result<Vec<u8>, Fail>
     requires { 3 ≤ n }
 {
@@ -209,7 +209,7 @@ fn a_list_that_is_too_large_is_told(rt: HostRuntime) -> Result<(), Fail> {
     Ok(())
 }
 
-// 899 times 901 of the cuts of the ring part the two vertices.
+/// 899 times 901 of the cuts of the ring part the two vertices.
 #[test]
 fn a_list_of_parting_cuts_may_be_too_large(rt: HostRuntime) -> Result<(), Fail> {
     let text = ring_of(rt.alloc(), 1800)?;
@@ -280,7 +280,7 @@ fn trials_are_printed_unread(rt: HostRuntime) -> Result<(), Fail> {
     Ok(())
 }
 
-// The cactus is made of a kernel, which takes further rounds.
+/// The cactus is made of a kernel, which takes further rounds.
 #[test]
 fn a_kernel_is_made(rt: HostRuntime) -> Result<(), Fail> {
     let value = passes_of(&rt, rt.alloc(), &["value", "--workers", "1"], TWO_CYCLES)?;
@@ -289,7 +289,7 @@ fn a_kernel_is_made(rt: HostRuntime) -> Result<(), Fail> {
     Ok(())
 }
 
-// Worker 0 of the first round waits until worker 1 is there.
+/// Worker 0 of the first round waits until worker 1 is there.
 #[test]
 fn two_workers_meet(rt: HostRuntime) -> Result<(), Fail> {
     for job in ["value", "cactus"] {

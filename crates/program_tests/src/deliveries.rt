@@ -13,7 +13,7 @@ const SINGLE: &[usize] = &[1; 16];
 
 const CUTS: &str = "value 2\ncuts 3\n2\n2 3\n3\n";
 
-// The triangle byte by byte, where the read of this number fails.
+/// The triangle byte by byte, where the read of this number fails.
 fn fails_at<'a>(read: &'a [u64]) -> Script<'a> {
     Script {
         cuts: SINGLE,
@@ -22,7 +22,7 @@ fn fails_at<'a>(read: &'a [u64]) -> Script<'a> {
     }
 }
 
-// Sixteen bytes and the end of the input are seventeen reads.
+/// Sixteen bytes and the end of the input are seventeen reads.
 #[test]
 fn each_read_may_fail(rt: HostRuntime) -> Result<(), Fail> {
     for k in 0..17u64 {
@@ -49,7 +49,7 @@ fn each_read_may_fail(rt: HostRuntime) -> Result<(), Fail> {
     Ok(())
 }
 
-// The number of the first write of a run that does not fail where it should, of the first hundred: there is no such write.
+/// The number of the first write of a run that does not fail where it should, of the first hundred: there is no such write.
 fn first_unmade<R: Threads + Sync>(rt: &R, alloc: Global) -> Result<u64, Fail> {
     for k in 0..100u64 {
         if !writes_part(rt, alloc, &["cuts"], TRIANGLE, CUTS, k)? {
@@ -124,7 +124,7 @@ const ENDS: &[(&[u8], &[(usize, &str)])] = &[
     ),
 ];
 
-// Whether the program says this of so many first bytes of a file.
+/// Whether the program says this of so many first bytes of a file.
 fn says<R: Threads + Sync>(
     rt: &R,
     alloc: Global,
@@ -141,7 +141,7 @@ fn says<R: Threads + Sync>(
     tells(rt, alloc, &["value"], first, Status::Refused, text)
 }
 
-// Whether the program says of each number of first bytes what the table has.
+/// Whether the program says of each number of first bytes what the table has.
 fn says_all<R: Threads + Sync>(
     rt: &R,
     alloc: Global,

@@ -93,7 +93,7 @@ fn read_trial(number: &str) -> Option<Job>
     }
 }
 
-// An insertion of three numbers.
+/// An insertion of three numbers.
 fn read_insertion(u: &str, v: &str, w: &str) -> Option<(u64, u64, u64)>
     ensures { result ≡ insertion_of (number_of u.now) (number_of v.now) (number_of w.now) }
 {
@@ -107,7 +107,7 @@ fn read_insertion(u: &str, v: &str, w: &str) -> Option<(u64, u64, u64)>
     }
 }
 
-// The insertion of the three texts from a place on.
+/// The insertion of the three texts from a place on.
 fn insertion_at(values: &[&str], place: usize) -> Option<(u64, u64, u64)>
     requires { place + 3 ≤ length values.now }
     ensures { insertions_of (map (λ v. v.now) (drop place values.now)) ≡ before_all result (insertions_of (map (λ v. v.now) (drop (place + 3) values.now))) }
@@ -115,7 +115,7 @@ fn insertion_at(values: &[&str], place: usize) -> Option<(u64, u64, u64)>
     read_insertion(values[place], values[place + 1], values[place + 2])
 }
 
-// The insertions of texts, three each.
+/// The insertions of texts, three each.
 fn read_insertions(alloc: Global, values: &[&str]) -> Result<Option<Insertions>, NoMemory>
     requires { length values.now ≤ 3000 }
     ensures { IfOk result (λ list. list ≡ insertions_of (map (λ v. v.now) values.now)) }
@@ -135,7 +135,7 @@ fn read_insertions(alloc: Global, values: &[&str]) -> Result<Option<Insertions>,
     }
 }
 
-// The job of 3 to 3,000 values.
+/// The job of 3 to 3,000 values.
 fn read_grow(alloc: Global, values: &[&str]) -> Result<Option<Job>, NoMemory>
     ensures { IfOk result (λ job. job ≡ grow_of (map (λ v. v.now) values.now)) }
 {
@@ -148,7 +148,7 @@ fn read_grow(alloc: Global, values: &[&str]) -> Result<Option<Job>, NoMemory>
     }
 }
 
-// The job of a name and one value.
+/// The job of a name and one value.
 fn single_job(name: &str, number: &str) -> Option<Job>
     ensures { result ≡ job_of name.now (number.now ∷ []) }
 {
@@ -159,7 +159,7 @@ fn single_job(name: &str, number: &str) -> Option<Job>
     }
 }
 
-// The job of a name and two values.
+/// The job of a name and two values.
 fn pair_job(name: &str, first: &str, second: &str) -> Option<Job>
     ensures { result ≡ job_of name.now (first.now ∷ second.now ∷ []) }
 {
@@ -170,7 +170,7 @@ fn pair_job(name: &str, first: &str, second: &str) -> Option<Job>
     }
 }
 
-// The job of a name and three values or more.
+/// The job of a name and three values or more.
 fn long_job(alloc: Global, name: &str, values: &[&str]) -> Result<Option<Job>, NoMemory>
     ensures { IfOk result (λ job. job ≡ long_job_of name.now (map (λ v. v.now) values.now)) }
 {
@@ -192,7 +192,7 @@ fn read_job(alloc: Global, name: &str, values: &[&str]) -> Result<Option<Job>, N
     }
 }
 
-// A command with a least balance, which the job `cuts` alone takes.
+/// A command with a least balance, which the job `cuts` alone takes.
 fn read_least(command: Command, least: &str) -> Option<Command>
     ensures value { result ≡ with_least (Some least.now) command }
     ensures workers { IfSome result (λ asked. asked.workers ≡ command.workers) }
@@ -207,7 +207,7 @@ fn read_least(command: Command, least: &str) -> Option<Command>
     })
 }
 
-// A command without a least balance, of a job that was read.
+/// A command without a least balance, of a job that was read.
 fn plain_command(job: Option<Job>, workers: &str) -> Option<Command>
     ensures value { result ≡ command_from job (workers_of workers.now) }
     ensures workers { IfSome result (λ command. (1 ≤ command.workers) × (command.workers ≤ 64)) }
@@ -221,7 +221,7 @@ fn plain_command(job: Option<Job>, workers: &str) -> Option<Command>
     })
 }
 
-// A command of a job that was read.
+/// A command of a job that was read.
 fn read_command(job: Option<Job>, workers: Option<&str>, least: Option<&str>) -> Option<Command>
     ensures value { result ≡ command_of_job job (option_map (λ s. s.now) workers.entry) (option_map (λ s. s.now) least.entry) }
     ensures workers { IfSome result (λ command. (1 ≤ command.workers) × (command.workers ≤ 64)) }
@@ -233,7 +233,7 @@ fn read_command(job: Option<Job>, workers: Option<&str>, least: Option<&str>) ->
     }
 }
 
-// The job of a name, where there is one, and of its further values.
+/// The job of a name, where there is one, and of its further values.
 fn named_job(alloc: Global, name: Option<&str>, values: &[&str]) -> Result<Option<Job>, NoMemory>
     ensures { IfOk result (λ job. job ≡ named_job_of (option_map (λ s. s.now) name.entry) (map (λ v. v.now) values.now)) }
 {
@@ -243,7 +243,7 @@ fn named_job(alloc: Global, name: Option<&str>, values: &[&str]) -> Result<Optio
     }
 }
 
-// The command that the matches ask for, if they keep the rules.
+/// The command that the matches ask for, if they keep the rules.
 fn read_matches(alloc: Global, matches: &ArgMatches) -> Result<Option<Command>, NoMemory>
     ensures value { IfOk result (λ command. command ≡ command_in (rows_of (found_of matches.now))) }
     ensures workers { IfOk result (λ o. IfSome o (λ command. (1 ≤ command.workers) × (command.workers ≤ 64))) }
@@ -253,7 +253,7 @@ fn read_matches(alloc: Global, matches: &ArgMatches) -> Result<Option<Command>, 
     Ok(read_command(job, matches.get_str("workers"), matches.get_str("least")))
 }
 
-// Words are bad where they are refused for another cause than memory.
+/// Words are bad where they are refused for another cause than memory.
 fn refusal_of(error: &clap::Error) -> WordsRefusal
     ensures { result ≡ WordsRefusal.BadWords → ¬ (kind_of error.now ≡ ErrorKind.OutOfMemory) }
 {

@@ -12,7 +12,7 @@ use weighted_graph::{Graph, laws};
 // Four rings of so many vertices, one vertex of each in a fifth ring of four.
 const LONG: u32 = 20_001;
 
-// Feeds a number of up to six digits and a blank.
+/// Feeds a number of up to six digits and a blank.
 fn feed_number(reader: &mut Reader, number: u32) {
     for power in [100_000, 10_000, 1_000, 100, 10, 1] {
         let digit = b'0' + (number / power % 10) as u8;
@@ -21,7 +21,7 @@ fn feed_number(reader: &mut Reader, number: u32) {
     let _ok = reader.feed(b" ").is_ok();
 }
 
-// Feeds the row of the vertex at a place of a ring.
+/// Feeds the row of the vertex at a place of a ring.
 fn feed_row(reader: &mut Reader, ring: u32, place: u32) {
     if ring > 3 || place >= LONG {
         return;
@@ -36,7 +36,7 @@ fn feed_row(reader: &mut Reader, ring: u32, place: u32) {
     let _ok = reader.feed(b"\n").is_ok();
 }
 
-// The edges of the rings.
+/// The edges of the rings.
 fn rings(alloc: Global) -> Option<EdgeList> {
     let mut reader = Reader::new(alloc);
     feed_number(&mut reader, 4 * LONG);
@@ -53,7 +53,7 @@ fn rings(alloc: Global) -> Option<EdgeList> {
     }
 }
 
-// Whether the solver finds the value 2 and a node for each vertex.
+/// Whether the solver finds the value 2 and a node for each vertex.
 fn is_solved<R: Threads + Sync>(
     rt: &R,
     alloc: Global,

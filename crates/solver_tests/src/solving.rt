@@ -14,13 +14,13 @@ use std::test::Fail;
 use std::thread::Threads;
 use weighted_graph::{Graph, laws};
 
-// Whether the value and just the sides were found.
+/// Whether the value and just the sides were found.
 fn agrees(alloc: Global, solved: &Solved, known: &Known) -> Result<bool, NoMemory> {
     let sides = all_sides(alloc, &solved.cactus)?;
     Ok(solved.value == known.value && are_same(&sides, known.sides))
 }
 
-// Whether the solver finds what is known, where it is told the value.
+/// Whether the solver finds what is known, where it is told the value.
 fn is_solved_at<R: Threads + Sync>(
     rt: &R,
     alloc: Global,
@@ -36,7 +36,7 @@ fn is_solved_at<R: Threads + Sync>(
     agrees(alloc, &solved, known)
 }
 
-// Whether the list of edges alone is solved where forests show what can be contracted, and only there.
+/// Whether the list of edges alone is solved where forests show what can be contracted, and only there.
 fn is_solved_by_list<R: Threads + Sync>(
     rt: &R,
     alloc: Global,
@@ -54,7 +54,7 @@ fn is_solved_by_list<R: Threads + Sync>(
     }
 }
 
-// Whether the solver finds the value and just the sides, by rows, for a value that is told, and by the list of edges.
+/// Whether the solver finds the value and just the sides, by rows, for a value that is told, and by the list of edges.
 fn is_solved<R: Threads + Sync>(
     rt: &R,
     alloc: Global,

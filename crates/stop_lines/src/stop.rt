@@ -60,7 +60,7 @@ impl From<AllocError> for Stop {
     }
 }
 
-// A line of one text.
+/// A line of one text.
 fn plain_line(text: &str) -> Line
     requires { length text.now ≤ 128 }
     ensures { result.bytes ≡ text.now }
@@ -70,7 +70,7 @@ fn plain_line(text: &str) -> Line
     line
 }
 
-// Puts a number in decimal.
+/// Puts a number in decimal.
 fn put_number<I: Integer>(line: &mut Line, number: I)
     requires room { array_string_len line.old + 40 ≤ 128 }
     ensures bytes { line.new.bytes ≡ line.old.bytes ++ I.text number }
@@ -80,7 +80,7 @@ fn put_number<I: Integer>(line: &mut Line, number: I)
     line.push_str(buffer.format(number));
 }
 
-// The line that names a fault.
+/// The line that names a fault.
 fn refused_line(fault: Fault) -> Line
     ensures { result.bytes ≡ line_of (Stop.Refused fault) }
 {
@@ -93,7 +93,7 @@ fn refused_line(fault: Fault) -> Line
     line
 }
 
-// The line that names a vertex that is not there.
+/// The line that names a vertex that is not there.
 fn vertex_text(vertex: u64, n: u32) -> Line
     ensures { result.bytes ≡ vertex_line vertex n }
 {
@@ -106,7 +106,7 @@ fn vertex_text(vertex: u64, n: u32) -> Line
     line
 }
 
-// The line that says how large a list is.
+/// The line that says how large a list is.
 fn too_large_text(cuts: u64, n: u32) -> Line
     ensures { result.bytes ≡ too_large_line cuts n }
 {
@@ -119,7 +119,7 @@ fn too_large_text(cuts: u64, n: u32) -> Line
     line
 }
 
-// The line that says that all minimum cuts of so many components are too many for a list.
+/// The line that says that all minimum cuts of so many components are too many for a list.
 fn too_many_unions_text(components: u32, n: u32) -> Line
     ensures { result.bytes ≡ too_many_unions_line components n }
 {
@@ -132,7 +132,7 @@ fn too_many_unions_text(components: u32, n: u32) -> Line
     line
 }
 
-// The line that says that the number of minimum cuts of so many components is not told.
+/// The line that says that the number of minimum cuts of so many components is not told.
 fn count_too_large_text(components: u32) -> Line
     ensures { result.bytes ≡ count_too_large_line components }
 {
@@ -143,7 +143,7 @@ fn count_too_large_text(components: u32) -> Line
     line
 }
 
-// The line that says that no best cut of so many components of such a mass is sought.
+/// The line that says that no best cut of so many components of such a mass is sought.
 fn balance_too_large_text(components: u32, total: u128) -> Line
     ensures { result.bytes ≡ balance_too_large_line components total }
 {
@@ -156,7 +156,7 @@ fn balance_too_large_text(components: u32, total: u128) -> Line
     line
 }
 
-// The line that names the first insertion after which the graph is too large.
+/// The line that names the first insertion after which the graph is too large.
 fn grow_too_large_text(number: usize) -> Line
     ensures { result.bytes ≡ grow_too_large_line number }
 {

@@ -13,7 +13,7 @@ use edge_augment::{Plan, augment};
 use std::alloc::Global;
 use std::test::Fail;
 
-// The cactus of 1, with a cycle through 2 and 3.
+/// The cactus of 1, with a cycle through 2 and 3.
 fn small_ring(alloc: Global) -> Result<Cactus, NoMemory>
     ensures { IfOk result (λ c. c.vertices ≡ 3) }
 {
@@ -23,7 +23,7 @@ fn small_ring(alloc: Global) -> Result<Cactus, NoMemory>
     Ok(Cactus::from_root(3, tree))
 }
 
-// The nodes of a cycle with one more behind them.
+/// The nodes of a cycle with one more behind them.
 fn with_last(nodes: Children, node: Node) -> Result<Children, NoMemory>
     ensures count { IfOk result (λ c. length (nodes_in c) ≡ length (nodes_in nodes) + 1) }
     ensures entered { IfOk result (λ c. flat_map entered (nodes_in c) ≡ flat_map entered (nodes_in nodes) ++ entered node) }
@@ -34,7 +34,7 @@ fn with_last(nodes: Children, node: Node) -> Result<Children, NoMemory>
     Ok(nodes)
 }
 
-// The cactus of 1, with a cycle through 2, 3 and an empty node, and below that a cycle through 4, 5 and 6.
+/// The cactus of 1, with a cycle through 2, 3 and an empty node, and below that a cycle through 4, 5 and 6.
 fn rings_at_an_empty_node(alloc: Global) -> Result<Cactus, NoMemory>
     ensures { IfOk result (λ c. c.vertices ≡ 6) }
 {
@@ -48,7 +48,7 @@ fn rings_at_an_empty_node(alloc: Global) -> Result<Cactus, NoMemory>
     Ok(Cactus::from_root(6, tree))
 }
 
-// Whether the sets of a plan are these lists, in this order.
+/// Whether the sets of a plan are these lists, in this order.
 fn has_sets(plan: &Plan, sets: &[&[u32]]) -> bool {
     for i in 0..sets.len() {
         if i >= plan.sets() || plan.set(i) != sets[i] {
@@ -58,7 +58,7 @@ fn has_sets(plan: &Plan, sets: &[&[u32]]) -> bool {
     plan.sets() == sets.len()
 }
 
-// Whether the augmentation of a cactus has just these edges and sets.
+/// Whether the augmentation of a cactus has just these edges and sets.
 fn becomes(
     alloc: Global,
     cactus: &Cactus,

@@ -11,7 +11,7 @@ use cut_definitions::{NoMemory, VertexWeights};
 use std::alloc::Global;
 use std::test::Fail;
 
-// The cactus of 1, with a cycle through 2 to 7.
+/// The cactus of 1, with a cycle through 2 to 7.
 fn long_ring(alloc: Global) -> Result<Cactus, NoMemory>
     ensures { IfOk result (λ c. c.vertices ≡ 7) }
 {
@@ -21,7 +21,7 @@ fn long_ring(alloc: Global) -> Result<Cactus, NoMemory>
     Ok(Cactus::from_root(7, tree))
 }
 
-// The cactus of 1, with a bridge down to 2 and 3, and there a cycle through 4 and 5.
+/// The cactus of 1, with a bridge down to 2 and 3, and there a cycle through 4 and 5.
 fn ring_below(alloc: Global) -> Result<Cactus, NoMemory>
     ensures { IfOk result (λ c. c.vertices ≡ 5) }
 {
@@ -33,7 +33,7 @@ fn ring_below(alloc: Global) -> Result<Cactus, NoMemory>
     Ok(Cactus::from_root(5, tree))
 }
 
-// The cactus of 1, with a bridge down to 2, one from there to 3, and one from there to 4.
+/// The cactus of 1, with a bridge down to 2, one from there to 3, and one from there to 4.
 fn one_path(alloc: Global) -> Result<Cactus, NoMemory>
     ensures { IfOk result (λ c. c.vertices ≡ 4) }
 {
@@ -47,7 +47,7 @@ fn one_path(alloc: Global) -> Result<Cactus, NoMemory>
     Ok(Cactus::from_root(4, tree))
 }
 
-// A mass for vertex 1, and 1 for each of the others of n.
+/// A mass for vertex 1, and 1 for each of the others of n.
 fn masses(alloc: Global, first: u64, n: usize) -> Result<VertexWeights, NoMemory>
     requires some { 1 ≤ n }
     requires few { n ≤ 4194304 }

@@ -31,7 +31,7 @@ fn is_among(side: &Side, lists: &[&[u32]]) -> bool {
     false
 }
 
-// Whether a side of the cactus has these vertices and no other.
+/// Whether a side of the cactus has these vertices and no other.
 fn has_side(alloc: Global, cactus: &Cactus, vertices: &[u32]) -> Result<bool, NoMemory> {
     let mut room = Side::empty(alloc, cactus.n())?;
     let mut walk = Walk::new(alloc, cactus)?;
@@ -43,7 +43,7 @@ fn has_side(alloc: Global, cactus: &Cactus, vertices: &[u32]) -> Result<bool, No
     Ok(false)
 }
 
-// Whether each side of the cactus is among the lists.
+/// Whether each side of the cactus is among the lists.
 fn has_no_other(alloc: Global, cactus: &Cactus, lists: &[&[u32]]) -> Result<bool, NoMemory> {
     let mut room = Side::empty(alloc, cactus.n())?;
     let mut walk = Walk::new(alloc, cactus)?;
@@ -97,7 +97,7 @@ fn a_walk_without_sides_leaves_the_room(rt: HostRuntime) -> Result<(), Fail> {
     Ok(())
 }
 
-// Whether the root has these vertices and a bridge down to a node with those.
+/// Whether the root has these vertices and a bridge down to a node with those.
 fn is_bridge_between(root: &Node, upper: &[u32], lower: &[u32]) -> bool {
     if root.blocks.len() == 0 {
         return false;
@@ -110,7 +110,7 @@ fn is_bridge_between(root: &Node, upper: &[u32], lower: &[u32]) -> bool {
     }
 }
 
-// Whether it is the cactus of 1 and 2 with a bridge down to 3, with its only side.
+/// Whether it is the cactus of 1 and 2 with a bridge down to 3, with its only side.
 fn is_spread(alloc: Global, cactus: &Cactus) -> Result<bool, NoMemory> {
     let shown = has_sides(alloc, cactus, &[&[3]])?;
     Ok(
@@ -131,7 +131,7 @@ fn classes_are_spread(rt: HostRuntime) -> Result<(), Fail> {
     Ok(())
 }
 
-// The cuts of the ring are ranges: its nodes begin at the places 1, 2 and 3, and the last ends at 4.
+/// The cuts of the ring are ranges: its nodes begin at the places 1, 2 and 3, and the last ends at 4.
 fn are_ring_places(places: &CutPlaces) -> bool {
     places.order.as_slice() == [1, 2, 3, 4].as_slice()
         && places.borders.len() == 4
@@ -175,12 +175,12 @@ fn the_vertices_of_a_tree_are_renamed(rt: HostRuntime) -> Result<(), Fail> {
     Ok(())
 }
 
-// Whether the only node of a list has this vertex alone.
+/// Whether the only node of a list has this vertex alone.
 fn has_one(list: &Children, v: u32) -> bool {
     list.len() == 1 && list.at(0).vertices.as_slice() == [v].as_slice()
 }
 
-// Whether a ring of two nodes comes apart into one with 3 and one with 4, and is put together again in the other order.
+/// Whether a ring of two nodes comes apart into one with 3 and one with 4, and is put together again in the other order.
 fn comes_apart(ring: Children) -> Result<bool, NoMemory> {
     let mut ring = ring;
     if ring.len() != 2 {
@@ -193,7 +193,7 @@ fn comes_apart(ring: Children) -> Result<bool, NoMemory> {
     Ok(apart && has_one(&rest, 4) && has_one(&last, 3))
 }
 
-// Whether a bridge is the last block, and the only one before it a ring that comes apart.
+/// Whether a bridge is the last block, and the only one before it a ring that comes apart.
 fn is_taken_apart(root: &mut Node) -> Result<bool, NoMemory> {
     let bridge = matches!(root.blocks.pop(), Some(Block::Bridge(_)));
     let Some(Block::Cycle(ring)) = root.blocks.pop() else {

@@ -12,7 +12,7 @@ use cut_definitions::NoMemory;
 use std::alloc::Global;
 use std::test::Fail;
 
-// The cactus of 1, with a cycle through 4, 3 and 2.
+/// The cactus of 1, with a cycle through 4, 3 and 2.
 fn turned_ring(alloc: Global) -> Result<Cactus, NoMemory>
     ensures n { IfOk result (λ c. c.vertices ≡ 4) }
     ensures sides { IfOk result (λ c. HasNoEmptySide c) }
@@ -23,7 +23,7 @@ fn turned_ring(alloc: Global) -> Result<Cactus, NoMemory>
     Ok(Cactus::from_root(4, tree))
 }
 
-// The cactus of 1, with a bridge down to an empty node, and from there bridges down to 2 and to 3.
+/// The cactus of 1, with a bridge down to an empty node, and from there bridges down to 2 and to 3.
 fn star(alloc: Global) -> Result<Cactus, NoMemory>
     ensures { IfOk result (λ c. c.vertices ≡ 3) }
 {
@@ -37,7 +37,7 @@ fn star(alloc: Global) -> Result<Cactus, NoMemory>
     Ok(Cactus::from_root(3, tree))
 }
 
-// The same, with the bridge down to 3 before that down to 2.
+/// The same, with the bridge down to 3 before that down to 2.
 fn turned_star(alloc: Global) -> Result<Cactus, NoMemory>
     ensures { IfOk result (λ c. c.vertices ≡ 3) }
 {
@@ -51,7 +51,7 @@ fn turned_star(alloc: Global) -> Result<Cactus, NoMemory>
     Ok(Cactus::from_root(3, tree))
 }
 
-// Whether a cactus is told to be canonical, or not to be, both by calls and by loops.
+/// Whether a cactus is told to be canonical, or not to be, both by calls and by loops.
 fn is_told(alloc: Global, cactus: &Cactus, canonical: bool) -> Result<bool, NoMemory> {
     let within = is_canonical_within(alloc, cactus)?;
     Ok(is_canonical(cactus) == canonical && within == canonical)
@@ -85,7 +85,7 @@ fn a_cycle_of_three_nodes_is_not(rt: HostRuntime) -> Result<(), Fail> {
     Ok(())
 }
 
-// Whether the cactus becomes a canonical one of so many nodes, with just these sides.
+/// Whether the cactus becomes a canonical one of so many nodes, with just these sides.
 fn becomes(alloc: Global, cactus: Cactus, nodes: u64, sides: &[&[u32]]) -> Result<bool, NoMemory>
     requires { HasNoEmptySide cactus }
 {

@@ -10,7 +10,7 @@ use cut_definitions::NoMemory;
 use std::alloc::Global;
 use std::test::Fail;
 
-// Whether the cactus is normal and both counts answer this number.
+/// Whether the cactus is normal and both counts answer this number.
 fn counts(alloc: Global, cactus: &Cactus, number: u64) -> Result<bool, NoMemory>
     requires { cactus.now.vertices ≤ 4194304 }
 {
@@ -21,7 +21,7 @@ fn counts(alloc: Global, cactus: &Cactus, number: u64) -> Result<bool, NoMemory>
     Ok(cactus.count() == number && within == number)
 }
 
-// Whether the cactus becomes one of so many nodes, with just these sides, each counted once.
+/// Whether the cactus becomes one of so many nodes, with just these sides, each counted once.
 fn becomes(alloc: Global, cactus: Cactus, nodes: u64, sides: &[&[u32]]) -> Result<bool, NoMemory>
     requires few { cactus.vertices ≤ 4194304 }
     requires sides { HasNoEmptySide cactus }

@@ -30,7 +30,7 @@ fn has_cycles(flat: &FlatCactus, cycles: &[&[u64]]) -> bool {
     true
 }
 
-// Whether the cactus is over n vertices and has these nodes, bridges and cycles.
+/// Whether the cactus is over n vertices and has these nodes, bridges and cycles.
 fn has_lists(
     flat: &FlatCactus,
     n: u32,
@@ -41,7 +41,7 @@ fn has_lists(
     flat.n() == n && has_nodes(flat, nodes) && flat.bridges() == bridges && has_cycles(flat, cycles)
 }
 
-// Nodes with 1 and 2, with none and with 3, a bridge and a cycle of two nodes.
+/// Nodes with 1 and 2, with none and with 3, a bridge and a cycle of two nodes.
 fn filled(alloc: Global) -> Result<FlatCactus, NoMemory> {
     let mut flat = FlatCactus::new(alloc, 3);
     flat.push_node()?;

@@ -27,7 +27,7 @@ fn weight_is_added_or_an_edge_is_made(rt: HostRuntime) -> Result<(), Fail> {
     Ok(())
 }
 
-// Whether a block is a bridge to a node with one vertex.
+/// Whether a block is a bridge to a node with one vertex.
 fn leads_to(block: &Block, v: u32) -> bool {
     match block {
         Block::Bridge(node) => node.vertices.as_slice() == [v].as_slice() && node.blocks.len() == 0,
@@ -35,7 +35,7 @@ fn leads_to(block: &Block, v: u32) -> bool {
     }
 }
 
-// Whether a node has these vertices, and two bridges.
+/// Whether a node has these vertices, and two bridges.
 fn has_two_bridges(node: &Node, own: &[u32], first: u32, second: u32) -> bool {
     node.vertices.as_slice() == own
         && node.blocks.len() == 2
@@ -43,7 +43,7 @@ fn has_two_bridges(node: &Node, own: &[u32], first: u32, second: u32) -> bool {
             || leads_to(node.blocks.at(0), second) && leads_to(node.blocks.at(1), first))
 }
 
-// Whether the ring of four nodes, with 1 and 3 in one, has two bridges, and no cut once 2 and 4 are joined too.
+/// Whether the ring of four nodes, with 1 and 3 in one, has two bridges, and no cut once 2 and 4 are joined too.
 fn falls_into_bridges(alloc: Global) -> Result<bool, NoMemory> {
     let ring = one_ring(alloc)?;
     match grow(alloc, ring, 1, 3)? {

@@ -14,12 +14,12 @@ use std::alloc::Global;
 use std::test::Fail;
 use vertex_set::Side;
 
-// Whether the side at a place has these vertices and no other.
+/// Whether the side at a place has these vertices and no other.
 fn has_at(sides: &[Side], at: usize, vertices: &[u32]) -> bool {
     at < sides.len() && has_exactly(&sides[at], vertices)
 }
 
-// The sides that a lister lets through.
+/// The sides that a lister lets through.
 fn list_by(alloc: Global, cactus: &Cactus, lister: &Lister) -> Result<Vec<Side>, Fail>
     requires n { cactus.now.vertices ≡ lister.now.n }
     requires few { cactus.now.vertices ≤ 4194304 }
@@ -33,7 +33,7 @@ fn list_by(alloc: Global, cactus: &Cactus, lister: &Lister) -> Result<Vec<Side>,
     }
 }
 
-// All sides.
+/// All sides.
 fn listed_all(alloc: Global, cactus: &Cactus) -> Result<Vec<Side>, Fail>
     requires { cactus.now.vertices ≤ 4194304 }
 {
@@ -42,7 +42,7 @@ fn listed_all(alloc: Global, cactus: &Cactus) -> Result<Vec<Side>, Fail>
     list_by(alloc, cactus, &lister)
 }
 
-// The sides that part two vertices, by a closure that tests it.
+/// The sides that part two vertices, by a closure that tests it.
 fn listed_parting(alloc: Global, cactus: &Cactus, u: u32, v: u32) -> Result<Vec<Side>, Fail>
     requires ask { IsAskWithin cactus.now.vertices (Parting u v) }
     requires few { cactus.now.vertices ≤ 4194304 }
@@ -57,7 +57,7 @@ fn listed_parting(alloc: Global, cactus: &Cactus, u: u32, v: u32) -> Result<Vec<
     list_by(alloc, cactus, &lister)
 }
 
-// The sides of a least balance, by a closure that has the weights for itself.
+/// The sides of a least balance, by a closure that has the weights for itself.
 fn listed_least(
     alloc: Global,
     cactus: &Cactus,
@@ -79,7 +79,7 @@ fn listed_least(
     list_by(alloc, cactus, &lister)
 }
 
-// Whether the sides are these lists, in this order.
+/// Whether the sides are these lists, in this order.
 fn are_listed(sides: &[Side], lists: &[&[u32]]) -> bool {
     for i in 0..lists.len() {
         if !has_at(sides, i, lists[i]) {
@@ -105,7 +105,7 @@ fn all_sides_of_a_ring(rt: HostRuntime) -> Result<(), Fail> {
     Ok(())
 }
 
-// Both cycles have the side 2, 3.
+/// Both cycles have the side 2, 3.
 #[test]
 fn a_repeat_comes_once(rt: HostRuntime) -> Result<(), Fail> {
     let cactus = two_rings(rt.alloc())?;
@@ -121,7 +121,7 @@ fn one_node_has_no_side(rt: HostRuntime) -> Result<(), Fail> {
     Ok(())
 }
 
-// The first vertex has most of the mass.
+/// The first vertex has most of the mass.
 #[test]
 fn sides_of_a_least_balance(rt: HostRuntime) -> Result<(), Fail> {
     let cactus = one_ring(rt.alloc())?;

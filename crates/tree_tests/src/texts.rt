@@ -193,7 +193,7 @@ const BROKEN: &[(&str, u64)] = &[
     ),
 ];
 
-// Whether the text is refused, with the number of this line.
+/// Whether the text is refused, with the number of this line.
 fn is_refused_at(alloc: Global, text: &str, line: u64) -> bool {
     read(alloc, text.as_bytes()).err() == Some(TextRefusal::Malformed(line))
 }

@@ -21,7 +21,7 @@ fn list_of(alloc: Global, own: &[u32]) -> Result<VertexList, NoMemory>
     Ok(VertexList::from_vec(list))
 }
 
-// A node without blocks.
+/// A node without blocks.
 pub fn leaf(alloc: Global, own: &[u32]) -> Result<Node, NoMemory>
     ensures entered { IfOk result (λ x. entered x ≡ own.now ∷ []) }
     ensures widths { IfOk result (λ x. widths x ≡ []) }
@@ -34,7 +34,7 @@ pub fn leaf(alloc: Global, own: &[u32]) -> Result<Node, NoMemory>
     })
 }
 
-// Nodes without blocks, with one vertex each.
+/// Nodes without blocks, with one vertex each.
 pub fn leaves(alloc: Global, own: &[u32]) -> Result<Children, NoMemory>
     ensures count { IfOk result (λ c. length (nodes_in c) ≡ length own.now) }
     ensures entered { IfOk result (λ c. flat_map entered (nodes_in c) ≡ map (λ v. v ∷ []) own.now) }
@@ -49,7 +49,7 @@ pub fn leaves(alloc: Global, own: &[u32]) -> Result<Children, NoMemory>
     Ok(nodes)
 }
 
-// The node with a bridge more, down to a child.
+/// The node with a bridge more, down to a child.
 pub fn with_bridge(alloc: Global, node: Node, child: Node) -> Result<Node, NoMemory>
     ensures entered { IfOk result (λ x. entered x ≡ entered node ++ entered child) }
     ensures widths { IfOk result (λ x. widths x ≡ widths node ++ widths child) }
@@ -61,7 +61,7 @@ pub fn with_bridge(alloc: Global, node: Node, child: Node) -> Result<Node, NoMem
     Ok(node)
 }
 
-// The node with a cycle more, through some nodes.
+/// The node with a cycle more, through some nodes.
 pub fn with_cycle(node: Node, ring: Children) -> Result<Node, NoMemory>
     ensures entered { IfOk result (λ x. entered x ≡ entered node ++ flat_map entered (nodes_in ring)) }
     ensures widths { IfOk result (λ x. widths x ≡ widths node ++ length (nodes_in ring) ∷ flat_map widths (nodes_in ring)) }
@@ -73,7 +73,7 @@ pub fn with_cycle(node: Node, ring: Children) -> Result<Node, NoMemory>
     Ok(node)
 }
 
-// The two nodes of a cycle.
+/// The two nodes of a cycle.
 pub fn pair(alloc: Global, first: Node, second: Node) -> Result<Children, NoMemory>
     ensures count { IfOk result (λ c. length (nodes_in c) ≡ 2) }
     ensures entered { IfOk result (λ c. flat_map entered (nodes_in c) ≡ entered first ++ entered second) }
@@ -86,7 +86,7 @@ pub fn pair(alloc: Global, first: Node, second: Node) -> Result<Children, NoMemo
     Ok(nodes)
 }
 
-// The cactus of 1, with a bridge down to 2.
+/// The cactus of 1, with a bridge down to 2.
 pub fn one_bridge(alloc: Global) -> Result<Cactus, NoMemory>
     ensures { IfOk result (λ c. c.vertices ≡ 2) }
 {
@@ -96,7 +96,7 @@ pub fn one_bridge(alloc: Global) -> Result<Cactus, NoMemory>
     Ok(Cactus::from_root(2, tree))
 }
 
-// The cactus of 1, with a cycle through 2, 3 and 4.
+/// The cactus of 1, with a cycle through 2, 3 and 4.
 pub fn one_ring(alloc: Global) -> Result<Cactus, NoMemory>
     ensures n { IfOk result (λ c. c.vertices ≡ 4) }
     ensures sides { IfOk result (λ c. HasNoEmptySide c) }
@@ -108,7 +108,7 @@ pub fn one_ring(alloc: Global) -> Result<Cactus, NoMemory>
     Ok(Cactus::from_root(4, tree))
 }
 
-// The tree of 1, with a cycle through 3 and 4 and then a bridge down to 2.
+/// The tree of 1, with a cycle through 3 and 4 and then a bridge down to 2.
 pub fn ring_and_bridge(alloc: Global) -> Result<Cactus, NoMemory>
     ensures { IfOk result (λ c. c.vertices ≡ 4) }
 {
@@ -120,7 +120,7 @@ pub fn ring_and_bridge(alloc: Global) -> Result<Cactus, NoMemory>
     Ok(Cactus::from_root(4, tree))
 }
 
-// The cactus of 1 and 2, with a bridge down to 3.
+/// The cactus of 1 and 2, with a bridge down to 3.
 pub fn two_and_one(alloc: Global) -> Result<Cactus, NoMemory>
     ensures { IfOk result (λ c. c.vertices ≡ 3) }
 {
@@ -130,8 +130,8 @@ pub fn two_and_one(alloc: Global) -> Result<Cactus, NoMemory>
     Ok(Cactus::from_root(3, tree))
 }
 
-// The cactus of 1, with a way of two bridges down to 5 and 6, then a cycle through 2, which has 3 below a bridge, and 4,
-// then a bridge down to 7.
+/// The cactus of 1, with a way of two bridges down to 5 and 6, then a cycle through 2, which has 3 below a bridge, and 4,
+/// then a bridge down to 7.
 pub fn nested(alloc: Global) -> Result<Cactus, NoMemory>
     ensures { IfOk result (λ c. c.vertices ≡ 7) }
 {
@@ -151,7 +151,7 @@ pub fn nested(alloc: Global) -> Result<Cactus, NoMemory>
     Ok(Cactus::from_root(7, tree))
 }
 
-// The cactus of 1, with a cycle through an empty node, which has a cycle through 2 and 3, and through 4.
+/// The cactus of 1, with a cycle through an empty node, which has a cycle through 2 and 3, and through 4.
 pub fn two_rings(alloc: Global) -> Result<Cactus, NoMemory>
     ensures { IfOk result (λ c. c.vertices ≡ 4) }
 {
@@ -165,8 +165,8 @@ pub fn two_rings(alloc: Global) -> Result<Cactus, NoMemory>
     Ok(Cactus::from_root(4, tree))
 }
 
-// The cactus of 1, with a bridge down to an empty node, which has a cycle through 2 and 3, and with a cycle through an
-// empty node, which has a bridge down to 4, and through 5: both empty nodes can be spared.
+/// The cactus of 1, with a bridge down to an empty node, which has a cycle through 2 and 3, and with a cycle through an
+/// empty node, which has a bridge down to 4, and through 5: both empty nodes can be spared.
 pub fn two_spare(alloc: Global) -> Result<Cactus, NoMemory>
     ensures n { IfOk result (λ c. c.vertices ≡ 5) }
     ensures sides { IfOk result (λ c. HasNoEmptySide c) }

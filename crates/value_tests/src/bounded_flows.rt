@@ -16,7 +16,7 @@ use weighted_graph::Graph;
 
 const GREATEST_TOTAL: u64 = 2_305_843_009_213_693_952;
 
-// Whether the edge comes after all that are there.
+/// Whether the edge comes after all that are there.
 fn comes_last(list: &EdgeList, edge: Edge) -> bool
     ensures { IsTrue result ↔ All (λ d. IsBefore d edge) list.now.edges }
 {
@@ -25,7 +25,7 @@ fn comes_last(list: &EdgeList, edge: Edge) -> bool
         .all(|d| d.u < edge.u || d.u == edge.u && d.v < edge.v)
 }
 
-// The graph of the edges, which are few and ascend.
+/// The graph of the edges, which are few and ascend.
 fn graph_of(alloc: Global, n: u32, edges: &[(u32, u32, u64)]) -> Result<Graph, Fail>
     ensures { IfOk result (λ g. g.vertices ≡ n) }
 {
@@ -54,7 +54,7 @@ fn graph_of(alloc: Global, n: u32, edges: &[(u32, u32, u64)]) -> Result<Graph, F
     Ok(Graph::build(alloc, &list)?)
 }
 
-// The members of a set, as digits.
+/// The members of a set, as digits.
 fn digits(side: &Side) -> u32
     requires { side.now.vertices ≤ 9 }
 {
@@ -67,7 +67,7 @@ fn digits(side: &Side) -> u32
     digits
 }
 
-// Whether a run that stops past the amount finds it with this source side, and one that stops there is stopped.
+/// Whether a run that stops past the amount finds it with this source side, and one that stops there is stopped.
 fn agrees(flow: &mut Flow, graph: &Graph, s: u32, t: u32, amount: u64, source: u32) -> bool
     requires stands { StandsFor flow.old graph.now }
     requires few { graph.now.vertices ≤ 9 }
@@ -90,7 +90,7 @@ fn agrees(flow: &mut Flow, graph: &Graph, s: u32, t: u32, amount: u64, source: u
     amount == 0 || flow.run(graph, s, t, amount) == Outcome::AtLeast
 }
 
-// Whether each run, given by its two ends, its amount and its source side, agrees after those before it.
+/// Whether each run, given by its two ends, its amount and its source side, agrees after those before it.
 fn agree_in_turn(flow: &mut Flow, graph: &Graph, runs: &[(u32, u32, u64, u32)]) -> bool
     requires stands { StandsFor flow.old graph.now }
     requires few { graph.now.vertices ≤ 9 }
@@ -107,7 +107,7 @@ fn agree_in_turn(flow: &mut Flow, graph: &Graph, runs: &[(u32, u32, u64, u32)]) 
     true
 }
 
-// Whether the runs agree in turn on one flow on the graph of the edges.
+/// Whether the runs agree in turn on one flow on the graph of the edges.
 fn all_agree(
     alloc: Global,
     n: u32,
@@ -121,7 +121,7 @@ fn all_agree(
     Ok(agree_in_turn(&mut flow, &graph, runs))
 }
 
-// Whether the best flow of the triangle from 1 to 3 leaves these residuals at its ends.
+/// Whether the best flow of the triangle from 1 to 3 leaves these residuals at its ends.
 fn leaves_residuals(flow: &mut Flow, graph: &Graph) -> bool
     requires stands { StandsFor flow.old graph.now }
     requires three { graph.now.vertices ≡ 3 }
@@ -158,7 +158,7 @@ const TWO_TRIANGLES: [(u32, u32, u64); 7] = [
     (5, 6, 7),
 ];
 
-// With a vertex that has no edge.
+/// With a vertex that has no edge.
 #[test]
 fn one_flow_for_several_runs(rt: HostRuntime) -> Result<(), Fail> {
     let runs = [
@@ -173,7 +173,7 @@ fn one_flow_for_several_runs(rt: HostRuntime) -> Result<(), Fail> {
     Ok(())
 }
 
-// A ring whose weights add up to the greatest total, and a vertex with no edge.
+/// A ring whose weights add up to the greatest total, and a vertex with no edge.
 #[test]
 fn a_heavy_ring(rt: HostRuntime) -> Result<(), Fail> {
     let half = GREATEST_TOTAL / 2;
@@ -188,7 +188,7 @@ fn a_heavy_ring(rt: HostRuntime) -> Result<(), Fail> {
     Ok(())
 }
 
-// What is told of the sets with t and without vertex 1.
+/// What is told of the sets with t and without vertex 1.
 fn told_from_first(alloc: Global, graph: &Graph, t: u32, bound: u64) -> Result<Beyond, Fail>
     requires from_two { 2 ≤ t }
     requires to_n { t ≤ graph.now.vertices }

@@ -32,7 +32,7 @@ fn heavy_edges_of_a_triangle(rt: HostRuntime) -> Result<(), Fail> {
     Ok(())
 }
 
-// Vertex 1 has degree 6, of which edge 0 is 5; vertex 3 has degree 5, and edge 2 is 4 of the degree 9 of vertex 2.
+/// Vertex 1 has degree 6, of which edge 0 is 5; vertex 3 has degree 5, and edge 2 is 4 of the degree 9 of vertex 2.
 #[test]
 fn heavy_vertices_of_a_triangle(rt: HostRuntime) -> Result<(), Fail> {
     let graph = uneven_triangle(rt.alloc())?;
@@ -47,7 +47,7 @@ fn neighbours_shared_in_a_triangle(rt: HostRuntime) -> Result<(), Fail> {
     Ok(())
 }
 
-// Twice 5 is not above the degree 10 of vertex 2, and vertex 1 has degree 5, below 6.
+/// Twice 5 is not above the degree 10 of vertex 2, and vertex 1 has degree 5, below 6.
 #[test]
 fn half_of_a_degree_is_not_heavy(rt: HostRuntime) -> Result<(), Fail> {
     let edges = [Edge { u: 1, v: 2, w: 5 }, Edge { u: 2, v: 3, w: 5 }];

@@ -9,7 +9,7 @@ use std::test::Fail;
 use vertex_set::Side;
 use weighted_graph::Graph;
 
-// Whether these are the members.
+/// Whether these are the members.
 fn has_members(side: &Side, members: &[u32]) -> bool {
     let mut from = 0;
     for v in members {
@@ -21,7 +21,7 @@ fn has_members(side: &Side, members: &[u32]) -> bool {
     side.next_from(from).is_none()
 }
 
-// Whether the minimum cuts are these.
+/// Whether the minimum cuts are these.
 fn has_sides(alloc: Global, parts: &Components, members: &[&[u32]]) -> Result<bool, NoMemory>
     requires { parts.now.vertices ≤ 9 }
 {
@@ -38,7 +38,7 @@ fn has_sides(alloc: Global, parts: &Components, members: &[&[u32]]) -> Result<bo
     )
 }
 
-// Whether the best cut has these members.
+/// Whether the best cut has these members.
 fn has_best(alloc: Global, parts: &Components, weights: &VertexWeights, members: &[u32]) -> bool
     requires { length weights.now ≡ parts.now.vertices }
 {

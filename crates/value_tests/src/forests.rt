@@ -18,7 +18,7 @@ const TIED: [(&str, u64, &[u32]); 4] = [
     ("3 3 1\n2 5 3 1\n1 5 3 4\n1 1 2 4\n", 5, &[1, 1, 2]),
 ];
 
-// Whether these are the classes that are tied for a bound.
+/// Whether these are the classes that are tied for a bound.
 fn are_tied(alloc: Global, list: &EdgeList, bound: u64, classes: &[u32]) -> Result<bool, NoMemory> {
     if bound > 5 {
         return Ok(false);
@@ -38,7 +38,7 @@ fn classes_are_tied(rt: HostRuntime) -> Result<(), Fail> {
     Ok(())
 }
 
-// A file with a star of 1,101 vertices.
+/// A file with a star of 1,101 vertices.
 fn star(alloc: Global) -> Result<String, NoMemory> {
     let mut text = String::from_str(alloc, "1101 1100\n")?;
     for v in 2u32..1102 {
@@ -50,7 +50,7 @@ fn star(alloc: Global) -> Result<String, NoMemory> {
     Ok(text)
 }
 
-// A file with a ring of 1,101 vertices.
+/// A file with a ring of 1,101 vertices.
 fn ring(alloc: Global) -> Result<String, NoMemory> {
     let mut text = String::from_str(alloc, "1101 1101\n2 1101\n")?;
     for v in 1u32..1100 {
@@ -62,7 +62,7 @@ fn ring(alloc: Global) -> Result<String, NoMemory> {
     Ok(text)
 }
 
-// Whether contraction leaves this bound and so many vertices, and whether the list tells this value.
+/// Whether contraction leaves this bound and so many vertices, and whether the list tells this value.
 fn is_contracted<R: Threads + Sync>(
     rt: &R,
     alloc: Global,
@@ -103,7 +103,7 @@ fn a_ring_stays(rt: HostRuntime) -> Result<(), Fail> {
     Ok(())
 }
 
-// A file with a wheel: 600 vertices in a ring, each joined to vertex 1.
+/// A file with a wheel: 600 vertices in a ring, each joined to vertex 1.
 fn wheel(alloc: Global) -> Result<String, NoMemory> {
     let mut text = String::from_str(alloc, "601 1200\n")?;
     for v in 2u32..602 {

@@ -9,7 +9,7 @@ use std::test::Fail;
 use vertex_set::Side;
 use weighted_graph::{Arc, Graph, Labels, relabel_list};
 
-// Whether it is the triangle by its counts, the row, the degree and an edge of vertex 2, and the weight of another edge.
+/// Whether it is the triangle by its counts, the row, the degree and an edge of vertex 2, and the weight of another edge.
 fn is_triangle(graph: &Graph) -> bool
     requires { graph.now.vertices ≡ 3 }
 {
@@ -84,7 +84,7 @@ fn one_one(alloc: Global) -> Result<Labels, NoMemory>
     Ok(Labels::from_list(list))
 }
 
-// Whether two vertices are left, and this edge alone.
+/// Whether two vertices are left, and this edge alone.
 fn has_one_edge(list: &EdgeList, edge: Edge) -> bool {
     list.n() == 2 && list.len() == 1 && list.edge(0) == edge
 }
@@ -100,7 +100,7 @@ fn two_vertices_become_one(rt: HostRuntime) -> Result<(), Fail> {
     Ok(())
 }
 
-// Whether they label three vertices with so many classes, the third with this one.
+/// Whether they label three vertices with so many classes, the third with this one.
 fn has_labels(labels: &Labels, classes: u32, third: u32) -> bool {
     labels.n() == 3 && labels.classes() == classes && labels.label(3) == third
 }
@@ -121,7 +121,7 @@ fn labels_are_composed(rt: HostRuntime) -> Result<(), Fail> {
     Ok(())
 }
 
-// Whether it has vertex 3 of three alone.
+/// Whether it has vertex 3 of three alone.
 fn is_third(side: &Side) -> bool {
     side.n() == 3 && side.len() == 1 && side.has(3)
 }

@@ -23,7 +23,7 @@ const TRIANGLE_CLASSES: [u32; 3] = [1, 1, 2];
 
 const BLOCK_CLASSES: [u32; 16] = [1, 1, 1, 1, 1, 1, 1, 1, 2, 2, 2, 2, 2, 2, 2, 2];
 
-// Whether the edges of a graph weigh at most the value for each vertex but one.
+/// Whether the edges of a graph weigh at most the value for each vertex but one.
 fn is_light(graph: &Graph, value: u64) -> bool {
     let mut total = 0u64;
     for edge in graph.edge_list() {
@@ -32,7 +32,7 @@ fn is_light(graph: &Graph, value: u64) -> bool {
     total <= value.saturating_mul(u64::from(graph.n().saturating_sub(1)))
 }
 
-// Whether the kernel has the value, two vertices and these classes, and is light.
+/// Whether the kernel has the value, two vertices and these classes, and is light.
 fn is_kernel(kernel: &Kernel, value: u64, classes: &[u32]) -> bool {
     kernel.value == value
         && kernel.graph.n() == 2
@@ -40,7 +40,7 @@ fn is_kernel(kernel: &Kernel, value: u64, classes: &[u32]) -> bool {
         && is_light(&kernel.graph, value)
 }
 
-// Whether so many workers find the kernel with the value and these classes.
+/// Whether so many workers find the kernel with the value and these classes.
 fn has_kernel<R: Threads + Sync>(
     rt: &R,
     alloc: Global,
@@ -66,7 +66,7 @@ fn the_kernel_of_a_triangle(rt: HostRuntime) -> Result<(), Fail> {
     Ok(())
 }
 
-// Whether there is a smaller graph, and it is the kernel of the triangle.
+/// Whether there is a smaller graph, and it is the kernel of the triangle.
 fn is_reduced_triangle(reduced: &Option<Kernel>) -> bool {
     match reduced {
         Some(kernel) => is_kernel(kernel, 5, &TRIANGLE_CLASSES),
@@ -84,8 +84,8 @@ fn a_triangle_is_reduced(rt: HostRuntime) -> Result<(), Fail> {
     Ok(())
 }
 
-// Whether no edge of the graph itself is certified at 2 with slack 1, the graph is not light, and its kernels by one worker
-// and by four are those of two blocks.
+/// Whether no edge of the graph itself is certified at 2 with slack 1, the graph is not light, and its kernels by one worker
+/// and by four are those of two blocks.
 fn has_kernels_of_two_blocks<R: Threads + Sync>(
     rt: &R,
     alloc: Global,

@@ -15,7 +15,7 @@ use std::test::Fail;
 use std::thread::Threads;
 use weighted_graph::{Graph, Labels};
 
-// The degree of a vertex, which is the weight of a cut.
+/// The degree of a vertex, which is the weight of a cut.
 fn degree_of(graph: &Graph, v: u32) -> u64
     requires enough { 2 ≤ graph.now.vertices }
     requires from_one { 1 ≤ v }
@@ -30,9 +30,9 @@ fn degree_of(graph: &Graph, v: u32) -> u64
 // Each of 1, 2, 3 joined to each of 4, 5, 6.
 const THREE_BY_THREE: &str = "6 9\n4 5 6\n4 5 6\n4 5 6\n1 2 3\n1 2 3\n1 2 3\n";
 
-// Whether no edge passes a certificate at 3 and yet a round that is opened with the degree of vertex 1 keeps this bound, 3,
-// and one worker marks an edge. Of several each may have scanned so little before the others took the rest that no link
-// reaches the bound.
+/// Whether no edge passes a certificate at 3 and yet a round that is opened with the degree of vertex 1 keeps this bound, 3,
+/// and one worker marks an edge. Of several each may have scanned so little before the others took the rest that no link
+/// reaches the bound.
 fn marks_by_links<R: Threads + Sync>(
     rt: &R,
     alloc: Global,
@@ -51,15 +51,15 @@ fn marks_by_links<R: Threads + Sync>(
     Ok(none_is_certified(&graph, 3, 0) && bound == 3 && some)
 }
 
-// Whether this is the triangle with vertices 1 and 2 in one class.
+/// Whether this is the triangle with vertices 1 and 2 in one class.
 fn is_contracted(graph: &Graph, labels: &Labels) -> bool {
     labels.as_slice() == [1, 1, 2].as_slice()
         && graph.n() == 2
         && graph.edge_list() == [Edge { u: 1, v: 2, w: 5 }].as_slice()
 }
 
-// Whether a round over the triangle with slack 1, opened with the degree of vertex 3, keeps this bound and marks edge 0
-// alone.
+/// Whether a round over the triangle with slack 1, opened with the degree of vertex 3, keeps this bound and marks edge 0
+/// alone.
 fn marks_one_edge<R: Threads + Sync>(rt: &R, alloc: Global, workers: u32) -> Result<bool, NoMemory>
     requires { (1 ≤ workers) × (workers ≤ 64) }
 {
@@ -69,7 +69,7 @@ fn marks_one_edge<R: Threads + Sync>(rt: &R, alloc: Global, workers: u32) -> Res
     Ok(bound == 5 && marks.has(0) && !marks.has(1) && !marks.has(2))
 }
 
-// Whether a round over the triangle, opened with the degree 6 of vertex 1, lowers the bound to 5.
+/// Whether a round over the triangle, opened with the degree 6 of vertex 1, lowers the bound to 5.
 fn lowers_the_bound<R: Threads + Sync>(
     rt: &R,
     alloc: Global,
@@ -109,7 +109,7 @@ fn the_first_edge_of_a_triangle_is_contracted(rt: HostRuntime) -> Result<(), Fai
     Ok(())
 }
 
-// Edge 0 is certified, and the cut around vertex 3 parts the ends of both others.
+/// Edge 0 is certified, and the cut around vertex 3 parts the ends of both others.
 #[test]
 fn one_edge_of_a_triangle_is_marked(rt: HostRuntime) -> Result<(), Fail> {
     for workers in 1..5 {
@@ -118,7 +118,7 @@ fn one_edge_of_a_triangle_is_marked(rt: HostRuntime) -> Result<(), Fail> {
     Ok(())
 }
 
-// Vertex 1 weighs 6, and a scan from any vertex passes a set that weighs 5.
+/// Vertex 1 weighs 6, and a scan from any vertex passes a set that weighs 5.
 #[test]
 fn the_bound_falls_to_a_prefix(rt: HostRuntime) -> Result<(), Fail> {
     for workers in 1..5 {

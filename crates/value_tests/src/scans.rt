@@ -17,7 +17,7 @@ fn scanned(vertex: u32, prefix_weight: u64, all: bool) -> Scanned {
     }
 }
 
-// Whether this is what the scan answers next.
+/// Whether this is what the scan answers next.
 fn is_next(graph: &Graph, scan: &mut Scan, wanted: Option<Scanned>) -> bool
     requires { StandsFor scan.old graph.now }
     ensures { StandsFor scan.new graph.now }
@@ -25,7 +25,7 @@ fn is_next(graph: &Graph, scan: &mut Scan, wanted: Option<Scanned>) -> bool
     scan.next(graph) == wanted
 }
 
-// Whether these are the links of vertices 2 and 3.
+/// Whether these are the links of vertices 2 and 3.
 fn has_links(graph: &Graph, scan: &Scan, second: u64, third: u64) -> bool
     requires stands { StandsFor scan.now graph.now }
     requires three { graph.now.vertices ≡ 3 }
@@ -34,7 +34,7 @@ fn has_links(graph: &Graph, scan: &Scan, second: u64, third: u64) -> bool
     links == (second, third)
 }
 
-// Whether the scan that starts at vertex 1 with cap 6 goes through all three vertices, with the links between.
+/// Whether the scan that starts at vertex 1 with cap 6 goes through all three vertices, with the links between.
 fn goes_from_first(graph: &Graph, scan: &mut Scan) -> bool
     requires stands { StandsFor scan.old graph.now }
     requires three { graph.now.vertices ≡ 3 }
@@ -56,7 +56,7 @@ fn a_capped_scan_of_a_triangle(rt: HostRuntime) -> Result<(), Fail> {
     Ok(())
 }
 
-// Whether the scan that starts at vertex 1 with cap 3 goes on to 3 and then to its end.
+/// Whether the scan that starts at vertex 1 with cap 3 goes on to 3 and then to its end.
 fn goes_past_second(graph: &Graph, scan: &mut Scan) -> bool
     requires stands { StandsFor scan.old graph.now }
     requires three { graph.now.vertices ≡ 3 }
@@ -67,7 +67,7 @@ fn goes_past_second(graph: &Graph, scan: &mut Scan) -> bool
     first && linked && third && is_next(graph, scan, None)
 }
 
-// Vertex 2 is dropped, so 3 comes after 1, and the two are not everything.
+/// Vertex 2 is dropped, so 3 comes after 1, and the two are not everything.
 #[test]
 fn a_dropped_vertex_is_passed_over(rt: HostRuntime) -> Result<(), Fail> {
     let graph = uneven_triangle(rt.alloc())?;
@@ -78,7 +78,7 @@ fn a_dropped_vertex_is_passed_over(rt: HostRuntime) -> Result<(), Fail> {
     Ok(())
 }
 
-// Whether the scan that starts at vertex 3 with cap 1 goes on to 1 and then to 2.
+/// Whether the scan that starts at vertex 3 with cap 1 goes on to 1 and then to 2.
 fn goes_from_third(graph: &Graph, scan: &mut Scan) -> bool
     requires { StandsFor scan.old graph.now }
 {
@@ -87,7 +87,7 @@ fn goes_from_third(graph: &Graph, scan: &mut Scan) -> bool
     third && first && is_next(graph, scan, Some(scanned(2, 0, true)))
 }
 
-// Vertex 2 weighs more toward 3 than vertex 1 does, but both reach the cap.
+/// Vertex 2 weighs more toward 3 than vertex 1 does, but both reach the cap.
 #[test]
 fn the_least_of_a_tie_comes_first(rt: HostRuntime) -> Result<(), Fail> {
     let graph = uneven_triangle(rt.alloc())?;

@@ -59,7 +59,7 @@ const FOUR: &str = "4 6\n2 3 4\n1 3 4\n1 2 4\n1 2 3\n";
 // The same with one heavier edge, so that the least degree is not at once known to be the value.
 const UNEVEN_FOUR: &str = "4 6 1\n2 2 3 1 4 1\n1 2 3 1 4 1\n1 1 2 1 4 1\n1 1 2 1 3 1\n";
 
-// Whether a sweep is whole within many arcs, and answers this within none.
+/// Whether a sweep is whole within many arcs, and answers this within none.
 fn keeps_its_limit(alloc: Global, list: &EdgeList, within_none: Swept) -> Result<bool, NoMemory> {
     if list.n() < 2 {
         return Ok(false);
@@ -113,7 +113,7 @@ const DENSE: [(&str, Option<u64>, u64); 7] = [
     ("2 0\n\n\n", Some(0), 0),
 ];
 
-// Whether this is told of a list of edges alone, and this is the least degree.
+/// Whether this is told of a list of edges alone, and this is the least degree.
 fn is_told(
     alloc: Global,
     list: &EdgeList,
@@ -162,7 +162,7 @@ const FILES: [(&str, u64); 7] = [
     ),
 ];
 
-// Whether the value by phases, by all means, and by all means of a list that is taken over is what is known.
+/// Whether the value by phases, by all means, and by all means of a list that is taken over is what is known.
 fn is_value<R: Threads + Sync>(
     rt: &R,
     alloc: Global,
