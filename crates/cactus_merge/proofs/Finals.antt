@@ -13,7 +13,7 @@ use Rattle.cut_definitions.proofs.Bools.{no_left, no_right}
 use Rattle.cut_definitions.proofs.ListLaws.{All-back}
 use Rattle.residual_chain.specs.declared.run.Run.{Run}
 use Rattle.residual_chain.specs.Chain.{ChainView, IsChainShape, IsInnerRun}
-use Rattle.residual_chain.specs.Search.{mark_of}
+use Rattle.arc_search.specs.Marks.{mark_of}
 use Rattle.rooted_cactus.specs.Entered.{entered}
 use Rattle.rooted_cactus.specs.Sides.{Part, part, cuts, belows, all_cuts, intervals}
 use Rattle.rooted_cactus.specs.Rooted.{IsCactus, places, sides_of}

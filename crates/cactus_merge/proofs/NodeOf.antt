@@ -8,7 +8,7 @@ use Rattle.cut_definitions.specs.Cuts.{has, IsAscendingWithin}
 use Rattle.cut_definitions.proofs.Bools.{never_both}
 use Rattle.cut_definitions.proofs.Ascending.{contains_has, has_contains}
 use Rattle.residual_chain.specs.Chain.{ChainView}
-use Rattle.residual_chain.specs.Search.{mark_of}
+use Rattle.arc_search.specs.Marks.{mark_of}
 use Rattle.rooted_cactus.specs.Entered.{entered, entered_block, name_of, renamed}
 use Rattle.rooted_cactus.specs.Sides.{cuts}
 use Rattle.rooted_cactus.specs.Rooted.{IsCactus}

@@ -6,7 +6,7 @@ use Rattle.cut_definitions.specs.Cuts.{has, IsAscendingWithin}
 use Rattle.cut_definitions.proofs.Bools.{never_both}
 use Rattle.cut_definitions.proofs.Ascending.{has_one}
 use Rattle.residual_chain.specs.Chain.{ChainView, IsChainShape}
-use Rattle.residual_chain.specs.Search.{mark_of}
+use Rattle.arc_search.specs.Marks.{mark_of}
 use Rattle.rooted_cactus.specs.Entered.{name_of, renamed}
 use Rattle.rooted_cactus.specs.Trees.{vertices}
 use Rattle.rooted_cactus.specs.declared.tree.Node.{Node}

@@ -6,7 +6,7 @@ use Rattle.cut_definitions.specs.Cuts.{has, IsAscendingWithin}
 use Rattle.cut_definitions.specs.Chain.{parts_between}
 use Rattle.residual_chain.specs.declared.run.Run.{Run}
 use Rattle.residual_chain.specs.Chain.{ChainView}
-use Rattle.residual_chain.specs.Search.{mark_of}
+use Rattle.arc_search.specs.Marks.{mark_of}
 use Rattle.rooted_cactus.specs.Rooted.{sides_of, places}
 use Rattle.rooted_cactus.specs.Sides.{cuts}
 use Rattle.rooted_cactus.specs.Entered.{entered}

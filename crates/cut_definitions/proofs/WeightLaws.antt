@@ -1,12 +1,15 @@
 -- Laws on the weights of sets.
-use Rattle.std.proofs.Common.{◌≡◌, ℕ, ◌+◌, ◌*◌, ◌≤◌, Bool, true, false, not, ◌&&◌, ◌||◌, arith}
+use Rattle.std.proofs.Common.{◌≡◌, ℕ, ◌+◌, ◌*◌, ◌≤◌, Bool, true, false, not, ◌&&◌, ◌||◌, arith, ⊎_elim, List, [], ◌∷◌, ap}
 use Rattle.std.specs.Bool.{if◌then◌else◌}
-use Rattle.std.proofs.lemmas.Bool.{or_left}
+use Rattle.std.proofs.lemmas.Bool.{or_left, cases_Bool}
 use Rattle.cut_definitions.specs.declared.edge_list.Edge.{Edge}
 use Rattle.cut_definitions.specs.Graph.{Graph}
 use Rattle.cut_definitions.specs.Weight.{VertexSet, weight, between, complement, both, either, minus, neither, HasVertex, IsCut, IsMinimumCut}
 use Rattle.cut_definitions.specs.Laws.{Cross, CornersAreMinimum}
 use Rattle.cut_definitions.proofs.Sums.{sum_by-plus, sum_by-twice, sum_by-same}
+use Rattle.std.specs.List.{Contains, sum_by}
+use Rattle.std.proofs.lemmas.List.Sums.{sum_by-cons}
+use Rattle.cut_definitions.proofs.Lists.{Contains-here, Contains-there}
 
 -- what an edge of weight w adds to the weight of a set that has its ends or not
 abbrev pub cut_of : Bool → Bool → ℕ → ℕ
@@ -152,3 +155,17 @@ weight-apart g s t apart =
       sum_by-twice j g.edges,
       sum_by-same (λ e. p e + 2 * j e) (λ e. f e + h e) each g.edges,
     )
+
+-- a sum that is not 0 has a term that is not 0
+left_over : (a b c : ℕ) → 1 ≤ a → a ≡ b + c → b ≡ 0 → 1 ≤ c
+left_over a b c h e k = omega arith
+
+pub some_term : (p : Edge → Bool) (es : List Edge) → 1 ≤ sum_by (λ (e : Edge). if p e then e.w else 0) es → (e : Edge) × Contains es e × (p e ≡ true)
+some_term p [] h = absurd (omega arith)
+some_term p (e ∷ es) h = ⊎_elim
+    (λ (k : p e ≡ true). (e, Contains-here e es, k))
+    (λ (k : p e ≡ false).
+    let none : (if p e then e.w else 0) ≡ 0 = ap (λ (b : Bool). if b then e.w else 0) k in
+    let f = λ (d : Edge). if p d then d.w else 0 in
+    let r = some_term p es (left_over (sum_by f (e ∷ es)) (f e) (sum_by f es) h (sum_by-cons f e es) none) in (r.0, Contains-there e es r.0 r.1, r.2))
+    (cases_Bool (p e))

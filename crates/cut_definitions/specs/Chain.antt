@@ -1,5 +1,5 @@
 -- Chains of minimum cuts: the vertices in numbered parts, so that the first i parts are a set of the chain.
-use Rattle.std.specs.Prelude.{ℕ, ◌≡◌, ◌==◌, ◌<◌, ◌≤◌, ◌&&◌, ◌⊎◌, not, false, List, map, length, nat_le, IsTrue}
+use Rattle.std.specs.Prelude.{ℕ, ◌≡◌, ◌==◌, ◌<◌, ◌≤◌, ◌&&◌, ◌⊎◌, not, false, List, map, length, nat_le, IsTrue, nat_lt}
 use Rattle.std.specs.List.{Contains, filter, flat_map, range_with_len}
 use Rattle.cut_definitions.specs.declared.edge_list.Edge.{Edge}
 use Rattle.cut_definitions.specs.Graph.{Graph}
@@ -101,3 +101,7 @@ pub record IsFirstList (n count : ℕ) (part : ℕ → ℕ) (x : List ℕ) : Typ
   pub from_one : 1 ≤ last
   pub below_count : last < count
   pub same : x ≡ first_list n part last
+
+-- the vertices of the parts that were listed up to one; 0 stands for a vertex that is not listed
+abbrev pub listed_upto : (ℕ → ℕ) → ℕ → VertexSet
+listed_upto turn j v = nat_lt 0 (turn v) && nat_le (turn v) j

@@ -9,3 +9,4 @@ pub mod Balance
 pub mod Safe
 pub mod Laws
 pub mod Members
+pub mod Regions

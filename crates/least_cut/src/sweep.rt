@@ -9,8 +9,8 @@ ghost use Rattle.least_cut.specs.Sweep.{HasDegrees, HasEvenDegrees, IsSwept, Tel
 use crate::dense::are_light;
 use crate::front::Front;
 use cut_definitions::NoMemory;
-use max_flow::Outcome;
 use region_flow::RegionFlow;
+use residual_arcs::Outcome;
 use std::alloc::Global;
 use weighted_graph::Graph;
 

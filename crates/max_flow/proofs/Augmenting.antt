@@ -1,9 +1,7 @@
 -- A flow after one more path, and where no path is left.
-use Rattle.std.proofs.Common.{◌≡◌, ℕ, ◌+◌, ◌^◌, ◌<◌, ◌≤◌, true, false, List, map, length, refl, sym, ◌∙◌, arith}
+use Rattle.std.proofs.Common.{◌≡◌, ℕ, ◌+◌, ◌^◌, ◌<◌, ◌≤◌, true, false, List, length, refl, sym, ◌∙◌, arith}
 use Rattle.std.specs.Prelude.{◌≢◌}
 use Rattle.std.proofs.lemmas.Bool.{eq-eqb, ne_eqb}
-use Rattle.std.proofs.lemmas.List.{get_or-map, length-map}
-use Rattle.cut_definitions.specs.declared.edge_list.Edge.{Edge}
 use Rattle.cut_definitions.specs.Graph.{Graph, IsGraph}
 use Rattle.cut_definitions.specs.Weight.{VertexSet, parts}
 use Rattle.cut_definitions.specs.Scan.{single}
@@ -11,22 +9,16 @@ use Rattle.cut_definitions.proofs.Running.{weight-le_total}
 use Rattle.cut_definitions.proofs.Numbers.{positive_yes}
 use Rattle.cut_definitions.proofs.Bools.{counted_sum}
 use Rattle.max_flow.specs.declared.search.Step.{Step}
-use Rattle.max_flow.specs.Residual.{out, counted, IsResidual, IsFlow, IsLeastBetween}
-use Rattle.max_flow.specs.Closed.{IsSourceSide}
-use Rattle.max_flow.specs.Tree.{order_mark, seen, IsSearched}
-use Rattle.max_flow.specs.Outcome.{IsStopReached}
-use Rattle.max_flow.proofs.Balance.{weight-parting, IsLeastBetween-from_closed, IsFlow-start}
-use Rattle.max_flow.proofs.Closed.{out_none-from_closed}
+use Rattle.residual_arcs.specs.Residual.{out, counted, IsResidual, IsFlow, IsLeastBetween}
+use Rattle.residual_arcs.specs.Closed.{IsSourceSide}
+use Rattle.residual_arcs.specs.Marks.{order_mark}
+use Rattle.max_flow.specs.Tree.{seen, IsSearched}
+use Rattle.residual_arcs.specs.Outcome.{IsStopReached}
+use Rattle.residual_arcs.proofs.Balance.{weight-parting, IsLeastBetween-from_closed}
+use Rattle.residual_arcs.proofs.Closed.{out_none-from_closed}
 use Rattle.max_flow.proofs.Trees.{seen_least, seen_closed}
 
 -- ---- the flow of nothing
-
--- at the start each edge has its weight left in either direction
-pub flow_of_nothing : (g : Graph) (s t : ℕ) → IsFlow g s t 0 (map (λ (e : Edge). e.w) g.edges)
-flow_of_nothing g s t =
-    IsFlow-start g s t
-    (λ i l. omega (arith, get_or-map (λ (e : Edge). e.w) g.edges i (record { u = 0; v = 0; w = 0 }) 0 l))
-    (length-map g.edges (λ (e : Edge). e.w))
 
 -- ---- one more path
 

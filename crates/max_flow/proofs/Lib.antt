@@ -1,5 +1,3 @@
-pub mod Balance
-pub mod Closed
 pub mod Trees
 pub mod Reaching
 pub mod Pushing

@@ -1,8 +1,8 @@
 -- Preflows: what a set holds after a write, and what each step keeps.
-use Rattle.std.proofs.Common.{◌≡◌, ℕ, zero, suc, ◌+◌, ◌-◌, ◌*◌, ◌^◌, ◌<◌, ◌≤◌, ◌⊎◌, inl, inr, ⊎_elim, Bool, true, false, not, eqb, ltb, List, [], ◌∷◌, map, set, length, get_or, replicate, refl, sym, ◌∙◌, ap, subst, arith}
+use Rattle.std.proofs.Common.{◌≡◌, ℕ, ◌+◌, ◌-◌, ◌^◌, ◌<◌, ◌≤◌, ◌⊎◌, inl, inr, ⊎_elim, Bool, true, false, not, eqb, List, [], ◌∷◌, map, set, length, get_or, replicate, refl, sym, ◌∙◌, ap, arith}
 use Rattle.std.specs.Prelude.{if◌then◌else◌, ◌≢◌, ◌&&◌, ◌||◌}
 use Rattle.std.specs.List.{All, sum_by}
-use Rattle.std.proofs.lemmas.Bool.{cases_eq, cases_lt, cases_Bool, eq-eqb, ne_eqb, eqb-true, false≢true, lt-ltb, le-ltb, not_from_false}
+use Rattle.std.proofs.lemmas.Bool.{cases_eq, cases_lt, cases_Bool, eq-eqb, ne_eqb, eqb-true, false≢true, not_from_false}
 use Rattle.std.proofs.lemmas.List.{get_or-set_same, get_or-set_other, length-set, get_or_past}
 use Rattle.std.proofs.lemmas.List.Elements.{All-get_or, All-same, All-head, All-tail}
 use Rattle.std.proofs.lemmas.List.Sums.{sum_by-cons}
@@ -12,88 +12,27 @@ use Rattle.cut_definitions.specs.Weight.{VertexSet, weight, complement, minus, e
 use Rattle.cut_definitions.specs.Scan.{single}
 use Rattle.cut_definitions.proofs.WeightLaws.{weight-complement, weight-apart}
 use Rattle.cut_definitions.proofs.Bridge.{weight-agree}
-use Rattle.cut_definitions.proofs.Bools.{in_minus, and_first, minus_second, counted_in, either_way}
+use Rattle.cut_definitions.proofs.Bools.{in_minus, and_first, minus_second}
 use Rattle.weighted_graph.specs.declared.graph.Arc.{Arc}
 use Rattle.weighted_graph.specs.Rows.{row_of}
 use Rattle.weighted_graph.specs.RowLaws.{IsArcAt}
-use Rattle.weighted_graph.proofs.RowLaws.{degree-le, weight_to_is, row_arcs}
-use Rattle.max_flow.specs.Residual.{out, counted, edge_of, IsResidual}
-use Rattle.max_flow.specs.Closed.{residual_on}
-use Rattle.max_flow.specs.Tree.{IsAlong}
-use Rattle.max_flow.specs.Preflow.{IsPreflow, IsOutside, IsBeyond, marked, held, held_from}
-use Rattle.max_flow.proofs.Balance.{out-start}
-use Rattle.max_flow.proofs.Closed.{edge_within, IsArcFrom, arc_from, All-row}
-use Rattle.max_flow.proofs.Pushing.{PushedOnce, pushed_once, carried, narrower_path}
+use Rattle.weighted_graph.proofs.RowLaws.{degree-le, weight_to_is}
+use Rattle.residual_arcs.specs.Residual.{out, IsResidual}
+use Rattle.residual_arcs.specs.Closed.{residual_on}
+use Rattle.max_flow.specs.Preflow.{IsPreflow, IsOutside, IsBeyond, marked}
+use Rattle.residual_arcs.specs.Held.{held}
+use Rattle.residual_arcs.proofs.Balance.{out-start}
+use Rattle.residual_arcs.proofs.Closed.{IsArcFrom, arc_from, All-row}
+use Rattle.residual_arcs.proofs.Sending.{drawn_balance, held-none, held-one, held-set, held-two, sent, sent_once}
 
 -- ---- what a set holds
 
--- a number that is written anew changes only the term of its vertex
-pub held-set : (s : VertexSet) (xs : List ℕ) (k i j y : ℕ) → k + i ≡ j → i < length xs →
-    held_from k s (set xs i y) + counted s j (get_or xs i 0) ≡ held_from k s xs + counted s j y
-held-set s [] k i j y e l = absurd (omega (arith, l))
-held-set s (x ∷ xs) k zero j y e l = let same : k ≡ j = omega (arith, e) in rw (← same) (omega arith)
-held-set s (x ∷ xs) k (suc i) j y e l = omega (arith, held-set s xs (k + 1) i j y (omega (arith, e)) (omega (arith, l)))
-
--- a set holds at least what one of its vertices holds
-pub held-one : (s : VertexSet) (xs : List ℕ) (j : ℕ) → s j ≡ true → j < length xs → get_or xs j 0 ≤ held s xs
-held-one s xs j h l =
-    let a = held-set s xs 0 j j 0 (omega arith) l in
-    let b = counted_in (s j) (get_or xs j 0) h in
-    let c = counted_in (s j) 0 h in
-    omega arith
-
--- and at least what two of its vertices hold
-pub held-two : (s : VertexSet) (xs : List ℕ) (i j : ℕ) → s i ≡ true → s j ≡ true → i ≢ j → i < length xs → j < length xs → get_or xs i 0 + get_or xs j 0 ≤ held s xs
-held-two s xs i j h k apart l m =
-    let a = held-set s xs 0 i i 0 (omega arith) l in
-    let b = counted_in (s i) (get_or xs i 0) h in
-    let c = counted_in (s i) 0 h in
-    let n = length-set xs i 0 in
-    let d = held-one s (set xs i 0) j k (omega arith) in
-    let e : get_or (set xs i 0) j 0 ≡ get_or xs j 0 = get_or-set_other xs i j 0 0 (λ q. apart (sym q)) in
-    omega arith
-
--- where no vertex holds anything, no set does
-pub held-none : (s : VertexSet) (n k : ℕ) → held_from k s (replicate n 0) ≡ 0
-held-none s zero k = refl
-held-none s (suc n) k = omega (arith, either_way (s k) 0, held-none s n (k + 1))
-
 -- ---- one step
-
--- what is sent along an arc is what a push carries, whichever way the edge lies
-same_way : (e : Edge) (x a b d : ℕ) → e.u < e.v → IsAlong e x a b d → ltb a b ≡ eqb e.v b
-same_way e x a b d lesser along =
-    ⊎_elim
-    (λ (p : (e.u ≡ a) × (e.v ≡ b) × (d ≤ x)). lt-ltb a b (omega (arith, p.0, p.1)) ∙ sym (eq-eqb e.v b p.1))
-    (λ (p : (e.u ≡ b) × (e.v ≡ a) × (d ≤ 2 * e.w - x)). le-ltb a b (omega (arith, p.0, p.1)) ∙ sym (ne_eqb e.v b (λ q. omega (arith, p.0, q))))
-    along
-
--- what `send` leaves of the edge
-abbrev pub sent : ℕ → ℕ → ℕ → ℕ → ℕ
-sent from to x amount = if ltb from to then x - amount else x + amount
-
--- an amount is sent along an arc of a row
-pub sent_once : (g : Graph) → IsGraph g → (toward : List ℕ) (v amount : ℕ) (a : Arc) → IsResidual g toward → IsArcAt g v a → amount ≤ residual_on v toward a →
-    PushedOnce g toward (set toward a.edge (sent v a.to (get_or toward a.edge 0) amount)) v a.to amount
-sent_once g ok toward v amount a h at fits =
-    let f = arc_from g ok toward v a at in
-    let e = edge_of g.edges a.edge in
-    let x = get_or toward a.edge 0 in
-    let along : IsAlong e x v a.to amount = narrower_path e x x v a.to (residual_on v toward a) amount fits refl f.along in
-    let way = same_way e x v a.to amount (edge_within g ok a.edge f.edge).1 along in
-    subst (λ (up : Bool). PushedOnce g toward (set toward a.edge (carried up x amount)) v a.to amount) (sym way)
-    (pushed_once g ok toward a.edge v a.to amount h f.edge along)
 
 -- the balance of a set after a step from the source, where sa and sb say whether it has the ends of the arc
 fed_balance : (sa sb : Bool) (h h' o o' x d w : ℕ) → sa ≡ false → h' + (if sb then x else 0) ≡ h + (if sb then x + d else 0) →
     o' + (if not sa then d else 0) ≡ o + (if not sb then d else 0) → h + o ≡ w → h' + o' ≡ w
 fed_balance sa sb h h' o o' x d w outside held out all = grind arith
-
--- and after a step from a vertex that held the amount
-pub drawn_balance : (sa sb : Bool) (h h1 h' o o' xa xb d w : ℕ) → d ≤ xa → h1 + (if sa then xa else 0) ≡ h + (if sa then xa - d else 0) →
-    h' + (if sb then xb else 0) ≡ h1 + (if sb then xb + d else 0) →
-    o' + (if not sa then d else 0) ≡ o + (if not sb then d else 0) → h + o ≡ w → h' + o' ≡ w
-drawn_balance sa sb h h1 h' o o' xa xb d w l first second out all = grind arith
 
 -- a vertex of the source sends
 pub preflow_fed : (g : Graph) → IsGraph g → (entered : List Bool) (excess toward : List ℕ) (v amount : ℕ) (a : Arc) →
@@ -111,14 +50,6 @@ preflow_fed g ok entered excess toward v amount a h at source fits =
       balance = λ s outside. fed_balance (s v) (s a.to) (held s excess) _ _ _ x amount _ (outside v source)
           (held-set s excess 0 a.to a.to (x + amount) (omega arith) (omega (arith, f.to_n, h.holders))) (once.balance (complement s)) (h.balance s outside);
     }
-
--- the arc that comes back on an arc
-pub arc_back : (g : Graph) (t : ℕ) (a : Arc) → IsArcAt g t a → IsArcAt g a.to (record { to = t; edge = a.edge; weight = a.weight })
-arc_back g t a h = record {
-  within = h.within;
-  ends = ⊎_elim (λ p. inr (p.1, p.0)) (λ p. inl (p.1, p.0)) h.ends;
-  same_weight = h.same_weight;
-}
 
 -- a vertex sends what it holds
 pub preflow_drawn : (g : Graph) → IsGraph g → (entered : List Bool) (excess toward : List ℕ) (u amount : ℕ) (a : Arc) →
@@ -195,22 +126,6 @@ preflow_entered g entered excess toward v to_n h =
       holders = h.holders;
       balance = λ s outside. h.balance s (λ u is. outside u (kept_mark entered v u (omega (arith, to_n, h.marks)) is));
     }
-
--- where a number is written, a place is still below a bound that both keep
-pub small_set : (xs : List ℕ) (i j y b : ℕ) → y ≤ b → get_or xs j 0 ≤ b → get_or (set xs i y) j 0 ≤ b
-small_set [] i j y b h k = k
-small_set (x ∷ xs) zero zero y b h k = h
-small_set (x ∷ xs) zero (suc j) y b h k = k
-small_set (x ∷ xs) (suc i) zero y b h k = k
-small_set (x ∷ xs) (suc i) (suc j) y b h k = small_set xs i j y b h k
-
--- what stands for an arc past the end of a row
-abbrev pub no_arc : Arc
-no_arc = record { to = 0; edge = 0; weight = 0 }
-
--- an arc of a row, read by its place
-pub row_arc : (g : Graph) (row : List Arc) (v k : ℕ) → row ≡ row_of g v → k < length row → IsArcAt g v (get_or row k no_arc)
-row_arc g row v k is l = All-get_or (IsArcAt g v) row k no_arc l (All-same (IsArcAt g v) row (row_of g v) is (row_arcs g v))
 
 -- ---- what is known of the sets beyond
 

@@ -1,20 +1,16 @@
 -- A push along the path to a vertex, one arc at a time.
-use Rattle.std.proofs.Common.{◌≡◌, ℕ, ◌+◌, ◌-◌, ◌*◌, ◌<◌, ◌≤◌, ◌⊎◌, inl, inr, ⊎_elim, Bool, true, false, eqb, List, set, length, get_or, refl, sym, ◌∙◌, ap, arith}
-use Rattle.std.specs.Prelude.{◌≢◌, if◌then◌else◌}
-use Rattle.std.proofs.lemmas.Bool.{cases_eq, eq-eqb, ne_eqb}
-use Rattle.std.proofs.lemmas.List.{get_or-set_same, get_or-set_other, length-set}
+use Rattle.std.proofs.Common.{◌≡◌, ℕ, ◌+◌, ◌-◌, ◌*◌, ◌<◌, ◌≤◌, ◌⊎◌, inl, inr, ⊎_elim, eqb, List, set, get_or, refl, sym, ◌∙◌, ap, arith}
+use Rattle.std.specs.Prelude.{◌≢◌}
+use Rattle.std.proofs.lemmas.List.{get_or-set_other}
 use Rattle.cut_definitions.specs.declared.edge_list.Edge.{Edge}
 use Rattle.cut_definitions.specs.Graph.{Graph, IsGraph}
 use Rattle.cut_definitions.specs.Weight.{VertexSet}
 use Rattle.max_flow.specs.declared.search.Step.{Step}
-use Rattle.max_flow.specs.Residual.{out, counted, edge_of, IsResidual}
-use Rattle.max_flow.specs.Tree.{step_at, order_mark, IsMarking, IsListed, IsAlong, IsTree, IsPath}
-use Rattle.max_flow.proofs.Balance.{out-push_up, out-push_down}
-use Rattle.max_flow.proofs.Closed.{edge_within}
-
--- what is left of an edge toward its greater end, after an amount is carried there or back
-abbrev pub carried : Bool → ℕ → ℕ → ℕ
-carried upward x amount = if upward then x - amount else x + amount
+use Rattle.residual_arcs.specs.Residual.{out, counted, edge_of, IsResidual}
+use Rattle.max_flow.specs.Tree.{step_at, IsMarking, IsListed, IsTree, IsPath}
+use Rattle.residual_arcs.specs.Marks.{order_mark}
+use Rattle.residual_arcs.specs.Closed.{IsAlong}
+use Rattle.residual_arcs.proofs.Sending.{carried, narrower_path, pushed_once}
 
 -- ---- the path to a vertex of the tree
 
@@ -80,46 +76,6 @@ pub record Pushed (g : Graph) (toward0 toward : List ℕ) (steps : List Step) (p
 pub pushed_none : (g : Graph) (toward : List ℕ) (steps : List Step) (place amount : ℕ) → IsResidual g toward → amount ≤ (step_at steps place).bottleneck →
     Pushed g toward toward steps place place amount
 pushed_none g toward steps place amount h l = record { inside = omega arith; residual = h; bottleneck = l; same = λ j a b. refl; balance = λ side. refl }
-
--- what one push changes
-pub record PushedOnce (g : Graph) (toward toward' : List ℕ) (a b amount : ℕ) : Type 0 where
-  pub residual : IsResidual g toward'
-  pub balance : (side : VertexSet) → out g.edges toward' side + counted side a amount ≡ out g.edges toward side + counted side b amount
-
--- one arc
-pub pushed_once : (g : Graph) → IsGraph g → (toward : List ℕ) (i a b amount : ℕ) → IsResidual g toward → i < length g.edges →
-    IsAlong (edge_of g.edges i) (get_or toward i 0) a b amount →
-    PushedOnce g toward (set toward i (carried (eqb (edge_of g.edges i).v b) (get_or toward i 0) amount)) a b amount
-pushed_once g ok toward i a b amount h l along =
-    let e = edge_of g.edges i in
-    let x = get_or toward i 0 in
-    let w = edge_within g ok i l in
-    let top = h.bounded i l in
-    let bounded = λ (y : ℕ) (fits : y ≤ 2 * e.w). (let f : (k : ℕ) → k < length g.edges → get_or (set toward i y) k 0 ≤ 2 * (edge_of g.edges k).w = λ k m. ⊎_elim
-    (λ (s : k ≡ i). rw (s, get_or-set_same toward i y 0 (omega (arith, h.each))) fits)
-    (λ (s : k ≢ i). rw (get_or-set_other toward i k y 0 s) (h.bounded k m)) (cases_eq k i) in f) in
-    ⊎_elim
-    (λ (p : (e.u ≡ a) × (e.v ≡ b) × (amount ≤ x)).
-    let up : eqb e.v b ≡ true = eq-eqb e.v b p.1 in
-    rw up (record {
-      residual = record { each = omega (arith, h.each, length-set toward i (x - amount)); bounded = bounded (x - amount) (omega arith) };
-      balance = λ side. rw (← p.0, ← p.1) (out-push_up g.edges toward i amount side l h.each p.2 top);
-    }))
-    (λ (p : (e.u ≡ b) × (e.v ≡ a) × (amount ≤ 2 * e.w - x)).
-    let down : eqb e.v b ≡ false = ne_eqb e.v b (λ q. omega (arith, p.0, w.1)) in
-    rw down (record {
-      residual = record { each = omega (arith, h.each, length-set toward i (x + amount)); bounded = bounded (x + amount) (omega (arith, p.2)) };
-      balance = λ side. rw (← p.0, ← p.1) (out-push_down g.edges toward i amount side l h.each p.2 top);
-    }))
-    along
-
--- less can be carried along where more can
-pub narrower_path : (e : Edge) (x y a b bottleneck amount : ℕ) → amount ≤ bottleneck → x ≡ y → IsAlong e x a b bottleneck → IsAlong e y a b amount
-narrower_path e x y a b bottleneck amount h is along =
-    ⊎_elim
-    (λ (p : (e.u ≡ a) × (e.v ≡ b) × (bottleneck ≤ x)). inl (p.0, p.1, omega (arith, p.2)))
-    (λ (p : (e.u ≡ b) × (e.v ≡ a) × (bottleneck ≤ 2 * e.w - x)). inr (p.0, p.1, omega (arith, p.2)))
-    along
 
 -- the arc at hand can still carry the amount
 pub path_here : (g : Graph) (toward0 toward : List ℕ) (steps : List Step) (place at amount : ℕ) → IsPath g toward0 steps place → 1 ≤ at →

@@ -1,34 +1,26 @@
 -- One arc of a search: what it needs, and what it does to the tree.
-use Rattle.std.proofs.Common.{◌≡◌, ℕ, ◌+◌, ◌-◌, ◌*◌, ◌^◌, ◌<◌, ◌≤◌, inl, inr, ⊎_elim, List, set, length, get_or, min, refl, ◌∙◌, arith}
+use Rattle.std.proofs.Common.{◌≡◌, ℕ, ◌+◌, ◌-◌, ◌*◌, ◌<◌, ◌≤◌, inl, inr, ⊎_elim, List, set, length, get_or, min, refl, ◌∙◌, arith}
 use Rattle.std.specs.Prelude.{◌≢◌}
 use Rattle.std.proofs.lemmas.Bool.{cases_eq, cases_lt}
 use Rattle.std.proofs.lemmas.List.{get_or-set_same, get_or-set_other}
-use Rattle.std.proofs.lemmas.List.Sums.{get_or-le-sum_by}
 use Rattle.std.proofs.lemmas.List.Elements.{All-get_or, All-same}
 use Rattle.cut_definitions.specs.declared.edge_list.Edge.{Edge}
 use Rattle.cut_definitions.specs.Graph.{Graph, IsGraph}
 use Rattle.weighted_graph.specs.declared.graph.Arc.{Arc}
-use Rattle.weighted_graph.specs.Rows.{row_of}
+use Rattle.weighted_graph.specs.Rows.{row_of, no_arc}
 use Rattle.max_flow.specs.declared.search.Step.{Step}
-use Rattle.max_flow.specs.Residual.{edge_of}
-use Rattle.max_flow.specs.Closed.{residual_on}
-use Rattle.max_flow.specs.Tree.{step_at, order_mark, IsAlong, IsTree, Reaches, Extends}
-use Rattle.max_flow.proofs.Closed.{IsArcFrom, All-row}
+use Rattle.residual_arcs.specs.Residual.{edge_of}
+use Rattle.residual_arcs.specs.Closed.{residual_on, IsAlong}
+use Rattle.max_flow.specs.Tree.{step_at, IsTree, Reaches, Extends}
+use Rattle.residual_arcs.specs.Marks.{order_mark}
+use Rattle.residual_arcs.proofs.Closed.{IsArcFrom, All-row}
 use Rattle.max_flow.proofs.Trees.{room_left, one_more}
-
--- what stands for an arc past the end of a row
-abbrev pub no_arc : Arc
-no_arc = record { to = 0; edge = 0; weight = 0 }
 
 -- an arc of a row, read by its place
 pub arc_facts : (g : Graph) → IsGraph g → (toward : List ℕ) (row : List Arc) (v k : ℕ) → row ≡ row_of g v → k < length row →
     IsArcFrom g toward v (get_or row k no_arc)
 arc_facts g ok toward row v k is l =
     All-get_or (IsArcFrom g toward v) row k no_arc l (All-same (IsArcFrom g toward v) row (row_of g v) is (All-row g ok toward v))
-
--- no edge weighs more than all edges may
-pub edge_weight_small : (g : Graph) → IsGraph g → (i : ℕ) → i < length g.edges → (edge_of g.edges i).w ≤ 2 ^ 61
-edge_weight_small g ok i l = omega (arith, ok.total, get_or-le-sum_by (λ (e : Edge). e.w) g.edges i (record { u = 0; v = 0; w = 0 }) l)
 
 -- every path that a search found can carry something
 pub bottleneck_some : (g : Graph) (toward marks : List ℕ) (steps : List Step) (count j : ℕ) → IsTree g toward marks steps count → j < count →

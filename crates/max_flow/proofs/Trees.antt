@@ -1,44 +1,21 @@
 -- The tree of a search: its root, one vertex more, and what it says of closed sets.
-use Rattle.std.proofs.Common.{◌≡◌, ℕ, zero, suc, ◌+◌, ◌-◌, ◌*◌, ◌<◌, ◌≤◌, ⊎_elim, Bool, true, eqb, List, [], ◌∷◌, set, length, get_or, refl, sym, subst, ap, arith}
+use Rattle.std.proofs.Common.{◌≡◌, ℕ, zero, suc, ◌+◌, ◌-◌, ◌*◌, ◌<◌, ◌≤◌, ⊎_elim, Bool, true, List, set, length, get_or, sym, subst, ap, arith}
 use Rattle.std.specs.Prelude.{◌≢◌, if◌then◌else◌}
 use Rattle.std.proofs.lemmas.Bool.{cases_eq, cases_lt}
-use Rattle.std.proofs.lemmas.Bool.Decides.{nat_tests}
 use Rattle.std.proofs.lemmas.List.{get_or-set_same, get_or-set_other, length-set}
-use Rattle.std.proofs.lemmas.List.Sums.{sum_by-set, sum_by-cons}
 use Rattle.cut_definitions.specs.Graph.{Graph, IsGraph}
 use Rattle.cut_definitions.specs.Weight.{VertexSet}
 use Rattle.cut_definitions.proofs.Numbers.{positive_yes, positive}
 use Rattle.max_flow.specs.declared.search.Step.{Step}
-use Rattle.max_flow.specs.Residual.{out, edge_of}
-use Rattle.max_flow.specs.Closed.{IsClosed}
-use Rattle.max_flow.specs.Tree.{step_at, order_mark, unmarked, IsAllUnmarked, seen, IsMarking, IsAlong, IsTree, IsExpanded}
-use Rattle.max_flow.proofs.Balance.{leaving-none}
-use Rattle.max_flow.proofs.Closed.{out_none-from_closed}
+use Rattle.residual_arcs.specs.Residual.{out, edge_of}
+use Rattle.residual_arcs.specs.Closed.{IsClosed, IsAlong}
+use Rattle.max_flow.specs.Tree.{step_at, seen, IsMarking, IsTree, IsExpanded}
+use Rattle.residual_arcs.specs.Marks.{order_mark, IsAllUnmarked}
+use Rattle.residual_arcs.proofs.Balance.{leaving-none}
+use Rattle.residual_arcs.proofs.Closed.{out_none-from_closed}
+use Rattle.residual_arcs.proofs.Marks.{unmarked-all, unmarked-set}
 
 -- ---- how many vertices are not marked
-
--- 1 for a vertex that is not marked
-abbrev none_of : ℕ → ℕ
-none_of m = if eqb m 0 then 1 else 0
-
--- a mark of 0 counts
-none_at : (m : ℕ) → m ≡ 0 → none_of m ≡ 1
-none_at m h = grind (arith, nat_tests)
-
--- a mark above 0 does not
-none_above : (m : ℕ) → 0 < m → none_of m ≡ 0
-none_above m h = grind (arith, nat_tests)
-
--- where no vertex is marked, all count
-pub unmarked-all : (marks : List ℕ) → IsAllUnmarked marks → unmarked marks ≡ length marks
-unmarked-all [] h = refl
-unmarked-all (m ∷ ms) h =
-    let first : m ≡ 0 = h 0 in
-    omega (arith, sum_by-cons none_of m ms, none_at m first, unmarked-all ms (λ v. h (suc v)))
-
--- a vertex that is marked counts no more
-pub unmarked-set : (marks : List ℕ) (v y : ℕ) → v < length marks → order_mark marks v ≡ 0 → 0 < y → unmarked (set marks v y) + 1 ≡ unmarked marks
-unmarked-set marks v y l z p = omega (arith, sum_by-set none_of marks v y 0 l, none_at (order_mark marks v) z, none_above y p)
 
 -- while some vertex is not marked, there is room for it
 pub room_left : (n : ℕ) (marks : List ℕ) (steps : List Step) (count v : ℕ) → IsMarking n marks steps count → v ≤ n → order_mark marks v ≡ 0 → count < length steps

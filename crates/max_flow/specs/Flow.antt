@@ -4,11 +4,10 @@ use Rattle.cut_definitions.specs.Graph.{Graph}
 use Rattle.cut_definitions.specs.Weight.{VertexSet, weight}
 use Rattle.cut_definitions.specs.Cuts.{has}
 use Rattle.vertex_set.specs.Side.{VertexList}
-use Rattle.weighted_graph.specs.declared.graph.Arc.{Arc}
-use Rattle.weighted_graph.specs.Rows.{row_of}
-use Rattle.max_flow.specs.declared.outcome.BestRun.{BestRun}
-use Rattle.max_flow.specs.Residual.{out, edge_of, HasFirst, IsFlow, IsLeastBetween}
-use Rattle.max_flow.specs.Closed.{residual_on, AddsUp}
+use Rattle.weighted_graph.specs.Rows.{row_of, arc_at}
+use Rattle.residual_arcs.specs.declared.outcome.BestRun.{BestRun}
+use Rattle.residual_arcs.specs.Residual.{out, edge_of, HasFirst, IsFlow, IsLeastBetween}
+use Rattle.residual_arcs.specs.Closed.{residual_on, AddsUp}
 
 -- for each edge what is left toward its greater end, for each vertex what is left on the arcs of its row,
 -- the side of the first vertex, and the last run where it answered `Best`
@@ -22,10 +21,6 @@ pub record FlowState : Type 0 where
 -- what is left on the arcs of the row of a vertex, in the order of the row
 abbrev pub residuals_at : FlowState → ℕ → List ℕ
 residuals_at f v = slice_index_or f.rows v []
-
--- the arc of a row at a place
-abbrev pub arc_at : List Arc → ℕ → Arc
-arc_at row k = slice_index_or row k (record { to = 0; edge = 0; weight = 0 })
 
 -- no arc with something left leaves the set
 abbrev pub IsShut : Graph → (ℕ → List ℕ) → VertexSet → Type 0

@@ -1,8 +1,9 @@
 -- A preflow whose source grows: what each vertex holds, and what each edge can still carry.
-use Rattle.std.specs.Prelude.{ℕ, Bool, ◌≡◌, ◌+◌, if◌then◌else◌, false, true, List, [], ◌∷◌, length, slice_index_or, IsTrue}
+use Rattle.std.specs.Prelude.{ℕ, Bool, ◌≡◌, ◌+◌, false, true, List, length, slice_index_or, IsTrue}
 use Rattle.cut_definitions.specs.Graph.{Graph}
 use Rattle.cut_definitions.specs.Weight.{VertexSet, complement, weight}
-use Rattle.max_flow.specs.Residual.{out, IsResidual}
+use Rattle.residual_arcs.specs.Residual.{out, IsResidual}
+use Rattle.residual_arcs.specs.Held.{held}
 
 -- for each vertex from 0 on whether it has entered the source, and how much it holds; for each edge what is left toward its greater end
 pub record PreflowState : Type 0 where
@@ -26,14 +27,6 @@ IsOutside source s = (v : ℕ) → source v ≡ true → s v ≡ false
 pub record IsBeyond (source : VertexSet) (t : ℕ) (s : VertexSet) : Type 0 where
   pub there : IsTrue (s t)
   pub outside : IsOutside source s
-
--- what the vertices of a set hold, where the first number of the list is that of a vertex k, and so on
-abbrev pub held_from : ℕ → VertexSet → List ℕ → ℕ
-held_from k s [] = 0
-held_from k s (x ∷ xs) = (if s k then x else 0) + held_from (k + 1) s xs
-
-abbrev pub held : VertexSet → List ℕ → ℕ
-held s excess = held_from 0 s excess
 
 -- a preflow in a graph: a set without the source weighs what it holds, and what can still be carried into it
 pub record IsPreflow (g : Graph) (f : PreflowState) : Type 0 where

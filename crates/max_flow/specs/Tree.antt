@@ -1,30 +1,18 @@
 -- The tree of a search: the vertices that it reached, in the order in which it did, each with the one from which it was reached.
-use Rattle.std.specs.Prelude.{ℕ, ◌≡◌, ◌==◌, nat_lt, ◌+◌, ◌-◌, ◌*◌, ◌<◌, ◌≤◌, ◌⊎◌, if◌then◌else◌, List, length, slice_index, slice_index_or, slice_set}
-use Rattle.std.specs.List.{All, sum_by}
-use Rattle.cut_definitions.specs.declared.edge_list.Edge.{Edge}
+use Rattle.std.specs.Prelude.{ℕ, ◌≡◌, nat_lt, ◌+◌, ◌-◌, ◌<◌, ◌≤◌, ◌⊎◌, List, length, slice_index, slice_index_or, slice_set}
+use Rattle.std.specs.List.{All}
 use Rattle.cut_definitions.specs.Graph.{Graph}
 use Rattle.cut_definitions.specs.Weight.{VertexSet}
 use Rattle.weighted_graph.specs.Rows.{row_of}
 use Rattle.max_flow.specs.declared.search.Ends.{Ends}
 use Rattle.max_flow.specs.declared.search.Step.{Step}
-use Rattle.max_flow.specs.Residual.{edge_of}
-use Rattle.max_flow.specs.Closed.{residual_on}
+use Rattle.residual_arcs.specs.Residual.{edge_of}
+use Rattle.residual_arcs.specs.Closed.{residual_on, IsAlong}
+use Rattle.residual_arcs.specs.Marks.{IsAllUnmarked, order_mark, unmarked}
 
 -- the step at a place of the order
 abbrev pub step_at : List Step → ℕ → Step
 step_at steps j = slice_index_or steps j (record { vertex = 0; parent = 0; edge = 0; bottleneck = 0 })
-
--- the mark of a vertex is 0, or one more than its place in the order
-abbrev pub order_mark : List ℕ → ℕ → ℕ
-order_mark marks v = slice_index marks v
-
--- the number of places without a mark
-abbrev pub unmarked : List ℕ → ℕ
-unmarked marks = sum_by (λ (m : ℕ). if m == 0 then 1 else 0) marks
-
--- no vertex is marked
-abbrev pub IsAllUnmarked : List ℕ → Type 0
-IsAllUnmarked marks = (v : ℕ) → order_mark marks v ≡ 0
 
 -- the work arrays as each search finds them
 pub record IsReady (n : ℕ) (marks : List ℕ) (steps : List Step) : Type 0 where
@@ -52,11 +40,6 @@ pub record IsMarking (n : ℕ) (marks : List ℕ) (steps : List Step) (count : �
   pub placed : (j : ℕ) → j < count → order_mark marks (step_at steps j).vertex ≡ j + 1
   pub at_most : (v : ℕ) → 0 < order_mark marks v → order_mark marks v ≤ count
   pub stands : (v : ℕ) → 0 < order_mark marks v → (step_at steps (order_mark marks v - 1)).vertex ≡ v
-
--- along an edge at least `bottleneck` can be carried from a to b
-abbrev pub IsAlong : Edge → ℕ → ℕ → ℕ → ℕ → Type 0
-IsAlong e toward a b bottleneck =
-    ((e.u ≡ a) × (e.v ≡ b) × (bottleneck ≤ toward)) ⊎ ((e.u ≡ b) × (e.v ≡ a) × (bottleneck ≤ 2 * e.w - toward))
 
 -- a vertex was reached from an earlier one along an edge that can carry more
 pub record IsReached (g : Graph) (toward : List ℕ) (steps : List Step) (j : ℕ) : Type 0 where

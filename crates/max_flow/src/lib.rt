@@ -17,14 +17,12 @@
 #![tactic(auto)]
 
 pub mod flow;
-pub mod outcome;
 pub mod preflow;
 mod push;
-pub mod residual;
 mod rows;
 mod search;
 mod side;
 
 pub use flow::Flow;
-pub use outcome::{BestRun, Outcome};
 pub use preflow::{Beyond, Preflow};
+pub use residual_arcs::{BestRun, Outcome};

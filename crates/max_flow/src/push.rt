@@ -1,13 +1,13 @@
 //! Pushes along the path that a search found.
 
-ghost use Rattle.std.specs.Prelude.{◌≡◌, ℕ, ◌+◌, ◌-◌, ◌*◌, ◌<◌, ◌≤◌, ◌^◌, if◌then◌else◌, IsTrue, IsFalse, length, slice_index, slice_set};
+ghost use Rattle.std.specs.Prelude.{◌≡◌, ◌+◌, ◌≤◌};
 ghost use Rattle.cut_definitions.specs.Graph.{IsEdgeList};
 ghost use Rattle.cut_definitions.specs.Weight.{VertexSet};
-ghost use Rattle.max_flow.specs.Residual.{out, counted, IsResidual};
+ghost use Rattle.residual_arcs.specs.Residual.{out, counted, IsResidual};
 ghost use Rattle.max_flow.specs.Tree.{step_at, IsPath};
 
-use crate::residual::carry;
 use crate::search::Step;
+use residual_arcs::residual::carry;
 use weighted_graph::Graph;
 
 /// Carries an amount from the first vertex of the order to that at a place, arc by arc from its end.

@@ -3,13 +3,14 @@
 //! A search goes by breadth, so the path that it finds to a vertex has as few arcs as any. It touches only what it
 //! reaches: the marks that it leaves are taken away along its own steps.
 
-ghost use Rattle.std.specs.Prelude.{◌≡◌, ℕ, ◌+◌, ◌*◌, ◌<◌, ◌≤◌, ◌^◌, length, min, slice_index};
+ghost use Rattle.std.specs.Prelude.{◌≡◌, ◌+◌, ◌*◌, ◌<◌, ◌≤◌, ◌^◌, length, min, slice_index};
 ghost use Rattle.cut_definitions.specs.Graph.{IsEdgeList};
-ghost use Rattle.max_flow.specs.Residual.{IsResidual};
-ghost use Rattle.max_flow.specs.Closed.{residual_on};
-ghost use Rattle.max_flow.specs.Tree.{step_at, order_mark, IsAllUnmarked, IsReady, AreWithin, IsTree, IsExpanded, Reaches, Extends, IsSearched, IsListed};
+ghost use Rattle.residual_arcs.specs.Residual.{IsResidual};
+ghost use Rattle.residual_arcs.specs.Closed.{residual_on};
+ghost use Rattle.max_flow.specs.Tree.{step_at, IsReady, AreWithin, IsTree, IsExpanded, Reaches, Extends, IsSearched, IsListed};
+ghost use Rattle.residual_arcs.specs.Marks.{order_mark, IsAllUnmarked};
 
-use crate::residual::residual_on;
+use residual_arcs::residual::residual_on;
 use weighted_graph::{Arc, Graph};
 
 /// The two vertices between which a flow goes.

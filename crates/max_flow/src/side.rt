@@ -2,7 +2,8 @@
 
 ghost use Rattle.std.specs.Prelude.{◌≡◌, ℕ, ◌==◌, ◌+◌, ◌≤◌, if◌then◌else◌, length};
 ghost use Rattle.cut_definitions.specs.Cuts.{has, IsAscendingWithin};
-ghost use Rattle.max_flow.specs.Tree.{order_mark, seen};
+ghost use Rattle.residual_arcs.specs.Marks.{order_mark};
+ghost use Rattle.max_flow.specs.Tree.{seen};
 
 use vertex_set::Side;
 

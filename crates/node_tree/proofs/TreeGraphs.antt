@@ -24,9 +24,9 @@ use Rattle.node_tree.specs.Branches.{found, HangsFrom, IsAbove, IsBranching, IsS
 use Rattle.node_tree.specs.Finished.{arrays_of, IsFinished}
 use Rattle.node_tree.specs.Flat.{is_below, sets_of}
 use Rattle.node_tree.specs.TreeSets.{IsTreeSide}
-use Rattle.region_flow.proofs.Growing.{some_term}
+use Rattle.cut_definitions.proofs.WeightLaws.{some_term}
 use Rattle.node_tree.proofs.Making.{below_step, itself, not_below}
-use Rattle.region_flow.proofs.Opening.{stands}
+use Rattle.region_fronts.proofs.Opening.{stands}
 
 -- ---- edges of the tree
 

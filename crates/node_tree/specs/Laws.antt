@@ -1,5 +1,5 @@
 -- What a split of a region does to a tree of minimum cuts, as facts that the functions of the module `laws` state.
-use Rattle.std.specs.Prelude.{ℕ, ◌≡◌, ◌==◌, ◌+◌, ◌*◌, ◌<◌, ◌≤◌, ◌⊎◌, ◌↔◌, false, List, length, slice_index, slice_set, IsTrue}
+use Rattle.std.specs.Prelude.{ℕ, ◌≡◌, ◌==◌, ◌+◌, ◌*◌, ◌<◌, ◌≤◌, ◌⊎◌, ◌↔◌, false, List, length, slice_index, slice_set}
 use Rattle.cut_definitions.specs.Graph.{Graph, IsGraph}
 use Rattle.cut_definitions.specs.Weight.{VertexSet, weight, between, IsMinimumCut}
 use Rattle.cut_definitions.specs.Chain.{IsWithin, IsInOnePart, IsMinimumInterval, one_part, parts_between}

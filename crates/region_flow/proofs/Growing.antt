@@ -1,22 +1,16 @@
 -- Members of a region: nested, with an edge from each to the next, and the parts that they list.
-use Rattle.std.proofs.Common.{◌≡◌, ℕ, ◌+◌, ◌≤◌, inl, inr, ⊎_elim, Bool, true, false, not, ◌&&◌, List, [], ◌∷◌, get_or, refl, ap, arith}
-use Rattle.std.specs.Prelude.{if◌then◌else◌}
-use Rattle.std.specs.List.{Contains, sum_by}
+use Rattle.std.proofs.Common.{◌≡◌, ℕ, ◌≤◌, inl, inr, ⊎_elim, Bool, true, false, not, ◌&&◌, List, get_or, refl, arith}
 use Rattle.std.proofs.lemmas.Bool.{cases_Bool, not_from_false, not_from_true}
-use Rattle.cut_definitions.specs.declared.edge_list.Edge.{Edge}
-use Rattle.std.proofs.lemmas.List.Sums.{sum_by-cons}
 use Rattle.cut_definitions.specs.Graph.{Graph, IsGraph}
 use Rattle.cut_definitions.specs.Weight.{VertexSet, weight, complement, either, minus, joins, IsCut, IsMinimumCut}
 use Rattle.cut_definitions.specs.Chain.{IsWithin, IsJoined}
-use Rattle.cut_definitions.proofs.WeightLaws.{weight-apart, IsMinimumCut-from_le}
+use Rattle.cut_definitions.proofs.WeightLaws.{weight-apart, IsMinimumCut-from_le, some_term}
 use Rattle.cut_definitions.proofs.Bridge.{weight-agree}
 use Rattle.cut_definitions.proofs.ChainLaws.{nesting, IsPair-joined}
 use Rattle.cut_definitions.proofs.ChainLists.{IsMinimumCut-complement}
-use Rattle.cut_definitions.proofs.Lists.{Contains-here, Contains-there}
 use Rattle.cut_definitions.proofs.Bools.{put_back}
 use Rattle.region_flow.specs.Inflow.{IsAround}
-use Rattle.region_flow.specs.Growing.{IsMember}
-use Rattle.region_flow.specs.Growing.{LawOfNested, LawOfBorder}
+use Rattle.region_flow.specs.Growing.{IsMember, LawOfNested, LawOfBorder}
 
 -- ---- plain tests
 
@@ -41,20 +35,6 @@ nested g labels s t ok joined ne x y ax ay hx hy =
     (not_from_false (x s) (lacks labels s t x ne ax)) (not_from_false (y s) (lacks labels s t y ne ay)) (not_from_true (x t) ax.there) (not_from_true (y t) ay.there))
 
 -- ---- the border
-
--- a sum that is not 0 has a term that is not 0
-left_over : (a b c : ℕ) → 1 ≤ a → a ≡ b + c → b ≡ 0 → 1 ≤ c
-left_over a b c h e k = omega arith
-
-pub some_term : (p : Edge → Bool) (es : List Edge) → 1 ≤ sum_by (λ (e : Edge). if p e then e.w else 0) es → (e : Edge) × Contains es e × (p e ≡ true)
-some_term p [] h = absurd (omega arith)
-some_term p (e ∷ es) h = ⊎_elim
-    (λ (k : p e ≡ true). (e, Contains-here e es, k))
-    (λ (k : p e ≡ false).
-    let none : (if p e then e.w else 0) ≡ 0 = ap (λ (b : Bool). if b then e.w else 0) k in
-    let f = λ (d : Edge). if p d then d.w else 0 in
-    let r = some_term p es (left_over (sum_by f (e ∷ es)) (f e) (sum_by f es) h (sum_by-cons f e es) none) in (r.0, Contains-there e es r.0 r.1, r.2))
-    (cases_Bool (p e))
 
 apart_test : (a b : Bool) → (a && (b && not a)) ≡ false
 apart_test a b = grind arith

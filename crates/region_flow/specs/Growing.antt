@@ -1,5 +1,5 @@
 -- The parts of a region around one of its vertices, as they are listed: the part of that vertex first.
-use Rattle.std.specs.Prelude.{ℕ, ◌≡◌, ◌⊎◌, ◌&&◌, nat_lt, nat_le, List, slice_index, IsTrue}
+use Rattle.std.specs.Prelude.{ℕ, ◌≡◌, ◌⊎◌, List, slice_index, IsTrue}
 use Rattle.std.specs.List.{Contains}
 use Rattle.cut_definitions.specs.declared.edge_list.Edge.{Edge}
 use Rattle.cut_definitions.specs.Graph.{Graph, IsGraph}
@@ -16,10 +16,6 @@ pub record IsMember (g : Graph) (labels : List ℕ) (t amount : ℕ) (x : Vertex
 -- all vertices of one set are in another
 abbrev pub IsPartOf : VertexSet → VertexSet → Type 0
 IsPartOf x y = (v : ℕ) → IsTrue (x v) → IsTrue (y v)
-
--- the vertices of the parts that were listed up to one; 0 stands for a vertex that is not listed
-abbrev pub listed_upto : (ℕ → ℕ) → ℕ → VertexSet
-listed_upto turn j v = nat_lt 0 (turn v) && nat_le (turn v) j
 
 -- of two sets around t that are minimum cuts one has all that the other has, where an edge leads from t out of the region
 abbrev pub LawOfNested : Type 0

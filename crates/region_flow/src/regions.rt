@@ -1,10 +1,10 @@
 //! The flow, its regions, and the memory for searches.
 
 ghost use Rattle.std.specs.Prelude.{◌≡◌, ◌≢◌, ◌↔◌, ◌+◌, ◌-◌, ◌^◌, ◌<◌, ◌≤◌, ◌⊎◌, ℕ, None, IfOk, IfSome, length, slice_index, slice_set};
-ghost use Rattle.std.specs.List.{All, AllPairs};
 ghost use Rattle.weighted_graph.specs.RowLaws.{IsArcAt};
-ghost use Rattle.max_flow.specs.Outcome.{IfBest};
-ghost use Rattle.region_flow.specs.Regions.{RegionState, IsRegionFlow, IsOpenAt};
+ghost use Rattle.residual_arcs.specs.Outcome.{IfBest};
+ghost use Rattle.region_flow.specs.Regions.{RegionState, IsRegionFlow};
+ghost use Rattle.cut_definitions.specs.Regions.{IsOpenAt};
 ghost use Rattle.region_flow.specs.Inflow.{IsStopReached, ShowsLeast};
 ghost use Rattle.region_flow.specs.CutOff.{MayBeCutOff, relabelled};
 
@@ -13,8 +13,8 @@ use crate::searching::{search, search_beside};
 use crate::task::Task;
 use crate::tree::{SearchTree, clear};
 use cut_definitions::NoMemory;
-use max_flow::Outcome;
-use max_flow::residual::start;
+use residual_arcs::Outcome;
+use residual_arcs::residual::start;
 use std::alloc::Global;
 use std::marker::Model;
 use weighted_graph::{Arc, Graph};
@@ -83,6 +83,13 @@ impl RegionFlow {
         ensures { result ≡ slice_index self.now.labels v }
     {
         self.labels[v as usize]
+    }
+
+    /// The labels of all vertices from 0 on, lent without a copy; that of 0 is 0.
+    pub fn labels(&self) -> &[u32]
+        ensures { result.now ≡ self.now.labels }
+    {
+        self.labels.as_slice()
     }
 
     /// What a vertex of 1 to n is fed.

@@ -8,12 +8,13 @@ use Rattle.std.proofs.lemmas.List.{get_or_default}
 use Rattle.std.proofs.lemmas.Option.{slice_get-get_or}
 use Rattle.std.proofs.lemmas.List.Elements.{All-contains}
 use Rattle.cut_definitions.specs.Graph.{Graph}
-use Rattle.cut_definitions.specs.Chain.{SameOn}
+use Rattle.cut_definitions.specs.Chain.{SameOn, listed_upto}
 use Rattle.cut_definitions.specs.Weight.{VertexSet, complement, minus, HasVertex}
 use Rattle.cut_definitions.proofs.Bools.{in_neither, minus_parts, contrary}
 use Rattle.cut_definitions.proofs.Numbers.{upto_none, none_upto}
 use Rattle.weighted_graph.specs.Searches.{is_seen}
-use Rattle.region_flow.specs.Regions.{RegionState, IsOpenAt}
+use Rattle.region_flow.specs.Regions.{RegionState}
+use Rattle.cut_definitions.specs.Regions.{IsOpenAt}
 use Rattle.region_parts.specs.declared.side.Side.{Side}
 use Rattle.region_parts.specs.declared.side.Side.TheVariants.{Inner, Outer}
 use Rattle.region_parts.specs.declared.hub.Hub.{Hub}
@@ -21,10 +22,10 @@ use Rattle.region_parts.specs.declared.hub.Hub.TheVariants.{Outside, At}
 use Rattle.region_parts.specs.declared.hub.HubSearch.{HubSearch}
 use Rattle.region_parts.specs.declared.splitter.Splitter.{Splitter}
 use Rattle.region_parts.specs.Between.{IsInnerSettled, IsOuterSettled}
-use Rattle.region_flow.specs.Growing.{IsMember, IsPartOf, listed_upto}
-use Rattle.region_parts.specs.Fronts.{FrontsState, list_at}
+use Rattle.region_flow.specs.Growing.{IsMember, IsPartOf}
+use Rattle.region_fronts.specs.Fronts.{FrontsState, list_at}
 use Rattle.region_parts.specs.Hubs.{HaveBegun, HasAll, IsHubSearch, hub_vertex}
-use Rattle.region_parts.specs.Listing.{ListingState, IsKept, IsVertex}
+use Rattle.arc_search.specs.Listing.{ListingState, IsKept, IsVertex}
 use Rattle.region_flow.specs.Parted.{AreLightParts}
 use Rattle.region_parts.specs.Sides.{IsListed}
 use Rattle.region_parts.specs.Regional.{IsRest, IsNoneBetween, BringsHub, outer_turn, two_sided}

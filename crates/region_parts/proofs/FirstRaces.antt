@@ -12,8 +12,9 @@ use Rattle.cut_definitions.specs.Weight.{VertexSet}
 use Rattle.cut_definitions.specs.Cuts.{has}
 use Rattle.cut_definitions.proofs.Bools.{contrary}
 use Rattle.weighted_graph.specs.Searches.{is_seen}
-use Rattle.residual_chain.specs.declared.direction.Direction.TheVariants.{Along, Against}
-use Rattle.region_flow.specs.Regions.{RegionState, IsOpenAt}
+use Rattle.arc_search.specs.declared.direction.Direction.TheVariants.{Along, Against}
+use Rattle.region_flow.specs.Regions.{RegionState}
+use Rattle.cut_definitions.specs.Regions.{IsOpenAt}
 use Rattle.region_flow.specs.Inflow.{IsStopReached}
 use Rattle.region_flow.proofs.Least.{placed_at, found_at}
 use Rattle.region_parts.specs.declared.hub.Hub.{Hub}
@@ -26,15 +27,15 @@ use Rattle.region_parts.specs.declared.side.Side.TheVariants.{Inner, Outer}
 use Rattle.region_parts.specs.declared.splitter.Splitter.{Splitter}
 use Rattle.region_parts.specs.Steps.{steps_in}
 use Rattle.region_parts.specs.FirstRace.{IsFirstRace}
-use Rattle.region_parts.specs.Found.{SearchState, IsSearch}
-use Rattle.region_parts.specs.Fronts.{FrontsState, list_at}
+use Rattle.arc_search.specs.Found.{SearchState, IsSearch}
+use Rattle.region_fronts.specs.Fronts.{FrontsState, list_at}
 use Rattle.region_parts.specs.Hubs.{HasAll, HaveBegun, KeepsFrontsFor}
-use Rattle.region_parts.specs.Listing.{ListingState, IsVertex, IsKept, IsBordered}
+use Rattle.arc_search.specs.Listing.{ListingState, IsVertex, IsKept, IsBordered}
 use Rattle.region_parts.specs.Regional.{BringsHub}
 use Rattle.region_parts.specs.Sided.{AreHalves, IsRegionOf, fed_in, goes_from, stops}
 use Rattle.region_parts.specs.Split.{AreAtFront, IsBetween}
 use Rattle.region_parts.proofs.Halves.{IsFound, begun_inner, begun_outer, first_inner_half, first_outer_half, is_fed}
-use Rattle.region_parts.proofs.Reaching.{found}
+use Rattle.arc_search.proofs.Reaching.{found}
 use Rattle.region_parts.proofs.Rounds.{good_stop, good_way}
 use Rattle.region_parts.proofs.Taking.{brought, no_member}
 

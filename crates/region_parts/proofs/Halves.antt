@@ -8,22 +8,23 @@ use Rattle.cut_definitions.specs.Graph.{Graph}
 use Rattle.cut_definitions.specs.Weight.{VertexSet, complement}
 use Rattle.cut_definitions.proofs.Bools.{in_minus, contrary}
 use Rattle.cut_definitions.proofs.Numbers.{none_upto, not_positive, ltb_one}
-use Rattle.residual_chain.specs.Residuals.{IsClosed}
-use Rattle.residual_chain.specs.declared.direction.Direction.TheVariants.{Along, Against}
+use Rattle.arc_search.specs.Closed.{IsClosed}
+use Rattle.arc_search.specs.declared.direction.Direction.TheVariants.{Along, Against}
 use Rattle.region_flow.specs.Regions.{RegionState}
 use Rattle.region_parts.specs.declared.side.Side.{Side}
 use Rattle.region_parts.specs.declared.side.Side.TheVariants.{Inner, Outer}
 use Rattle.region_parts.specs.Steps.{steps_in}
-use Rattle.region_flow.specs.Growing.{listed_upto}
+use Rattle.cut_definitions.specs.Chain.{listed_upto}
 use Rattle.region_parts.specs.Sides.{IsListed}
-use Rattle.region_parts.specs.Listing.{ListingState, IsKept, IsNothingListed, IsBordered}
+use Rattle.arc_search.specs.Listing.{ListingState, IsKept, IsNothingListed, IsBordered}
 use Rattle.region_parts.specs.Regional.{outer_turn}
-use Rattle.region_parts.specs.Taking.{IsFedIn, AreFurther, with_outside}
+use Rattle.region_parts.specs.Taking.{IsFedIn, with_outside}
+use Rattle.arc_search.specs.Further.{AreFurther}
 use Rattle.region_parts.specs.Sided.{IsRegionOf, IsHalf, fed_in, stops, turn_of, kind_of, goes_from}
 use Rattle.region_parts.proofs.Listings.{in_upto, upto_range, not_upto}
 use Rattle.region_parts.proofs.Regional.{not_not}
 use Rattle.region_parts.proofs.Taking.{first_inner, first_outer, further_inner, further_outer, closed_out}
-use Rattle.region_parts.proofs.SideLists.{kept_nothing, bordered_nothing}
+use Rattle.arc_search.proofs.SideLists.{kept_nothing, bordered_nothing}
 
 -- ---- nothing is listed
 

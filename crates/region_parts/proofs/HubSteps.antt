@@ -7,15 +7,15 @@ use Rattle.std.proofs.lemmas.Option.{slice_get_within, get_or_from_slice_get, sl
 use Rattle.cut_definitions.specs.Graph.{Graph}
 use Rattle.cut_definitions.specs.Weight.{VertexSet}
 use Rattle.weighted_graph.specs.Searches.{is_seen}
-use Rattle.residual_chain.specs.declared.direction.Direction.{Direction}
+use Rattle.arc_search.specs.declared.direction.Direction.{Direction}
 use Rattle.region_flow.specs.Regions.{RegionState}
 use Rattle.region_parts.specs.declared.hub.Hub.{Hub}
 use Rattle.region_parts.specs.declared.hub.Hub.TheVariants.{Outside}
 use Rattle.region_parts.specs.declared.hub.HubSearch.{HubSearch}
 use Rattle.region_parts.specs.declared.side.Side.{Side}
 use Rattle.region_parts.specs.Steps.{steps_in}
-use Rattle.region_parts.specs.Found.{SearchState, IsSearch}
-use Rattle.region_parts.specs.Fronts.{FrontsState, KeepsFronts}
+use Rattle.arc_search.specs.Found.{SearchState, IsSearch}
+use Rattle.region_fronts.specs.Fronts.{FrontsState, KeepsFronts}
 use Rattle.region_parts.specs.Sided.{direction_of, fed_in, goes_from}
 use Rattle.region_parts.specs.Hubs.{HaveBegun, HubGoesOn, KeepsFrontsFor}
 

@@ -4,11 +4,11 @@ use Rattle.std.proofs.Math.Path.{fun_ext}
 use Rattle.std.proofs.lemmas.Bool.{cases_eq, eqb-true, eq-eqb}
 use Rattle.std.proofs.lemmas.Bool.Decides.{nat_tests}
 use Rattle.cut_definitions.specs.Weight.{VertexSet, minus, HasVertex}
-use Rattle.cut_definitions.specs.Chain.{IsWithin, SameOn}
+use Rattle.cut_definitions.specs.Chain.{IsWithin, SameOn, listed_upto}
 use Rattle.cut_definitions.proofs.Vertices.{within_or_minus}
 use Rattle.cut_definitions.proofs.Bools.{minus_parts, same_tests}
 use Rattle.cut_definitions.proofs.Numbers.{cases_le}
-use Rattle.region_flow.specs.Growing.{IsPartOf, listed_upto}
+use Rattle.region_flow.specs.Growing.{IsPartOf}
 use Rattle.region_parts.specs.Sides.{IsNested, IsListed, IsListedAfter}
 
 upto_zero : (k o j : ℕ) → k ≡ 0 → o ≡ 0 → (ltb 0 k && leb k j) ≡ (ltb 0 o && leb o j)

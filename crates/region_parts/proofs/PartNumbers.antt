@@ -15,8 +15,8 @@ use Rattle.region_parts.specs.declared.between.Between.{Between}
 use Rattle.region_parts.specs.declared.between.Between.TheVariants.{Nothing, One}
 use Rattle.region_parts.specs.declared.splitter.Splitter.{Splitter}
 use Rattle.region_parts.specs.Between.{parts_between}
-use Rattle.region_parts.specs.Listed.{PartsState, AreListed, IsPartList, part_in, part_list}
-use Rattle.region_parts.specs.Listing.{ListingState, IsVertex, IsKept}
+use Rattle.region_fronts.specs.Listed.{PartsState, AreListed, IsPartList, part_in, part_list}
+use Rattle.arc_search.specs.Listing.{ListingState, IsVertex, IsKept}
 use Rattle.region_parts.specs.Regional.{two_sided}
 use Rattle.region_parts.specs.Split.{IsBetween, outer_of}
 use Rattle.region_parts.proofs.Halves.{outer_inside, outer_outside}

@@ -12,9 +12,9 @@ use Rattle.region_parts.specs.declared.hub.Hub.{Hub}
 use Rattle.region_parts.specs.declared.hub.Hub.TheVariants.{Outside, At}
 use Rattle.region_parts.specs.declared.passed.Passed.{Passed}
 use Rattle.region_parts.specs.declared.splitter.Splitter.{Splitter}
-use Rattle.region_parts.specs.Fronts.{FrontsState, list_at}
+use Rattle.region_fronts.specs.Fronts.{FrontsState, list_at}
 use Rattle.region_parts.specs.Hubs.{KeepsFrontsFor}
-use Rattle.region_parts.specs.Listing.{ListingState, HasMore, IsKept, IsVertex}
+use Rattle.arc_search.specs.Listing.{ListingState, HasMore, IsKept, IsVertex}
 use Rattle.region_parts.specs.Passed.{ArePassed, IsFrontPassed, IsLeft, IsListedIn, IsPassed}
 use Rattle.region_parts.specs.Split.{half_of, GoesOnSettling, IsBetween, IsHub, IsSameButHalf, IsSettledIn, StaysListed}
 use Rattle.region_parts.proofs.BetweenLemmas.{IsAllBesideListed, beside_all, hub_at, stays_from, stays_same}

@@ -9,8 +9,9 @@ use Rattle.std.proofs.lemmas.List.Elements.{All-contains, Contains-append_cases,
 use Rattle.cut_definitions.specs.Graph.{Graph}
 use Rattle.cut_definitions.specs.Weight.{VertexSet}
 use Rattle.weighted_graph.specs.Searches.{is_seen}
-use Rattle.residual_chain.specs.declared.direction.Direction.TheVariants.{Along, Against}
-use Rattle.region_flow.specs.Regions.{RegionState, IsOpenAt}
+use Rattle.arc_search.specs.declared.direction.Direction.TheVariants.{Along, Against}
+use Rattle.region_flow.specs.Regions.{RegionState}
+use Rattle.cut_definitions.specs.Regions.{IsOpenAt}
 use Rattle.region_parts.specs.declared.side.Side.{Side}
 use Rattle.region_parts.specs.declared.side.Side.TheVariants.{Inner, Outer}
 use Rattle.region_parts.specs.declared.hub.Hub.{Hub}
@@ -18,17 +19,17 @@ use Rattle.region_parts.specs.declared.hub.Hub.TheVariants.{Outside, At}
 use Rattle.region_parts.specs.declared.hub.HubSearch.{HubSearch}
 use Rattle.region_parts.specs.declared.splitter.Splitter.{Splitter}
 use Rattle.region_parts.specs.Steps.{steps_in}
-use Rattle.region_parts.specs.Found.{SearchState, IsSearch, IsNoneFound, IsQuiet, GoesOn, MayBegin}
-use Rattle.region_parts.specs.Way.{AreEarlier, IsOnWay, IsMarkedWay}
-use Rattle.region_parts.specs.Listing.{ListingState, HasMore, IsKept, IsVertex}
-use Rattle.region_parts.specs.Fronts.{FrontsState, KeepsFronts, list_at}
+use Rattle.arc_search.specs.Found.{SearchState, IsSearch, IsNoneFound, IsQuiet, GoesOn, MayBegin}
+use Rattle.arc_search.specs.Way.{AreEarlier, IsOnWay, IsMarkedWay}
+use Rattle.arc_search.specs.Listing.{ListingState, HasMore, IsKept, IsVertex}
+use Rattle.region_fronts.specs.Fronts.{FrontsState, KeepsFronts, list_at}
 use Rattle.region_parts.specs.Hubs.{HaveBegun, IsHubSearch, KeepsFrontsFor, hub_vertex, starts_of}
 use Rattle.region_parts.specs.Sided.{AreHalves, IsGood, IsRegionOf, fed_in, goes_from, other_side, stops}
 use Rattle.region_parts.specs.Split.{half_of, AreAtFront, IsBetween, IsSearching, GoesOnSettling, IsEnded, IsSameButHalf, IsSettledIn, StaysListed}
 use Rattle.region_parts.specs.Settling.{IsBeside, HasMet, last_of}
 use Rattle.region_parts.proofs.Taking.{brought, coming}
 use Rattle.region_parts.proofs.Halves.{is_fed}
-use Rattle.region_parts.proofs.Reaching.{found, nothing, way}
+use Rattle.arc_search.proofs.Reaching.{found, nothing, way}
 use Rattle.region_parts.proofs.Rounds.{good_stop, good_way}
 
 -- what holds where a call succeeds

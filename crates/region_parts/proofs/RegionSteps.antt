@@ -5,12 +5,10 @@ use Rattle.std.proofs.lemmas.List.{get_or_default}
 use Rattle.std.proofs.lemmas.List.Elements.{All-contains}
 use Rattle.cut_definitions.specs.Graph.{Graph, IsGraph}
 use Rattle.weighted_graph.specs.declared.graph.Arc.{Arc}
-use Rattle.weighted_graph.specs.Rows.{row_of}
+use Rattle.weighted_graph.specs.Rows.{row_of, arc_at}
 use Rattle.weighted_graph.specs.RowLaws.{IsArcAt, edge_at}
-use Rattle.weighted_graph.proofs.RowLaws.{law_of_edges_in_rows}
-use Rattle.max_flow.specs.Flow.{arc_at}
-use Rattle.max_flow.proofs.Preflows.{row_arc}
-use Rattle.residual_chain.specs.declared.direction.Direction.TheVariants.{Along, Against}
+use Rattle.weighted_graph.proofs.RowLaws.{law_of_edges_in_rows, row_arc}
+use Rattle.arc_search.specs.declared.direction.Direction.TheVariants.{Along, Against}
 use Rattle.region_flow.specs.Regions.{RegionState}
 use Rattle.region_flow.specs.Tree.{residual_back, back_of}
 use Rattle.region_parts.specs.Steps.{is_open_in, steps_in, LawOfOpposite, LawOfClosedSteps, LawOfSameRegion}

@@ -5,25 +5,25 @@ use Rattle.std.specs.List.{Contains}
 use Rattle.std.proofs.lemmas.Bool.{cases_eq, cases_Bool, eqb-true, eq-eqb, ne_eqb, not-true, not_from_false}
 use Rattle.std.proofs.lemmas.List.Elements.{All-contains}
 use Rattle.cut_definitions.specs.Graph.{Graph, IsEdgeWithin}
-use Rattle.cut_definitions.specs.Chain.{IsJoined}
+use Rattle.cut_definitions.specs.Chain.{IsJoined, listed_upto}
 use Rattle.cut_definitions.specs.Weight.{VertexSet, complement}
 use Rattle.cut_definitions.proofs.Numbers.{upto_none, ltb_one}
 use Rattle.cut_definitions.proofs.Bools.{contrary}
 use Rattle.weighted_graph.specs.declared.graph.Arc.{Arc}
 use Rattle.weighted_graph.specs.Rows.{row_of}
 use Rattle.weighted_graph.specs.Searches.{is_seen}
-use Rattle.residual_chain.specs.Residuals.{IsClosed}
-use Rattle.residual_chain.specs.declared.direction.Direction.TheVariants.{Along, Against}
-use Rattle.region_flow.specs.Regions.{RegionState, IsOpenAt}
+use Rattle.arc_search.specs.Closed.{IsClosed}
+use Rattle.arc_search.specs.declared.direction.Direction.TheVariants.{Along, Against}
+use Rattle.region_flow.specs.Regions.{RegionState}
+use Rattle.cut_definitions.specs.Regions.{IsOpenAt}
 use Rattle.region_parts.specs.declared.side.Side.{Side}
 use Rattle.region_parts.specs.declared.side.Side.TheVariants.{Inner, Outer}
 use Rattle.region_parts.specs.Steps.{steps_in}
-use Rattle.region_flow.specs.Growing.{listed_upto}
-use Rattle.region_parts.specs.Listing.{ListingState, IsMet, IsRowMet}
+use Rattle.arc_search.specs.Listing.{ListingState, IsMet, IsRowMet}
 use Rattle.region_parts.specs.Regional.{BringsHub, ComesWithHub, outer_turn}
 use Rattle.region_parts.specs.Taking.{IsFedIn}
 use Rattle.region_parts.specs.Sided.{IsRegionOf, IsHalf, AreHalves, IsGood, IsRoundDone, IsSettled, fed_in, stops, goes_from}
-use Rattle.region_flow.proofs.Opening.{stands}
+use Rattle.region_fronts.proofs.Opening.{stands}
 use Rattle.region_parts.proofs.Listings.{in_upto, upto_range, not_upto}
 use Rattle.region_parts.proofs.Taking.{closed_out, bringing, brought, coming}
 use Rattle.region_parts.proofs.Halves.{IsFound, MayBeTaken, found_inside, is_fed, outer_inside, outer_one, inner_has_t}

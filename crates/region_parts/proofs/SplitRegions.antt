@@ -3,8 +3,9 @@ use Rattle.std.proofs.Common.{◌≡◌, ℕ, ◌≤◌, get_or}
 use Rattle.cut_definitions.specs.Graph.{Graph, IsGraph}
 use Rattle.cut_definitions.specs.Components.{IsConnected}
 use Rattle.cut_definitions.specs.Weight.{VertexSet, weight, IsMinimumCut}
-use Rattle.residual_chain.specs.declared.direction.Direction.TheVariants.{Along}
-use Rattle.region_flow.specs.Regions.{RegionState, IsRegionFlow, IsOpenAt}
+use Rattle.arc_search.specs.declared.direction.Direction.TheVariants.{Along}
+use Rattle.region_flow.specs.Regions.{RegionState, IsRegionFlow}
+use Rattle.cut_definitions.specs.Regions.{IsOpenAt}
 use Rattle.region_flow.proofs.Least.{closed_around}
 use Rattle.region_parts.specs.Sided.{IsRegionOf}
 use Rattle.region_parts.proofs.RegionSteps.{opposite, closed_steps, same_region}

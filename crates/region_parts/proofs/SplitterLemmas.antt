@@ -12,19 +12,19 @@ use Rattle.cut_definitions.specs.Weight.{VertexSet}
 use Rattle.cut_definitions.proofs.Bools.{one_seen, same_tests}
 use Rattle.cut_definitions.proofs.Ascending.{contains_has, has_contains}
 use Rattle.weighted_graph.specs.Searches.{is_seen}
-use Rattle.residual_chain.specs.Residuals.{IsClosed}
-use Rattle.residual_chain.specs.declared.direction.Direction.{Direction}
+use Rattle.arc_search.specs.Closed.{IsClosed}
+use Rattle.arc_search.specs.declared.direction.Direction.{Direction}
 use Rattle.region_flow.specs.Regions.{RegionState}
 use Rattle.region_parts.specs.declared.side.Side.{Side}
 use Rattle.region_parts.specs.declared.side.Side.TheVariants.{Inner, Outer}
 use Rattle.region_parts.specs.Steps.{steps_in}
-use Rattle.region_flow.specs.Growing.{listed_upto}
-use Rattle.region_parts.specs.Found.{SearchState, IsSearch}
-use Rattle.region_parts.specs.Listing.{ListingState, IsVertex, IsKept, IsNothingListed, IsBordered, AreTaken}
+use Rattle.cut_definitions.specs.Chain.{listed_upto}
+use Rattle.arc_search.specs.Found.{SearchState, IsSearch}
+use Rattle.arc_search.specs.Listing.{ListingState, IsVertex, IsKept, IsNothingListed, IsBordered, AreTaken}
 use Rattle.region_parts.specs.Sided.{IsRegionOf, IsHalf, AreHalves, direction_of, fed_in, goes_from, stops}
 use Rattle.region_parts.proofs.FewParts.{few_hit}
 use Rattle.region_parts.proofs.Listings.{in_upto}
-use Rattle.region_parts.proofs.Reaching.{found as law_of_found}
+use Rattle.arc_search.proofs.Reaching.{found as law_of_found}
 use Rattle.region_parts.proofs.Halves.{IsFound, is_fed, half_closed, first_inner_half, first_outer_half, further_half, apart_after}
 use Rattle.region_parts.proofs.Rounds.{off_inner, may_inner, may_outer, fed_lacks_t}
 

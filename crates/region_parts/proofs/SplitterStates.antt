@@ -10,7 +10,7 @@ use Rattle.cut_definitions.specs.Graph.{Graph}
 use Rattle.cut_definitions.specs.Cuts.{has}
 use Rattle.cut_definitions.specs.Weight.{VertexSet}
 use Rattle.weighted_graph.specs.Searches.{is_seen}
-use Rattle.residual_chain.specs.declared.direction.Direction.{Direction}
+use Rattle.arc_search.specs.declared.direction.Direction.{Direction}
 use Rattle.region_flow.specs.Regions.{RegionState}
 use Rattle.region_parts.specs.declared.side.Side.{Side}
 use Rattle.region_parts.specs.declared.side.Side.TheVariants.{Inner, Outer}
@@ -18,9 +18,9 @@ use Rattle.region_parts.specs.declared.hub.Hub.{Hub}
 use Rattle.region_parts.specs.declared.hub.Hub.TheVariants.{Outside, At}
 use Rattle.region_parts.specs.Steps.{steps_in}
 use Rattle.region_parts.specs.declared.splitter.Splitter.{Splitter}
-use Rattle.region_parts.specs.Found.{SearchState, IsSearch}
+use Rattle.arc_search.specs.Found.{SearchState, IsSearch}
 use Rattle.region_parts.specs.Hubs.{IsHubSearch, starts_of}
-use Rattle.region_parts.specs.Listing.{ListingState, IsKept, IsBordered, IsVertex, IsNothingListed, AreTaken, HasMore}
+use Rattle.arc_search.specs.Listing.{ListingState, IsKept, IsBordered, IsVertex, IsNothingListed, AreTaken, HasMore}
 use Rattle.region_parts.specs.Sided.{AreHalves, IsHalf, direction_of, fed_in, goes_from, other_side, stops}
 use Rattle.region_parts.specs.Split.{half_of, IsBetween, IsEnded, IsSameButHalf, MayTakeHub, StaysListed}
 use Rattle.region_parts.proofs.SplitterLemmas.{IsFit, IsFrom, found_within, found_apart, seen_has, fit_arcs, taken_arcs, inner_after, outer_after, nothing_of, first_all, inner_first, outer_first}

@@ -6,13 +6,13 @@ use Rattle.std.proofs.lemmas.Bool.{cases_eq, cases_Bool, eqb-true, eq-eqb, ne_eq
 use Rattle.std.proofs.lemmas.Bool.Decides.{nat_tests}
 use Rattle.cut_definitions.specs.Graph.{Graph}
 use Rattle.cut_definitions.specs.Weight.{VertexSet, weight, complement, minus, HasVertex, IsCut}
-use Rattle.cut_definitions.specs.Chain.{IsWithin}
+use Rattle.cut_definitions.specs.Chain.{IsWithin, listed_upto}
 use Rattle.cut_definitions.proofs.ChainLaws.{IsPair-joined}
 use Rattle.cut_definitions.proofs.Vertices.{within_or_minus}
 use Rattle.cut_definitions.proofs.Numbers.{upto_none}
 use Rattle.cut_definitions.proofs.Bools.{same_tests, contrary}
-use Rattle.residual_chain.specs.Residuals.{IsClosed}
-use Rattle.region_flow.specs.Growing.{IsMember, IsPartOf, listed_upto}
+use Rattle.arc_search.specs.Closed.{IsClosed}
+use Rattle.region_flow.specs.Growing.{IsMember, IsPartOf}
 use Rattle.region_parts.specs.Regional.{IsAtBorder, IsRest}
 use Rattle.region_parts.specs.Taking.{IsSearched, IsFedIn, with_outside, LawOfFirstInner, LawOfFirstOuter, LawOfFurtherInner, LawOfFurtherOuter, LawOfBringing, LawOfBrought, LawOfComing, LawOfNoMember}
 use Rattle.region_parts.proofs.Listings.{in_upto, upto_range, listed_after}

@@ -5,12 +5,12 @@ use Rattle.std.proofs.lemmas.Bool.{cases_lt, cases_Bool, eqb-true, eq-eqb, not-t
 use Rattle.std.proofs.lemmas.Bool.Decides.{nat_tests}
 use Rattle.cut_definitions.specs.Graph.{Graph}
 use Rattle.cut_definitions.specs.Weight.{complement, minus, HasVertex}
-use Rattle.cut_definitions.specs.Chain.{SameOn}
+use Rattle.cut_definitions.specs.Chain.{SameOn, listed_upto}
 use Rattle.cut_definitions.proofs.Bridge.{weight-agree}
 use Rattle.cut_definitions.proofs.Bools.{turned, minus_parts, contrary}
 use Rattle.cut_definitions.proofs.Numbers.{cases_zero}
 use Rattle.region_flow.specs.Parted.{later_parts}
-use Rattle.region_flow.specs.Growing.{IsMember, IsPartOf, listed_upto}
+use Rattle.region_flow.specs.Growing.{IsMember, IsPartOf}
 use Rattle.region_parts.specs.Regional.{AreTwoSided, two_sided, LawOfTwoSides}
 use Rattle.region_parts.proofs.Listings.{in_upto, upto_range, not_upto}
 use Rattle.region_parts.proofs.Regional.{not_not}

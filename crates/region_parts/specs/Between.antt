@@ -2,7 +2,8 @@
 use Rattle.std.specs.Prelude.{ℕ}
 use Rattle.std.specs.List.{Contains}
 use Rattle.cut_definitions.specs.Graph.{Graph}
-use Rattle.region_flow.specs.Regions.{RegionState, IsOpenAt}
+use Rattle.region_flow.specs.Regions.{RegionState}
+use Rattle.cut_definitions.specs.Regions.{IsOpenAt}
 use Rattle.region_parts.specs.declared.between.Between.{Between}
 use Rattle.region_parts.specs.declared.between.Between.TheVariants.{Nothing, One}
 use Rattle.region_parts.specs.declared.hub.Hub.{Hub}

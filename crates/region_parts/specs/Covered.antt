@@ -1,8 +1,9 @@
 -- What keeps open vertices in their lists, and fed vertices open, while labels are refined.
 use Rattle.std.specs.Prelude.{ℕ, ◌≡◌, ◌≢◌, ◌≤◌, ◌⊎◌, List, slice_index, slice_set}
 use Rattle.cut_definitions.specs.Graph.{Graph, IsGraph}
-use Rattle.region_flow.specs.Regions.{RegionState, IsRegionFlow, IsOpenAt}
-use Rattle.region_parts.specs.Fronts.{FrontsState, IsCovered, KeepsAll, HasEnds}
+use Rattle.region_flow.specs.Regions.{RegionState, IsRegionFlow}
+use Rattle.cut_definitions.specs.Regions.{IsOpenAt}
+use Rattle.region_fronts.specs.Fronts.{FrontsState, IsCovered, KeepsAll, HasEnds}
 
 -- vertices that share a region shared one
 pub record IsRefined (labels labels' : List ℕ) : Type 0 where

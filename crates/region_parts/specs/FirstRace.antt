@@ -7,8 +7,8 @@ use Rattle.region_parts.specs.declared.race.Race.{Race}
 use Rattle.region_parts.specs.declared.race.Race.TheVariants.{Met, Ended, HubEnded}
 use Rattle.region_parts.specs.declared.side.Side.TheVariants.{Inner, Outer}
 use Rattle.region_parts.specs.declared.splitter.Splitter.{Splitter}
-use Rattle.region_parts.specs.Found.{IsQuiet, IsSearch}
-use Rattle.region_parts.specs.Listing.{IsNothingListed}
+use Rattle.arc_search.specs.Found.{IsQuiet, IsSearch}
+use Rattle.arc_search.specs.Listing.{IsNothingListed}
 use Rattle.region_parts.specs.Regional.{BringsHub}
 use Rattle.region_parts.specs.Sided.{fed_in, goes_from, stops}
 

@@ -8,8 +8,8 @@ use Rattle.region_parts.specs.declared.side.Side.{Side}
 use Rattle.region_parts.specs.declared.hub.Hub.{Hub}
 use Rattle.region_parts.specs.declared.hub.Hub.TheVariants.{Outside, At}
 use Rattle.region_parts.specs.declared.hub.HubSearch.{HubSearch}
-use Rattle.region_parts.specs.Found.{IsSearch}
-use Rattle.region_parts.specs.Fronts.{FrontsState, KeepsFronts}
+use Rattle.arc_search.specs.Found.{IsSearch}
+use Rattle.region_fronts.specs.Fronts.{FrontsState, KeepsFronts}
 use Rattle.region_parts.specs.Sided.{fed_in, goes_from}
 
 -- a vertex that stands for the hub: vertex 1 is outside each region

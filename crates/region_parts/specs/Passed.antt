@@ -3,7 +3,7 @@ use Rattle.std.specs.Prelude.{ℕ, ◌≡◌, ◌<◌, ◌≤◌, ◌⊎◌, Lis
 use Rattle.region_flow.specs.Regions.{RegionState}
 use Rattle.region_parts.specs.declared.passed.Passed.{Passed}
 use Rattle.region_parts.specs.declared.splitter.Splitter.{Splitter}
-use Rattle.region_parts.specs.Fronts.{FrontsState, list_at}
+use Rattle.region_fronts.specs.Fronts.{FrontsState, list_at}
 
 -- a vertex is listed on either side, if it is in the region
 abbrev pub IsListedIn : RegionState → ℕ → Splitter → ℕ → Type 0

@@ -9,13 +9,12 @@ use Rattle.std.proofs.lemmas.List.Elements.{All-contains}
 use Rattle.std.proofs.lemmas.List.Folds.{list_any_at, Any-from_list_any}
 use Rattle.cut_definitions.specs.Graph.{Graph, IsGraph}
 use Rattle.weighted_graph.specs.declared.graph.Arc.{Arc}
-use Rattle.weighted_graph.specs.Rows.{row_of, no_arc}
+use Rattle.weighted_graph.specs.Rows.{row_of, no_arc, arc_at}
 use Rattle.weighted_graph.specs.RowLaws.{IsArcAt}
 use Rattle.weighted_graph.proofs.RowLaws.{row_arcs}
 use Rattle.weighted_graph.proofs.Searched.{arc_within}
-use Rattle.max_flow.specs.Flow.{arc_at}
-use Rattle.residual_chain.specs.declared.direction.Direction.{Direction}
-use Rattle.residual_chain.specs.Paths.{HasArcs, arcs_in_rows}
+use Rattle.arc_search.specs.declared.direction.Direction.{Direction}
+use Rattle.arc_search.specs.Paths.{HasArcs, arcs_in_rows}
 use Rattle.region_flow.specs.Regions.{RegionState}
 use Rattle.region_flow.specs.Tree.{back_of}
 use Rattle.region_parts.specs.Steps.{amount_in, is_open_in, steps_in}

@@ -4,12 +4,12 @@ use Rattle.std.specs.List.{Contains}
 use Rattle.cut_definitions.specs.declared.edge_list.Edge.{Edge}
 use Rattle.cut_definitions.specs.Graph.{Graph, IsGraph}
 use Rattle.cut_definitions.specs.Weight.{VertexSet, complement, weight, minus, HasVertex, IsMinimumCut}
-use Rattle.cut_definitions.specs.Chain.{IsJoined}
+use Rattle.cut_definitions.specs.Chain.{IsJoined, listed_upto}
 use Rattle.cut_definitions.specs.Components.{IsConnected}
-use Rattle.residual_chain.specs.Residuals.{IsClosed}
+use Rattle.arc_search.specs.Closed.{IsClosed}
 use Rattle.region_flow.specs.Inflow.{IsAround}
 use Rattle.region_flow.specs.Parted.{AreLightParts}
-use Rattle.region_flow.specs.Growing.{IsMember, IsPartOf, listed_upto}
+use Rattle.region_flow.specs.Growing.{IsMember, IsPartOf}
 use Rattle.region_parts.specs.Sides.{IsNested, IsListed}
 
 -- what is known of a region and t: t is joined to a vertex outside, and the amount is the least weight of a cut

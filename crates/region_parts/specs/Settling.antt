@@ -5,7 +5,7 @@ use Rattle.weighted_graph.specs.Searches.{is_seen}
 use Rattle.region_flow.specs.Regions.{RegionState}
 use Rattle.region_parts.specs.declared.side.Side.{Side}
 use Rattle.region_parts.specs.declared.splitter.Splitter.{Splitter}
-use Rattle.region_parts.specs.Found.{SearchState, IsSearch}
+use Rattle.arc_search.specs.Found.{SearchState, IsSearch}
 use Rattle.region_parts.specs.Sided.{goes_from, other_side, stops}
 use Rattle.region_parts.specs.Split.{half_of}
 

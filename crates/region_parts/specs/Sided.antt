@@ -4,15 +4,16 @@ use Rattle.std.proofs.Common.{refl}
 use Rattle.std.proofs.lemmas.Bool.{false≢true}
 use Rattle.cut_definitions.specs.Graph.{Graph}
 use Rattle.cut_definitions.specs.Weight.{VertexSet}
-use Rattle.residual_chain.specs.declared.direction.Direction.{Direction}
-use Rattle.residual_chain.specs.declared.direction.Direction.TheVariants.{Along, Against}
+use Rattle.arc_search.specs.declared.direction.Direction.{Direction}
+use Rattle.arc_search.specs.declared.direction.Direction.TheVariants.{Along, Against}
 use Rattle.region_flow.specs.Regions.{RegionState}
 use Rattle.region_parts.specs.declared.side.Side.{Side}
 use Rattle.region_parts.specs.declared.side.Side.TheVariants.{Inner, Outer}
 use Rattle.region_parts.specs.Steps.{steps_in}
-use Rattle.region_flow.specs.Growing.{IsMember, listed_upto}
+use Rattle.region_flow.specs.Growing.{IsMember}
+use Rattle.cut_definitions.specs.Chain.{listed_upto}
 use Rattle.region_parts.specs.Sides.{IsListed}
-use Rattle.region_parts.specs.Listing.{ListingState, IsKept, IsBordered}
+use Rattle.arc_search.specs.Listing.{ListingState, IsKept, IsBordered}
 use Rattle.region_parts.specs.Regional.{IsRest, BringsHub, ComesWithHub, outer_turn, HoldsAround}
 use Rattle.region_parts.specs.Taking.{IsSearched}
 

@@ -1,8 +1,8 @@
 -- Nested sets of one kind, from the least on: each is all parts up to one.
 use Rattle.std.specs.Prelude.{ℕ, ◌≡◌, ◌==◌, ◌<◌, ◌≤◌, ◌⊎◌, IsTrue}
 use Rattle.cut_definitions.specs.Weight.{VertexSet, minus, HasVertex}
-use Rattle.cut_definitions.specs.Chain.{SameOn, IsWithin}
-use Rattle.region_flow.specs.Growing.{IsPartOf, listed_upto}
+use Rattle.cut_definitions.specs.Chain.{SameOn, IsWithin, listed_upto}
+use Rattle.region_flow.specs.Growing.{IsPartOf}
 
 -- of two sets of the kind one has all of the other
 abbrev pub IsNested : ℕ → (VertexSet → Type 0) → Type 0

@@ -4,17 +4,18 @@ use Rattle.std.specs.List.{Contains}
 use Rattle.cut_definitions.specs.Graph.{Graph}
 use Rattle.cut_definitions.specs.Weight.{VertexSet}
 use Rattle.weighted_graph.specs.Searches.{is_seen}
-use Rattle.region_flow.specs.Regions.{RegionState, IsOpenAt}
+use Rattle.region_flow.specs.Regions.{RegionState}
+use Rattle.cut_definitions.specs.Regions.{IsOpenAt}
 use Rattle.region_parts.specs.declared.side.Side.{Side}
 use Rattle.region_parts.specs.declared.side.Side.TheVariants.{Inner, Outer}
 use Rattle.region_parts.specs.declared.hub.Hub.{Hub}
 use Rattle.region_parts.specs.declared.hub.Hub.TheVariants.{Outside, At}
 use Rattle.region_parts.specs.declared.splitter.Splitter.{Splitter}
-use Rattle.region_parts.specs.Found.{IsNoneFound, IsQuiet, IsSearch}
-use Rattle.region_flow.specs.Growing.{listed_upto}
-use Rattle.region_parts.specs.Fronts.{FrontsState, IsCovered}
+use Rattle.arc_search.specs.Found.{IsNoneFound, IsQuiet, IsSearch}
+use Rattle.cut_definitions.specs.Chain.{listed_upto}
+use Rattle.region_fronts.specs.Fronts.{FrontsState, IsCovered}
 use Rattle.region_parts.specs.Hubs.{IsHubSearch, hub_vertex}
-use Rattle.region_parts.specs.Listing.{ListingState, HasMore, IsNothingListed}
+use Rattle.arc_search.specs.Listing.{ListingState, HasMore, IsNothingListed}
 use Rattle.region_parts.specs.Regional.{outer_turn}
 use Rattle.region_parts.specs.Sided.{AreHalves, IsGood, IsRegionOf, IsSettled, fed_in, goes_from, other_side, stops}
 

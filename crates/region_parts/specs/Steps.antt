@@ -5,10 +5,10 @@ use Rattle.cut_definitions.specs.Graph.{Graph, IsGraph}
 use Rattle.cut_definitions.specs.Weight.{VertexSet}
 use Rattle.weighted_graph.specs.declared.graph.Arc.{Arc}
 use Rattle.weighted_graph.specs.Rows.{row_of}
-use Rattle.max_flow.specs.Closed.{residual_on}
-use Rattle.residual_chain.specs.declared.direction.Direction.{Direction}
-use Rattle.residual_chain.specs.declared.direction.Direction.TheVariants.{Along, Against}
-use Rattle.residual_chain.specs.Residuals.{IsClosed}
+use Rattle.residual_arcs.specs.Closed.{residual_on}
+use Rattle.arc_search.specs.declared.direction.Direction.{Direction}
+use Rattle.arc_search.specs.declared.direction.Direction.TheVariants.{Along, Against}
+use Rattle.arc_search.specs.Closed.{IsClosed}
 use Rattle.region_flow.specs.Regions.{RegionState}
 use Rattle.region_flow.specs.Inflow.{IsAround, IsClosedAround}
 use Rattle.region_flow.specs.Tree.{residual_back}

@@ -1,12 +1,13 @@
 -- What searches from both sides of a region show, where steps along the arcs are those against them the other way.
 use Rattle.std.specs.Prelude.{ℕ, Bool, ◌≡◌, ◌≢◌, ◌==◌, ◌+◌, ◌<◌, ◌≤◌, ◌↔◌, false, if◌then◌else◌, List, slice_index, IsTrue}
 use Rattle.cut_definitions.specs.Graph.{Graph}
-use Rattle.cut_definitions.specs.Weight.{VertexSet, HasVertex}
-use Rattle.residual_chain.specs.Residuals.{IsClosed}
+use Rattle.cut_definitions.specs.Weight.{VertexSet}
+use Rattle.arc_search.specs.Closed.{IsClosed}
 use Rattle.region_flow.specs.Inflow.{IsStopReached}
-use Rattle.region_flow.specs.Growing.{IsMember, listed_upto}
+use Rattle.region_flow.specs.Growing.{IsMember}
 use Rattle.region_parts.specs.Sides.{IsListed}
 use Rattle.region_parts.specs.Regional.{IsAtBorder, IsRest, AreClosedSets, BringsHub, ComesWithHub}
+use Rattle.arc_search.specs.Further.{AreFurther}
 
 -- a region as searches see it
 pub record IsSearched (g : Graph) (labels feed : List ℕ) (t amount : ℕ) (against along : ℕ → ℕ → Bool) : Type 0 where
@@ -46,17 +47,6 @@ LawOfFirstOuter = (g : Graph) (labels feed : List ℕ) (t amount : ℕ) (against
     (found : VertexSet) → IsWhatIsFed labels feed t along found → (outer : ℕ → ℕ) →
     ((v : ℕ) → outer v ≡ (if slice_index labels v == slice_index labels t then (if found v then 1 else 0) else 1)) →
     IsListed g.vertices (IsRest g labels t amount) outer 1
-
--- further parts of closed sets, as a path-based search gives them
-pub record AreFurther (n : ℕ) (goes : ℕ → ℕ → Bool) (old new : ℕ → ℕ) (count last : ℕ) : Type 0 where
-  pub more : count ≤ last
-  pub kept : (v : ℕ) → 1 ≤ old v → new v ≡ old v
-  pub after : (v : ℕ) → old v ≡ 0 → 1 ≤ new v → count < new v
-  pub to_last : (v : ℕ) → new v ≤ last
-  pub within : (v : ℕ) → count < new v → (1 ≤ v) × (v ≤ n)
-  pub none_empty : (j : ℕ) → count < j → j ≤ last → HasVertex n (λ v. new v == j)
-  pub closed : (j : ℕ) → count < j → j ≤ last → IsClosed goes (listed_upto new j)
-  pub whole : (x : VertexSet) → IsClosed goes x → (u v : ℕ) → count < new u → new v ≡ new u → IsTrue (x u) → IsTrue (x v)
 
 abbrev pub LawOfFurtherInner : Type 0
 LawOfFurtherInner = (g : Graph) (labels feed : List ℕ) (t amount : ℕ) (against along : ℕ → ℕ → Bool) → IsSearched g labels feed t amount against along →

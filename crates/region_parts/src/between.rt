@@ -1,12 +1,12 @@
 //! What is left between the lists of the two sides.
 
-ghost use Rattle.std.specs.Prelude.{◌≡◌, ◌≢◌, ◌+◌, ◌<◌, ◌≤◌, ◌⊎◌, ℕ, true, false, None, IfOk, IfSome, OnOk, IsTrue, IsFalse, length, slice_get, slice_index};
+ghost use Rattle.std.specs.Prelude.{◌≡◌, ◌+◌, ◌<◌, ◌≤◌, ◌⊎◌, ℕ, true, false, None, IfOk, IfSome, OnOk, IsTrue, IsFalse, length, slice_get, slice_index};
 ghost use Rattle.std.specs.List.{Contains};
 ghost use Rattle.region_flow.specs.Regions.{IsRegionFlow};
 ghost use Rattle.region_parts.specs.declared.side.Side.TheVariants.{Outer};
 ghost use Rattle.region_parts.specs.declared.hub.Hub.TheVariants.{At};
-ghost use Rattle.region_parts.specs.Found.{IsNoneFound};
-ghost use Rattle.region_parts.specs.Fronts.{list_at};
+ghost use Rattle.arc_search.specs.Found.{IsNoneFound};
+ghost use Rattle.region_fronts.specs.Fronts.{list_at};
 ghost use Rattle.region_parts.specs.Hubs.{HaveBegun};
 ghost use Rattle.region_flow.specs.Parted.{AreLightParts};
 ghost use Rattle.region_parts.specs.Passed.{ArePassed, IsLeft, IsPassed};
@@ -14,13 +14,13 @@ ghost use Rattle.region_parts.specs.Regional.{IsNoneBetween, two_sided};
 ghost use Rattle.region_parts.specs.Between.{IsInnerSettled, IsOuterSettled, parts_between};
 ghost use Rattle.region_parts.specs.Split.{AreAtFront, GoesOnSettling, IsBetween, IsFurther, IsHub, IsSearching, StaysListed, inner_set, outer_of, outer_set};
 
-use crate::fronts::Fronts;
 use crate::hub::Hub;
 use crate::passed::Passed;
 use crate::region::Region;
 use crate::side::Side;
 use crate::splitter::Splitter;
 use cut_definitions::NoMemory;
+use region_fronts::Fronts;
 
 /// What is left between the lists of the two sides.
 #[derive(Clone, Copy, Debug, PartialEq, Eq)]

@@ -1,25 +1,22 @@
 //! The search from the hub of what is left between two lists.
 
-ghost use Rattle.std.specs.Prelude.{◌≡◌, ◌≢◌, ◌+◌, ◌<◌, ◌≤◌, ◌^◌, ℕ, List, IfOk, IsTrue, take, length, slice_index, true, false};
-ghost use Rattle.cut_definitions.specs.Graph.{IsGraph};
-ghost use Rattle.region_flow.specs.Regions.{IsRegionFlow};
-ghost use Rattle.cut_definitions.specs.Graph.{Graph};
-ghost use Rattle.region_flow.specs.Regions.{RegionState};
+ghost use Rattle.std.specs.Prelude.{◌≡◌, ◌+◌, ◌<◌, ◌≤◌, ◌^◌, ℕ, List, IfOk, IsTrue, take, length, slice_index, true, false};
+ghost use Rattle.cut_definitions.specs.Graph.{IsGraph, Graph};
+ghost use Rattle.region_flow.specs.Regions.{IsRegionFlow, RegionState};
 ghost use Rattle.region_parts.specs.declared.side.Side.{Side};
 ghost use Rattle.region_parts.specs.declared.side.Side.TheVariants.{Outer};
 ghost use Rattle.region_parts.specs.declared.hub.Hub.TheVariants.{Outside, At};
 ghost use Rattle.weighted_graph.specs.Searches.{is_seen};
-ghost use Rattle.region_parts.specs.Found.{IsNoneFound};
-ghost use Rattle.region_parts.specs.Fronts.{list_at};
+ghost use Rattle.arc_search.specs.Found.{IsNoneFound};
+ghost use Rattle.region_fronts.specs.Fronts.{list_at};
 ghost use Rattle.region_parts.specs.Sided.{fed_in};
 ghost use Rattle.region_parts.specs.Hubs.{HaveBegun, HasAll, HubGoesOn, IsHubSearch, KeepsFrontsFor};
 
-use crate::fronts::Fronts;
-use crate::halts::NoHalts;
 use crate::region::{Region, STEP};
-use crate::search::{Reached, Search};
 use crate::side::Side;
+use arc_search::{NoHalts, Reached, Search};
 use cut_definitions::NoMemory;
+use region_fronts::Fronts;
 use std::alloc::Global;
 
 /// The vertex, or all outside the region, that the part between two lists has.
@@ -106,7 +103,7 @@ impl HubSearch {
             IsHubSearch Outer region.entry.graph.now region.entry.flow.now region.entry.t turns self.new }
     {
         for _ in 0..STEP {
-            match fronts.read(region.flow, region.label(), self.place) {
+            match fronts.read(region.labels(), region.label(), self.place) {
                 None => return true,
                 Some(v) => self.look_at(region, v),
             }

@@ -11,23 +11,15 @@
 #![tactic(auto)]
 
 mod between;
-mod fronts;
-mod halts;
 mod hub;
 mod near;
-mod parts;
 mod passed;
 mod race;
 mod region;
 mod region_arcs;
-mod search;
 mod settling;
 mod side;
-mod side_listing;
 mod split;
 mod splitter;
-mod way;
 
-pub use fronts::{Fronts, open_beside};
-pub use parts::Parts;
 pub use splitter::Splitter;

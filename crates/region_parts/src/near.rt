@@ -1,11 +1,11 @@
 //! What halts a search from beside the list of a side.
 
-ghost use Rattle.std.specs.Prelude.{◌≡◌, ◌<◌, ◌||◌, ℕ, true, length};
+ghost use Rattle.std.specs.Prelude.{◌≡◌, ◌<◌, ◌||◌, length};
 ghost use Rattle.weighted_graph.specs.Searches.{is_seen};
 ghost use Rattle.region_parts.specs.Sided.{stops, stops_halt};
 
-use crate::halts::Halts;
 use crate::side::Side;
+use arc_search::Halts;
 use region_flow::RegionFlow;
 
 /// What halts a search of a side: what always does, what is known to lead to the hub or to come from it, and what the search

@@ -4,14 +4,14 @@
 //! along what is listed.
 
 ghost use Rattle.std.specs.Prelude.{◌≡◌, ◌+◌, ◌<◌, IfSome, IsTrue, IsFalse, length, slice_get, slice_index};
-ghost use Rattle.region_parts.specs.Fronts.{list_at};
+ghost use Rattle.region_fronts.specs.Fronts.{list_at};
 ghost use Rattle.region_parts.specs.Passed.{ArePassed, IsFrontPassed, IsLeft, IsListedIn, IsPassed};
 ghost use Rattle.region_parts.specs.Split.{half_of, AreAtFront, IsBetween};
 
-use crate::fronts::Fronts;
 use crate::region::Region;
 use crate::side::Side;
 use crate::splitter::Splitter;
+use region_fronts::Fronts;
 
 /// How many vertices at the start of the lists of those beside what is listed, from both sides, and of the front are known
 /// to be listed by now.
@@ -67,7 +67,7 @@ impl Splitter {
             return from;
         }
         let mut place = from;
-        'front: while let Some(v) = fronts.read(region.flow, region.label(), place) {
+        'front: while let Some(v) = fronts.read(region.labels(), region.label(), place) {
             if self.is_left(region, v) {
                 return place;
             }

@@ -1,22 +1,22 @@
 //! A race between a search from beside a list and that of the hub.
 
-ghost use Rattle.std.specs.Prelude.{◌≡◌, ◌≢◌, ◌+◌, ◌-◌, ◌<◌, ◌≤◌, ◌⊎◌, ℕ, length, slice_index, true};
+ghost use Rattle.std.specs.Prelude.{◌≡◌, ◌+◌, ◌-◌, ◌<◌, ◌≤◌, ◌⊎◌, ℕ, length, slice_index, true};
 ghost use Rattle.cut_definitions.specs.Graph.{IsGraph};
 ghost use Rattle.cut_definitions.specs.Weight.{VertexSet};
 ghost use Rattle.weighted_graph.specs.Searches.{is_seen};
 ghost use Rattle.region_flow.specs.Regions.{IsRegionFlow};
 ghost use Rattle.region_parts.specs.declared.hub.Hub.TheVariants.{Outside};
-ghost use Rattle.region_parts.specs.Found.{IsSearch, IsQuiet, GoesOn};
-ghost use Rattle.region_parts.specs.Fronts.{list_at};
+ghost use Rattle.arc_search.specs.Found.{IsSearch, IsQuiet, GoesOn};
+ghost use Rattle.region_fronts.specs.Fronts.{list_at};
 ghost use Rattle.region_parts.specs.Hubs.{HaveBegun, HasAll, HubGoesOn, IsHubSearch, KeepsFrontsFor};
 ghost use Rattle.region_parts.specs.Sided.{goes_from, other_side, stops};
 
-use crate::fronts::Fronts;
 use crate::hub::HubSearch;
 use crate::near::NearHalts;
 use crate::region::{Region, STEP};
-use crate::search::{Reached, Search};
 use crate::side::Side;
+use arc_search::{Reached, Search};
+use region_fronts::Fronts;
 
 /// How many arcs the search from beside a list looks at before that of the hub begins, which often ends at once. It looks at
 /// more each time, up to `STEP`. A search that finds no more than a short row is done in the first step, and does not pause.

@@ -28,6 +28,13 @@ impl<'a> Region<'a> {
         self.flow.label(self.t)
     }
 
+    /// The labels of all vertices.
+    pub fn labels(self) -> &'a [u32]
+        ensures { result.now ≡ self.entry.flow.now.labels }
+    {
+        self.flow.labels()
+    }
+
     /// Whether a vertex other than `t` is fed.
     pub fn is_fed(self, v: u32) -> bool
         requires { v < length self.flow.now.feed }

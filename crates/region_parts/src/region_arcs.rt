@@ -2,16 +2,13 @@
 
 ghost use Rattle.std.specs.Prelude.{◌≡◌, ◌*◌, ◌<◌, ◌≤◌, ◌^◌, length, slice_index};
 ghost use Rattle.cut_definitions.specs.Graph.{IsGraph};
-ghost use Rattle.weighted_graph.specs.Rows.{row_of};
-ghost use Rattle.max_flow.specs.Flow.{arc_at};
-ghost use Rattle.max_flow.specs.Closed.{residual_on};
+ghost use Rattle.weighted_graph.specs.Rows.{row_of, arc_at};
 ghost use Rattle.region_flow.specs.Regions.{IsRegionFlow};
-ghost use Rattle.region_flow.specs.Tree.{residual_back};
 ghost use Rattle.region_parts.specs.Steps.{amount_in, is_open_in, steps_in};
 ghost use Rattle.region_parts.specs.RegionRows.{HasArcs-region};
 
+use arc_search::{Direction, StepArcs};
 use region_flow::RegionFlow;
-use residual_chain::{Direction, StepArcs};
 use weighted_graph::{Arc, Graph};
 
 /// The arcs inside the regions of a flow that can still carry something, taken along or against them.

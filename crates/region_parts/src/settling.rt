@@ -3,23 +3,24 @@
 ghost use Rattle.std.specs.Prelude.{◌≡◌, ◌≢◌, ◌+◌, ◌<◌, ◌≤◌, ◌^◌, ◌⊎◌, ℕ, true, IfOk, IfSome, OnOk, IsTrue, IsFalse, length, slice_get, slice_index};
 ghost use Rattle.std.specs.List.{Contains};
 ghost use Rattle.weighted_graph.specs.Searches.{is_seen};
-ghost use Rattle.region_flow.specs.Regions.{IsRegionFlow, IsOpenAt};
+ghost use Rattle.region_flow.specs.Regions.{IsRegionFlow};
+ghost use Rattle.cut_definitions.specs.Regions.{IsOpenAt};
 ghost use Rattle.region_parts.specs.declared.side.Side.TheVariants.{Outer};
-ghost use Rattle.region_parts.specs.Found.{IsNoneFound, IsQuiet};
-ghost use Rattle.region_parts.specs.Fronts.{list_at};
+ghost use Rattle.arc_search.specs.Found.{IsNoneFound, IsQuiet};
+ghost use Rattle.region_fronts.specs.Fronts.{list_at};
 ghost use Rattle.region_parts.specs.Hubs.{HasAll, HaveBegun, KeepsFrontsFor};
 ghost use Rattle.region_parts.specs.Passed.{IsFrontPassed, IsPassed};
 ghost use Rattle.region_parts.specs.Settling.{IsBeside, HasMet};
 ghost use Rattle.region_parts.specs.Sided.{stops};
 ghost use Rattle.region_parts.specs.Split.{half_of, AreAtFront, GoesOnSettling, IsSearching, IsSettledIn};
 
-use crate::fronts::Fronts;
 use crate::race::{Race, run_race};
 use crate::region::Region;
 use crate::side::Side;
 use crate::splitter::Splitter;
-use crate::way::mark_way;
+use arc_search::mark_way;
 use cut_definitions::NoMemory;
+use region_fronts::Fronts;
 
 /// Whether a race settled the vertex that it began from: the search of the hub did not end it.
 fn has_settled(race: Race) -> bool
@@ -223,7 +224,7 @@ impl Splitter {
         ensures ended { IfOk result (λ done. IsFalse done → HasAll (list_at fronts.new.lists (slice_index region.entry.flow.now.labels region.entry.t)) self.new.hub) }
     {
         let mut place = from;
-        'front: while let Some(v) = fronts.read(region.flow, region.label(), place) {
+        'front: while let Some(v) = fronts.read(region.labels(), region.label(), place) {
             if !self.settle(region, fronts, Side::Outer, v)? {
                 return Ok(false);
             }

@@ -3,7 +3,7 @@
 ghost use Rattle.std.specs.Prelude.{◌≡◌};
 ghost use Rattle.region_parts.specs.Sided.{direction_of, other_side};
 
-use residual_chain::Direction;
+use arc_search::Direction;
 
 /// From which side the parts of a region around `t` are listed.
 #[derive(Clone, Copy, Debug, PartialEq, Eq)]

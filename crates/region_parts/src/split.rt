@@ -11,30 +11,30 @@ ghost use Rattle.std.specs.List.{Contains};
 ghost use Rattle.cut_definitions.specs.Components.{IsConnected};
 ghost use Rattle.cut_definitions.specs.Weight.{VertexSet, weight, IsMinimumCut};
 ghost use Rattle.weighted_graph.specs.Searches.{is_seen};
-ghost use Rattle.region_flow.specs.Regions.{IsRegionFlow, IsOpenAt};
+ghost use Rattle.region_flow.specs.Regions.{IsRegionFlow};
+ghost use Rattle.cut_definitions.specs.Regions.{IsOpenAt};
 ghost use Rattle.region_flow.specs.Inflow.{IsStopReached};
 ghost use Rattle.region_parts.specs.Between.{parts_between};
 ghost use Rattle.region_parts.specs.FirstRace.{IsFirstRace};
-ghost use Rattle.region_parts.specs.Found.{IsNoneFound};
-ghost use Rattle.region_parts.specs.Fronts.{IsCovered};
-ghost use Rattle.region_parts.specs.Listing.{IsKept};
-ghost use Rattle.region_parts.specs.Listed.{AreListed, part_in};
+ghost use Rattle.arc_search.specs.Found.{IsNoneFound};
+ghost use Rattle.region_fronts.specs.Fronts.{IsCovered};
+ghost use Rattle.arc_search.specs.Listing.{IsKept};
+ghost use Rattle.region_fronts.specs.Listed.{AreListed, part_in};
 ghost use Rattle.region_flow.specs.Parted.{AreLightParts};
 ghost use Rattle.region_parts.specs.Regional.{two_sided};
 ghost use Rattle.region_parts.specs.Sided.{IsRegionOf};
 ghost use Rattle.region_parts.specs.Split.{AreAtFront, IsBetween, IsReady, outer_of};
 
 use crate::between::Between;
-use crate::fronts::Fronts;
 use crate::hub::Hub;
-use crate::parts::Parts;
 use crate::race::{Race, run_race};
 use crate::region::Region;
 use crate::side::Side;
-use crate::side_listing::Listing;
 use crate::splitter::Splitter;
+use arc_search::Listing;
 use cut_definitions::NoMemory;
 use region_flow::RegionFlow;
+use region_fronts::{Fronts, Parts};
 use weighted_graph::Graph;
 
 /// How many parts are left between the lists.
@@ -131,7 +131,7 @@ impl Splitter {
             Race::Met => Ok(false),
             Race::Ended => {
                 self.inner
-                    .take_first(region.graph, region.flow, self.near.found())?;
+                    .take_first(region.graph, region.labels(), self.near.found())?;
                 Ok(true)
             }
             Race::HubEnded => {
@@ -139,7 +139,7 @@ impl Splitter {
                     return Ok(false);
                 }
                 self.outer
-                    .take_first(region.graph, region.flow, self.hub.found())?;
+                    .take_first(region.graph, region.labels(), self.hub.found())?;
                 Ok(true)
             }
         }

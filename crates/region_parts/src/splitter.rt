@@ -9,11 +9,9 @@ ghost use Rattle.region_parts.specs.Split.{half_of, IsBetween, IsEnded, IsReady,
 
 use crate::hub::HubSearch;
 use crate::region::Region;
-use crate::search::Search;
 use crate::side::Side;
-use crate::side_listing::{Listing, unmark};
+use arc_search::{Listing, PathMemory, Search, unmark};
 use cut_definitions::NoMemory;
-use residual_chain::PathMemory;
 use std::alloc::Global;
 
 /// The memory of splits, and what is known of the region that is split.
@@ -99,12 +97,20 @@ impl Splitter {
         let arcs = region.arcs(side);
         let found = self.near.found();
         match side {
-            Side::Inner => self
-                .inner
-                .take(region.graph, region.flow, &arcs, &mut self.memory, found),
-            Side::Outer => self
-                .outer
-                .take(region.graph, region.flow, &arcs, &mut self.memory, found),
+            Side::Inner => self.inner.take(
+                region.graph,
+                region.labels(),
+                &arcs,
+                &mut self.memory,
+                found,
+            ),
+            Side::Outer => self.outer.take(
+                region.graph,
+                region.labels(),
+                &arcs,
+                &mut self.memory,
+                found,
+            ),
         }
     }
 
@@ -125,17 +131,25 @@ impl Splitter {
         let found = self.hub.found();
         match side {
             Side::Inner if self.inner.count() == 0 => {
-                self.inner.take_first(region.graph, region.flow, found)
+                self.inner.take_first(region.graph, region.labels(), found)
             }
-            Side::Inner => self
-                .inner
-                .take(region.graph, region.flow, &arcs, &mut self.memory, found),
+            Side::Inner => self.inner.take(
+                region.graph,
+                region.labels(),
+                &arcs,
+                &mut self.memory,
+                found,
+            ),
             Side::Outer if self.outer.count() == 0 => {
-                self.outer.take_first(region.graph, region.flow, found)
+                self.outer.take_first(region.graph, region.labels(), found)
             }
-            Side::Outer => self
-                .outer
-                .take(region.graph, region.flow, &arcs, &mut self.memory, found),
+            Side::Outer => self.outer.take(
+                region.graph,
+                region.labels(),
+                &arcs,
+                &mut self.memory,
+                found,
+            ),
         }
     }
 }

@@ -23,7 +23,7 @@ use Rattle.region_sweep.specs.declared.sweep.Sweep.{Sweep}
 use Rattle.region_parts.specs.Covered.{IsRefined}
 use Rattle.node_tree.specs.Finished.{IsFinished, arrays_of}
 use Rattle.node_tree.specs.Flat.{NodeArrays, TreeLinks}
-use Rattle.region_parts.specs.Fronts.{AreFew, FrontsState, KeepsAll, HasEnds}
+use Rattle.region_fronts.specs.Fronts.{AreFew, FrontsState, KeepsAll, HasEnds}
 use Rattle.node_tree.specs.Grafted.{AreRehomed, IsGrafted, grafted_at}
 use Rattle.node_tree.specs.Homes.{HomesState}
 use Rattle.region_sweep.specs.Regrouping.{KeepsFeed}

@@ -5,7 +5,7 @@ use Rattle.std.proofs.lemmas.Bool.{cases_eq, eq-eqb, ne_eqb, lt-ltb, le-ltb}
 use Rattle.std.proofs.lemmas.List.{get_or-set_same, get_or-set_other, length-set}
 use Rattle.node_tree.specs.Homes.{HomesState, AreNumbered, home_of}
 use Rattle.node_tree.specs.Hung.{IsPartAlone, IsRegrouped}
-use Rattle.region_parts.specs.Listed.{PartsState, AreListed, part_in}
+use Rattle.region_fronts.specs.Listed.{PartsState, AreListed, part_in}
 use Rattle.region_sweep.specs.Regrouping.{AreNumberedAround, KeepsLengths, IsAmong, ArePlaced}
 use Rattle.node_tree.specs.Sweeping.{IsFiner}
 use Rattle.region_sweep.proofs.Labelling.{around_lowered, around_end}

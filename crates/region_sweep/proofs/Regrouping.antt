@@ -8,7 +8,7 @@ use Rattle.cut_definitions.specs.Cuts.{has}
 use Rattle.cut_definitions.proofs.ListLaws.{labelled_to_n}
 use Rattle.region_flow.specs.CutOff.{MayBeCutOff, relabelled}
 use Rattle.node_tree.specs.Homes.{HomesState, home_of}
-use Rattle.region_parts.specs.Listed.{IsPartList}
+use Rattle.region_fronts.specs.Listed.{IsPartList}
 use Rattle.region_sweep.specs.Regrouping.{AreNumberedAround, IsLarge, IsPlaced, IsAmong, ArePlaced}
 use Rattle.region_sweep.proofs.Labelling.{IsLowered, around_lowered, around_fresh}
 

@@ -9,15 +9,15 @@ use Rattle.cut_definitions.specs.Weight.{IsCut}
 use Rattle.cut_definitions.proofs.ListLaws.{labelled_to_n}
 use Rattle.region_flow.specs.Inflow.{IsStopReached}
 use Rattle.node_tree.specs.Flat.{TreeLinks, AreNodes, AreLinked}
-use Rattle.region_parts.specs.Fronts.{FrontsState, IsCovered, KeepsAll, HasEnds}
+use Rattle.region_fronts.specs.Fronts.{FrontsState, IsCovered, KeepsAll, HasEnds}
 use Rattle.node_tree.specs.Homes.{HomesState, home_of}
 use Rattle.node_tree.specs.Hung.{IsRegrouped}
-use Rattle.region_parts.specs.Listed.{PartsState, part_in}
+use Rattle.region_fronts.specs.Listed.{PartsState, part_in}
 use Rattle.region_flow.specs.Parted.{AreLightParts}
 use Rattle.node_tree.specs.Sweeping.{IsSweeping, IsFiner}
 use Rattle.region_sweep.specs.UnderWay.{IsLeastWeight, nodes_of}
 use Rattle.region_parts.proofs.Covering.{covering}
-use Rattle.region_parts.proofs.FrontLists.{ends_kept}
+use Rattle.region_fronts.proofs.FrontLists.{ends_kept}
 use Rattle.region_sweep.proofs.Regrouping.{home_entered, home_outside, home_same}
 use Rattle.region_sweep.proofs.Sweeps.{sweep_start, sweep_entering, sweep_splitting}
 

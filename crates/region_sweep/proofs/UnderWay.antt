@@ -6,16 +6,17 @@ use Rattle.std.specs.Vec.{with_items}
 use Rattle.std.proofs.lemmas.List.{length-set, with_items_is, get_or-set_same, get_or-set_other}
 use Rattle.cut_definitions.specs.Graph.{Graph, IsGraph}
 use Rattle.region_flow.specs.Inflow.{IsStopReached}
-use Rattle.region_flow.specs.Regions.{RegionState, IsRegionFlow, IsOpenAt}
+use Rattle.region_flow.specs.Regions.{RegionState, IsRegionFlow}
+use Rattle.cut_definitions.specs.Regions.{IsOpenAt}
 use Rattle.region_parts.specs.declared.splitter.Splitter.{Splitter}
 use Rattle.region_sweep.specs.declared.supply.Supply.{Supply}
 use Rattle.region_sweep.specs.declared.surplus.Surplus.{Surplus}
 use Rattle.region_sweep.specs.declared.sweep.Sweep.{Sweep}
 use Rattle.region_parts.specs.Covered.{IsRefined}
 use Rattle.node_tree.specs.Flat.{TreeLinks}
-use Rattle.region_parts.specs.Fronts.{FrontsState, AreFew, IsCovered, KeepsAll, HasEnds}
+use Rattle.region_fronts.specs.Fronts.{FrontsState, AreFew, IsCovered, KeepsAll, HasEnds}
 use Rattle.node_tree.specs.Homes.{HomesState, AreNumbered, home_of}
-use Rattle.region_parts.specs.Listed.{PartsState, AreListed}
+use Rattle.region_fronts.specs.Listed.{PartsState, AreListed}
 use Rattle.region_sweep.specs.Regrouping.{KeepsFeed, KeepsLengths}
 use Rattle.region_parts.specs.Split.{IsReady}
 use Rattle.node_tree.specs.Sweeping.{IsSweeping}

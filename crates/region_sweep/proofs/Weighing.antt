@@ -21,8 +21,8 @@ use Rattle.weighted_graph.specs.Rows.{row_of}
 use Rattle.weighted_graph.proofs.RowLaws.{weight_to_is}
 use Rattle.region_flow.proofs.Least.{placed_at}
 use Rattle.region_flow.specs.Parted.{later_parts}
-use Rattle.region_parts.specs.Searched.{is_listed}
-use Rattle.region_parts.specs.Listed.{PartsState, part_in, IsPartList, AreListed}
+use Rattle.arc_search.specs.Searched.{is_listed}
+use Rattle.region_fronts.specs.Listed.{PartsState, part_in, IsPartList, AreListed}
 use Rattle.node_tree.specs.Weighed.{counts_at, arc_adds, weighed_by, listed_below, AreWeighed, AreWeights}
 
 -- ---- the row of one vertex more

@@ -1,7 +1,8 @@
 -- What a split does to the labels and the homes of the vertices of its parts.
 use Rattle.std.specs.Prelude.{ℕ, ◌≡◌, ◌≢◌, ◌+◌, ◌<◌, ◌≤◌, ◌⊎◌, List, length, slice_index}
 use Rattle.cut_definitions.specs.Graph.{Graph}
-use Rattle.region_flow.specs.Regions.{RegionState, IsOpenAt}
+use Rattle.region_flow.specs.Regions.{RegionState}
+use Rattle.cut_definitions.specs.Regions.{IsOpenAt}
 use Rattle.node_tree.specs.Homes.{HomesState, home_of}
 
 -- labels while a region is split: the same, but t, which enters last, owns the label of the region whatever its own label is

@@ -6,7 +6,7 @@ use Rattle.region_flow.specs.Regions.{RegionState, IsRegionFlow}
 use Rattle.region_sweep.specs.declared.sweep.Sweep.{Sweep}
 use Rattle.region_parts.specs.Covered.{FedAreOpen}
 use Rattle.node_tree.specs.Flat.{NodeArrays, TreeLinks}
-use Rattle.region_parts.specs.Fronts.{FrontsState, IsCovered}
+use Rattle.region_fronts.specs.Fronts.{FrontsState, IsCovered}
 use Rattle.node_tree.specs.Homes.{AreNumbered, HomesState, home_of}
 use Rattle.region_parts.specs.Split.{IsReady}
 use Rattle.node_tree.specs.Sweeping.{IsSweeping}

@@ -5,13 +5,13 @@ ghost use Rattle.region_flow.specs.Regions.{IsRegionFlow};
 ghost use Rattle.region_parts.specs.Covered.{IsRefined};
 ghost use Rattle.node_tree.specs.Homes.{AreNumbered, home_of};
 ghost use Rattle.node_tree.specs.Hung.{IsRegrouped};
-ghost use Rattle.region_parts.specs.Listed.{AreListed, IsPartList, part_in, part_list};
+ghost use Rattle.region_fronts.specs.Listed.{AreListed, IsPartList, part_in, part_list};
 ghost use Rattle.region_sweep.specs.Regrouping.{AreNumberedAround, ArePlaced, IsPlaced, KeepsFeed, KeepsLengths};
 ghost use Rattle.node_tree.specs.Sweeping.{IsFiner};
 
 use node_tree::Homes;
 use region_flow::RegionFlow;
-use region_parts::Parts;
+use region_fronts::Parts;
 use weighted_graph::Graph;
 
 /// The part that all vertices outside the region are in too.

@@ -8,7 +8,7 @@ ghost use Rattle.node_tree.specs.Grafted.{grafted_at};
 ghost use Rattle.std.specs.List.{AllPairs};
 ghost use Rattle.cut_definitions.specs.Components.{IsConnected};
 ghost use Rattle.cut_definitions.specs.Cuts.{value as least_value};
-ghost use Rattle.region_parts.specs.Listed.{part_list};
+ghost use Rattle.region_fronts.specs.Listed.{part_list};
 ghost use Rattle.region_sweep.specs.Shares.{AreShares, ArePutAway, HasLeft, HaveLeft, IsLargePart, IsSolvedShare, regions_of};
 ghost use Rattle.region_sweep.specs.UnderWay.{IsUnderWay};
 
@@ -140,7 +140,8 @@ impl Sweep {
         let _nodes = self.tree.len();
         put_away(&mut self.homes, &share.classes, &found.homes, node, count);
         self.flow.cut_off(graph, &share.own, share.region, 0);
-        self.fronts.put_all_ends(graph, &self.flow, &share.own)?;
+        self.fronts
+            .put_all_ends(graph, self.flow.labels(), &share.own)?;
         Ok(())
     }
 

@@ -4,10 +4,10 @@ ghost use Rattle.std.specs.Prelude.{◌≡◌, ◌+◌, ◌≤◌, ◌∷◌, []
 ghost use Rattle.cut_definitions.specs.Components.{IsConnected};
 ghost use Rattle.cut_definitions.specs.Cuts.{value as least_value};
 ghost use Rattle.region_flow.specs.Inflow.{IsStopReached};
-ghost use Rattle.region_flow.specs.Regions.{IsOpenAt};
+ghost use Rattle.cut_definitions.specs.Regions.{IsOpenAt};
 ghost use Rattle.node_tree.specs.Finished.{IsFinished};
-ghost use Rattle.region_parts.specs.Fronts.{AreFew, HasEnds, KeepsAll};
-ghost use Rattle.region_parts.specs.Listed.{AreListed, IsPartList, part_in, part_list};
+ghost use Rattle.region_fronts.specs.Fronts.{AreFew, HasEnds, KeepsAll};
+ghost use Rattle.region_fronts.specs.Listed.{AreListed, IsPartList, part_in, part_list};
 ghost use Rattle.region_parts.specs.Split.{IsReady};
 ghost use Rattle.region_flow.specs.Parted.{AreLightParts};
 ghost use Rattle.region_sweep.specs.UnderWay.{IsLeastWeight, IsStarted, IsUnderWay};
@@ -19,7 +19,8 @@ use crate::weights::weigh_parts;
 use cut_definitions::NoMemory;
 use node_tree::{FlatTree, HomedTree, Homes, hang_parts};
 use region_flow::RegionFlow;
-use region_parts::{Fronts, Parts, Splitter, open_beside};
+use region_fronts::{Fronts, Parts, open_beside};
+use region_parts::Splitter;
 use std::alloc::Global;
 use std::thread::Threads;
 use weighted_graph::Graph;
@@ -65,7 +66,7 @@ fn put_listed(
     ensures ends { OnOk result ((v : ℕ) → 1 ≤ slice_index parts.now.numbers v → slice_index parts.now.numbers v ≤ parts.now.count → HasEnds graph.now flow.now.labels fronts.new v) }
 {
     for before in 0..parts.count() {
-        fronts.put_all_ends(graph, flow, parts.part(before + 1))?;
+        fronts.put_all_ends(graph, flow.labels(), parts.part(before + 1))?;
     }
     Ok(())
 }
@@ -79,7 +80,7 @@ fn enter_first(alloc: Global, graph: &Graph) -> Result<(RegionFlow, Fronts), NoM
     let mut flow = RegionFlow::new(alloc, graph)?;
     flow.enter(graph, ROOT);
     let mut fronts = Fronts::new(alloc, n)?;
-    fronts.put_ends(graph, &flow, ROOT)?;
+    fronts.put_ends(graph, flow.labels(), ROOT)?;
     Ok((flow, fronts))
 }
 
@@ -177,7 +178,7 @@ impl Sweep {
         ensures labels { self.new.flow.labels ≡ self.old.flow.labels }
     {
         let most = self.supply.most();
-        let Some(arc) = open_beside(graph, &self.flow, t) else {
+        let Some(arc) = open_beside(graph, self.flow.labels(), t) else {
             return false;
         };
         self.flow.feed_beside(graph, t, &arc, 1, most);
@@ -232,7 +233,7 @@ impl Sweep {
         let node = self.homes.of_region(region);
         self.homes.enter(t, node);
         self.flow.enter(graph, t);
-        self.fronts.put_ends(graph, &self.flow, t)?;
+        self.fronts.put_ends(graph, self.flow.labels(), t)?;
         Ok(())
     }
 
@@ -267,7 +268,7 @@ impl Sweep {
             self.fresh,
         );
         put_listed(graph, &self.flow, &mut self.fronts, &self.parts)?;
-        self.fronts.put_ends(graph, &self.flow, t)?;
+        self.fronts.put_ends(graph, self.flow.labels(), t)?;
         Ok(())
     }
 
@@ -280,7 +281,7 @@ impl Sweep {
         ensures some { IfSome result (IsOpenAt graph.now self.old.flow.labels) }
         ensures none { result ≡ None → (v : ℕ) → slice_index self.old.flow.labels v ≡ 0 }
     {
-        self.fronts.next(graph, &self.flow)
+        self.fronts.next(graph, self.flow.labels())
     }
 
     /// Lets `t` enter, and before that splits its region where a minimum cut inside it has `t`. It answers whether there was one.

@@ -7,12 +7,12 @@ ghost use Rattle.cut_definitions.specs.Chain.{one_part};
 ghost use Rattle.weighted_graph.specs.Rows.{row_of};
 ghost use Rattle.region_flow.specs.Regions.{IsRegionFlow};
 ghost use Rattle.region_flow.specs.Parted.{later_parts};
-ghost use Rattle.region_parts.specs.Searched.{is_listed};
-ghost use Rattle.region_parts.specs.Listed.{part_in, AreListed};
+ghost use Rattle.arc_search.specs.Searched.{is_listed};
+ghost use Rattle.region_fronts.specs.Listed.{part_in, AreListed};
 ghost use Rattle.node_tree.specs.Weighed.{arc_adds, listed_below, AreWeighed};
 
 use region_flow::RegionFlow;
-use region_parts::Parts;
+use region_fronts::Parts;
 use weighted_graph::{Arc, Graph};
 
 /// The number of the part of a vertex.

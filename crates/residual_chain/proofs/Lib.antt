@@ -1,11 +1,6 @@
 pub mod Marking
 pub mod Spreading
 pub mod Reaching
-pub mod Looking
-pub mod Stacked
-pub mod Pushed
-pub mod Divided
-pub mod Passing
 pub mod Splitting
 pub mod Against
 pub mod Growing

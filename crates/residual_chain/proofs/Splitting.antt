@@ -4,13 +4,14 @@ use Rattle.std.specs.Prelude.{◌≢◌}
 use Rattle.std.proofs.lemmas.Bool.{cases_eq, cases_lt, eq-eqb, eqb-true}
 use Rattle.cut_definitions.specs.Weight.{HasVertex}
 use Rattle.cut_definitions.specs.Chain.{SameOn, one_part}
-use Rattle.residual_chain.specs.Search.{mark_of}
-use Rattle.residual_chain.specs.Parts.{marked, marked_upto}
-use Rattle.residual_chain.specs.Paths.{SearchArcs, HasArcs}
-use Rattle.residual_chain.specs.Split.{IsToSplit, IsSplitOff, IsSplit}
-use Rattle.residual_chain.proofs.Growing.{IsClosed-agree, upto_same, upto_new, upto_all}
-use Rattle.residual_chain.proofs.Stacked.{IsPath-start}
-use Rattle.residual_chain.proofs.Divided.{IsDivided-start, IsSplitOff-end}
+use Rattle.arc_search.specs.Marks.{mark_of}
+use Rattle.arc_search.specs.Parts.{marked, marked_upto}
+use Rattle.arc_search.specs.Paths.{SearchArcs, HasArcs}
+use Rattle.arc_search.specs.Split.{IsToSplit, IsSplitOff}
+use Rattle.residual_chain.specs.Split.{IsSplit}
+use Rattle.arc_search.proofs.Agreeing.{IsClosed-agree, upto_same, upto_new, upto_all}
+use Rattle.arc_search.proofs.Stacked.{IsPath-start}
+use Rattle.arc_search.proofs.Divided.{IsDivided-start, IsSplitOff-end}
 
 -- nothing is divided yet
 pub IsSplitOff-start : (n first : ℕ) (arcs : SearchArcs) (goes : ℕ → ℕ → Bool) (old marks : List ℕ) → HasArcs n arcs goes → length old ≡ n → length marks ≡ n →

@@ -3,10 +3,11 @@ use Rattle.std.specs.Prelude.{◌≡◌, ℕ, ◌≤◌, true}
 use Rattle.cut_definitions.specs.Graph.{Graph}
 use Rattle.max_flow.specs.Flow.{FlowState}
 use Rattle.residual_chain.specs.Residuals.{leads}
-use Rattle.residual_chain.specs.declared.direction.Direction.{Direction}
-use Rattle.residual_chain.specs.declared.direction.Direction.TheVariants.{Along, Against}
+use Rattle.arc_search.specs.declared.direction.Direction.{Direction}
+use Rattle.arc_search.specs.declared.direction.Direction.TheVariants.{Along, Against}
 use Rattle.residual_chain.specs.Search.{steps, IsShown, IsSearchable}
-use Rattle.residual_chain.specs.Paths.{arcs_of_search, HasArcs}
+use Rattle.residual_chain.specs.Paths.{arcs_of_search}
+use Rattle.arc_search.specs.Paths.{HasArcs}
 
 steps_from_one : (g : Graph) (f : FlowState) → IsShown g f → (d : Direction) (u v : ℕ) → steps d (leads g f) u v ≡ true → (1 ≤ u) × (1 ≤ v)
 steps_from_one g f shown Along u v h = shown.from_one u v h

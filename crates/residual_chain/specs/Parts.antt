@@ -1,16 +1,7 @@
 -- The parts of a chain while they are found: a vertex without a part has the mark 0.
-use Rattle.std.specs.Prelude.{ℕ, ◌≡◌, ◌==◌, ◌≤◌, ◌&&◌, if◌then◌else◌, nat_lt, nat_le, List, length}
-use Rattle.cut_definitions.specs.Weight.{VertexSet}
+use Rattle.std.specs.Prelude.{ℕ, ◌≡◌, ◌==◌, ◌≤◌, if◌then◌else◌, List, length}
 use Rattle.cut_definitions.specs.Cuts.{has}
-use Rattle.residual_chain.specs.Search.{mark_of}
-
--- the vertices that have a part
-abbrev pub marked : List ℕ → VertexSet
-marked part_of v = nat_lt 0 (mark_of part_of v)
-
--- the vertices of the first parts
-abbrev pub marked_upto : List ℕ → ℕ → VertexSet
-marked_upto part_of last v = nat_lt 0 (mark_of part_of v) && nat_le (mark_of part_of v) last
+use Rattle.arc_search.specs.Marks.{mark_of}
 
 -- the vertices of the source side have part 1, and the others none
 pub record IsSourcePart (n : ℕ) (source : List ℕ) (part_of : List ℕ) : Type 0 where

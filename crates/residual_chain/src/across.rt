@@ -1,9 +1,8 @@
 //! The chain of the minimum cuts across an edge.
 
-ghost use Rattle.std.specs.Prelude.{◌≡◌, ℕ, ◌≤◌, Some, length, IfOk};
+ghost use Rattle.std.specs.Prelude.{◌≡◌, Some, IfOk};
 ghost use Rattle.cut_definitions.specs.Chain.{IsJoined};
 ghost use Rattle.cut_definitions.specs.Cuts.{value};
-ghost use Rattle.max_flow.specs.declared.outcome.BestRun.{BestRun};
 ghost use Rattle.max_flow.specs.Flow.{StandsFor};
 ghost use Rattle.residual_chain.specs.Chain.{IsChainAcross};
 

@@ -11,29 +11,19 @@
 //! 2000). They are found here in O(n + m): the last part by one search against the arcs, those between the first and the
 //! last by path-based searches that look at each arc once (Gabow, 2000), and the runs in one pass over the edges.
 //!
-//! `walk` is one of these searches, along the steps of any `StepArcs`.
+//! The path-based searches are those of `arc_search`, over the arcs of the flow.
 #![tactic(auto)]
 
 mod across;
 mod chain_of_cuts;
-mod direction;
-mod look;
 mod open_arcs;
 mod parts;
-mod path;
-mod path_memory;
 mod run;
 mod runs;
 mod search;
 mod split;
-mod step_arcs;
-mod walking;
 mod weights;
 
 pub use across::chain;
 pub use chain_of_cuts::Chain;
-pub use direction::Direction;
-pub use path_memory::PathMemory;
 pub use run::Run;
-pub use step_arcs::StepArcs;
-pub use walking::walk;

@@ -1,14 +1,14 @@
 //! The arcs that a search takes.
 
 ghost use Rattle.std.specs.Prelude.{slice_index};
-ghost use Rattle.weighted_graph.specs.Rows.{row_of};
-ghost use Rattle.max_flow.specs.Flow.{residuals_at, arc_at};
+ghost use Rattle.weighted_graph.specs.Rows.{row_of, arc_at};
+ghost use Rattle.max_flow.specs.Flow.{residuals_at};
 ghost use Rattle.residual_chain.specs.Residuals.{leads};
-ghost use Rattle.residual_chain.specs.Search.{is_open, steps, IsSearchable};
+ghost use Rattle.arc_search.specs.Directions.{is_open};
+ghost use Rattle.residual_chain.specs.Search.{steps, IsSearchable};
 ghost use Rattle.residual_chain.specs.Arcs.{HasArcs-searchable};
 
-use crate::direction::Direction;
-use crate::step_arcs::StepArcs;
+use arc_search::{Direction, StepArcs};
 use max_flow::Flow;
 use weighted_graph::{Arc, Graph};
 

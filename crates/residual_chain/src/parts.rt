@@ -1,18 +1,18 @@
 //! The parts of a chain, one after another.
 
-ghost use Rattle.std.specs.Prelude.{◌≡◌, ◌≢◌, ℕ, ◌+◌, ◌<◌, ◌≤◌, List, length, IfOk, OnOk, IsSome, MatchOption};
+ghost use Rattle.std.specs.Prelude.{◌≡◌, ◌+◌, ◌<◌, ◌≤◌, length, IfOk, OnOk, IsSome};
 ghost use Rattle.cut_definitions.specs.Chain.{IsChain, IsJoined};
 ghost use Rattle.cut_definitions.specs.Graph.{IsEdgeList};
 ghost use Rattle.residual_chain.specs.Residuals.{first_end, leads};
-ghost use Rattle.residual_chain.specs.Search.{mark_of, steps, Reaches, IsSearchable};
+ghost use Rattle.arc_search.specs.Marks.{mark_of};
+ghost use Rattle.residual_chain.specs.Search.{steps, Reaches, IsSearchable};
 ghost use Rattle.residual_chain.specs.Flow.{ShowsMinimumCuts};
 ghost use Rattle.residual_chain.specs.Parts.{IsSourcePart, IsFilled};
 
-use crate::direction::Direction;
 use crate::open_arcs::OpenArcs;
-use crate::path_memory::PathMemory;
 use crate::search::reach;
 use crate::split::split;
+use arc_search::{Direction, PathMemory};
 use cut_definitions::NoMemory;
 use max_flow::Flow;
 use std::alloc::Global;

@@ -1,13 +1,13 @@
 //! The division of all vertices without a mark into parts.
 
-ghost use Rattle.std.specs.Prelude.{◌≡◌, ◌≢◌, ℕ, ◌+◌, ◌^◌, ◌<◌, ◌≤◌, List, length, IsSome};
+ghost use Rattle.std.specs.Prelude.{◌≡◌, ◌+◌, ◌<◌, ◌≤◌, length, IsSome};
 ghost use Rattle.residual_chain.specs.Residuals.{leads};
 ghost use Rattle.residual_chain.specs.Search.{steps, IsShown};
-ghost use Rattle.residual_chain.specs.Split.{IsToSplit, IsSplit};
+ghost use Rattle.arc_search.specs.Split.{IsToSplit};
+ghost use Rattle.residual_chain.specs.Split.{IsSplit};
 
 use crate::open_arcs::OpenArcs;
-use crate::path_memory::PathMemory;
-use crate::walking::walk;
+use arc_search::{PathMemory, walk};
 
 /// Divides the vertices without a mark into parts, and answers the number of the last part.
 ///

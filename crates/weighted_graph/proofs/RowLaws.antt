@@ -4,8 +4,8 @@ use Rattle.std.specs.Prelude.{◌≢◌, if◌then◌else◌}
 use Rattle.std.specs.List.{sum_by, All, AllPairs, Contains}
 use Rattle.std.proofs.lemmas.Bool.{cases_eq, eq-eqb, ne_eqb}
 use Rattle.std.proofs.lemmas.Bool.Decides.{nat_tests}
-use Rattle.std.proofs.lemmas.List.Sums.{sum_by-cons, sum_by-append}
-use Rattle.std.proofs.lemmas.List.Elements.{All-nil, All-cons, All-head, All-tail, All-append, All-weaker, Contains-append_left, Contains-append_right}
+use Rattle.std.proofs.lemmas.List.Sums.{sum_by-cons, sum_by-append, get_or-le-sum_by}
+use Rattle.std.proofs.lemmas.List.Elements.{All-nil, All-cons, All-head, All-tail, All-append, All-weaker, Contains-append_left, Contains-append_right, All-get_or, All-same}
 use Rattle.std.proofs.lemmas.List.Kept.{AllPairs-cons}
 use Rattle.cut_definitions.specs.declared.edge_list.Edge.{Edge}
 use Rattle.cut_definitions.specs.Graph.{Graph, IsGraph, IsEdgeWithin, IsBefore}
@@ -18,7 +18,7 @@ use Rattle.cut_definitions.proofs.Lists.{Contains-here}
 use Rattle.cut_definitions.proofs.Bools.{either_le}
 use Rattle.cut_definitions.proofs.ListLaws.{AllPairs-first, AllPairs-rest, sum_by-one}
 use Rattle.weighted_graph.specs.declared.graph.Arc.{Arc}
-use Rattle.weighted_graph.specs.Rows.{arcs_of, arcs_from, row_of}
+use Rattle.weighted_graph.specs.Rows.{arcs_of, arcs_from, row_of, no_arc}
 use Rattle.weighted_graph.specs.RowLaws.{no_edge, IsArcAt, LawOfRows, LawOfEdgesInRows}
 use Rattle.weighted_graph.proofs.Rows.{cut_of-single}
 
@@ -194,3 +194,13 @@ to_term-le v a = either_le (single v a.to) a.weight
 
 pub degree-le : (g : Graph) → IsGraph g → (v : ℕ) → weight g (single v) ≤ 2 ^ 61
 degree-le g ok v = omega (arith, sum_by-le_each (cut_term (single v)) (λ (e : Edge). e.w) (λ e. cut_of-le (single v e.u) (single v e.v) e.w) g.edges, ok.total)
+
+-- an arc of a row, read by its place
+pub row_arc : (g : Graph) (row : List Arc) (v k : ℕ) → row ≡ row_of g v → k < length row → IsArcAt g v (get_or row k no_arc)
+row_arc g row v k is l = All-get_or (IsArcAt g v) row k no_arc l (All-same (IsArcAt g v) row (row_of g v) is (row_arcs g v))
+
+-- an arc weighs at most what all edges do
+pub arc_light : (g : Graph) → IsGraph g → (v : ℕ) (a : Arc) → IsArcAt g v a → a.weight ≤ 2 ^ 61
+arc_light g ok v a at =
+    let d : Edge = record { u = 0; v = 0; w = 0 } in
+    omega (arith, at.same_weight, get_or-le-sum_by (λ (e : Edge). e.w) g.edges a.edge d at.within, ok.total)

@@ -1,5 +1,5 @@
 -- Each arc is one of the row.
-use Rattle.max_flow.proofs.Preflows.{row_arc}
+use Rattle.weighted_graph.proofs.RowLaws.{row_arc}
 use Rattle.max_flow.proofs.preflow.draw_far.Goals as goal
 
 pub draw_by-requires-clause-arc : goal.draw_by-requires-clause-arc

@@ -1,6 +1,6 @@
 -- Each arc is one of the row.
 use Rattle.std.proofs.Common.{◌<◌, length, arith}
-use Rattle.max_flow.proofs.Preflows.{row_arc}
+use Rattle.weighted_graph.proofs.RowLaws.{row_arc}
 use Rattle.max_flow.proofs.preflow.draw_near.Goals as goal
 use Rattle.max_flow.proofs.preflow.draw_near.Goals.{then-place-row, else-place-row}
 

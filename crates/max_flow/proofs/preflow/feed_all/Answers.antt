@@ -1,5 +1,5 @@
 -- Each arc is one of the row.
-use Rattle.max_flow.proofs.Preflows.{row_arc}
+use Rattle.weighted_graph.proofs.RowLaws.{row_arc}
 use Rattle.max_flow.proofs.preflow.feed_all.Goals as goal
 
 pub feed-requires-clause-arc : goal.feed-requires-clause-arc

@@ -1,6 +1,6 @@
 -- The search begins with a tree of two vertices, and each turn follows the arcs of one vertex more.
 use Rattle.std.proofs.Common.{◌<◌, [], length, ◌∙◌, arith}
-use Rattle.max_flow.proofs.Closed.{arc_from}
+use Rattle.residual_arcs.proofs.Closed.{arc_from}
 use Rattle.region_flow.proofs.Trees.{planted, put_beside}
 use Rattle.region_flow.proofs.Expanding.{one_from_outside}
 use Rattle.region_flow.proofs.searching.search_beside.Goals as goal

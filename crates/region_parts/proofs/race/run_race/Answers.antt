@@ -1,6 +1,6 @@
 -- Both searches go on by turns, until one ends.
 use Rattle.std.proofs.Common.{◌<◌, arith}
-use Rattle.region_parts.proofs.Finding.{goes_on_more}
+use Rattle.arc_search.proofs.Finding.{goes_on_more}
 use Rattle.region_parts.proofs.HubSteps.{hub_more, fronts_more}
 use Rattle.region_parts.proofs.race.run_race.Goals as goal
 

@@ -1,8 +1,8 @@
 -- Both searches have gone on.
 use Rattle.std.proofs.Common.{◌+◌, ◌-◌, get_or}
 use Rattle.cut_definitions.specs.Weight.{VertexSet}
-use Rattle.region_parts.specs.Found.{IsSearch, GoesOn}
-use Rattle.region_parts.specs.Fronts.{list_at}
+use Rattle.arc_search.specs.Found.{IsSearch, GoesOn}
+use Rattle.region_fronts.specs.Fronts.{list_at}
 use Rattle.region_parts.specs.Sided.{goes_from, other_side, stops}
 use Rattle.region_parts.specs.Hubs.{HaveBegun, HubGoesOn, IsHubSearch, KeepsFrontsFor}
 use Rattle.region_parts.proofs.race.run_race.Given as goal

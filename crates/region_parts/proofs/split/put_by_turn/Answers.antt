@@ -1,7 +1,7 @@
 -- Each vertex of the list has its number.
 use Rattle.std.proofs.Common.{◌≡◌, ℕ, ◌<◌, ◌≤◌, List, length, get_or, set, refl, sym, ◌∙◌, subst, ap, arith}
 use Rattle.std.proofs.lemmas.List.{length-set}
-use Rattle.region_parts.specs.Listed.{PartsState}
+use Rattle.region_fronts.specs.Listed.{PartsState}
 use Rattle.region_parts.proofs.PartNumbers.{next_listed, next_free, more_put, all_put}
 use Rattle.region_parts.proofs.split.put_by_turn.Goals as goal
 

@@ -3,7 +3,7 @@ use Rattle.std.proofs.Common.{◌≡◌, ◌<◌, ◌≤◌, ⊎_elim, length, g
 use Rattle.std.specs.Prelude.{◌≢◌}
 use Rattle.std.proofs.lemmas.Bool.{eq-eqb, false≢true}
 use Rattle.cut_definitions.proofs.ListLaws.{labelled_to_n}
-use Rattle.region_parts.specs.Listed.{IsPartList}
+use Rattle.region_fronts.specs.Listed.{IsPartList}
 use Rattle.region_sweep.proofs.Regrouping.{listed_at, may_be_cut_off, place_entered, place_fresh}
 use Rattle.region_sweep.proofs.regroup.place_part.Goals as goal
 

@@ -5,9 +5,9 @@ use Rattle.std.proofs.lemmas.Bool.{cases_eq, eq-eqb}
 use Rattle.std.proofs.lemmas.List.Elements.{All-contains}
 use Rattle.cut_definitions.proofs.Ascending.{has_contains}
 use Rattle.cut_definitions.proofs.ListLaws.{labelled_to_n}
-use Rattle.region_parts.specs.Fronts.{HasEnds}
-use Rattle.region_parts.specs.Listed.{IsPartList}
-use Rattle.region_parts.proofs.FrontLists.{ends_kept}
+use Rattle.region_fronts.specs.Fronts.{HasEnds}
+use Rattle.region_fronts.specs.Listed.{IsPartList}
+use Rattle.region_fronts.proofs.FrontLists.{ends_kept}
 use Rattle.region_sweep.proofs.Regrouping.{listed_at}
 use Rattle.region_sweep.proofs.sweep.put_listed.Goals as goal
 
@@ -41,7 +41,7 @@ loop-before-preserved c =
       vertices = step.vertices ∙ inv.vertices;
       kept = λ r u h. step.kept r u (inv.kept r u h);
       ends = λ v some le. ⊎_elim
-          (λ (e : get_or numbers v 0 ≡ i). All-contains (HasEnds g labels new) list v step.ends (has_contains list v (part.exact v ∙ eq-eqb (get_or numbers v 0) i e)))
+          (λ (e : get_or numbers v 0 ≡ i). All-contains (HasEnds g labels new) list v (rw c.labels.ensures at step.ends) (has_contains list v (part.exact v ∙ eq-eqb (get_or numbers v 0) i e)))
           (λ (ne : get_or numbers v 0 ≢ i). ends_kept g labels c.loop-before.fronts new v step.kept (inv.ends v some (omega (arith, le, ne))))
           (cases_eq (get_or numbers v 0) i);
     }

@@ -1,6 +1,6 @@
 -- The ends of the vertices of the parts so far stand in their lists.
 use Rattle.std.proofs.Common.{◌≡◌, ◌≤◌, ℕ, get_or}
-use Rattle.region_parts.specs.Fronts.{KeepsAll, HasEnds}
+use Rattle.region_fronts.specs.Fronts.{KeepsAll, HasEnds}
 use Rattle.region_sweep.proofs.sweep.put_listed.Given as goal
 
 abbrev pub invariant-loop-before : goal.invariant-loop-before

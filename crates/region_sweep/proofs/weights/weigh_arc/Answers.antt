@@ -3,7 +3,7 @@ use Rattle.std.proofs.Common.{◌≡◌, ℕ, ◌+◌, ◌<◌, ◌≤◌, ⊎_e
 use Rattle.std.specs.Prelude.{if◌then◌else◌}
 use Rattle.std.proofs.lemmas.Bool.{cases_lt, eq-eqb, le-leb, lt-ltb}
 use Rattle.std.proofs.lemmas.List.{get_or_past}
-use Rattle.region_parts.specs.Listed.{part_in}
+use Rattle.region_fronts.specs.Listed.{part_in}
 use Rattle.region_sweep.proofs.weights.weigh_arc.Goals as goal
 
 pub number-from-requires : goal.number-from-requires

@@ -1,7 +1,7 @@
 -- The vertices of the part are done one after another.
 use Rattle.std.proofs.Common.{◌+◌, arith}
-use Rattle.region_parts.specs.Searched.{is_listed}
-use Rattle.region_parts.specs.Listed.{part_in, IsPartList}
+use Rattle.arc_search.specs.Searched.{is_listed}
+use Rattle.region_fronts.specs.Listed.{part_in, IsPartList}
 use Rattle.node_tree.specs.Weighed.{listed_below}
 use Rattle.region_sweep.proofs.Weighing.{done_upto, next_done, later_done, neighbour_done, same_weighed, part_begins, part_ends}
 use Rattle.region_sweep.proofs.weights.weigh_part.Goals as goal

@@ -1,6 +1,6 @@
 -- The vertices of the part so far are done.
-use Rattle.region_parts.specs.Searched.{is_listed}
-use Rattle.region_parts.specs.Listed.{part_in}
+use Rattle.arc_search.specs.Searched.{is_listed}
+use Rattle.region_fronts.specs.Listed.{part_in}
 use Rattle.node_tree.specs.Weighed.{AreWeighed}
 use Rattle.region_sweep.proofs.Weighing.{done_upto}
 use Rattle.region_sweep.proofs.weights.weigh_part.Given as goal

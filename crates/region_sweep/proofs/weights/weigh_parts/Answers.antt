@@ -1,7 +1,7 @@
 -- All parts are done one after another.
 use Rattle.std.proofs.Common.{◌≡◌, ◌+◌, subst, ℕ, arith}
-use Rattle.region_parts.specs.Searched.{is_listed}
-use Rattle.region_parts.specs.Listed.{part_in}
+use Rattle.arc_search.specs.Searched.{is_listed}
+use Rattle.region_fronts.specs.Listed.{part_in}
 use Rattle.node_tree.specs.Weighed.{listed_below, AreWeighed}
 use Rattle.region_sweep.proofs.Weighing.{weighed_first, weighed_last}
 use Rattle.region_sweep.proofs.weights.weigh_parts.Goals as goal

@@ -1,7 +1,7 @@
 -- The vertices of the parts so far are done.
 use Rattle.std.proofs.Common.{◌+◌}
-use Rattle.region_parts.specs.Searched.{is_listed}
-use Rattle.region_parts.specs.Listed.{part_in}
+use Rattle.arc_search.specs.Searched.{is_listed}
+use Rattle.region_fronts.specs.Listed.{part_in}
 use Rattle.node_tree.specs.Weighed.{listed_below, AreWeighed}
 use Rattle.region_sweep.proofs.weights.weigh_parts.Given as goal
 

@@ -4,10 +4,10 @@ use Rattle.std.proofs.lemmas.List.Sums.{sum_by_more, sum_by_more_le}
 use Rattle.cut_definitions.specs.Chain.{one_part}
 use Rattle.weighted_graph.specs.Rows.{no_arc}
 use Rattle.weighted_graph.proofs.Searched.{arc_within}
-use Rattle.max_flow.proofs.Preflows.{row_arc}
+use Rattle.weighted_graph.proofs.RowLaws.{row_arc}
 use Rattle.region_flow.specs.Parted.{later_parts}
-use Rattle.region_parts.specs.Searched.{is_listed}
-use Rattle.region_parts.specs.Listed.{part_in}
+use Rattle.arc_search.specs.Searched.{is_listed}
+use Rattle.region_fronts.specs.Listed.{part_in}
 use Rattle.node_tree.specs.Weighed.{arc_adds}
 use Rattle.region_sweep.proofs.weights.weigh_row.Goals as goal
 

@@ -3,8 +3,8 @@ use Rattle.std.proofs.Common.{ℕ, ◌≡◌, ◌+◌, get_or, take}
 use Rattle.std.specs.List.{sum_by}
 use Rattle.cut_definitions.specs.Chain.{one_part}
 use Rattle.region_flow.specs.Parted.{later_parts}
-use Rattle.region_parts.specs.Searched.{is_listed}
-use Rattle.region_parts.specs.Listed.{part_in}
+use Rattle.arc_search.specs.Searched.{is_listed}
+use Rattle.region_fronts.specs.Listed.{part_in}
 use Rattle.node_tree.specs.Weighed.{arc_adds}
 use Rattle.region_sweep.proofs.weights.weigh_row.Given as goal
 

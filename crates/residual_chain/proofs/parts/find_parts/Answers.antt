@@ -1,7 +1,7 @@
 -- What leads to t is the last part; the pass divides what is left.
 use Rattle.std.proofs.Common.{ℕ, List, subst}
 use Rattle.residual_chain.specs.Residuals.{leads, first_end}
-use Rattle.residual_chain.specs.declared.direction.Direction.TheVariants.{Against}
+use Rattle.arc_search.specs.declared.direction.Direction.TheVariants.{Against}
 use Rattle.residual_chain.specs.Search.{steps, Reaches}
 use Rattle.residual_chain.proofs.Growing.{IsGrowing-first, IsGrowing-split, IsToSplit-reached, AllLeadTo-split, IsChain-filled}
 use Rattle.residual_chain.proofs.parts.find_parts.Goals as goal

@@ -3,7 +3,8 @@ use Rattle.std.proofs.Common.{◌≡◌, ℕ, ◌+◌, ◌-◌, ◌<◌, ◌≤�
 use Rattle.std.specs.Prelude.{◌≢◌, slice_index}
 use Rattle.std.proofs.lemmas.Bool.{cases_lt}
 use Rattle.residual_chain.specs.Residuals.{leads}
-use Rattle.residual_chain.specs.Search.{mark_of, steps}
+use Rattle.arc_search.specs.Marks.{mark_of}
+use Rattle.residual_chain.specs.Search.{steps}
 use Rattle.residual_chain.specs.Paths.{arcs_of_search}
 use Rattle.residual_chain.specs.Arcs.{HasArcs-shown}
 use Rattle.residual_chain.proofs.Splitting.{IsSplitOff-start, IsToSplit-after, IsSplitOff-then, IsSplit-all}

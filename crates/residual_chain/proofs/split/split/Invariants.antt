@@ -1,8 +1,9 @@
 use Rattle.std.proofs.Common.{◌≡◌, ℕ, ◌≤◌}
 use Rattle.std.specs.Prelude.{◌≢◌}
 use Rattle.residual_chain.specs.Residuals.{leads}
-use Rattle.residual_chain.specs.Search.{mark_of, steps}
-use Rattle.residual_chain.specs.Split.{IsSplitOff}
+use Rattle.arc_search.specs.Marks.{mark_of}
+use Rattle.residual_chain.specs.Search.{steps}
+use Rattle.arc_search.specs.Split.{IsSplitOff}
 use Rattle.residual_chain.proofs.split.split.Given as goal
 
 abbrev pub invariant-loop-before : goal.invariant-loop-before

@@ -1,7 +1,7 @@
 -- One arc more, or all arcs of the row.
 use Rattle.std.proofs.Common.{arith}
 use Rattle.weighted_graph.proofs.Searched.{arc_within}
-use Rattle.max_flow.proofs.Preflows.{row_arc}
+use Rattle.weighted_graph.proofs.RowLaws.{row_arc}
 use Rattle.node_tree.proofs.Branching.{row_begins, row_done, row_is, row_on}
 use Rattle.node_tree.proofs.branches.Branches.put_row.Goals as goal
 

@@ -2,7 +2,7 @@
 use Rattle.std.proofs.Common.{◌≡◌, ℕ, List, length, get_or}
 use Rattle.region_parts.specs.declared.side.Side.TheVariants.{Outer}
 use Rattle.region_parts.specs.declared.hub.Hub.TheVariants.{Outside}
-use Rattle.region_parts.specs.Fronts.{list_at}
+use Rattle.region_fronts.specs.Fronts.{list_at}
 use Rattle.region_parts.specs.Hubs.{HaveBegun, HubGoesOn, IsHubSearch, KeepsFrontsFor}
 use Rattle.region_parts.proofs.hub.HubSearch.begin_fed.Given as goal
 

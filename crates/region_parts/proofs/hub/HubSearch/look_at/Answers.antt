@@ -3,7 +3,7 @@ use Rattle.std.proofs.Common.{ℕ, Bool, false, refl, sym, ◌∙◌, subst}
 use Rattle.region_parts.specs.declared.side.Side.TheVariants.{Outer}
 use Rattle.region_parts.specs.declared.hub.Hub.{Hub}
 use Rattle.region_parts.specs.declared.hub.Hub.TheVariants.{Outside}
-use Rattle.region_parts.specs.Found.{IsSearch}
+use Rattle.arc_search.specs.Found.{IsSearch}
 use Rattle.region_parts.specs.Sided.{goes_from}
 use Rattle.region_parts.specs.Hubs.{starts_of}
 use Rattle.region_parts.proofs.HubSteps.{fed_here}

@@ -3,10 +3,10 @@ use Rattle.std.proofs.Common.{◌-◌, ◌<◌, false, length, refl, sym, subst,
 use Rattle.std.proofs.lemmas.Bool.{eq-eqb}
 use Rattle.region_parts.specs.declared.hub.Hub.{Hub}
 use Rattle.region_parts.specs.declared.hub.Hub.TheVariants.{At}
-use Rattle.region_parts.specs.Found.{IsSearch}
+use Rattle.arc_search.specs.Found.{IsSearch}
 use Rattle.region_parts.specs.Sided.{goes_from}
 use Rattle.region_parts.specs.Hubs.{starts_of}
-use Rattle.region_parts.proofs.Finding.{nothing}
+use Rattle.arc_search.proofs.Finding.{nothing}
 use Rattle.region_parts.proofs.hub.HubSearch.start.Goals as goal
 
 pub begin-requires : goal.begin-requires

@@ -3,7 +3,7 @@ use Rattle.std.proofs.Common.{arith}
 use Rattle.weighted_graph.proofs.Searched.{arc_within}
 use Rattle.region_parts.proofs.RegionSteps.{arc_of_row}
 use Rattle.region_parts.proofs.region_arcs.RegionArcsStepArcs.is_open.Goals as goal
-use Rattle.residual_chain.proofs.Shown.{arc_light}
+use Rattle.weighted_graph.proofs.RowLaws.{arc_light}
 
 pub label-requires : goal.label-requires
 label-requires c =

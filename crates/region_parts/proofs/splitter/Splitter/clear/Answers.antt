@@ -1,8 +1,8 @@
 -- Nothing is listed or known to be good.
 use Rattle.std.proofs.Common.{length, sym, ◌∙◌, subst, ap}
 use Rattle.region_parts.specs.declared.hub.HubSearch.{HubSearch}
-use Rattle.region_parts.specs.Found.{IsNoneFound}
-use Rattle.region_parts.specs.Listing.{IsKept}
+use Rattle.arc_search.specs.Found.{IsNoneFound}
+use Rattle.arc_search.specs.Listing.{IsKept}
 use Rattle.region_parts.proofs.splitter.Splitter.clear.Goals as goal
 
 pub returns : goal.returns

@@ -1,6 +1,6 @@
 -- The lists as they are between two hubs, and how much is left.
 use Rattle.std.proofs.Common.{◌+◌, ◌≤◌}
-use Rattle.region_parts.specs.Found.{IsNoneFound}
+use Rattle.arc_search.specs.Found.{IsNoneFound}
 use Rattle.region_parts.specs.Passed.{ArePassed}
 use Rattle.region_parts.specs.Split.{AreAtFront, IsBetween}
 use Rattle.region_parts.proofs.BetweenLemmas.{left_over}

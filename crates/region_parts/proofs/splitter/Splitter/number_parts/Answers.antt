@@ -2,7 +2,7 @@
 use Rattle.std.proofs.Common.{◌≡◌, ℕ, ◌+◌, ◌≤◌, get_or, sym, ◌∙◌, subst, ap, arith}
 use Rattle.cut_definitions.specs.Chain.{IsNumbered}
 use Rattle.region_parts.specs.Between.{parts_between}
-use Rattle.region_parts.specs.Listed.{part_in}
+use Rattle.region_fronts.specs.Listed.{part_in}
 use Rattle.region_flow.specs.Parted.{AreLightParts}
 use Rattle.region_parts.specs.Regional.{two_sided}
 use Rattle.region_parts.specs.Split.{outer_of}

@@ -2,7 +2,7 @@
 use Rattle.std.proofs.Common.{◌≡◌, ◌+◌, ◌-◌, ◌<◌, ◌≤◌, take, length, get_or, arith}
 use Rattle.std.specs.Prelude.{Some, slice_get}
 use Rattle.std.proofs.lemmas.Option.{slice_get_within}
-use Rattle.region_parts.specs.Fronts.{list_at}
+use Rattle.region_fronts.specs.Fronts.{list_at}
 use Rattle.region_parts.proofs.Passing.{front_kept, front_more}
 use Rattle.region_parts.proofs.RacesAround.{front_read}
 use Rattle.region_parts.proofs.splitter.Splitter.pass_front.Goals as goal
@@ -42,7 +42,7 @@ front-preserved c =
     let shorter : length read ≤ length old = rw label at c.read.ensures.no_longer in
     let before : take c.front.place read ≡ take c.front.place old = rw label at c.read.ensures.before in
     record {
-      front = front_read c.args.region.graph.now f t c.front.fronts c.read.new.self inv.front c.read.ensures.vertices c.read.ensures.kept;
+      front = front_read c.args.region.graph.now f t c.front.fronts c.read.new.self inv.front c.read.ensures.vertices (rw c.labels.ensures at c.read.ensures.kept);
       passed = front_more f t s read c.front.place c.in-Some.v there (c.is_left.ensures.no c.if-is_left.false)
           (front_kept f t s old read c.front.place c.front.place (omega arith) before shorter inv.passed);
     }
@@ -61,7 +61,7 @@ returns-then-is_left-clause-passed c =
 
 pub returns-clause-front : goal.returns-clause-front
 returns-clause-front c =
-    front_read c.args.region.graph.now c.args.region.flow.now c.args.region.t c.front.fronts c.read.new.self c.front.invariant.front c.read.ensures.vertices c.read.ensures.kept
+    front_read c.args.region.graph.now c.args.region.flow.now c.args.region.t c.front.fronts c.read.new.self c.front.invariant.front c.read.ensures.vertices (rw c.labels.ensures at c.read.ensures.kept)
 
 pub returns-clause-passed : goal.returns-clause-passed
 returns-clause-passed c =
@@ -77,4 +77,4 @@ returns-clause-passed c =
 
 pub returns-then-is_left-clause-front : goal.returns-then-is_left-clause-front
 returns-then-is_left-clause-front c =
-    front_read c.args.region.graph.now c.args.region.flow.now c.args.region.t c.front.fronts c.read.new.self c.front.invariant.front c.read.ensures.vertices c.read.ensures.kept
+    front_read c.args.region.graph.now c.args.region.flow.now c.args.region.t c.front.fronts c.read.new.self c.front.invariant.front c.read.ensures.vertices (rw c.labels.ensures at c.read.ensures.kept)

@@ -1,6 +1,6 @@
 -- The vertices at the places before are listed.
 use Rattle.std.proofs.Common.{◌-◌, length, get_or}
-use Rattle.region_parts.specs.Fronts.{list_at}
+use Rattle.region_fronts.specs.Fronts.{list_at}
 use Rattle.region_parts.specs.Passed.{IsFrontPassed}
 use Rattle.region_parts.specs.Split.{AreAtFront}
 use Rattle.region_parts.proofs.splitter.Splitter.pass_front.Given as goal

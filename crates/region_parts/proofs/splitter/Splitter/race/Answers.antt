@@ -1,7 +1,7 @@
 -- Both searches go on, by the lists of the sides.
 use Rattle.std.proofs.Common.{◌≡◌, ℕ, eqb, List, refl, sym, ◌∙◌, subst, ap}
 use Rattle.region_parts.specs.declared.side.Side.{Side}
-use Rattle.region_parts.specs.Found.{IsSearch}
+use Rattle.arc_search.specs.Found.{IsSearch}
 use Rattle.region_parts.specs.Hubs.{IsHubSearch}
 use Rattle.region_parts.specs.Sided.{goes_from, other_side, stops}
 use Rattle.region_parts.specs.Split.{half_of}

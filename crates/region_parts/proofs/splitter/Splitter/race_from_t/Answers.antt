@@ -6,11 +6,11 @@ use Rattle.weighted_graph.specs.Searches.{is_seen}
 use Rattle.region_parts.specs.declared.hub.Hub.{Hub}
 use Rattle.region_parts.specs.declared.hub.Hub.TheVariants.{Outside}
 use Rattle.region_parts.specs.declared.side.Side.TheVariants.{Inner, Outer}
-use Rattle.region_parts.specs.Found.{IsSearch}
-use Rattle.region_parts.specs.Fronts.{list_at}
+use Rattle.arc_search.specs.Found.{IsSearch}
+use Rattle.region_fronts.specs.Fronts.{list_at}
 use Rattle.region_parts.specs.Hubs.{HaveBegun, KeepsFrontsFor, starts_of}
 use Rattle.region_parts.specs.Sided.{fed_in, goes_from, stops}
-use Rattle.region_parts.proofs.Finding.{nothing}
+use Rattle.arc_search.proofs.Finding.{nothing}
 use Rattle.region_parts.proofs.FirstRaces.{met_brings, fed_found, front_after}
 use Rattle.region_parts.proofs.splitter.Splitter.race_from_t.Goals as goal
 

@@ -2,7 +2,7 @@
 use Rattle.std.proofs.Common.{◌≡◌, length, get_or, refl, sym, ◌∙◌, subst, ap, arith}
 use Rattle.region_parts.specs.declared.hub.HubSearch.{HubSearch}
 use Rattle.region_parts.specs.declared.side.Side.TheVariants.{Inner, Outer}
-use Rattle.region_parts.specs.Listing.{ListingState}
+use Rattle.arc_search.specs.Listing.{ListingState}
 use Rattle.region_parts.proofs.BetweenLemmas.{hub_further, hub_later, may_take_outer, outer_further, restarted, searching, settled_for, stays_from, stays_more, stays_same}
 use Rattle.region_parts.proofs.Passing.{all_same, all_settling, all_with, more_taken}
 use Rattle.region_parts.proofs.splitter.Splitter.search_inner.Goals as goal

@@ -2,7 +2,7 @@
 use Rattle.std.proofs.Common.{◌≡◌, length, get_or, sym, ◌∙◌, subst, ap, arith}
 use Rattle.region_parts.specs.declared.hub.HubSearch.{HubSearch}
 use Rattle.region_parts.specs.declared.side.Side.TheVariants.{Inner, Outer}
-use Rattle.region_parts.specs.Listing.{ListingState}
+use Rattle.arc_search.specs.Listing.{ListingState}
 use Rattle.region_parts.proofs.BetweenLemmas.{hub_further, hub_later, inner_further, may_take_inner, restarted, searching, stays_from, stays_more}
 use Rattle.region_parts.proofs.Passing.{all_same, all_with, more_taken}
 use Rattle.region_parts.proofs.splitter.Splitter.search_outer.Goals as goal

@@ -2,8 +2,8 @@
 use Rattle.std.proofs.Common.{length, get_or, refl, sym, ◌∙◌, subst, ap}
 use Rattle.region_parts.specs.declared.hub.HubSearch.{HubSearch}
 use Rattle.region_parts.specs.declared.splitter.Splitter.{Splitter}
-use Rattle.region_parts.specs.Found.{SearchState}
-use Rattle.region_parts.specs.Fronts.{list_at}
+use Rattle.arc_search.specs.Found.{SearchState}
+use Rattle.region_fronts.specs.Fronts.{list_at}
 use Rattle.region_parts.specs.Hubs.{HaveBegun, HasAll}
 use Rattle.region_parts.proofs.RacesAround.{begin_beside, known_settled, searched_on, goes_on_same, goes_on_more}
 use Rattle.region_parts.proofs.splitter.Splitter.settle.Goals as goal

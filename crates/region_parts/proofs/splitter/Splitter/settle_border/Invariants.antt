@@ -1,7 +1,7 @@
 -- The vertices at the places before are settled.
 use Rattle.std.proofs.Common.{ℕ, ◌+◌, ◌-◌, ◌<◌, get_or}
-use Rattle.region_parts.specs.Found.{IsNoneFound}
-use Rattle.region_parts.specs.Fronts.{list_at}
+use Rattle.arc_search.specs.Found.{IsNoneFound}
+use Rattle.region_fronts.specs.Fronts.{list_at}
 use Rattle.region_parts.specs.Hubs.{HaveBegun, KeepsFrontsFor}
 use Rattle.region_parts.specs.Split.{half_of, GoesOnSettling, IsSearching, IsSettledIn}
 use Rattle.region_parts.proofs.splitter.Splitter.settle_border.Given as goal

@@ -3,7 +3,7 @@ use Rattle.std.proofs.Common.{◌≡◌, ℕ, ◌+◌, ◌-◌, ◌<◌, ◌≤�
 use Rattle.std.specs.Prelude.{Some, slice_get}
 use Rattle.std.proofs.lemmas.Option.{slice_get_within}
 use Rattle.region_parts.specs.declared.side.Side.TheVariants.{Outer}
-use Rattle.region_parts.specs.Fronts.{FrontsState, list_at}
+use Rattle.region_fronts.specs.Fronts.{FrontsState, list_at}
 use Rattle.region_parts.proofs.RacesAround.{goes_on_more, goes_on_start, hub_inside, begun_none, front_on as fronts_on, front_read, front_settled, open_settled}
 use Rattle.region_parts.specs.Passed.{IsFrontPassed}
 use Rattle.region_parts.proofs.Passing.{front_kept, front_on, listed_settled}
@@ -21,7 +21,7 @@ returns-in_err-settle-clause-fronts c =
     let g = c.args.region.graph.now in
     let f = c.args.region.flow.now in
     let t = c.args.region.t in
-    fronts_on g f t c.front.self.hub.hub c.read.new.self c.settle.new.fronts (front_read g f t c.front.fronts c.read.new.self c.front.invariant.fronts c.read.ensures.vertices c.read.ensures.kept)
+    fronts_on g f t c.front.self.hub.hub c.read.new.self c.settle.new.fronts (front_read g f t c.front.fronts c.read.new.self c.front.invariant.fronts c.read.ensures.vertices (rw c.labels.ensures at c.read.ensures.kept))
     c.settle.ensures.fronts
 
 pub returns-then-not-branch-clause-goes_on : goal.returns-then-not-branch-clause-goes_on
@@ -32,7 +32,7 @@ returns-then-not-branch-clause-fronts c =
     let g = c.args.region.graph.now in
     let f = c.args.region.flow.now in
     let t = c.args.region.t in
-    fronts_on g f t c.front.self.hub.hub c.read.new.self c.settle.new.fronts (front_read g f t c.front.fronts c.read.new.self c.front.invariant.fronts c.read.ensures.vertices c.read.ensures.kept)
+    fronts_on g f t c.front.self.hub.hub c.read.new.self c.settle.new.fronts (front_read g f t c.front.fronts c.read.new.self c.front.invariant.fronts c.read.ensures.vertices (rw c.labels.ensures at c.read.ensures.kept))
     c.settle.ensures.fronts
 
 pub front-smaller : goal.front-smaller
@@ -73,7 +73,7 @@ front-preserved c =
       searching = step.searching;
       near = step.near;
       goes_on = goes_on_more Outer c.args.self.now s s' inv.goes_on step.goes_on;
-      fronts = fronts_on g f t s.hub.hub c.read.new.self c.settle.new.fronts (front_read g f t c.front.fronts c.read.new.self inv.fronts c.read.ensures.vertices c.read.ensures.kept) step.fronts;
+      fronts = fronts_on g f t s.hub.hub c.read.new.self c.settle.new.fronts (front_read g f t c.front.fronts c.read.new.self inv.fronts c.read.ensures.vertices (rw c.labels.ensures at c.read.ensures.kept)) step.fronts;
       settled = λ i u l is. front_settled Outer g f t s s' old read c.front.place c.in-Some.v step.goes_on before shorter there (step.settled c.if-not-branch.false) inv.settled i u l
           (subst (λ (xs : List ℕ). slice_get xs i ≡ Some u) same is);
       onward = omega (arith, inv.onward);
@@ -101,7 +101,7 @@ returns-clause-settled c = λ _ v opened.
     let end : length read ≤ c.front.place = rw label at (c.read.ensures.none c.in_default.is) in
     let shorter : length read ≤ length old = rw label at c.read.ensures.no_longer in
     let before : take c.front.place read ≡ take c.front.place old = rw label at c.read.ensures.before in
-    open_settled Outer g f t c.front.self c.front.fronts c.read.new.self c.front.place (front_read g f t c.front.fronts c.read.new.self inv.fronts c.read.ensures.vertices c.read.ensures.kept)
+    open_settled Outer g f t c.front.self c.front.fronts c.read.new.self c.front.place (front_read g f t c.front.fronts c.read.new.self inv.fronts c.read.ensures.vertices (rw c.labels.ensures at c.read.ensures.kept))
     end before shorter inv.settled v opened
 
 pub returns-then-not-branch-clause-passed : goal.returns-then-not-branch-clause-passed
@@ -148,8 +148,8 @@ front-init c = record {
 
 pub settle-requires-clause-front : goal.settle-requires-clause-front
 settle-requires-clause-front c =
-    front_read c.args.region.graph.now c.args.region.flow.now c.args.region.t c.front.fronts c.read.new.self c.front.invariant.fronts c.read.ensures.vertices c.read.ensures.kept
+    front_read c.args.region.graph.now c.args.region.flow.now c.args.region.t c.front.fronts c.read.new.self c.front.invariant.fronts c.read.ensures.vertices (rw c.labels.ensures at c.read.ensures.kept)
 
 pub returns-clause-fronts : goal.returns-clause-fronts
 returns-clause-fronts c =
-    front_read c.args.region.graph.now c.args.region.flow.now c.args.region.t c.front.fronts c.read.new.self c.front.invariant.fronts c.read.ensures.vertices c.read.ensures.kept
+    front_read c.args.region.graph.now c.args.region.flow.now c.args.region.t c.front.fronts c.read.new.self c.front.invariant.fronts c.read.ensures.vertices (rw c.labels.ensures at c.read.ensures.kept)

@@ -2,8 +2,8 @@
 use Rattle.std.proofs.Common.{◌≡◌, ℕ, ◌-◌, ◌<◌, ◌≤◌, length, get_or}
 use Rattle.std.specs.Prelude.{Some, slice_get}
 use Rattle.region_parts.specs.declared.side.Side.TheVariants.{Outer}
-use Rattle.region_parts.specs.Found.{IsNoneFound}
-use Rattle.region_parts.specs.Fronts.{list_at}
+use Rattle.arc_search.specs.Found.{IsNoneFound}
+use Rattle.region_fronts.specs.Fronts.{list_at}
 use Rattle.region_parts.specs.Passed.{IsFrontPassed}
 use Rattle.region_parts.specs.Split.{AreAtFront, GoesOnSettling, IsSearching, IsSettledIn}
 use Rattle.region_parts.proofs.splitter.Splitter.settle_front.Given as goal

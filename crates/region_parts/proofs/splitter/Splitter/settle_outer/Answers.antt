@@ -5,7 +5,7 @@ use Rattle.std.specs.List.{Contains}
 use Rattle.cut_definitions.proofs.Results.{if_both}
 use Rattle.region_parts.specs.declared.side.Side.TheVariants.{Outer}
 use Rattle.region_parts.specs.Between.{IsOuterSettled}
-use Rattle.region_parts.specs.Fronts.{list_at}
+use Rattle.region_fronts.specs.Fronts.{list_at}
 use Rattle.region_parts.specs.Hubs.{HasAll}
 use Rattle.region_parts.specs.Passed.{ArePassed}
 use Rattle.region_parts.specs.Split.{GoesOnSettling, IsSearching, IsSettledIn}

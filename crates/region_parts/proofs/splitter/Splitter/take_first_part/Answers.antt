@@ -5,7 +5,7 @@ use Rattle.std.specs.List.{All, AllPairs}
 use Rattle.cut_definitions.specs.Cuts.{has}
 use Rattle.weighted_graph.specs.Searches.{is_seen}
 use Rattle.region_parts.specs.declared.side.Side.TheVariants.{Inner, Outer}
-use Rattle.region_parts.specs.Listing.{IsVertex}
+use Rattle.arc_search.specs.Listing.{IsVertex}
 use Rattle.region_parts.specs.Sided.{fed_in, goes_from, stops}
 use Rattle.region_parts.proofs.FirstRaces.{found_within, found_apart, fed_brings, stop_reached, none_halves, inner_halves, outer_halves, between_of}
 use Rattle.region_parts.proofs.splitter.Splitter.take_first_part.Goals as goal
@@ -82,7 +82,7 @@ returns-in_ok-take_first-in-Ended-clause-between c =
     let new = c.take_first.new.self in
     let took = c.in_ok-take_first-in-Ended.ensures in
     let turns = subst (λ (xs : List ℕ). (v : ℕ) → get_or new.turns v 0 ≡ (if has xs v then 1 else 0)) c.found.ensures took.turns in
-    between_of g f t s race new s.outer c.requires.region c.requires.raced (inner_halves g f t s race c.requires.region c.requires.raced c.in-Ended.is new turns took.count took.kept took.bordered)
+    between_of g f t s race new s.outer c.requires.region c.requires.raced (inner_halves g f t s race c.requires.region c.requires.raced c.in-Ended.is new turns took.count took.kept (rw c.labels.ensures at took.bordered))
 
 pub returns-in_ok-take_first-in-HubEnded-clause-between : goal.returns-in_ok-take_first-in-HubEnded-clause-between
 returns-in_ok-take_first-in-HubEnded-clause-between c =
@@ -95,4 +95,4 @@ returns-in_ok-take_first-in-HubEnded-clause-between c =
     let took = c.in_ok-take_first-in-HubEnded.ensures in
     let turns = subst (λ (xs : List ℕ). (v : ℕ) → get_or new.turns v 0 ≡ (if has xs v then 1 else 0)) c.found-in-HubEnded.ensures took.turns in
     let no : is_seen s.hub.search.seen t ≡ false = subst (λ (bs : List Bool). is_seen bs t ≡ false) c.seen.ensures c.if-seen-region.false in
-    between_of g f t s race s.inner new c.requires.region c.requires.raced (outer_halves g f t s race c.requires.region c.requires.raced c.in-HubEnded.is no new turns took.count took.kept took.bordered)
+    between_of g f t s race s.inner new c.requires.region c.requires.raced (outer_halves g f t s race c.requires.region c.requires.raced c.in-HubEnded.is no new turns took.count took.kept (rw c.labels-in-HubEnded.ensures at took.bordered))

@@ -77,7 +77,7 @@ pub returns-in-Inner-clause-between : goal.returns-in-Inner-clause-between
 returns-in-Inner-clause-between c =
     let none : c.args.self.now.inner.count ≡ 0 = omega arith in
     on_ok_four c.take_first.result c.take_first.ensures.turns c.take_first.ensures.count c.take_first.ensures.kept c.take_first.ensures.bordered (λ turns count kept bordered.
-    inner_begun c.args.side _ _ _ _ _ c.take_first.new.self c.in-Inner.is c.found-found.ensures c.requires.between c.requires.search c.requires.all c.requires.may none turns count kept bordered)
+    inner_begun c.args.side _ _ _ _ _ c.take_first.new.self c.in-Inner.is c.found-found.ensures c.requires.between c.requires.search c.requires.all c.requires.may none turns count kept (rw c.labels.ensures at bordered))
 
 pub returns-in-Inner-clause-stays : goal.returns-in-Inner-clause-stays
 returns-in-Inner-clause-stays c =
@@ -99,7 +99,7 @@ returns-in-Inner-2-clause-between c =
     let some : 1 ≤ (half_of c.args.side c.args.self.now).count = rw c.in-Inner.is own_some in
     let hub = hub_at c.args.side c.args.region.graph.now c.args.region.flow.now c.args.region.t c.args.self.now c.requires.search c.requires.all c.requires.may some in
     on_ok_three c.take.result c.take.ensures.taken c.take.ensures.kept c.take.ensures.bordered (λ taken kept bordered.
-    inner_in c.args.side _ _ _ _ _ _ _ _ c.args.self.now.hub.search _ _ c.take.new.self c.take.new.memory c.in-Inner.is c.arcs-arcs.ensures.graph c.arcs-arcs.ensures.flow c.arcs-arcs.ensures.direction c.found-found.ensures c.requires.between some hub.from c.take.ensures.memory taken kept bordered)
+    inner_in c.args.side _ _ _ _ _ _ _ _ c.args.self.now.hub.search _ _ c.take.new.self c.take.new.memory c.in-Inner.is c.arcs-arcs.ensures.graph c.arcs-arcs.ensures.flow c.arcs-arcs.ensures.direction c.found-found.ensures c.requires.between some hub.from c.take.ensures.memory taken kept (rw c.labels-in-Inner-2.ensures at bordered))
 
 pub returns-in-Inner-2-clause-stays : goal.returns-in-Inner-2-clause-stays
 returns-in-Inner-2-clause-stays c = on_ok c.take.result c.take.ensures.taken (λ taken. inner_stays c.args.self.now c.take.new.self c.take.new.memory (λ v one. taken_stays taken v one))
@@ -179,7 +179,7 @@ pub returns-in-Outer-clause-between : goal.returns-in-Outer-clause-between
 returns-in-Outer-clause-between c =
     let none : c.args.self.now.outer.count ≡ 0 = omega arith in
     on_ok_four c.take_first-in-Outer.result c.take_first-in-Outer.ensures.turns c.take_first-in-Outer.ensures.count c.take_first-in-Outer.ensures.kept c.take_first-in-Outer.ensures.bordered (λ turns count kept bordered.
-    outer_begun c.args.side _ _ _ _ _ c.take_first-in-Outer.new.self c.in-Outer.is c.found-found.ensures c.requires.between c.requires.search c.requires.all c.requires.may none turns count kept bordered)
+    outer_begun c.args.side _ _ _ _ _ c.take_first-in-Outer.new.self c.in-Outer.is c.found-found.ensures c.requires.between c.requires.search c.requires.all c.requires.may none turns count kept (rw c.labels-in-Outer.ensures at bordered))
 
 pub returns-in-Outer-clause-stays : goal.returns-in-Outer-clause-stays
 returns-in-Outer-clause-stays c =
@@ -201,7 +201,7 @@ returns-in-Outer-2-clause-between c =
     let some : 1 ≤ (half_of c.args.side c.args.self.now).count = rw c.in-Outer.is own_some in
     let hub = hub_at c.args.side c.args.region.graph.now c.args.region.flow.now c.args.region.t c.args.self.now c.requires.search c.requires.all c.requires.may some in
     on_ok_three c.take-in-Outer-2.result c.take-in-Outer-2.ensures.taken c.take-in-Outer-2.ensures.kept c.take-in-Outer-2.ensures.bordered (λ taken kept bordered.
-    outer_in c.args.side _ _ _ _ _ _ _ _ c.args.self.now.hub.search _ _ c.take-in-Outer-2.new.self c.take-in-Outer-2.new.memory c.in-Outer.is c.arcs-arcs.ensures.graph c.arcs-arcs.ensures.flow c.arcs-arcs.ensures.direction c.found-found.ensures c.requires.between some hub.from c.take-in-Outer-2.ensures.memory taken kept bordered)
+    outer_in c.args.side _ _ _ _ _ _ _ _ c.args.self.now.hub.search _ _ c.take-in-Outer-2.new.self c.take-in-Outer-2.new.memory c.in-Outer.is c.arcs-arcs.ensures.graph c.arcs-arcs.ensures.flow c.arcs-arcs.ensures.direction c.found-found.ensures c.requires.between some hub.from c.take-in-Outer-2.ensures.memory taken kept (rw c.labels-in-Outer-2.ensures at bordered))
 
 pub returns-in-Outer-2-clause-stays : goal.returns-in-Outer-2-clause-stays
 returns-in-Outer-2-clause-stays c = on_ok c.take-in-Outer-2.result c.take-in-Outer-2.ensures.taken (λ taken. outer_stays c.args.self.now c.take-in-Outer-2.new.self c.take-in-Outer-2.new.memory (λ v one. taken_stays taken v one))
@@ -233,3 +233,9 @@ pub returns-in-Outer-2-clause-some : goal.returns-in-Outer-2-clause-some
 returns-in-Outer-2-clause-some c =
     let own_some : 1 ≤ c.args.self.now.outer.count = omega arith in
     rw c.in-Outer.is (on_ok c.take-in-Outer-2.result c.take-in-Outer-2.ensures.taken (λ taken. let some : 1 ≤ c.take-in-Outer-2.new.self.count = omega (arith, own_some, taken.further.more) in some))
+
+pub take-requires-in-Outer-2-clause-bordered : goal.take-requires-in-Outer-2-clause-bordered
+take-requires-in-Outer-2-clause-bordered c = rw c.labels-in-Outer-2.ensures c.requires.between.halves.outer_half.bordered
+
+pub take-requires-clause-bordered : goal.take-requires-clause-bordered
+take-requires-clause-bordered c = rw c.labels-in-Inner-2.ensures c.requires.between.halves.inner_half.bordered

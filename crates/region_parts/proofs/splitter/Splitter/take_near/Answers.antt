@@ -42,7 +42,7 @@ take-requires-clause-leads c =
 pub returns-in-Inner-clause-between : goal.returns-in-Inner-clause-between
 returns-in-Inner-clause-between c = on_ok_three c.take.result c.take.ensures.taken c.take.ensures.kept c.take.ensures.bordered (λ taken kept bordered.
     inner_in c.args.side _ _ _ _ _ _ _ _ c.args.self.now.near _ _ c.take.new.self c.take.new.memory c.in-Inner.is c.arcs-arcs.ensures.graph c.arcs-arcs.ensures.flow c.arcs-arcs.ensures.direction c.found-found.ensures c.requires.between c.requires.some
-    (near_from c.args.side _ _ _ _ c.requires.ended.0 c.requires.ended.1) c.take.ensures.memory taken kept bordered)
+    (near_from c.args.side _ _ _ _ c.requires.ended.0 c.requires.ended.1) c.take.ensures.memory taken kept (rw c.labels.ensures at bordered))
 
 pub returns-in-Inner-clause-stays : goal.returns-in-Inner-clause-stays
 returns-in-Inner-clause-stays c = on_ok c.take.result c.take.ensures.taken (λ taken. inner_stays c.args.self.now c.take.new.self c.take.new.memory (λ v one. taken_stays taken v one))
@@ -89,7 +89,7 @@ take-requires-in-Outer-clause-leads c =
 pub returns-in-Outer-clause-between : goal.returns-in-Outer-clause-between
 returns-in-Outer-clause-between c = on_ok_three c.take-in-Outer.result c.take-in-Outer.ensures.taken c.take-in-Outer.ensures.kept c.take-in-Outer.ensures.bordered (λ taken kept bordered.
     outer_in c.args.side _ _ _ _ _ _ _ _ c.args.self.now.near _ _ c.take-in-Outer.new.self c.take-in-Outer.new.memory c.in-Outer.is c.arcs-arcs.ensures.graph c.arcs-arcs.ensures.flow c.arcs-arcs.ensures.direction c.found-found.ensures c.requires.between c.requires.some
-    (near_from c.args.side _ _ _ _ c.requires.ended.0 c.requires.ended.1) c.take-in-Outer.ensures.memory taken kept bordered)
+    (near_from c.args.side _ _ _ _ c.requires.ended.0 c.requires.ended.1) c.take-in-Outer.ensures.memory taken kept (rw c.labels-in-Outer.ensures at bordered))
 
 pub returns-in-Outer-clause-stays : goal.returns-in-Outer-clause-stays
 returns-in-Outer-clause-stays c = on_ok c.take-in-Outer.result c.take-in-Outer.ensures.taken (λ taken. outer_stays c.args.self.now c.take-in-Outer.new.self c.take-in-Outer.new.memory (λ v one. taken_stays taken v one))

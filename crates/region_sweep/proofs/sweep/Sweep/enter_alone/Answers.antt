@@ -1,6 +1,5 @@
 -- A vertex has entered alone.
-use Rattle.std.proofs.Common.{◌≡◌, ℕ, List, set, sym, subst, arith}
-use Rattle.region_parts.specs.Fronts.{AreFew}
+use Rattle.std.proofs.Common.{◌≡◌, set, arith}
 use Rattle.region_sweep.proofs.Labelling.{enter_alone, fresh_labels}
 use Rattle.region_sweep.proofs.Stepping.{entered_at}
 use Rattle.region_sweep.proofs.UnderWay.{entered, few_labels}
@@ -15,7 +14,7 @@ pub put_ends-requires-clause-few : goal.put_ends-requires-clause-few
 put_ends-requires-clause-few c =
     let s = c.args.self.now in
     let n = c.args.graph.now.vertices in
-    subst (λ (l : List ℕ). AreFew n l) (sym c.enter-2.ensures.labels) (few_labels n (set s.flow.labels c.args.t 0) s.fresh (enter_alone n s.flow.labels c.args.t s.fresh c.requires.under_way.numbered))
+    rw (c.labels.ensures, c.enter-2.ensures.labels) (few_labels n (set s.flow.labels c.args.t 0) s.fresh (enter_alone n s.flow.labels c.args.t s.fresh c.requires.under_way.numbered))
 
 pub returns-clause-under_way : goal.returns-clause-under_way
 returns-clause-under_way c =
@@ -24,4 +23,4 @@ returns-clause-under_way c =
     let e = c.enter-2.ensures in
     let f = c.in_ok-put_ends.ensures in
     entered c.args.graph.now s c.enter-2.new.self c.enter.new.self c.put_ends.new.self c.args.t c.requires.heavy.0 c.n-n.ensures.edge_list.is_graph c.requires.under_way c.requires.open
-    c.requires.heavy.1 c.requires.heavy.2 e.flow e.labels e.fed homes f.vertices f.kept f.ends
+    c.requires.heavy.1 c.requires.heavy.2 e.flow e.labels e.fed homes f.vertices f.kept (rw c.labels.ensures at f.ends)

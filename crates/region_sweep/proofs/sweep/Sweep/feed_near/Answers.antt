@@ -1,6 +1,6 @@
 -- Flows into open vertices keep all that holds between two steps.
 use Rattle.std.proofs.Common.{List, ℕ, sym, subst}
-use Rattle.region_flow.specs.Regions.{IsOpenAt}
+use Rattle.cut_definitions.specs.Regions.{IsOpenAt}
 use Rattle.region_sweep.proofs.UnderWay.{another_supply, flowed}
 use Rattle.region_sweep.proofs.sweep.Sweep.feed_near.Goals as goal
 

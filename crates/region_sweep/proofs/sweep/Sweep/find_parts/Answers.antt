@@ -3,7 +3,7 @@ use Rattle.std.proofs.Common.{get_or, sym, ◌∙◌, subst, arith, ℕ}
 use Rattle.std.proofs.lemmas.Result.{IfOk-weaker, on_ok_weaker}
 use Rattle.region_flow.proofs.Least.{fed_least}
 use Rattle.region_flow.specs.Parted.{AreLightParts}
-use Rattle.region_parts.specs.Listed.{part_in}
+use Rattle.region_fronts.specs.Listed.{part_in}
 use Rattle.region_parts.proofs.Covering.{fed_others}
 use Rattle.region_sweep.proofs.UnderWay.{fed_value, flowed, looked}
 use Rattle.region_sweep.proofs.sweep.Sweep.find_parts.Goals as goal

@@ -35,8 +35,8 @@ put_all_ends-requires-clause-few c =
     let g = c.args.graph.now in
     let s = c.args.self.now in
     let h = c.requires.under_way in
-    few_left g.vertices s.flow.labels c.cut_off.new.self.labels c.args.share.now.region (few_labels g.vertices s.flow.labels s.fresh h.numbered)
-    (has_left g s.flow.labels c.cut_off.new.self.labels c.args.share.now c.requires.share.share h.flow.labels_length h.flow.nobody (rw c.deref-2.ensures.value at c.cut_off.ensures.labels))
+    rw c.labels.ensures (few_left g.vertices s.flow.labels c.cut_off.new.self.labels c.args.share.now.region (few_labels g.vertices s.flow.labels s.fresh h.numbered)
+    (has_left g s.flow.labels c.cut_off.new.self.labels c.args.share.now c.requires.share.share h.flow.labels_length h.flow.nobody (rw c.deref-2.ensures.value at c.cut_off.ensures.labels)))
 
 pub returns-clause-under_way : goal.returns-clause-under_way
 returns-clause-under_way c =
@@ -59,7 +59,7 @@ returns-clause-under_way c =
       fed = c.cut_off.ensures.fed;
       vertices = ends.vertices;
       kept = ends.kept;
-      ends = rw c.deref-3.ensures.value at ends.ends;
+      ends = rw (c.deref-3.ensures.value, c.labels.ensures) at ends.ends;
     })
 
 pub returns-clause-left : goal.returns-clause-left

@@ -1,7 +1,7 @@
 -- A greater region comes behind.
 use Rattle.std.proofs.Common.{ℕ, ◌+◌, ◌≤◌, arith}
 use Rattle.std.proofs.lemmas.List.Elements.{All-push}
-use Rattle.region_parts.specs.Listed.{part_list}
+use Rattle.region_fronts.specs.Listed.{part_list}
 use Rattle.region_sweep.specs.Shares.{IsLargePart}
 use Rattle.region_sweep.proofs.ShareLaws.{ascends_more}
 use Rattle.region_sweep.proofs.sweep.Sweep.large_regions.Goals as goal

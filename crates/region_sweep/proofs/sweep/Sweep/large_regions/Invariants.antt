@@ -1,7 +1,7 @@
 -- The regions ascend to the last one, and each is that of a large part.
 use Rattle.std.proofs.Common.{ℕ, ◌≤◌}
 use Rattle.std.specs.List.{All}
-use Rattle.region_parts.specs.Listed.{part_list}
+use Rattle.region_fronts.specs.Listed.{part_list}
 use Rattle.region_sweep.specs.Shares.{IsLargePart}
 use Rattle.region_sweep.proofs.ShareLaws.{AscendTo}
 use Rattle.region_sweep.proofs.sweep.Sweep.large_regions.Given as goal

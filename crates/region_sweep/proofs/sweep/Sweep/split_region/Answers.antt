@@ -4,7 +4,7 @@ use Rattle.std.specs.Vec.{with_items}
 use Rattle.node_tree.specs.Flat.{AreLinked}
 use Rattle.node_tree.specs.Laws.{region_of}
 use Rattle.node_tree.specs.Linked.{IsWeighedChain}
-use Rattle.region_parts.specs.Listed.{part_in}
+use Rattle.region_fronts.specs.Listed.{part_in}
 use Rattle.region_parts.proofs.FewParts.{few_parts}
 use Rattle.region_sweep.proofs.Labelling.{fresh_labels}
 use Rattle.node_tree.proofs.PartWeights.{weights_small}
@@ -106,7 +106,7 @@ pub put_listed-requires-clause-few : goal.put_listed-requires-clause-few
 put_listed-requires-clause-few c = few_labels c.args.graph.now.vertices c.regroup-self.new.flow.labels c.regroup-self.result c.regroup-self.ensures.numbered
 
 pub put_ends-requires-clause-few : goal.put_ends-requires-clause-few
-put_ends-requires-clause-few c = few_labels c.args.graph.now.vertices c.regroup-self.new.flow.labels c.regroup-self.result c.regroup-self.ensures.numbered
+put_ends-requires-clause-few c = rw c.labels.ensures (few_labels c.args.graph.now.vertices c.regroup-self.new.flow.labels c.regroup-self.result c.regroup-self.ensures.numbered)
 
 pub returns : goal.returns
 returns c =
@@ -154,7 +154,7 @@ returns c =
       ends = c.in_ok-put_listed.ensures.ends;
       more_vertices = c.in_ok-put_ends.ensures.vertices;
       more = c.in_ok-put_ends.ensures.kept;
-      last_ends = c.in_ok-put_ends.ensures.ends;
+      last_ends = rw c.labels.ensures at c.in_ok-put_ends.ensures.ends;
     } in
     let room = c.requires.under_way.room in
     let size = λ (l : List ℕ). length l in

@@ -1,7 +1,7 @@
 -- The region was split, or the vertex entered alone.
 use Rattle.std.proofs.Common.{ℕ, List, get_or, ◌+◌, sym, ◌∙◌, ap, subst}
 use Rattle.region_flow.specs.Inflow.{IsStopReached}
-use Rattle.region_flow.specs.Regions.{IsOpenAt}
+use Rattle.cut_definitions.specs.Regions.{IsOpenAt}
 use Rattle.region_sweep.proofs.Leaving.{entering_stays}
 use Rattle.region_sweep.proofs.UnderWay.{another_supply}
 use Rattle.region_sweep.proofs.sweep.Sweep.step.Goals as goal

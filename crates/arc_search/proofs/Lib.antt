@@ -1,0 +1,13 @@
+pub mod Agreeing
+pub mod Climbing
+pub mod Divided
+pub mod Finding
+pub mod Looking
+pub mod Marking
+pub mod Passing
+pub mod Pushed
+pub mod Reaching
+pub mod SideLists
+pub mod Stacked
+pub mod Touching
+pub mod Walked

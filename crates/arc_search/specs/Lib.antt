@@ -1,0 +1,12 @@
+pub mod Closed
+pub mod Directions
+pub mod Found
+pub mod Further
+pub mod Listing
+pub mod Marks
+pub mod Parts
+pub mod Paths
+pub mod SearchLaws
+pub mod Searched
+pub mod Split
+pub mod Way

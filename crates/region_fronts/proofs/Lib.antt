@@ -1,0 +1,5 @@
+pub mod FrontLists
+pub mod Joined
+pub mod Opening
+pub mod Placing
+pub mod Runs

@@ -1,0 +1,4 @@
+pub mod Beside
+pub mod Fronts
+pub mod Listed
+pub mod Open

@@ -1,6 +1,0 @@
--- The numbers so far are laid out.
-use Rattle.region_parts.proofs.Runs.{AreRunsBefore}
-use Rattle.region_parts.proofs.parts.lay_out.Given as goal
-
-abbrev pub invariant-loop-before : goal.invariant-loop-before
-invariant-loop-before l = AreRunsBefore l.placed l.before l.place l.starts.items l.ends.items

@@ -1,7 +1,0 @@
--- The vertices so far are listed.
-use Rattle.std.proofs.Common.{◌≡◌, map, take}
-use Rattle.region_parts.specs.declared.parts.Placed.{Placed}
-use Rattle.region_parts.proofs.parts.list_vertices.Given as goal
-
-abbrev pub invariant-loop-p : goal.invariant-loop-p
-invariant-loop-p l = l.list.items ≡ map (λ (p : Placed). p.vertex) (take l.p-index l.placed)

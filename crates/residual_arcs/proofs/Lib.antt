@@ -1,0 +1,5 @@
+pub mod Balance
+pub mod Closed
+pub mod Marks
+pub mod Sending
+pub mod Starting
