@@ -2,7 +2,7 @@ use Rattle.std.proofs.Common.{◌≡◌, inr, refl, rules}
 use Rattle.metis_reader.specs.File.{masses_of}
 use Rattle.program_words.specs.Words.{texts}
 use Rattle.job_answers.specs.Intake.{IsCause}
-use Rattle.mincut_program.specs.Replies.{TakesMemory}
+use Rattle.job_replies.specs.Replies.{TakesMemory}
 use Rattle.stop_lines.specs.declared.stop.Stop.TheVariants.{NoMemory}
 use Rattle.job_answers.proofs.Telling.{telling, telling_failed, graph_told, outside_told, over_limit_told, told, answered, reading_of_large, reading_of_outside, too_large_reply, trial_told, has_command, no_reply}
 use Rattle.mincut_program.proofs.program.run.Goals as goal
