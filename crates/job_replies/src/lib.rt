@@ -7,6 +7,7 @@
 
 mod apart;
 mod cuts;
+mod ending;
 mod facts;
 mod growth;
 mod lines;
@@ -16,9 +17,10 @@ mod telling;
 
 pub use apart::{apart_reply, disconnected};
 pub use cuts::cuts_reply;
+pub use ending::finish;
 pub use facts::describe;
 pub use growth::{Growing, grown_reply, step_for};
 pub use lines::{no_cut, value_text};
 pub use read_graph::ReadGraph;
-pub use reply::{Reply, write_reply};
-pub use telling::{notice_reply, tell};
+pub use reply::Reply;
+pub use telling::notice_reply;

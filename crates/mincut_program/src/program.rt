@@ -13,9 +13,8 @@ ghost use Rattle.job_answers.specs.Answers.{over_status, Writes, TakesReply, Rep
 
 use crate::answer::answer;
 use crate::trial::trial_reply;
-use cactus_text::PrintRefusal;
 use job_answers::take_in;
-use job_replies::{Reply, notice_reply, tell, write_reply};
+use job_replies::{Reply, finish, notice_reply};
 use outside::{Gate, Sink, Source};
 use program_words::{Command, Job, WordsRefusal, notice_of, read_words};
 use std::alloc::Global;
@@ -185,12 +184,6 @@ pub fn run<R: Threads + Sync, S: Source, K: Sink, E: Sink, G: Gate>(
         → ¬ Rose (K.faults out.old) (K.faults out.new) → ¬ Rose (E.faults err.old) (E.faults err.new)
         → (result ≡ Status.Ok) ⊎ (result ≡ Status.OutOfMemory) }
 {
-    match reply(rt, alloc, words, source, gate) {
-        Ok(reply) => match write_reply(alloc, out, &reply) {
-            Ok(()) => Status::Ok,
-            Err(PrintRefusal::SinkFailed) => Status::WriteFault,
-            Err(PrintRefusal::NoMemory) => tell(err, Stop::NoMemory),
-        },
-        Err(stop) => tell(err, stop),
-    }
+    let found = reply(rt, alloc, words, source, gate);
+    finish(alloc, out, err, found)
 }
