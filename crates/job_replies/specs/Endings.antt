@@ -1,5 +1,5 @@
 -- How a run ends, by what it found.
-use Rattle.std.specs.Prelude.{◌≡◌, ◌⊎◌, ℕ, List, Option, Result, Ok, Err}
+use Rattle.std.specs.Prelude.{◌≡◌, ℕ, List, Option, Result, Ok, Err}
 use Rattle.stop_lines.specs.declared.status.Status.{Status}
 use Rattle.stop_lines.specs.declared.status.Status.TheVariants as status
 use Rattle.stop_lines.specs.declared.stop.Stop.{Stop}

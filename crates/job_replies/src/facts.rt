@@ -1,12 +1,18 @@
-//! What the job `trial` tells of the graph that it made and solved.
+//! The graph that the job `trial` makes, and what it tells of that once it is solved.
 
 ghost use Rattle.std.specs.Prelude.{◌≡◌, ◌≤◌, IfOk, string_bytes};
 ghost use Rattle.rooted_cactus.specs.Solving.{IsSolved};
+ghost use Rattle.cut_definitions.specs.Components.{IsConnected};
+ghost use Rattle.graph_maker.specs.Made.{made_graph};
 ghost use Rattle.job_answers.specs.Trials.{ones, trial_text, IsFactsText};
+ghost use Rattle.job_replies.specs.Replies.{text_of, IsPrintable, TakesMemory};
 
 use crate::cuts::count_of_cuts;
+use crate::reply::Reply;
 use balanced_cut::{balance_of, best};
 use cut_definitions::{NoMemory, VertexWeights};
+use graph_maker::laws::connected_making;
+use graph_maker::make;
 use rooted_cactus::Solved;
 use std::alloc::Global;
 use weighted_graph::Graph;
@@ -35,7 +41,7 @@ fn masses_of_one(alloc: Global, graph: &Graph) -> Result<VertexWeights, NoMemory
 
 /// The text of a solved graph: its numbers of vertices and edges, its value, the number of its minimum cuts and the greatest
 /// balance of one.
-pub fn describe(alloc: Global, graph: &Graph, solved: &Solved) -> Result<String, NoMemory>
+fn describe(alloc: Global, graph: &Graph, solved: &Solved) -> Result<String, NoMemory>
     requires enough { 2 ≤ graph.now.vertices }
     requires solved { IsSolved graph.now solved.now }
     ensures { IfOk result (λ text. IsFactsText graph.now (string_bytes text)) }
@@ -54,4 +60,30 @@ pub fn describe(alloc: Global, graph: &Graph, solved: &Solved) -> Result<String,
         count,
         balance,
     )
+}
+
+/// The graph that is made for a number. It is connected.
+pub fn made_for(alloc: Global, number: u32) -> Result<Graph, NoMemory>
+    requires from { 12 ≤ number }
+    requires to { number ≤ 100000 }
+    ensures graph { IfOk result (λ graph. graph ≡ made_graph number) }
+    ensures enough { IfOk result (λ graph. 2 ≤ graph.vertices) }
+    ensures connected { IfOk result IsConnected }
+{
+    connected_making();
+    let list = make(alloc, number)?;
+    let graph = Graph::from_list(alloc, list)?;
+    Ok(graph)
+}
+
+/// The reply that tells of a solved graph. Both are given back.
+pub fn facts_reply(alloc: Global, graph: Graph, solved: Solved) -> Result<Reply, NoMemory>
+    requires enough { 2 ≤ graph.vertices }
+    requires solved { IsSolved graph solved }
+    ensures text { IfOk result (λ reply. IsFactsText graph (text_of reply)) }
+    ensures printable { IfOk result IsPrintable }
+    ensures ready { IfOk result (λ reply. ¬ TakesMemory reply) }
+{
+    let text = describe(alloc, &graph, &solved)?;
+    Ok(Reply::Text(text))
 }

@@ -15,11 +15,11 @@ mod read_graph;
 mod reply;
 mod telling;
 
-pub use apart::{apart_reply, disconnected};
+pub use apart::apart_reply;
 pub use cuts::cuts_reply;
 pub use ending::finish;
-pub use facts::describe;
-pub use growth::{Growing, grown_reply, step_for};
+pub use facts::{facts_reply, made_for};
+pub use growth::{Growing, apart_growth, grown_reply, step_for};
 pub use lines::{no_cut, value_text};
 pub use read_graph::ReadGraph;
 pub use reply::Reply;

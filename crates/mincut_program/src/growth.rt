@@ -19,8 +19,7 @@ use answer_pages::Step;
 use cactus_growth::{Grown, grow, laws, with_edge};
 use cactus_solver::{Solved, solve};
 use cut_definitions::EdgeList;
-use job_answers::check_limits;
-use job_replies::{Growing, Reply, disconnected, grown_reply, step_for};
+use job_replies::{Growing, Reply, apart_growth, grown_reply, step_for};
 use outside::{Gate, NoMemory};
 use program_words::Insertions;
 use std::alloc::Global;
@@ -153,14 +152,7 @@ pub fn grow_reply<R: Threads + Sync, G: Gate>(
     ensures printable { IfOk result IsPrintable }
     ensures stop { IfErr result (IsGrowStop list insertions.now) }
 {
-    let graph = Graph::build(alloc, &list)?;
-    let components = graph.components(alloc)?;
-    match check_limits(alloc, insertions, &list) {
-        Ok(()) => {}
-        Err(stop) => return Err(stop),
-    }
-    if components >= 2 {
-        let reply = disconnected(alloc, components)?;
+    if let Some(reply) = apart_growth(alloc, insertions, &list)? {
         return Ok(reply);
     }
     let reply = growth_reply(rt, alloc, insertions, list, workers, gate)?;

@@ -5,13 +5,10 @@ ghost use Rattle.job_replies.specs.Replies.{text_of, IsPrintable, TakesMemory};
 ghost use Rattle.job_answers.specs.Trials.{IsTrialText};
 
 use cactus_solver::solve;
-use graph_maker::laws::connected_making;
-use graph_maker::make;
-use job_replies::{Reply, describe};
+use job_replies::{Reply, facts_reply, made_for};
 use outside::{Gate, NoMemory};
 use std::alloc::Global;
 use std::thread::Threads;
-use weighted_graph::Graph;
 
 /// The text for the graph that is made for a number: its numbers of vertices and edges, its value, the number of its
 /// minimum cuts and the greatest balance of one.
@@ -31,10 +28,7 @@ pub fn trial_reply<R: Threads + Sync, G: Gate>(
     ensures printable { IfOk result IsPrintable }
     ensures ready { IfOk result (λ reply. ¬ TakesMemory reply) }
 {
-    connected_making();
-    let list = make(alloc, number)?;
-    let graph = Graph::from_list(alloc, list)?;
+    let graph = made_for(alloc, number)?;
     let solved = solve(rt, alloc, &graph, workers, gate)?;
-    let text = describe(alloc, &graph, &solved)?;
-    Ok(Reply::Text(text))
+    facts_reply(alloc, graph, solved)
 }
