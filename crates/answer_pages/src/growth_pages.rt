@@ -9,8 +9,9 @@ ghost use Rattle.cactus_text.specs.Text.{spaced};
 ghost use Rattle.answer_pages.specs.Growing.{step_line, step_lines, growth_text};
 
 use cactus_text::{Page, PrintRefusal, print_flat};
-use cactus_tree::{Cactus, FlatCactus, flatten};
+use flat_cactus::{FlatCactus, flatten};
 use outside::{Sink, SinkFailed};
+use rooted_cactus::Cactus;
 use std::alloc::Global;
 
 /// What is told of one step of a growth.

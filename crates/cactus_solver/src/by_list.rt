@@ -9,11 +9,12 @@ ghost use Rattle.min_value.specs.Kernels.{IsKept};
 ghost use Rattle.node_tree.specs.Finished.{IsFinished};
 ghost use Rattle.cut_definitions.specs.Members.{SameMembers};
 
-use crate::solver::{Solved, tree_at_value};
+use crate::solver::tree_at_value;
 use cut_definitions::{EdgeList, NoMemory};
 use forest_contraction::tied_classes;
 use node_tree::{HomedTree, cactus_of_tree, normal_form};
 use outside::Gate;
+use rooted_cactus::Solved;
 use std::alloc::Global;
 use std::thread::Threads;
 use weighted_graph::{Graph, Labels, relabel_list};

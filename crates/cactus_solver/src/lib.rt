@@ -11,4 +11,5 @@ mod by_list;
 mod solver;
 
 pub use by_list::solve_by_list;
-pub use solver::{Solved, solve, solve_at};
+pub use rooted_cactus::Solved;
+pub use solver::{solve, solve_at};

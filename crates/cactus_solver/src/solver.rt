@@ -14,17 +14,10 @@ use min_value::{Kernel, reduce, value as least_weight};
 use node_tree::{HomedTree, cactus_of_tree, normal_form, tree_of_branches};
 use outside::Gate;
 use region_sweep::tree_by_workers;
-use rooted_cactus::Cactus;
+use rooted_cactus::Solved;
 use std::alloc::Global;
 use std::thread::Threads;
 use weighted_graph::Graph;
-
-/// The value of a graph, and a normal cactus whose sides are just its minimum cuts.
-#[derive(Drop)]
-pub struct Solved {
-    pub value: u64,
-    pub cactus: Cactus,
-}
 
 /// The tree of the minimum cuts of a graph whose value is given: read off the graph where it is a tree whose edges all have
 /// the value, and else by a sweep.

@@ -5,19 +5,16 @@ ghost use Rattle.cut_definitions.specs.Components.{IsConnected};
 ghost use Rattle.cut_definitions.specs.Cuts.{value, value as least_value};
 ghost use Rattle.cut_definitions.specs.Graph.{IsEdgeList};
 ghost use Rattle.job_answers.specs.Jobs.{AsksCuts, IsAnswerOf, IsInRange, IsStopFor};
-ghost use Rattle.mincut_program.specs.Solving.{IsSolved};
-ghost use Rattle.mincut_program.specs.Replies.{text_of, IsPrintable};
-ghost use Rattle.program_words.specs.Texts.{no_cut_line, value_line};
+ghost use Rattle.rooted_cactus.specs.Solving.{IsSolved};
+ghost use Rattle.job_replies.specs.Replies.{text_of, IsPrintable};
+ghost use Rattle.program_words.specs.Texts.{value_line};
 ghost use Rattle.program_words.specs.Words.{IsMakeable, IsReading};
 
-use crate::apart::apart_reply;
-use crate::cuts::cuts_reply;
 use crate::growth::grow_reply;
-use crate::read_graph::ReadGraph;
-use crate::reply::Reply;
 use cactus_solver::{Solved, solve, solve_at, solve_by_list};
 use cut_definitions::{EdgeList, VertexWeights};
 use job_answers::first_outside;
+use job_replies::{ReadGraph, Reply, apart_reply, cuts_reply, no_cut, value_text};
 use metis_reader::MetisGraph;
 use min_value::{value_by_list, value_of_list};
 use outside::{Gate, NoMemory};
@@ -27,30 +24,12 @@ use std::thread::Threads;
 use stop_lines::Stop;
 use weighted_graph::Graph;
 
-/// A graph of fewer than two vertices has no cut.
-fn no_cut(alloc: Global) -> Result<Reply, NoMemory>
-    ensures text { IfOk result (λ reply. text_of reply ≡ no_cut_line) }
-    ensures printable { IfOk result IsPrintable }
-{
-    let text = String::from_str(alloc, "no cut\n")?;
-    Ok(Reply::Text(text))
-}
-
 /// The graph with rows, which takes the list over.
 fn with_rows(alloc: Global, list: EdgeList) -> Result<Graph, NoMemory>
     ensures { IfOk result (λ graph. graph ≡ list) }
 {
     let graph = Graph::from_list(alloc, list)?;
     Ok(graph)
-}
-
-/// The line that tells a value.
-fn value_text(alloc: Global, value: u64) -> Result<Reply, NoMemory>
-    ensures text { IfOk result (λ reply. text_of reply ≡ value_line value) }
-    ensures printable { IfOk result IsPrintable }
-{
-    let text = format!(in alloc; "value {value}\n")?;
-    Ok(Reply::Text(text))
 }
 
 /// The line of the job `value`.

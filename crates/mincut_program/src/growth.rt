@@ -8,36 +8,24 @@ ghost use Rattle.std.specs.List.{All};
 ghost use Rattle.cut_definitions.specs.Components.{IsConnected};
 ghost use Rattle.cut_definitions.specs.Graph.{IsEdgeList};
 ghost use Rattle.job_answers.specs.GrowReplies.{IsGrowReply, IsGrowStop};
-ghost use Rattle.mincut_program.specs.Growth.{HasGrown, IsGrowing};
+ghost use Rattle.job_replies.specs.Growth.{HasGrown, IsGrowing};
 ghost use Rattle.program_words.specs.Insertions.{IsInsertion};
-ghost use Rattle.job_answers.specs.GrownGraphs.{step_of, with_insertion, StaysWithin};
+ghost use Rattle.job_answers.specs.GrownGraphs.{with_insertion, StaysWithin};
 ghost use Rattle.job_answers.specs.Jobs.{AreInRange, IsGrowText, IsVertex};
-ghost use Rattle.mincut_program.specs.Replies.{text_of, IsPrintable};
-ghost use Rattle.mincut_program.specs.Solving.{IsSolved};
+ghost use Rattle.job_replies.specs.Replies.{text_of, IsPrintable};
+ghost use Rattle.rooted_cactus.specs.Solving.{IsSolved};
 
-use crate::apart::disconnected;
-use crate::cuts::canonical_of;
-use crate::reply::Reply;
 use answer_pages::Step;
 use cactus_growth::{Grown, grow, laws, with_edge};
 use cactus_solver::{Solved, solve};
-use cactus_tree::laws as tree_laws;
 use cut_definitions::EdgeList;
-use cut_listing::laws::number_of_minimum_cuts;
-use job_answers::check_limits;
+use job_replies::{Growing, Reply, apart_growth, grown_reply, step_for};
 use outside::{Gate, NoMemory};
 use program_words::Insertions;
 use std::alloc::Global;
 use std::thread::Threads;
 use stop_lines::Stop;
 use weighted_graph::Graph;
-
-/// A graph, and its value and all its minimum cuts.
-#[derive(Drop)]
-pub struct Growing {
-    pub list: EdgeList,
-    pub solved: Solved,
-}
 
 /// The value and all minimum cuts of a graph, found anew.
 fn solve_list<R: Threads + Sync, G: Gate>(
@@ -98,21 +86,6 @@ fn grow_by<R: Threads + Sync, G: Gate>(
     }
 }
 
-/// What is told of a graph: its value and the number of its minimum cuts.
-fn step_for(alloc: Global, growing: &Growing) -> Result<Step, NoMemory>
-    requires { IsGrowing growing.now }
-    ensures { IfOk result (λ step. step ≡ step_of growing.now.list) }
-{
-    number_of_minimum_cuts();
-    // known by this call: there are at most 4,194,304 vertices
-    let _n = growing.list.n();
-    let count = growing.solved.cactus.count_within(alloc)?;
-    Ok(Step {
-        value: growing.solved.value,
-        count,
-    })
-}
-
 /// The graph after all insertions, and what is told of it after each.
 fn grow_all<R: Threads + Sync, G: Gate>(
     rt: &R,
@@ -156,20 +129,10 @@ fn growth_reply<R: Threads + Sync, G: Gate>(
     ensures text { IfOk result (λ reply. IsGrowText list insertions.now (text_of reply)) }
     ensures printable { IfOk result IsPrintable }
 {
-    tree_laws::flat_form();
-    tree_laws::flat_sides();
     let solved = solve_list(rt, alloc, &list, workers, gate)?;
     let start = Growing { list, solved };
     let (growing, steps) = grow_all(rt, alloc, insertions, start, workers, gate)?;
-    let Growing { list, solved } = growing;
-    // known by this call: there are at most 4,194,304 vertices
-    let _n = list.n();
-    let value = solved.value;
-    let cactus = canonical_of(alloc, solved)?;
-    Ok(Reply::Growth {
-        steps,
-        solved: Solved { value, cactus },
-    })
+    grown_reply(alloc, growing, steps)
 }
 
 /// What the job `grow` answers for a graph, or the first insertion after which the graph would be too large.
@@ -189,14 +152,7 @@ pub fn grow_reply<R: Threads + Sync, G: Gate>(
     ensures printable { IfOk result IsPrintable }
     ensures stop { IfErr result (IsGrowStop list insertions.now) }
 {
-    let graph = Graph::build(alloc, &list)?;
-    let components = graph.components(alloc)?;
-    match check_limits(alloc, insertions, &list) {
-        Ok(()) => {}
-        Err(stop) => return Err(stop),
-    }
-    if components >= 2 {
-        let reply = disconnected(alloc, components)?;
+    if let Some(reply) = apart_growth(alloc, insertions, &list)? {
         return Ok(reply);
     }
     let reply = growth_reply(rt, alloc, insertions, list, workers, gate)?;

@@ -4,12 +4,8 @@
 #![tactic(auto)]
 
 mod answer;
-mod apart;
-mod cuts;
 mod growth;
 mod program;
-mod read_graph;
-mod reply;
 mod trial;
 
 pub use job_answers::laws;

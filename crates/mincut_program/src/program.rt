@@ -8,45 +8,18 @@ ghost use Rattle.metis_reader.specs.declared.fault.Fault.{Fault};
 ghost use Rattle.metis_reader.specs.File.{graph_of, masses_of};
 ghost use Rattle.program_words.specs.Words.{texts, command_of, AsksNothing, IsMakeable, IsReading, ReadsGraph};
 ghost use Rattle.job_answers.specs.Intake.{IsCause, IsJobAnswer, IsJobReply, IsReply};
-ghost use Rattle.mincut_program.specs.Replies.{text_of, IsPrintable, TakesMemory};
-ghost use Rattle.stop_lines.specs.Stops.{status_of, line_of};
-ghost use Rattle.program_words.specs.Notices as notices;
+ghost use Rattle.job_replies.specs.Replies.{text_of, IsPrintable, TakesMemory};
 ghost use Rattle.job_answers.specs.Answers.{over_status, Writes, TakesReply, ReplyFailed, Told, TellingFailed};
 
 use crate::answer::answer;
-use crate::reply::{Reply, write_reply};
 use crate::trial::trial_reply;
-use cactus_text::PrintRefusal;
 use job_answers::take_in;
-use outside::{Gate, Sink, Source, write_whole};
-use program_words::{Command, Job, Notice, WordsRefusal, notice_of, read_words};
+use job_replies::{Reply, finish, notice_reply};
+use outside::{Gate, Sink, Source};
+use program_words::{Command, Job, WordsRefusal, notice_of, read_words};
 use std::alloc::Global;
 use std::thread::Threads;
-use stop_lines::{Status, Stop, line_for, status_for};
-
-/// Tells why there is nothing to write to `out`. It takes no memory.
-fn tell<E: Sink>(err: &mut E, stop: Stop) -> Status
-    ensures { Writes (status_of stop) (line_of stop) (E.taken err.old) (E.taken err.new) (E.faults err.old) (E.faults err.new) result }
-{
-    let line = line_for(stop);
-    match write_whole(err, line.as_str().as_bytes()) {
-        Ok(()) => status_for(stop),
-        Err(_) => Status::WriteFault,
-    }
-}
-
-/// The text of a notice.
-fn notice_reply(alloc: Global, notice: Notice) -> Result<Reply, Stop>
-    ensures text { IfOk result (λ reply. text_of reply ≡ notices.text_of notice) }
-    ensures printable { IfOk result IsPrintable }
-    ensures ready { IfOk result (λ reply. ¬ TakesMemory reply) }
-    ensures memory { IfErr result (λ stop. stop ≡ Stop.NoMemory) }
-{
-    match String::from_str(alloc, notice.text()) {
-        Ok(text) => Ok(Reply::Text(text)),
-        Err(_) => Err(Stop::NoMemory),
-    }
-}
+use stop_lines::{Status, Stop};
 
 /// What a command that reads a graph answers for the one that the source gives.
 fn reading_reply<R: Threads + Sync, S: Source, G: Gate>(
@@ -211,12 +184,6 @@ pub fn run<R: Threads + Sync, S: Source, K: Sink, E: Sink, G: Gate>(
         → ¬ Rose (K.faults out.old) (K.faults out.new) → ¬ Rose (E.faults err.old) (E.faults err.new)
         → (result ≡ Status.Ok) ⊎ (result ≡ Status.OutOfMemory) }
 {
-    match reply(rt, alloc, words, source, gate) {
-        Ok(reply) => match write_reply(alloc, out, &reply) {
-            Ok(()) => Status::Ok,
-            Err(PrintRefusal::SinkFailed) => Status::WriteFault,
-            Err(PrintRefusal::NoMemory) => tell(err, Stop::NoMemory),
-        },
-        Err(stop) => tell(err, stop),
-    }
+    let found = reply(rt, alloc, words, source, gate);
+    finish(alloc, out, err, found)
 }

@@ -18,3 +18,4 @@ pub mod Numbers
 pub mod Trims
 pub mod Formula
 pub mod NormalLaws
+pub mod Solving

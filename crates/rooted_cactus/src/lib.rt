@@ -7,14 +7,19 @@
 //!
 //! For these two it also lists the vertices with the place at which each node begins, `in_order`, and tells of each node,
 //! in the same order, how many nodes are right below it and in its block, `outline_of`, and from it down, `sizes_along`.
+//!
+//! `Solved` has a cactus of all minimum cuts of a graph beside its value: the solver makes it, and what prints it needs no
+//! more of the solver than this.
 #![tactic(auto)]
 
 mod cactus;
 pub mod laws;
+mod solved;
 mod tree;
 mod vertex_list;
 
 pub use cactus::Cactus;
+pub use solved::Solved;
 pub use tree::{
     Block, Blocks, Border, Children, InOrder, Node, NodeOutline, in_order, outline_of, rename_node,
     sizes_along, stack_inner, subtree_sizes, vertices_by_class, vertices_in_order,

@@ -2,7 +2,7 @@ use Rattle.std.proofs.Common.{◌≤◌, ◌∙◌, subst, sym, IfOk, arith, rul
 use Rattle.std.specs.Prelude.{IfErr}
 use Rattle.cut_definitions.specs.Graph.{Graph}
 use Rattle.job_answers.specs.Jobs.{IsAnswerOf, IsStopFor}
-use Rattle.mincut_program.specs.Replies.{text_of}
+use Rattle.job_replies.specs.Replies.{text_of}
 use Rattle.job_answers.proofs.Answering.{connected_of, one_component}
 use Rattle.mincut_program.proofs.answer.reply_by_rows.Goals as goal
 

@@ -1,7 +1,7 @@
 -- The cuts by the list, or of the graph with rows, which is the same.
 use Rattle.std.proofs.Common.{subst}
 use Rattle.cut_definitions.specs.Graph.{Graph}
-use Rattle.mincut_program.specs.Solving.{IsSolved}
+use Rattle.rooted_cactus.specs.Solving.{IsSolved}
 use Rattle.mincut_program.proofs.answer.solved_at.Goals as goal
 
 pub returns-clause-solved : goal.returns-clause-solved

@@ -1,7 +1,7 @@
 use Rattle.std.proofs.Common.{arith, refl}
 use Rattle.program_words.specs.Insertions.{IsInsertion}
 use Rattle.job_answers.proofs.Inserted.{fits_now, holds_at, there_now}
-use Rattle.mincut_program.proofs.Grown.{all_told, told_next}
+use Rattle.job_replies.proofs.Grown.{all_told, told_next}
 use Rattle.mincut_program.proofs.growth.grow_all.Goals as goal
 
 pub insertions-init : goal.insertions-init

@@ -1,6 +1,6 @@
 -- The graph after the insertions so far, and what was told after each.
 use Rattle.std.proofs.Common.{take}
-use Rattle.mincut_program.specs.Growth.{HasGrown}
+use Rattle.job_replies.specs.Growth.{HasGrown}
 use Rattle.mincut_program.proofs.growth.grow_all.Given as goal
 
 abbrev pub invariant-insertions : goal.invariant-insertions

@@ -4,8 +4,8 @@ use Rattle.cut_definitions.specs.Graph.{Graph}
 use Rattle.cactus_growth.specs.After.{IsAfter}
 use Rattle.cactus_growth.specs.declared.grown.Grown.{Grown}
 use Rattle.job_answers.proofs.Inserted.{still_connected}
-use Rattle.mincut_program.proofs.Grown.{kept_growing}
-use Rattle.mincut_program.proofs.Raised.{block_in}
+use Rattle.job_replies.proofs.Grown.{kept_growing}
+use Rattle.job_replies.proofs.Raised.{block_in}
 use Rattle.mincut_program.proofs.growth.grow_by.Goals as goal
 
 pub grow-requires-clause-some : goal.grow-requires-clause-some

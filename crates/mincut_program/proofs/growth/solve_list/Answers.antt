@@ -1,4 +1,4 @@
-use Rattle.mincut_program.proofs.Grown.{solved_by}
+use Rattle.job_replies.proofs.Grown.{solved_by}
 use Rattle.mincut_program.proofs.growth.solve_list.Goals as goal
 
 pub returns : goal.returns

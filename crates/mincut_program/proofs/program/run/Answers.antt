@@ -1,124 +1,124 @@
-use Rattle.std.proofs.Common.{◌≡◌, inr, refl, rules}
-use Rattle.metis_reader.specs.File.{masses_of}
+-- What was found, and how it was written or told, is all that a run promises.
+use Rattle.std.proofs.Common.{ap}
 use Rattle.program_words.specs.Words.{texts}
-use Rattle.job_answers.specs.Intake.{IsCause}
-use Rattle.mincut_program.specs.Replies.{TakesMemory}
-use Rattle.stop_lines.specs.declared.stop.Stop.TheVariants.{NoMemory}
-use Rattle.job_answers.proofs.Telling.{telling, telling_failed, graph_told, outside_told, over_limit_told, told, answered, reading_of_large, reading_of_outside, too_large_reply, trial_told, has_command, no_reply}
+use Rattle.job_replies.proofs.Endings.{run_ends}
 use Rattle.mincut_program.proofs.program.run.Goals as goal
 
-pub returns-in-Ok-write_reply-clause-faulty : goal.returns-in-Ok-write_reply-clause-faulty
-returns-in-Ok-write_reply-clause-faulty g c bytes fault command left wrong reads writes tells =
-    absurd (no_reply (texts c.args.words.now) (g.S.Source.left c.args.source.now) bytes _ fault command left wrong c.in-Ok.ensures.text)
+pub returns-clause-told : goal.returns-clause-told
+returns-clause-told g c =
+    (run_ends g.K.Sink.taken g.K.Sink.faults g.E.Sink.taken g.E.Sink.faults (texts c.args.words.now) (g.S.Source.left c.args.source.now) (g.S.Source.left c.reply-found.new.source)
+    (g.S.Source.faults c.args.source.now) (g.S.Source.faults c.reply-found.new.source) c.args.out.now c.finish.new.out c.args.err.now c.finish.new.err c.reply-found.result c.finish.result
+    c.reply-found.ensures.text c.reply-found.ensures.ended c.reply-found.ensures.ready c.reply-found.ensures.same c.reply-found.ensures.cause c.reply-found.ensures.asks_nothing
+    (λ unread. ap g.S.Source.faults (c.reply-found.ensures.unread unread)) c.finish.ensures).told
 
-pub returns-in-Ok-clause-write_fault : goal.returns-in-Ok-clause-write_fault
-returns-in-Ok-clause-write_fault g c is =
-    let takes : TakesMemory c.in-Ok.reply = search rules in
-    let kept : c.write_reply.new.out ≡ c.args.out.now = search rules in
-    let cause : IsCause (texts c.args.words.now) (g.S.Source.left c.args.source.now) (g.S.Source.left c.reply.new.source)
-    (g.S.Source.faults c.args.source.now) (g.S.Source.faults c.reply.new.source) NoMemory = (c.in-Ok.ensures.same, inr (inr (c.in-Ok.ensures.ready takes))) in
-    inr (
-      telling_failed (texts c.args.words.now) (g.S.Source.left c.args.source.now) (g.S.Source.left c.reply.new.source)
-          (g.S.Source.faults c.args.source.now) (g.S.Source.faults c.reply.new.source)
-          (g.E.Sink.taken c.args.err.now) (g.E.Sink.taken c.tell.new.err) (g.E.Sink.faults c.args.err.now) (g.E.Sink.faults c.tell.new.err) c.tell.result
-          (telling NoMemory (texts c.args.words.now) (g.S.Source.left c.args.source.now) (g.S.Source.left c.reply.new.source)
-          (g.S.Source.faults c.args.source.now) (g.S.Source.faults c.reply.new.source) cause
-          (g.E.Sink.taken c.args.err.now) (g.E.Sink.taken c.tell.new.err) (g.E.Sink.faults c.args.err.now) (g.E.Sink.faults c.tell.new.err)
-          c.tell.result c.tell.ensures)
-          is,
-      kept,
-    )
+pub returns-clause-asks_nothing : goal.returns-clause-asks_nothing
+returns-clause-asks_nothing g c =
+    (run_ends g.K.Sink.taken g.K.Sink.faults g.E.Sink.taken g.E.Sink.faults (texts c.args.words.now) (g.S.Source.left c.args.source.now) (g.S.Source.left c.reply-found.new.source)
+    (g.S.Source.faults c.args.source.now) (g.S.Source.faults c.reply-found.new.source) c.args.out.now c.finish.new.out c.args.err.now c.finish.new.err c.reply-found.result c.finish.result
+    c.reply-found.ensures.text c.reply-found.ensures.ended c.reply-found.ensures.ready c.reply-found.ensures.same c.reply-found.ensures.cause c.reply-found.ensures.asks_nothing
+    (λ unread. ap g.S.Source.faults (c.reply-found.ensures.unread unread)) c.finish.ensures).asks_nothing
 
 pub returns-clause-write_fault : goal.returns-clause-write_fault
-returns-clause-write_fault g c is =
-    inr (
-      telling_failed (texts c.args.words.now) (g.S.Source.left c.args.source.now) (g.S.Source.left c.reply.new.source)
-          (g.S.Source.faults c.args.source.now) (g.S.Source.faults c.reply.new.source)
-          (g.E.Sink.taken c.args.err.now) (g.E.Sink.taken c.tell-in-Err.new.err) (g.E.Sink.faults c.args.err.now) (g.E.Sink.faults c.tell-in-Err.new.err) c.tell-in-Err.result
-          (telling c.in-Err.stop (texts c.args.words.now) (g.S.Source.left c.args.source.now) (g.S.Source.left c.reply.new.source)
-          (g.S.Source.faults c.args.source.now) (g.S.Source.faults c.reply.new.source) c.in-Err.ensures.cause
-          (g.E.Sink.taken c.args.err.now) (g.E.Sink.taken c.tell-in-Err.new.err) (g.E.Sink.faults c.args.err.now) (g.E.Sink.faults c.tell-in-Err.new.err)
-          c.tell-in-Err.result c.tell-in-Err.ensures)
-          is,
-      refl,
-    )
+returns-clause-write_fault g c =
+    (run_ends g.K.Sink.taken g.K.Sink.faults g.E.Sink.taken g.E.Sink.faults (texts c.args.words.now) (g.S.Source.left c.args.source.now) (g.S.Source.left c.reply-found.new.source)
+    (g.S.Source.faults c.args.source.now) (g.S.Source.faults c.reply-found.new.source) c.args.out.now c.finish.new.out c.args.err.now c.finish.new.err c.reply-found.result c.finish.result
+    c.reply-found.ensures.text c.reply-found.ensures.ended c.reply-found.ensures.ready c.reply-found.ensures.same c.reply-found.ensures.cause c.reply-found.ensures.asks_nothing
+    (λ unread. ap g.S.Source.faults (c.reply-found.ensures.unread unread)) c.finish.ensures).write_fault
+
+pub returns-clause-source_changed : goal.returns-clause-source_changed
+returns-clause-source_changed g c =
+    (run_ends g.K.Sink.taken g.K.Sink.faults g.E.Sink.taken g.E.Sink.faults (texts c.args.words.now) (g.S.Source.left c.args.source.now) (g.S.Source.left c.reply-found.new.source)
+    (g.S.Source.faults c.args.source.now) (g.S.Source.faults c.reply-found.new.source) c.args.out.now c.finish.new.out c.args.err.now c.finish.new.err c.reply-found.result c.finish.result
+    c.reply-found.ensures.text c.reply-found.ensures.ended c.reply-found.ensures.ready c.reply-found.ensures.same c.reply-found.ensures.cause c.reply-found.ensures.asks_nothing
+    (λ unread. ap g.S.Source.faults (c.reply-found.ensures.unread unread)) c.finish.ensures).source_changed
+
+pub returns-clause-out_changed : goal.returns-clause-out_changed
+returns-clause-out_changed g c =
+    (run_ends g.K.Sink.taken g.K.Sink.faults g.E.Sink.taken g.E.Sink.faults (texts c.args.words.now) (g.S.Source.left c.args.source.now) (g.S.Source.left c.reply-found.new.source)
+    (g.S.Source.faults c.args.source.now) (g.S.Source.faults c.reply-found.new.source) c.args.out.now c.finish.new.out c.args.err.now c.finish.new.err c.reply-found.result c.finish.result
+    c.reply-found.ensures.text c.reply-found.ensures.ended c.reply-found.ensures.ready c.reply-found.ensures.same c.reply-found.ensures.cause c.reply-found.ensures.asks_nothing
+    (λ unread. ap g.S.Source.faults (c.reply-found.ensures.unread unread)) c.finish.ensures).out_changed
+
+pub returns-clause-err_changed : goal.returns-clause-err_changed
+returns-clause-err_changed g c =
+    (run_ends g.K.Sink.taken g.K.Sink.faults g.E.Sink.taken g.E.Sink.faults (texts c.args.words.now) (g.S.Source.left c.args.source.now) (g.S.Source.left c.reply-found.new.source)
+    (g.S.Source.faults c.args.source.now) (g.S.Source.faults c.reply-found.new.source) c.args.out.now c.finish.new.out c.args.err.now c.finish.new.err c.reply-found.result c.finish.result
+    c.reply-found.ensures.text c.reply-found.ensures.ended c.reply-found.ensures.ready c.reply-found.ensures.same c.reply-found.ensures.cause c.reply-found.ensures.asks_nothing
+    (λ unread. ap g.S.Source.faults (c.reply-found.ensures.unread unread)) c.finish.ensures).err_changed
+
+pub returns-clause-ok_end : goal.returns-clause-ok_end
+returns-clause-ok_end g c =
+    (run_ends g.K.Sink.taken g.K.Sink.faults g.E.Sink.taken g.E.Sink.faults (texts c.args.words.now) (g.S.Source.left c.args.source.now) (g.S.Source.left c.reply-found.new.source)
+    (g.S.Source.faults c.args.source.now) (g.S.Source.faults c.reply-found.new.source) c.args.out.now c.finish.new.out c.args.err.now c.finish.new.err c.reply-found.result c.finish.result
+    c.reply-found.ensures.text c.reply-found.ensures.ended c.reply-found.ensures.ready c.reply-found.ensures.same c.reply-found.ensures.cause c.reply-found.ensures.asks_nothing
+    (λ unread. ap g.S.Source.faults (c.reply-found.ensures.unread unread)) c.finish.ensures).ok_end
+
+pub returns-clause-ok_source : goal.returns-clause-ok_source
+returns-clause-ok_source g c =
+    (run_ends g.K.Sink.taken g.K.Sink.faults g.E.Sink.taken g.E.Sink.faults (texts c.args.words.now) (g.S.Source.left c.args.source.now) (g.S.Source.left c.reply-found.new.source)
+    (g.S.Source.faults c.args.source.now) (g.S.Source.faults c.reply-found.new.source) c.args.out.now c.finish.new.out c.args.err.now c.finish.new.err c.reply-found.result c.finish.result
+    c.reply-found.ensures.text c.reply-found.ensures.ended c.reply-found.ensures.ready c.reply-found.ensures.same c.reply-found.ensures.cause c.reply-found.ensures.asks_nothing
+    (λ unread. ap g.S.Source.faults (c.reply-found.ensures.unread unread)) c.finish.ensures).ok_source
+
+pub returns-clause-ok_out : goal.returns-clause-ok_out
+returns-clause-ok_out g c =
+    (run_ends g.K.Sink.taken g.K.Sink.faults g.E.Sink.taken g.E.Sink.faults (texts c.args.words.now) (g.S.Source.left c.args.source.now) (g.S.Source.left c.reply-found.new.source)
+    (g.S.Source.faults c.args.source.now) (g.S.Source.faults c.reply-found.new.source) c.args.out.now c.finish.new.out c.args.err.now c.finish.new.err c.reply-found.result c.finish.result
+    c.reply-found.ensures.text c.reply-found.ensures.ended c.reply-found.ensures.ready c.reply-found.ensures.same c.reply-found.ensures.cause c.reply-found.ensures.asks_nothing
+    (λ unread. ap g.S.Source.faults (c.reply-found.ensures.unread unread)) c.finish.ensures).ok_out
+
+pub returns-clause-ok_text : goal.returns-clause-ok_text
+returns-clause-ok_text g c =
+    (run_ends g.K.Sink.taken g.K.Sink.faults g.E.Sink.taken g.E.Sink.faults (texts c.args.words.now) (g.S.Source.left c.args.source.now) (g.S.Source.left c.reply-found.new.source)
+    (g.S.Source.faults c.args.source.now) (g.S.Source.faults c.reply-found.new.source) c.args.out.now c.finish.new.out c.args.err.now c.finish.new.err c.reply-found.result c.finish.result
+    c.reply-found.ensures.text c.reply-found.ensures.ended c.reply-found.ensures.ready c.reply-found.ensures.same c.reply-found.ensures.cause c.reply-found.ensures.asks_nothing
+    (λ unread. ap g.S.Source.faults (c.reply-found.ensures.unread unread)) c.finish.ensures).ok_text
+
+pub returns-clause-ok_err : goal.returns-clause-ok_err
+returns-clause-ok_err g c =
+    (run_ends g.K.Sink.taken g.K.Sink.faults g.E.Sink.taken g.E.Sink.faults (texts c.args.words.now) (g.S.Source.left c.args.source.now) (g.S.Source.left c.reply-found.new.source)
+    (g.S.Source.faults c.args.source.now) (g.S.Source.faults c.reply-found.new.source) c.args.out.now c.finish.new.out c.args.err.now c.finish.new.err c.reply-found.result c.finish.result
+    c.reply-found.ensures.text c.reply-found.ensures.ended c.reply-found.ensures.ready c.reply-found.ensures.same c.reply-found.ensures.cause c.reply-found.ensures.asks_nothing
+    (λ unread. ap g.S.Source.faults (c.reply-found.ensures.unread unread)) c.finish.ensures).ok_err
+
+pub returns-clause-out_kept : goal.returns-clause-out_kept
+returns-clause-out_kept g c =
+    (run_ends g.K.Sink.taken g.K.Sink.faults g.E.Sink.taken g.E.Sink.faults (texts c.args.words.now) (g.S.Source.left c.args.source.now) (g.S.Source.left c.reply-found.new.source)
+    (g.S.Source.faults c.args.source.now) (g.S.Source.faults c.reply-found.new.source) c.args.out.now c.finish.new.out c.args.err.now c.finish.new.err c.reply-found.result c.finish.result
+    c.reply-found.ensures.text c.reply-found.ensures.ended c.reply-found.ensures.ready c.reply-found.ensures.same c.reply-found.ensures.cause c.reply-found.ensures.asks_nothing
+    (λ unread. ap g.S.Source.faults (c.reply-found.ensures.unread unread)) c.finish.ensures).out_kept
 
 pub returns-clause-accepted : goal.returns-clause-accepted
-returns-clause-accepted g c bytes graph command is left accepted inside within reads writes tells =
-    graph_told (texts c.args.words.now) (g.S.Source.left c.args.source.now) (g.S.Source.left c.reply.new.source)
-    (g.S.Source.faults c.args.source.now) (g.S.Source.faults c.reply.new.source)
-    (g.E.Sink.taken c.args.err.now) (g.E.Sink.taken c.tell-in-Err.new.err) (g.E.Sink.faults c.args.err.now) (g.E.Sink.faults c.tell-in-Err.new.err) c.tell-in-Err.result
-    (has_command (texts c.args.words.now) command is) reads tells bytes left
-    (telling c.in-Err.stop (texts c.args.words.now) (g.S.Source.left c.args.source.now) (g.S.Source.left c.reply.new.source)
-    (g.S.Source.faults c.args.source.now) (g.S.Source.faults c.reply.new.source) c.in-Err.ensures.cause
-    (g.E.Sink.taken c.args.err.now) (g.E.Sink.taken c.tell-in-Err.new.err) (g.E.Sink.faults c.args.err.now) (g.E.Sink.faults c.tell-in-Err.new.err)
-    c.tell-in-Err.result c.tell-in-Err.ensures)
-    command graph is accepted inside within
+returns-clause-accepted g c =
+    (run_ends g.K.Sink.taken g.K.Sink.faults g.E.Sink.taken g.E.Sink.faults (texts c.args.words.now) (g.S.Source.left c.args.source.now) (g.S.Source.left c.reply-found.new.source)
+    (g.S.Source.faults c.args.source.now) (g.S.Source.faults c.reply-found.new.source) c.args.out.now c.finish.new.out c.args.err.now c.finish.new.err c.reply-found.result c.finish.result
+    c.reply-found.ensures.text c.reply-found.ensures.ended c.reply-found.ensures.ready c.reply-found.ensures.same c.reply-found.ensures.cause c.reply-found.ensures.asks_nothing
+    (λ unread. ap g.S.Source.faults (c.reply-found.ensures.unread unread)) c.finish.ensures).accepted
 
 pub returns-clause-outside : goal.returns-clause-outside
-returns-clause-outside g c bytes graph command is left accepted outside reads writes tells =
-    outside_told (texts c.args.words.now) (g.S.Source.left c.args.source.now) (g.S.Source.left c.reply.new.source)
-    (g.S.Source.faults c.args.source.now) (g.S.Source.faults c.reply.new.source)
-    (g.E.Sink.taken c.args.err.now) (g.E.Sink.taken c.tell-in-Err.new.err) (g.E.Sink.faults c.args.err.now) (g.E.Sink.faults c.tell-in-Err.new.err) c.tell-in-Err.result
-    (has_command (texts c.args.words.now) command is) reads tells bytes left
-    (telling c.in-Err.stop (texts c.args.words.now) (g.S.Source.left c.args.source.now) (g.S.Source.left c.reply.new.source)
-    (g.S.Source.faults c.args.source.now) (g.S.Source.faults c.reply.new.source) c.in-Err.ensures.cause
-    (g.E.Sink.taken c.args.err.now) (g.E.Sink.taken c.tell-in-Err.new.err) (g.E.Sink.faults c.args.err.now) (g.E.Sink.faults c.tell-in-Err.new.err)
-    c.tell-in-Err.result c.tell-in-Err.ensures)
-    command graph is accepted outside
+returns-clause-outside g c =
+    (run_ends g.K.Sink.taken g.K.Sink.faults g.E.Sink.taken g.E.Sink.faults (texts c.args.words.now) (g.S.Source.left c.args.source.now) (g.S.Source.left c.reply-found.new.source)
+    (g.S.Source.faults c.args.source.now) (g.S.Source.faults c.reply-found.new.source) c.args.out.now c.finish.new.out c.args.err.now c.finish.new.err c.reply-found.result c.finish.result
+    c.reply-found.ensures.text c.reply-found.ensures.ended c.reply-found.ensures.ready c.reply-found.ensures.same c.reply-found.ensures.cause c.reply-found.ensures.asks_nothing
+    (λ unread. ap g.S.Source.faults (c.reply-found.ensures.unread unread)) c.finish.ensures).outside
 
 pub returns-clause-over_limit : goal.returns-clause-over_limit
-returns-clause-over_limit g c bytes graph command is left accepted inside two large reads writes tells =
-    over_limit_told (texts c.args.words.now) (g.S.Source.left c.args.source.now) (g.S.Source.left c.reply.new.source)
-    (g.S.Source.faults c.args.source.now) (g.S.Source.faults c.reply.new.source)
-    (g.E.Sink.taken c.args.err.now) (g.E.Sink.taken c.tell-in-Err.new.err) (g.E.Sink.faults c.args.err.now) (g.E.Sink.faults c.tell-in-Err.new.err) c.tell-in-Err.result
-    (has_command (texts c.args.words.now) command is) reads tells bytes left
-    (telling c.in-Err.stop (texts c.args.words.now) (g.S.Source.left c.args.source.now) (g.S.Source.left c.reply.new.source)
-    (g.S.Source.faults c.args.source.now) (g.S.Source.faults c.reply.new.source) c.in-Err.ensures.cause
-    (g.E.Sink.taken c.args.err.now) (g.E.Sink.taken c.tell-in-Err.new.err) (g.E.Sink.faults c.args.err.now) (g.E.Sink.faults c.tell-in-Err.new.err)
-    c.tell-in-Err.result c.tell-in-Err.ensures)
-    command graph is accepted inside
+returns-clause-over_limit g c =
+    (run_ends g.K.Sink.taken g.K.Sink.faults g.E.Sink.taken g.E.Sink.faults (texts c.args.words.now) (g.S.Source.left c.args.source.now) (g.S.Source.left c.reply-found.new.source)
+    (g.S.Source.faults c.args.source.now) (g.S.Source.faults c.reply-found.new.source) c.args.out.now c.finish.new.out c.args.err.now c.finish.new.err c.reply-found.result c.finish.result
+    c.reply-found.ensures.text c.reply-found.ensures.ended c.reply-found.ensures.ready c.reply-found.ensures.same c.reply-found.ensures.cause c.reply-found.ensures.asks_nothing
+    (λ unread. ap g.S.Source.faults (c.reply-found.ensures.unread unread)) c.finish.ensures).over_limit
 
-pub returns-clause-told : goal.returns-clause-told
-returns-clause-told g c not_ok fine =
-    told (texts c.args.words.now) (g.S.Source.left c.args.source.now) (g.S.Source.left c.reply.new.source)
-    (g.S.Source.faults c.args.source.now) (g.S.Source.faults c.reply.new.source)
-    (g.E.Sink.taken c.args.err.now) (g.E.Sink.taken c.tell-in-Err.new.err) (g.E.Sink.faults c.args.err.now) (g.E.Sink.faults c.tell-in-Err.new.err) c.tell-in-Err.result
-    (telling c.in-Err.stop (texts c.args.words.now) (g.S.Source.left c.args.source.now) (g.S.Source.left c.reply.new.source)
-    (g.S.Source.faults c.args.source.now) (g.S.Source.faults c.reply.new.source) c.in-Err.ensures.cause
-    (g.E.Sink.taken c.args.err.now) (g.E.Sink.taken c.tell-in-Err.new.err) (g.E.Sink.faults c.args.err.now) (g.E.Sink.faults c.tell-in-Err.new.err)
-    c.tell-in-Err.result c.tell-in-Err.ensures)
-    fine
-
-pub returns-in-Ok-clause-told : goal.returns-in-Ok-clause-told
-returns-in-Ok-clause-told g c not_ok fine =
-    let takes : TakesMemory c.in-Ok.reply = search rules in
-    let cause : IsCause (texts c.args.words.now) (g.S.Source.left c.args.source.now) (g.S.Source.left c.reply.new.source)
-    (g.S.Source.faults c.args.source.now) (g.S.Source.faults c.reply.new.source) NoMemory = (c.in-Ok.ensures.same, inr (inr (c.in-Ok.ensures.ready takes))) in
-    told (texts c.args.words.now) (g.S.Source.left c.args.source.now) (g.S.Source.left c.reply.new.source)
-    (g.S.Source.faults c.args.source.now) (g.S.Source.faults c.reply.new.source)
-    (g.E.Sink.taken c.args.err.now) (g.E.Sink.taken c.tell.new.err) (g.E.Sink.faults c.args.err.now) (g.E.Sink.faults c.tell.new.err) c.tell.result
-    (telling NoMemory (texts c.args.words.now) (g.S.Source.left c.args.source.now) (g.S.Source.left c.reply.new.source)
-    (g.S.Source.faults c.args.source.now) (g.S.Source.faults c.reply.new.source) cause
-    (g.E.Sink.taken c.args.err.now) (g.E.Sink.taken c.tell.new.err) (g.E.Sink.faults c.args.err.now) (g.E.Sink.faults c.tell.new.err)
-    c.tell.result c.tell.ensures)
-    fine
-
-pub returns-in-Ok-write_reply-clause-outside : goal.returns-in-Ok-write_reply-clause-outside
-returns-in-Ok-write_reply-clause-outside g c bytes graph command is left accepted outside reads writes tells =
-    absurd (outside (answered (texts c.args.words.now) command (g.S.Source.left c.args.source.now) bytes _ graph is (reading_of_outside command.job graph.vertices outside) left accepted c.in-Ok.ensures.text).in_range)
-
-pub returns-in-Ok-write_reply-clause-over_limit : goal.returns-in-Ok-write_reply-clause-over_limit
-returns-in-Ok-write_reply-clause-over_limit g c bytes graph command is left accepted inside two large reads writes tells =
-    absurd (too_large_reply command (masses_of bytes) graph _ (answered (texts c.args.words.now) command (g.S.Source.left c.args.source.now) bytes _ graph is (reading_of_large command (masses_of bytes) graph large) left accepted c.in-Ok.ensures.text) two large)
+pub returns-clause-faulty : goal.returns-clause-faulty
+returns-clause-faulty g c =
+    (run_ends g.K.Sink.taken g.K.Sink.faults g.E.Sink.taken g.E.Sink.faults (texts c.args.words.now) (g.S.Source.left c.args.source.now) (g.S.Source.left c.reply-found.new.source)
+    (g.S.Source.faults c.args.source.now) (g.S.Source.faults c.reply-found.new.source) c.args.out.now c.finish.new.out c.args.err.now c.finish.new.err c.reply-found.result c.finish.result
+    c.reply-found.ensures.text c.reply-found.ensures.ended c.reply-found.ensures.ready c.reply-found.ensures.same c.reply-found.ensures.cause c.reply-found.ensures.asks_nothing
+    (λ unread. ap g.S.Source.faults (c.reply-found.ensures.unread unread)) c.finish.ensures).faulty
 
 pub returns-clause-made : goal.returns-clause-made
-returns-clause-made g c command number is trial writes tells =
-    trial_told (texts c.args.words.now) (g.S.Source.left c.args.source.now) (g.S.Source.left c.reply.new.source)
-    (g.S.Source.faults c.args.source.now) (g.S.Source.faults c.reply.new.source)
-    (g.E.Sink.taken c.args.err.now) (g.E.Sink.taken c.tell-in-Err.new.err) (g.E.Sink.faults c.args.err.now) (g.E.Sink.faults c.tell-in-Err.new.err) c.tell-in-Err.result
-    command number is trial tells
-    (telling c.in-Err.stop (texts c.args.words.now) (g.S.Source.left c.args.source.now) (g.S.Source.left c.reply.new.source)
-    (g.S.Source.faults c.args.source.now) (g.S.Source.faults c.reply.new.source) c.in-Err.ensures.cause
-    (g.E.Sink.taken c.args.err.now) (g.E.Sink.taken c.tell-in-Err.new.err) (g.E.Sink.faults c.args.err.now) (g.E.Sink.faults c.tell-in-Err.new.err)
-    c.tell-in-Err.result c.tell-in-Err.ensures)
+returns-clause-made g c =
+    (run_ends g.K.Sink.taken g.K.Sink.faults g.E.Sink.taken g.E.Sink.faults (texts c.args.words.now) (g.S.Source.left c.args.source.now) (g.S.Source.left c.reply-found.new.source)
+    (g.S.Source.faults c.args.source.now) (g.S.Source.faults c.reply-found.new.source) c.args.out.now c.finish.new.out c.args.err.now c.finish.new.err c.reply-found.result c.finish.result
+    c.reply-found.ensures.text c.reply-found.ensures.ended c.reply-found.ensures.ready c.reply-found.ensures.same c.reply-found.ensures.cause c.reply-found.ensures.asks_nothing
+    (λ unread. ap g.S.Source.faults (c.reply-found.ensures.unread unread)) c.finish.ensures).made

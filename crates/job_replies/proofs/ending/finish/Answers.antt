@@ -1,0 +1,19 @@
+-- Memory that is wanting for writing the reply is told.
+use Rattle.std.proofs.Common.{◌≡◌, Result, inr, refl, rules, subst, sym}
+use Rattle.stop_lines.specs.declared.stop.Stop.{Stop}
+use Rattle.stop_lines.specs.declared.stop.Stop.TheVariants.{NoMemory}
+use Rattle.job_replies.specs.declared.reply.Reply.{Reply}
+use Rattle.job_replies.specs.Endings.{IsStopOf}
+use Rattle.job_replies.specs.Replies.{TakesMemory}
+use Rattle.job_replies.proofs.ending.finish.Goals as goal
+
+pub returns-in-Ok : goal.returns-in-Ok
+returns-in-Ok g c =
+    let takes : TakesMemory c.in-Ok.reply = search rules in
+    let kept : c.write_reply.new.out ≡ c.args.out.now = search rules in
+    inr (inr (record {
+      stop = NoMemory;
+      stop_of = subst (λ (f : Result Reply Stop). IsStopOf f NoMemory) (sym c.in-Ok.is) (refl, takes);
+      writes = c.tell.ensures;
+      nothing_replied = kept;
+    }))

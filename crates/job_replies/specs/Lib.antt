@@ -1,0 +1,4 @@
+pub mod Replies
+pub mod Growth
+pub mod ReadGraphs
+pub mod Endings

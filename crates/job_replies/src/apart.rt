@@ -1,0 +1,128 @@
+//! What the jobs answer for a graph in several components: its minimum cuts are the unions of these.
+
+ghost use Rattle.std.specs.Prelude.{◌≡◌, ◌≢◌, ◌≤◌, ◌*◌, ◌+◌, ◌^◌, IfOk, IfErr, length};
+ghost use Rattle.cut_definitions.specs.Components.{HasComponents};
+ghost use Rattle.cut_listing.specs.Asks.{IsAskWithin};
+ghost use Rattle.job_answers.specs.Apart.{IsApartGraph, IsCountStop, IsTableStop, IsUnionBalance, IsUnionCount, IsUnionList, IsUnionStop};
+ghost use Rattle.job_answers.specs.Jobs.{AsksCuts, IsAnswerOf, IsInRange, IsStopFor};
+ghost use Rattle.job_replies.specs.Replies.{text_of, IsPrintable};
+ghost use Rattle.program_words.specs.Texts.{disconnected_line};
+
+use crate::reply::Reply;
+use balanced_cut::balance_of;
+use component_cuts::{BestRefusal, Components, laws};
+use cut_definitions::{NoMemory, VertexWeights};
+use cut_listing::Ask;
+use job_answers::{are_unions_few, ask_of, components_of, select_asked};
+use program_words::{Command, Job};
+use std::alloc::Global;
+use stop_lines::Stop;
+use weighted_graph::Graph;
+
+/// The text that tells how many components there are.
+pub fn disconnected(alloc: Global, components: u32) -> Result<Reply, NoMemory>
+    ensures text { IfOk result (λ reply. text_of reply ≡ disconnected_line components) }
+    ensures printable { IfOk result IsPrintable }
+{
+    let text = format!(in alloc; "disconnected {components}\n")?;
+    Ok(Reply::Text(text))
+}
+
+/// The list of the unions that are asked for.
+fn union_listing(alloc: Global, ask: Ask, graph: &Graph, parts: &Components) -> Result<Reply, Stop>
+    requires apart { IsApartGraph graph.now parts.now }
+    requires within { IsAskWithin graph.now.vertices ask }
+    ensures text { IfOk result (λ reply. IsUnionList ask.entry graph.now (length parts.now.parts) (text_of reply)) }
+    ensures printable { IfOk result IsPrintable }
+    ensures stop { IfErr result (IsUnionStop graph.now (length parts.now.parts)) }
+{
+    laws::minimum_cuts();
+    let n = graph.n();
+    if !are_unions_few(parts, n) {
+        let components = parts.len();
+        return Err(Stop::TooManyUnions { components, n });
+    }
+    let unions = parts.sides(alloc)?;
+    let sides = select_asked(alloc, ask, n, unions)?;
+    Ok(Reply::Listing { value: 0, sides })
+}
+
+/// The number of the unions.
+fn union_count(alloc: Global, graph: &Graph, parts: &Components) -> Result<Reply, Stop>
+    requires apart { IsApartGraph graph.now parts.now }
+    ensures text { IfOk result (λ reply. IsUnionCount graph.now (length parts.now.parts) (text_of reply)) }
+    ensures printable { IfOk result IsPrintable }
+    ensures stop { IfErr result (IsCountStop (length parts.now.parts)) }
+{
+    laws::minimum_cuts();
+    laws::number();
+    let Some(count) = parts.count() else {
+        let components = parts.len();
+        return Err(Stop::CountTooLarge { components });
+    };
+    let value = 0u64;
+    let text = format!(in alloc; "value {value}\ncount {count}\n")?;
+    Ok(Reply::Text(text))
+}
+
+/// A union of best balance.
+fn balanced_union(
+    alloc: Global,
+    graph: &Graph,
+    weights: &VertexWeights,
+    parts: &Components,
+) -> Result<Reply, Stop>
+    requires apart { IsApartGraph graph.now parts.now }
+    requires weighed { length weights.now ≡ graph.now.vertices }
+    ensures text { IfOk result (λ reply. IsUnionBalance graph.now weights.now (length parts.now.parts) (text_of reply)) }
+    ensures printable { IfOk result IsPrintable }
+    ensures stop { IfErr result (IsTableStop (length parts.now.parts) weights.now) }
+{
+    laws::minimum_cuts();
+    laws::components();
+    match parts.best(alloc, weights) {
+        Ok(side) => {
+            let balance = balance_of(&side, weights);
+            Ok(Reply::Balanced {
+                value: 0,
+                balance,
+                side,
+            })
+        }
+        Err(BestRefusal::TooLarge { components, total }) => {
+            Err(Stop::BalanceTooLarge { components, total })
+        }
+        Err(BestRefusal::NoMemory) => Err(Stop::NoMemory),
+    }
+}
+
+/// What a job on the cuts answers for a graph in several components, of which there are so many.
+pub fn apart_reply(
+    alloc: Global,
+    command: Command,
+    graph: &Graph,
+    count: u32,
+    weights: &VertexWeights,
+) -> Result<Reply, Stop>
+    requires enough { 2 ≤ graph.now.vertices }
+    requires weighed { length weights.now ≡ graph.now.vertices }
+    requires components { HasComponents graph.now count }
+    requires several { 2 ≤ count }
+    requires in_range { IsInRange command.job graph.now.vertices }
+    requires job { AsksCuts command.job }
+    ensures text { IfOk result (λ reply. IsAnswerOf command weights.now graph.now (text_of reply)) }
+    ensures printable { IfOk result IsPrintable }
+    ensures stop { IfErr result (IsStopFor command weights.now graph.now) }
+{
+    laws::components();
+    laws::one_number();
+    let parts = components_of(alloc, graph, count)?;
+    match command.job {
+        Job::Cactus | Job::Augment => Ok(disconnected(alloc, count)?),
+        Job::Cuts => union_listing(alloc, ask_of(command.least, weights), graph, &parts),
+        Job::Part(u, v) => { union_listing(alloc, Ask::Parting(u as u32, v as u32), graph, &parts) }
+        Job::Count => union_count(alloc, graph, &parts),
+        Job::Balanced => balanced_union(alloc, graph, weights, &parts),
+        Job::Value | Job::Grow(_) | Job::Trial(_) => unreachable!(),
+    }
+}

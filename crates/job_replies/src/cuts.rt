@@ -1,0 +1,251 @@
+//! From a solved graph to what is written.
+
+ghost use Rattle.std.specs.Prelude.{◌≡◌, ◌≢◌, ◌≤◌, ◌^◌, IfOk, IfErr, length, true};
+ghost use Rattle.cut_definitions.specs.Components.{HasComponents};
+ghost use Rattle.cut_definitions.specs.Cuts.{mincuts, value};
+ghost use Rattle.cut_definitions.specs.Graph.{Graph as EdgeGraph};
+ghost use Rattle.rooted_cactus.specs.Different.{HasNoEmptySide};
+ghost use Rattle.rooted_cactus.specs.Normal.{is_normal};
+ghost use Rattle.job_answers.specs.Jobs.{AsksCuts, IsAnswerOf, IsInRange, IsStopFor, IsCactusOf, IsCactusText, IsBalancedText, IsAugmentText};
+ghost use Rattle.answer_pages.specs.Listings.{count_text};
+ghost use Rattle.job_answers.specs.Asked.{IsListReply, IsListStop};
+ghost use Rattle.rooted_cactus.specs.Solving.{IsSolved};
+ghost use Rattle.cut_listing.specs.Asks.{IsAskWithin};
+ghost use Rattle.cut_listing.specs.Listings.{IsList, IsRefusal};
+ghost use Rattle.job_replies.specs.Replies.{text_of, IsPrintable};
+
+use crate::read_graph::ReadGraph;
+use crate::reply::Reply;
+use balanced_cut::balance_of;
+use canonical_cactus::{canonical, first_best};
+use cut_definitions::{NoMemory, VertexWeights};
+use cut_listing::laws::{count_of_minimum_cuts, minimum_cuts_in_order, number_of_minimum_cuts};
+use cut_listing::{Ask, ListRefusal, Lister};
+use edge_augment::augment;
+use edge_augment::laws::augmentation;
+use flat_cactus::laws;
+use job_answers::{ask_of, copied};
+use program_words::{Command, Job};
+use rooted_cactus::{Cactus, Solved};
+use std::alloc::Global;
+use stop_lines::Stop;
+use vertex_set::Side;
+
+/// All minimum cuts, by their sides in order, or their number where they are too many.
+fn all_sides(alloc: Global, graph: &ReadGraph, solved: &Solved) -> Result<Vec<Side>, ListRefusal>
+    requires { IsSolved graph.now solved.now }
+    ensures list { IfOk result (λ sides. IsList (2 ^ 30) graph.now.vertices Ask.All solved.now.cactus sides.items) }
+    ensures refusal { IfErr result (IsRefusal (2 ^ 30) graph.now.vertices Ask.All solved.now.cactus) }
+{
+    let Ok(keep) = Box::new(alloc, |_side: &Side| true) else {
+        return Err(ListRefusal::NoMemory);
+    };
+    let lister = Lister::new(graph.n(), Ask::All, keep);
+    lister.list(alloc, &solved.cactus)
+}
+
+/// Those that part two vertices.
+fn parting_sides(
+    alloc: Global,
+    u: u32,
+    v: u32,
+    graph: &ReadGraph,
+    solved: &Solved,
+) -> Result<Vec<Side>, ListRefusal>
+    requires solved { IsSolved graph.now solved.now }
+    requires within { IsAskWithin graph.now.vertices (Ask.Parting u v) }
+    ensures list { IfOk result (λ sides. IsList (2 ^ 30) graph.now.vertices (Ask.Parting u v) solved.now.cactus sides.items) }
+    ensures refusal { IfErr result (IsRefusal (2 ^ 30) graph.now.vertices (Ask.Parting u v) solved.now.cactus) }
+{
+    let Ok(keep) = Box::new(
+        alloc,
+        move |side: &Side|
+            requires { IsAskWithin side.now.vertices (Ask.Parting u v) }
+        { side.has(u) != side.has(v) },
+    ) else {
+        return Err(ListRefusal::NoMemory);
+    };
+    let lister = Lister::new(graph.n(), Ask::Parting(u, v), keep);
+    lister.list(alloc, &solved.cactus)
+}
+
+/// Those of at least a balance. A boxed test borrows nothing, so it has weights of its own.
+fn balanced_sides(
+    alloc: Global,
+    least: u64,
+    weights: &VertexWeights,
+    graph: &ReadGraph,
+    solved: &Solved,
+) -> Result<Vec<Side>, ListRefusal>
+    requires solved { IsSolved graph.now solved.now }
+    requires weighed { length weights.now ≡ graph.now.vertices }
+    ensures list { IfOk result (λ sides. IsList (2 ^ 30) graph.now.vertices (Ask.Least least weights.entry) solved.now.cactus sides.items) }
+    ensures refusal { IfErr result (IsRefusal (2 ^ 30) graph.now.vertices (Ask.Least least weights.entry) solved.now.cactus) }
+{
+    let own = copied(alloc, weights)?;
+    let Ok(keep) = Box::new(
+        alloc,
+        move |side: &Side|
+            requires { length own ≡ side.now.vertices }
+        { balance_of(side, &own) >= least as u128 },
+    ) else {
+        return Err(ListRefusal::NoMemory);
+    };
+    let lister = Lister::new(graph.n(), Ask::Least(least, weights), keep);
+    lister.list(alloc, &solved.cactus)
+}
+
+/// The sides of the minimum cuts that are asked for, in order, or their number where they are too many.
+fn asked_sides(
+    alloc: Global,
+    ask: Ask,
+    graph: &ReadGraph,
+    solved: &Solved,
+) -> Result<Vec<Side>, ListRefusal>
+    requires solved { IsSolved graph.now solved.now }
+    requires within { IsAskWithin graph.now.vertices ask }
+    ensures list { IfOk result (λ sides. IsList (2 ^ 30) graph.now.vertices ask.entry solved.now.cactus sides.items) }
+    ensures refusal { IfErr result (IsRefusal (2 ^ 30) graph.now.vertices ask.entry solved.now.cactus) }
+{
+    match ask {
+        Ask::All => all_sides(alloc, graph, solved),
+        Ask::Parting(u, v) => parting_sides(alloc, u, v, graph, solved),
+        Ask::Least(least, weights) => balanced_sides(alloc, least, weights, graph, solved),
+    }
+}
+
+/// The list of the minimum cuts that are asked for.
+fn listing_reply(alloc: Global, ask: Ask, graph: &ReadGraph, solved: Solved) -> Result<Reply, Stop>
+    requires solved { IsSolved graph.now solved }
+    requires within { IsAskWithin graph.now.vertices ask }
+    ensures text { IfOk result (λ reply. IsListReply ask.entry graph.now (text_of reply)) }
+    ensures printable { IfOk result IsPrintable }
+    ensures stop { IfErr result (IsListStop ask.entry graph.now) }
+{
+    minimum_cuts_in_order();
+    count_of_minimum_cuts();
+    match asked_sides(alloc, ask, graph, &solved) {
+        Ok(sides) => Ok(Reply::Listing {
+            value: solved.value,
+            sides,
+        }),
+        Err(ListRefusal::TooLarge { cuts, n }) => Err(Stop::TooLarge { cuts, n }),
+        Err(ListRefusal::NoMemory) => Err(Stop::NoMemory),
+    }
+}
+
+/// The number of all minimum cuts of a solved graph, from the tree of its cactus: one step for each node and block.
+pub fn count_of_cuts(alloc: Global, solved: &Solved) -> Result<u64, NoMemory>
+    requires few { solved.now.cactus.vertices ≤ 4194304 }
+    requires normal { is_normal solved.now.cactus.root ≡ true }
+    ensures { (g : EdgeGraph) → IsSolved g solved.now → IfOk result (λ count. count ≡ length (mincuts g)) }
+{
+    number_of_minimum_cuts();
+    solved.cactus.count_within(alloc)
+}
+
+/// The number of all minimum cuts.
+fn count_reply(alloc: Global, graph: &ReadGraph, solved: &Solved) -> Result<Reply, NoMemory>
+    requires solved { IsSolved graph.now solved.now }
+    ensures text { IfOk result (λ reply. text_of reply ≡ count_text (value graph.now) (length (mincuts graph.now))) }
+    ensures printable { IfOk result IsPrintable }
+{
+    // known by this call: the graph has at most 4,194,304 vertices
+    let _n = graph.n();
+    let value = solved.value;
+    let count = count_of_cuts(alloc, solved)?;
+    let text = format!(in alloc; "value {value}\ncount {count}\n")?;
+    Ok(Reply::Text(text))
+}
+
+/// The first of the most balanced minimum cuts, in the order of lists.
+fn balanced_reply(
+    alloc: Global,
+    graph: &ReadGraph,
+    weights: &VertexWeights,
+    solved: Solved,
+) -> Result<Reply, NoMemory>
+    requires enough { 2 ≤ graph.now.vertices }
+    requires weighed { length weights.now ≡ graph.now.vertices }
+    requires solved { IsSolved graph.now solved }
+    ensures text { IfOk result (λ reply. IsBalancedText weights.now graph.now (text_of reply)) }
+    ensures printable { IfOk result IsPrintable }
+{
+    let side = first_best(alloc, &solved.cactus, weights)?;
+    let balance = balance_of(&side, weights);
+    Ok(Reply::Balanced {
+        value: solved.value,
+        balance,
+        side,
+    })
+}
+
+/// What a job on the cuts of a connected graph answers, from all its minimum cuts.
+pub fn cuts_reply(
+    alloc: Global,
+    command: Command,
+    graph: &ReadGraph,
+    weights: &VertexWeights,
+    solved: Solved,
+) -> Result<Reply, Stop>
+    requires enough { 2 ≤ graph.now.vertices }
+    requires weighed { length weights.now ≡ graph.now.vertices }
+    requires one { HasComponents graph.now 1 }
+    requires in_range { IsInRange command.job graph.now.vertices }
+    requires job { AsksCuts command.job }
+    requires solved { IsSolved graph.now solved }
+    ensures text { IfOk result (λ reply. IsAnswerOf command weights.now graph.now (text_of reply)) }
+    ensures printable { IfOk result IsPrintable }
+    ensures stop { IfErr result (IsStopFor command weights.now graph.now) }
+{
+    match command.job {
+        Job::Cuts => listing_reply(alloc, ask_of(command.least, weights), graph, solved),
+        Job::Part(u, v) => listing_reply(alloc, Ask::Parting(u as u32, v as u32), graph, solved),
+        Job::Count => Ok(count_reply(alloc, graph, &solved)?),
+        Job::Balanced => Ok(balanced_reply(alloc, graph, weights, solved)?),
+        Job::Cactus => Ok(cactus_reply(alloc, graph, solved)?),
+        Job::Augment => Ok(augment_reply(alloc, graph, solved)?),
+        Job::Value | Job::Grow(_) | Job::Trial(_) => unreachable!(),
+    }
+}
+
+/// The canonical cactus of a solved graph.
+pub fn canonical_of(alloc: Global, solved: Solved) -> Result<Cactus, NoMemory>
+    requires { HasNoEmptySide solved.cactus }
+    ensures { (g : EdgeGraph) → IsSolved g solved → IfOk result (λ cactus. IsCactusOf g cactus) }
+{
+    let cactus = canonical(alloc, solved.cactus)?;
+    // known by this call: that it is a cactus
+    let _n = cactus.n();
+    Ok(cactus)
+}
+
+/// All minimum cuts.
+fn cactus_reply(alloc: Global, graph: &ReadGraph, solved: Solved) -> Result<Reply, NoMemory>
+    requires enough { 2 ≤ graph.now.vertices }
+    requires solved { IsSolved graph.now solved }
+    ensures text { IfOk result (λ reply. IsCactusText graph.now (text_of reply)) }
+    ensures printable { IfOk result IsPrintable }
+{
+    laws::flat_form();
+    laws::flat_sides();
+    // known by this call: the graph has at most 4,194,304 vertices
+    let _n = graph.n();
+    let value = solved.value;
+    let cactus = canonical_of(alloc, solved)?;
+    Ok(Reply::Cactus(Solved { value, cactus }))
+}
+
+/// The fewest unit edges that raise the value.
+fn augment_reply(alloc: Global, graph: &ReadGraph, solved: Solved) -> Result<Reply, NoMemory>
+    requires enough { 2 ≤ graph.now.vertices }
+    requires solved { IsSolved graph.now solved }
+    ensures text { IfOk result (λ reply. IsAugmentText graph.now (text_of reply)) }
+    ensures printable { IfOk result IsPrintable }
+{
+    augmentation();
+    let value = solved.value;
+    let cactus = canonical_of(alloc, solved)?;
+    let plan = augment(alloc, &cactus)?;
+    Ok(Reply::Augmentation { value, plan })
+}

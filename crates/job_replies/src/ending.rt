@@ -1,0 +1,35 @@
+//! The end of a run: what was found is written, or it is told why there is nothing to write.
+
+ghost use Rattle.std.specs.Prelude.{◌⊎◌, IfOk};
+ghost use Rattle.job_replies.specs.Endings.{IsBroken, IsReplied, IsStopped};
+ghost use Rattle.job_replies.specs.Replies.{IsPrintable};
+
+use crate::reply::{Reply, write_reply};
+use crate::telling::tell;
+use cactus_text::PrintRefusal;
+use outside::Sink;
+use std::alloc::Global;
+use stop_lines::{Status, Stop};
+
+/// Writes the reply that was found to `out`, or tells on `err` why there is none or why it is not written, and answers how
+/// that ended.
+pub fn finish<K: Sink, E: Sink>(
+    alloc: Global,
+    out: &mut K,
+    err: &mut E,
+    found: Result<Reply, Stop>,
+) -> Status
+    requires { IfOk found IsPrintable }
+    ensures { IsReplied found (K.taken out.old) (K.taken out.new) (K.faults out.old) (K.faults out.new) err.old err.new result
+        ⊎ (IsBroken found (K.taken out.old) (K.taken out.new) (K.faults out.old) (K.faults out.new) err.old err.new result
+        ⊎ IsStopped found (E.taken err.old) (E.taken err.new) (E.faults err.old) (E.faults err.new) out.old out.new result) }
+{
+    match found {
+        Ok(reply) => match write_reply(alloc, out, &reply) {
+            Ok(()) => Status::Ok,
+            Err(PrintRefusal::SinkFailed) => Status::WriteFault,
+            Err(PrintRefusal::NoMemory) => tell(err, Stop::NoMemory),
+        },
+        Err(stop) => tell(err, stop),
+    }
+}

@@ -1,0 +1,81 @@
+//! What is written to `out`.
+
+ghost use Rattle.std.specs.Prelude.{◌≡◌, ◌≢◌, Err, IsErrOf, OnOk};
+ghost use Rattle.job_answers.specs.Answers.{Wrote, Failed};
+ghost use Rattle.job_replies.specs.Replies.{text_of, IsPrintable, TakesMemory};
+
+use answer_pages::{Step, print_augmentation, print_balanced, print_growth, print_listing};
+use cactus_text::{PrintRefusal, print};
+use edge_augment::Plan;
+use outside::{Sink, write_whole};
+use rooted_cactus::Solved;
+use std::alloc::Global;
+use vertex_set::Side;
+
+/// What there is to write to `out`.
+#[derive(Drop)]
+pub enum Reply {
+    /// A text that is in memory.
+    Text(String),
+    /// All minimum cuts, with their weight.
+    Cactus(Solved),
+    /// The weight of the minimum cuts, and the sides of a list of them.
+    Listing {
+        value: u64,
+        sides: Vec<Side>,
+    },
+    /// The weight of the minimum cuts, and the balance and the side of one.
+    Balanced {
+        value: u64,
+        balance: u128,
+        side: Side,
+    },
+    /// What is told after each of some insertions, and all minimum cuts after the last, with their weight.
+    Growth {
+        steps: Vec<Step>,
+        solved: Solved,
+    },
+    /// The weight of the minimum cuts, and the fewest unit edges that raise it.
+    Augmentation {
+        value: u64,
+        plan: Plan,
+    },
+}
+
+/// Writes a text that is in memory.
+fn write_text<K: Sink>(out: &mut K, text: &str) -> Result<(), PrintRefusal>
+    ensures whole { OnOk result (Wrote text.now (K.taken out.old) (K.taken out.new) (K.faults out.old) (K.faults out.new)) }
+    ensures failed { IsErrOf result PrintRefusal.SinkFailed → Failed text.now (K.taken out.old) (K.taken out.new) (K.faults out.old) (K.faults out.new) }
+    ensures no_memory { result ≢ Err PrintRefusal.NoMemory }
+{
+    match write_whole(out, text.as_bytes()) {
+        Ok(()) => Ok(()),
+        Err(_) => Err(PrintRefusal::SinkFailed),
+    }
+}
+
+/// Writes all of a reply.
+///
+/// Where memory is wanting nothing is written; a text takes none.
+pub fn write_reply<K: Sink>(alloc: Global, out: &mut K, reply: &Reply) -> Result<(), PrintRefusal>
+    requires { IsPrintable reply.now }
+    ensures whole { OnOk result (Wrote (text_of reply.now) (K.taken out.old) (K.taken out.new) (K.faults out.old) (K.faults out.new)) }
+    ensures failed { IsErrOf result PrintRefusal.SinkFailed → Failed (text_of reply.now) (K.taken out.old) (K.taken out.new) (K.faults out.old) (K.faults out.new) }
+    ensures kept { IsErrOf result PrintRefusal.NoMemory → out.new ≡ out.old }
+    ensures memory { IsErrOf result PrintRefusal.NoMemory → TakesMemory reply.now }
+{
+    match reply {
+        Reply::Text(text) => write_text(out, text.as_str()),
+        Reply::Cactus(solved) => print(alloc, &solved.cactus, solved.value, out),
+        Reply::Listing { value, sides } => print_listing(alloc, *value, sides, out),
+        Reply::Balanced {
+            value,
+            balance,
+            side,
+        } => print_balanced(alloc, *value, *balance, side, out),
+        Reply::Growth { steps, solved } => {
+            print_growth(alloc, steps, solved.value, &solved.cactus, out)
+        }
+        Reply::Augmentation { value, plan } => print_augmentation(alloc, *value, plan, out),
+    }
+}

@@ -1,4 +1,0 @@
-pub mod Replies
-pub mod Solving
-pub mod Growth
-pub mod ReadGraphs

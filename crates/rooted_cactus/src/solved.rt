@@ -1,0 +1,10 @@
+//! What is found of a solved graph.
+
+use crate::cactus::Cactus;
+
+/// The value of a graph, and a normal cactus whose sides are just its minimum cuts.
+#[derive(Drop)]
+pub struct Solved {
+    pub value: u64,
+    pub cactus: Cactus,
+}
