@@ -7,6 +7,7 @@ use Rattle.cut_definitions.specs.Cuts.{value, mincuts}
 use Rattle.cut_definitions.specs.Contraction.{classes, lift}
 use Rattle.weighted_graph.specs.RowLaws.{edge_at}
 use Rattle.weighted_graph.specs.ContractionLaws.{IsLabelled}
+use Rattle.min_value.specs.declared.kept_graph.Kernel.{Kernel}
 use Rattle.round_workers.specs.Round.{IsCertified}
 
 -- the minimum cuts of a graph are exactly the lifted ones of the smaller graph
@@ -31,3 +32,7 @@ pub record IsKept (g : Graph) (least : ℕ) (small : Graph) (labels : List ℕ) 
   pub counted : classes labels ≡ small.vertices
   pub minimum_cuts : KeepsAllMinimumCuts g small labels
   pub enough : 2 ≤ small.vertices
+
+-- of each graph that the former is kept of, the latter is kept too
+abbrev pub IsKeptOn : Kernel → Kernel → Type 0
+IsKeptOn before after = (g : Graph) → IsKept g before.value before.graph before.labels → IsKept g after.value after.graph after.labels

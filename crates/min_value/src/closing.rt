@@ -2,13 +2,14 @@
 
 ghost use Rattle.std.specs.Prelude.{◌≡◌, ℕ, ◌+◌, ◌<◌, ◌≤◌, ◌^◌, IfOk, IfSome, IfNone, length, true, false};
 ghost use Rattle.cut_definitions.specs.Cuts.{has, value as least_value};
+ghost use Rattle.cut_definitions.specs.Contraction.{classes};
 ghost use Rattle.weighted_graph.specs.Marks.{MarksAreSafe};
 ghost use Rattle.scan_forest.specs.Scan.{StandsFor};
 ghost use Rattle.round_workers.specs.Round.{SomeIsMarked};
-ghost use Rattle.min_value.specs.Kernels.{NoneIsCertified, IsKept, IsLight};
+ghost use Rattle.min_value.specs.Kernels.{NoneIsCertified, IsKept, IsKeptOn, IsLight};
 
 use crate::bare::is_bare;
-use crate::kept_graph::{contract_safely, round_at_value};
+use crate::kept_graph::{Kernel, contract_safely, is_tenth_less, keep_less, round_at_value};
 use cut_definitions::NoMemory;
 use mark_board::Marks;
 use outside::Gate;
@@ -16,7 +17,7 @@ use round_workers::mark_links;
 use scan_forest::Scan;
 use std::alloc::Global;
 use std::thread::Threads;
-use weighted_graph::{Graph, Labels};
+use weighted_graph::Graph;
 
 /// Whether some edge of a graph is marked. It goes over the edges up to the first that is. (`Marks::is_empty` does not tell
 /// that there is one of this graph.)
@@ -89,7 +90,7 @@ pub(crate) fn marks_of_scan(
 
 /// Marks of edges that lie in no minimum cut: those of a round with slack 1 or, where it marks nothing, of a whole scan.
 /// None where that marks nothing either. The scan is of the very graph that the round marked nothing in.
-pub(crate) fn find_marks<R: Threads + Sync, G: Gate>(
+fn find_marks<R: Threads + Sync, G: Gate>(
     rt: &R,
     alloc: Global,
     graph: &Graph,
@@ -113,18 +114,58 @@ pub(crate) fn find_marks<R: Threads + Sync, G: Gate>(
     marks_of_scan(alloc, graph, value)
 }
 
+/// Contracts the marks of a round or a whole scan in what is kept of a graph, and answers whether there were any.
+pub(crate) fn close_once<R: Threads + Sync, G: Gate>(
+    rt: &R,
+    alloc: Global,
+    kept: &mut Kernel,
+    workers: u32,
+    gate: &G,
+) -> Result<bool, NoMemory>
+    requires enough { 2 ≤ kept.old.graph.vertices }
+    requires value { kept.old.value ≡ least_value kept.old.graph }
+    requires counted { classes kept.old.labels ≡ kept.old.graph.vertices }
+    requires workers { (1 ≤ workers) × (workers ≤ 64) }
+    ensures kept { IfOk result (λ _. IsKeptOn kept.old kept.new) }
+    ensures fewer { IfOk result (λ some. some ≡ true → kept.new.graph.vertices < kept.old.graph.vertices) }
+    ensures closed { IfOk result (λ some. some ≡ false → NoneIsCertified kept.new.graph (kept.new.value + 1)) }
+    ensures light { IfOk result (λ some. some ≡ false → IsLight kept.new.graph kept.new.value) }
+{
+    let Some(marks) = find_marks(rt, alloc, &kept.graph, kept.value, workers, gate)? else {
+        return Ok(false);
+    };
+    keep_less(alloc, kept, &marks)?;
+    Ok(true)
+}
+
 /// A whole scan, and the contraction of the edges that it marks; none where it marks nothing.
-fn scan_once(alloc: Global, graph: &Graph, value: u64) -> Result<Option<(Graph, Labels)>, NoMemory>
+fn scan_once(alloc: Global, graph: &Graph, value: u64) -> Result<Option<Kernel>, NoMemory>
     requires enough { 2 ≤ graph.now.vertices }
     requires value { value ≡ least_value graph.now }
-    ensures kept { IfOk result (λ found. IfSome found (λ r. IsKept graph.now value r.0 r.1)) }
+    ensures kept { IfOk result (λ found. IfSome found (λ k. IsKept graph.now k.value k.graph k.labels)) }
     ensures light { IfOk result (λ found. IfNone found (IsLight graph.now value)) }
 {
     let Some(marks) = marks_of_scan(alloc, graph, value)? else {
         return Ok(None);
     };
-    let (small, labels) = contract_safely(alloc, graph, value, &marks)?;
-    Ok(Some((small, labels)))
+    let kept = contract_safely(alloc, graph, value, &marks)?;
+    Ok(Some(kept))
+}
+
+/// One more whole scan and its contraction, and whether it took away a tenth of the vertices.
+fn scan_again(alloc: Global, kept: &mut Kernel) -> Result<bool, NoMemory>
+    requires enough { 2 ≤ kept.old.graph.vertices }
+    requires value { kept.old.value ≡ least_value kept.old.graph }
+    requires counted { classes kept.old.labels ≡ kept.old.graph.vertices }
+    ensures kept { IfOk result (λ _. IsKeptOn kept.old kept.new) }
+    ensures fewer { IfOk result (λ more. more ≡ true → kept.new.graph.vertices < kept.old.graph.vertices) }
+{
+    let before = kept.graph.n();
+    let Some(marks) = marks_of_scan(alloc, &kept.graph, kept.value)? else {
+        return Ok(false);
+    };
+    keep_less(alloc, kept, &marks)?;
+    Ok(is_tenth_less(kept.graph.n(), before))
 }
 
 /// Whole scans and their contractions, as long as each takes away a tenth of the vertices. It answers what is left and the
@@ -134,26 +175,21 @@ pub(crate) fn contract_by_scans(
     alloc: Global,
     graph: &Graph,
     value: u64,
-) -> Result<Option<(Graph, Labels)>, NoMemory>
+) -> Result<Option<Kernel>, NoMemory>
     requires enough { 2 ≤ graph.now.vertices }
     requires value { value ≡ least_value graph.now }
-    ensures kept { IfOk result (λ found. IfSome found (λ r. IsKept graph.now value r.0 r.1)) }
+    ensures kept { IfOk result (λ found. IfSome found (λ k. IsKept graph.now k.value k.graph k.labels)) }
     ensures light { IfOk result (λ found. IfNone found (IsLight graph.now value)) }
 {
     if is_bare(graph, value) {
         return Ok(None);
     }
-    let Some((mut small, mut labels)) = scan_once(alloc, graph, value)? else {
+    let Some(mut kept) = scan_once(alloc, graph, value)? else {
         return Ok(None);
     };
-    let mut shrinks = u64::from(small.n()) * 10 <= u64::from(graph.n()) * 9;
+    let mut shrinks = is_tenth_less(kept.graph.n(), graph.n());
     'scans: while shrinks {
-        let Some((smaller, next)) = scan_once(alloc, &small, value)? else {
-            break;
-        };
-        labels = labels.compose(alloc, &next)?;
-        shrinks = u64::from(smaller.n()) * 10 <= u64::from(small.n()) * 9;
-        small = smaller;
+        shrinks = scan_again(alloc, &mut kept)?;
     }
-    Ok(Some((small, labels)))
+    Ok(Some(kept))
 }

@@ -1,10 +1,11 @@
 //! What is kept of a graph after contractions that part no minimum cut.
 
-ghost use Rattle.std.specs.Prelude.{◌≡◌, ◌+◌, ◌<◌, ◌≤◌, IfOk, length};
+ghost use Rattle.std.specs.Prelude.{◌≡◌, ◌+◌, ◌*◌, ◌<◌, ◌≤◌, IfOk, length, true};
 ghost use Rattle.cut_definitions.specs.Cuts.{has, value as least_value};
+ghost use Rattle.cut_definitions.specs.Contraction.{classes};
 ghost use Rattle.weighted_graph.specs.Marks.{MarksAreSafe};
 ghost use Rattle.round_workers.specs.Round.{CertifiedAreMarked, SomeIsMarked};
-ghost use Rattle.min_value.specs.Kernels.{IsKept};
+ghost use Rattle.min_value.specs.Kernels.{IsKept, IsKeptOn};
 
 use cut_definitions::NoMemory;
 use mark_board::Marks;
@@ -24,24 +25,51 @@ pub struct Kernel {
     pub labels: Labels,
 }
 
+/// Whether a number of vertices is a tenth smaller than the one before it.
+pub(crate) fn is_tenth_less(left: u32, before: u32) -> bool
+    ensures { result ≡ true → left * 10 ≤ before * 9 }
+{
+    u64::from(left) * 10 <= u64::from(before) * 9
+}
+
 /// The graph on the classes that marked edges join, where these lie in no minimum cut. It costs O(m log m).
 pub(crate) fn contract_safely(
     alloc: Global,
     graph: &Graph,
     value: u64,
     marks: &Marks,
-) -> Result<(Graph, Labels), NoMemory>
+) -> Result<Kernel, NoMemory>
     requires enough { 2 ≤ graph.now.vertices }
     requires value { value ≡ least_value graph.now }
     requires marks { marks.now.edges ≡ length graph.now.edges }
     requires safe { MarksAreSafe graph.now (has marks.now.marked) value 1 }
-    ensures kept { IfOk result (λ r. IsKept graph.now value r.0 r.1) }
-    ensures fewer { SomeIsMarked marks.now → IfOk result (λ r. r.0.vertices < graph.now.vertices) }
+    ensures kept { IfOk result (λ k. IsKept graph.now k.value k.graph k.labels) }
+    ensures fewer { SomeIsMarked marks.now → IfOk result (λ k. k.graph.vertices < graph.now.vertices) }
 {
     // known by this call: the graph is an edge list
     let _n = graph.n();
     let (small, labels) = contract(alloc, graph, marks)?;
-    Ok((small, labels))
+    Ok(Kernel {
+        value,
+        graph: small,
+        labels,
+    })
+}
+
+/// Contracts marked edges of what is kept of a graph, and leads the labels on.
+pub(crate) fn keep_less(alloc: Global, kept: &mut Kernel, marks: &Marks) -> Result<(), NoMemory>
+    requires enough { 2 ≤ kept.old.graph.vertices }
+    requires value { kept.old.value ≡ least_value kept.old.graph }
+    requires counted { classes kept.old.labels ≡ kept.old.graph.vertices }
+    requires marks { marks.now.edges ≡ length kept.old.graph.edges }
+    requires safe { MarksAreSafe kept.old.graph (has marks.now.marked) kept.old.value 1 }
+    ensures kept { IfOk result (λ _. IsKeptOn kept.old kept.new) }
+    ensures fewer { SomeIsMarked marks.now → IfOk result (λ _. kept.new.graph.vertices < kept.old.graph.vertices) }
+{
+    let next = contract_safely(alloc, &kept.graph, kept.value, marks)?;
+    kept.labels = kept.labels.compose(alloc, &next.labels)?;
+    kept.graph = next.graph;
+    Ok(())
 }
 
 /// The marks of a round with slack 1 that is opened with the value, where its bound stays.
@@ -72,15 +100,34 @@ fn contract_once<R: Threads + Sync, G: Gate>(
     value: u64,
     workers: u32,
     gate: &G,
-) -> Result<(Graph, Labels), NoMemory>
+) -> Result<Kernel, NoMemory>
     requires enough { 2 ≤ graph.now.vertices }
     requires value { value ≡ least_value graph.now }
     requires workers { (1 ≤ workers) × (workers ≤ 64) }
-    ensures { IfOk result (λ r. IsKept graph.now value r.0 r.1) }
+    ensures { IfOk result (λ k. IsKept graph.now k.value k.graph k.labels) }
 {
     let marks = round_at_value(rt, alloc, graph, value, workers, gate)?;
-    let (small, labels) = contract_safely(alloc, graph, value, &marks)?;
-    Ok((small, labels))
+    let kept = contract_safely(alloc, graph, value, &marks)?;
+    Ok(kept)
+}
+
+/// One more round with slack 1 by one worker, and whether it took away a tenth of the vertices.
+fn contract_again<R: Threads + Sync, G: Gate>(
+    rt: &R,
+    alloc: Global,
+    kept: &mut Kernel,
+    gate: &G,
+) -> Result<bool, NoMemory>
+    requires enough { 2 ≤ kept.old.graph.vertices }
+    requires value { kept.old.value ≡ least_value kept.old.graph }
+    requires counted { classes kept.old.labels ≡ kept.old.graph.vertices }
+    ensures kept { IfOk result (λ _. IsKeptOn kept.old kept.new) }
+    ensures fewer { IfOk result (λ more. more ≡ true → kept.new.graph.vertices < kept.old.graph.vertices) }
+{
+    let before = kept.graph.n();
+    let marks = round_at_value(rt, alloc, &kept.graph, kept.value, 1, gate)?;
+    keep_less(alloc, kept, &marks)?;
+    Ok(is_tenth_less(kept.graph.n(), before))
 }
 
 /// Rounds with slack 1 and their contractions, as long as each takes away a tenth of the vertices. It answers what is left
@@ -92,19 +139,16 @@ pub(crate) fn contract_by_rounds<R: Threads + Sync, G: Gate>(
     value: u64,
     workers: u32,
     gate: &G,
-) -> Result<(Graph, Labels), NoMemory>
+) -> Result<Kernel, NoMemory>
     requires enough { 2 ≤ graph.now.vertices }
     requires value { value ≡ least_value graph.now }
     requires workers { (1 ≤ workers) × (workers ≤ 64) }
-    ensures { IfOk result (λ r. IsKept graph.now value r.0 r.1) }
+    ensures { IfOk result (λ k. IsKept graph.now k.value k.graph k.labels) }
 {
-    let (mut small, mut labels) = contract_once(rt, alloc, graph, value, workers, gate)?;
-    let mut shrinks = u64::from(small.n()) * 10 <= u64::from(graph.n()) * 9;
+    let mut kept = contract_once(rt, alloc, graph, value, workers, gate)?;
+    let mut shrinks = is_tenth_less(kept.graph.n(), graph.n());
     'rounds: while shrinks {
-        let (smaller, next) = contract_once(rt, alloc, &small, value, 1, gate)?;
-        labels = labels.compose(alloc, &next)?;
-        shrinks = u64::from(smaller.n()) * 10 <= u64::from(small.n()) * 9;
-        small = smaller;
+        shrinks = contract_again(rt, alloc, &mut kept, gate)?;
     }
-    Ok((small, labels))
+    Ok(kept)
 }

@@ -6,8 +6,8 @@ ghost use Rattle.cut_definitions.specs.Contraction.{classes};
 ghost use Rattle.weighted_graph.specs.ContractionLaws.{IsLabelled};
 ghost use Rattle.min_value.specs.Kernels.{IsKept, KeepsAllMinimumCuts, NoneIsCertified, IsLight};
 
-use crate::closing::{contract_by_scans, find_marks};
-use crate::kept_graph::{Kernel, contract_by_rounds, contract_safely};
+use crate::closing::{close_once, contract_by_scans};
+use crate::kept_graph::{Kernel, contract_by_rounds};
 use crate::values::{FEW_EDGES, value};
 use cut_definitions::NoMemory;
 use outside::Gate;
@@ -41,17 +41,9 @@ pub fn kernel<R: Threads + Sync, G: Gate>(
     ensures light { IfOk result (λ k. IsLight k.graph k.value) }
 {
     let least = value(rt, alloc, graph, workers, gate)?;
-    let (mut small, mut labels) = contract_by_rounds(rt, alloc, graph, least, workers, gate)?;
-    'closing: while let Some(marks) = find_marks(rt, alloc, &small, least, workers, gate)? {
-        let (smaller, next) = contract_safely(alloc, &small, least, &marks)?;
-        labels = labels.compose(alloc, &next)?;
-        small = smaller;
-    }
-    Ok(Kernel {
-        value: least,
-        graph: small,
-        labels,
-    })
+    let mut kept = contract_by_rounds(rt, alloc, graph, least, workers, gate)?;
+    'closing: while close_once(rt, alloc, &mut kept, workers, gate)? {}
+    Ok(kept)
 }
 
 /// A smaller graph with the same value whose minimum cuts, lifted by the labels, are exactly those of the graph; none where
@@ -77,17 +69,10 @@ pub fn reduce<R: Threads + Sync, G: Gate>(
     ensures kept { IfOk result (λ found. IfSome found (λ k. IsKept graph.now k.value k.graph k.labels)) }
     ensures light { IfOk result (λ found. IfNone found (IsLight graph.now value)) }
 {
-    let kept = if graph.edges() <= FEW_EDGES {
-        Some(contract_by_rounds(rt, alloc, graph, value, workers, gate)?)
-    } else {
-        contract_by_scans(alloc, graph, value)?
-    };
-    let Some((small, labels)) = kept else {
-        return Ok(None);
-    };
-    Ok(Some(Kernel {
-        value,
-        graph: small,
-        labels,
-    }))
+    if graph.edges() <= FEW_EDGES {
+        let kept = contract_by_rounds(rt, alloc, graph, value, workers, gate)?;
+        return Ok(Some(kept));
+    }
+    let kept = contract_by_scans(alloc, graph, value)?;
+    Ok(kept)
 }

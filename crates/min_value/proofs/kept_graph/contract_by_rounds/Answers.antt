@@ -1,14 +1,11 @@
-use Rattle.std.proofs.Common.{List, ℕ, sym, subst}
-use Rattle.min_value.specs.Kernels.{IsKept}
-use Rattle.min_value.proofs.Kept.{kept_more}
+use Rattle.min_value.proofs.Kept.{value_of_small}
 use Rattle.min_value.proofs.kept_graph.contract_by_rounds.Goals as goal
 
+pub rounds-init : goal.rounds-init
+rounds-init g c = c.in_ok-kept.ensures
+
 pub rounds-preserved : goal.rounds-preserved
-rounds-preserved g c =
-    let whole = c.args.graph.now in
-    let small = c.rounds.small in
-    let smaller = c.in_ok-smaller.smaller in
-    let labels = c.rounds.labels in
-    let next = c.in_ok-smaller.next in
-    subst (λ (l : List ℕ). IsKept whole c.args.value smaller l) (sym c.in_ok-labels.ensures)
-    (kept_more whole small smaller c.args.value labels next c.rounds.invariant c.in_ok-smaller.ensures)
+rounds-preserved g c = c.in_ok-shrinks.ensures.kept c.args.graph.now c.rounds.invariant
+
+pub contract_again-requires-clause-value : goal.contract_again-requires-clause-value
+contract_again-requires-clause-value g c κs within = value_of_small c.args.graph.now c.rounds.kept.graph c.rounds.kept.value c.rounds.kept.labels c.rounds.invariant
