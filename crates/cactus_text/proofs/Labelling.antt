@@ -1,9 +1,10 @@
 -- Sets of nodes against their labels: a way is halved, two sets are joined, and whether there is one set.
-use Rattle.std.proofs.Common.{◌≡◌, ◌≢◌, ◌⊎◌, inl, inr, ◌==◌, ◌&&◌, ◌≤◌, ◌<◌, ◌+◌, ℕ, zero, suc, Bool, true, false, List, [], ◌∷◌, length, set, map, ap, subst, sym, ◌∙◌, refl, arith}
+use Rattle.std.proofs.Common.{◌≡◌, ◌≢◌, ◌⊎◌, inl, inr, ◌==◌, ◌&&◌, ◌≤◌, ◌<◌, ◌+◌, ℕ, zero, suc, Bool, true, false, List, [], ◌∷◌, ◌++◌, length, get_or, set, map, ap, subst, sym, ◌∙◌, refl, arith}
 use Rattle.std.specs.Prelude.{slice_index, if◌then◌else◌}
 use Rattle.std.specs.List.{list_all, range_with_len}
-use Rattle.std.proofs.lemmas.Bool.{cases_eq, eq-eqb, ne_eqb}
-use Rattle.std.proofs.lemmas.List.{get_or-map, get_or-set_same, get_or-set_other, length-set, length-map, set-get_or}
+use Rattle.std.proofs.Math.Seq.{get_or-append_seam}
+use Rattle.std.proofs.lemmas.Bool.{cases_eq, cases_lt, eq-eqb, ne_eqb}
+use Rattle.std.proofs.lemmas.List.{get_or_read, get_or_past, get_or_append_left, length-append, get_or-map, get_or-set_same, get_or-set_other, length-set, length-map, set-get_or}
 use Rattle.std.proofs.lemmas.List.Folds.{list_all_at}
 use Rattle.std.proofs.lemmas.List.FromFn.{get_or-range_with_len, length-range_with_len}
 use Rattle.cut_definitions.proofs.Bools.{either_way}
@@ -195,6 +196,39 @@ pub set_down : (above : List ℕ) (at next : ℕ) → next < at → at < length 
 set_down above at next below within down k = elim (cases_eq k at) [
   | inl e ↦ omega (arith, ap (slice_index (set above at next)) e, get_or-set_same above at next 0 within, below, e)
   | inr e ↦ omega (arith, get_or-set_other above at k next 0 e, down k)
+]
+
+-- a node two names on is a lesser one
+pub stepped : (above : List ℕ) (at first over next : ℕ) → at < length above → first ≡ get_or above at first → over ≡ get_or above at over → next ≡ get_or above over next
+    → first < at → ((k : ℕ) → slice_index above k ≤ k) → next < at
+stepped above at first over next within is also next_is lower down =
+    let one = get_or_read above at first within is 0 in
+    let two = get_or_read above at over within also 0 in
+    let three = get_or_read above over next (omega (arith, one, two, lower, within)) next_is 0 in
+    omega (arith, one, two, three, lower, down over)
+
+snoc_own : (above : List ℕ) (i k : ℕ) → length above ≡ i → ((k : ℕ) → k < i → slice_index above k ≡ k) → k < i + 1 → slice_index (above ++ i ∷ []) k ≡ k
+snoc_own above i k size own h = elim (cases_lt k i) [
+  | inl low ↦ get_or_append_left above (i ∷ []) 0 k (omega (arith, low, size)) ∙ own k low
+  | inr last ↦
+      let is : length above ≡ k = omega (arith, size, last, h) in
+      let also : i ≡ k = omega (arith, last, h) in
+      subst (λ m. slice_index (above ++ i ∷ []) m ≡ i) is (get_or-append_seam above i [] 0) ∙ also
+]
+
+-- a node more, which names itself
+pub pushed_own : (above new : List ℕ) (i : ℕ) → new ≡ above ++ i ∷ [] → length above ≡ i → ((k : ℕ) → k < i → slice_index above k ≡ k)
+    → (k : ℕ) → k < i + 1 → slice_index new k ≡ k
+pushed_own above new i e size own k h = ap (λ (l : List ℕ). slice_index l k) e ∙ snoc_own above i k size own h
+
+pub pushed_length : (above new : List ℕ) (i : ℕ) → new ≡ above ++ i ∷ [] → length above ≡ i → length new ≡ i + 1
+pushed_length above new i e size = ap (length {A = ℕ}) e ∙ length-append above (i ∷ []) ∙ ap (λ n. n + 1) size
+
+pub pushed_down : (above new : List ℕ) (i : ℕ) → new ≡ above ++ i ∷ [] → length above ≡ i → ((k : ℕ) → k < i → slice_index above k ≡ k)
+    → (k : ℕ) → slice_index new k ≤ k
+pushed_down above new i e size own k = elim (cases_lt k (i + 1)) [
+  | inl low ↦ omega (arith, pushed_own above new i e size own k low)
+  | inr past ↦ omega (arith, get_or_past new k 0 (omega (arith, past, pushed_length above new i e size)))
 ]
 
 pub of_two : (a b high low : ℕ) → a ≤ high → b ≤ high → low + high ≡ a + b → (high ≡ a) ⊎ (high ≡ b) → ((high ≡ a) × (low ≡ b)) ⊎ ((high ≡ b) × (low ≡ a))

@@ -65,6 +65,19 @@ puts_failed {b = b} {t0 = t0} {t1 = t1} {m = m} {n = n} c h2 is p =
       cause = record { never_falls = p.cause.never_falls; ok = tt; failed = p.cause.failed };
     })
 
+-- what is held after a call that went well, with further bytes behind it
+pub puts_more : {T E T2 E2 : Type 0} {b h h2 : List ℕ} {t0 t1 : Option (List ℕ)} {m n : ℕ} (x : T) {y : T2} (c : List ℕ)
+    → h2 ≡ h ++ c → Puts {T = T} {E = E} b t0 t1 m n h (Ok x) → Puts {T = T2} {E = E2} (b ++ c) t0 t1 m n h2 (Ok y)
+puts_more {b = b} {h = h} x c is p = record {
+  ok = record {
+    gone = p.ok.gone;
+    parts = ap (λ (l : List ℕ). l ++ c) p.ok.parts ∙ append_assoc p.ok.gone h c ∙ ap (λ (l : List ℕ). p.ok.gone ++ l) (sym is);
+    taken = p.ok.taken;
+  };
+  err = tt;
+  cause = record { never_falls = p.cause.never_falls; ok = p.cause.ok; failed = tt };
+}
+
 -- the parts of a line behind what was there
 pub three_parts : (a b c d : List ℕ) → ((a ++ b) ++ c) ++ d ≡ a ++ ((b ++ c) ++ d)
 three_parts a b c d = ap (λ (l : List ℕ). l ++ d) (append_assoc a b c) ∙ append_assoc a (b ++ c) d

@@ -1,8 +1,10 @@
 -- What the numbers of a line are where they are not as many as the line is due.
-use Rattle.std.proofs.Common.{◌≡◌, ◌≢◌, ◌≤◌, ◌+◌, ◌==◌, ◌&&◌, ℕ, zero, suc, Bool, true, false, List, [], ◌∷◌, length, slice_index_or, ap, sym, ◌∙◌, refl, arith, add-one, ne_eqb}
-use Rattle.std.specs.Prelude.{Option, Some, None, Result, Ok, Err, if◌then◌else◌}
+use Rattle.std.proofs.Common.{◌≡◌, ◌≢◌, ◌≤◌, ◌<◌, ◌+◌, ◌==◌, ◌&&◌, ℕ, zero, suc, Bool, true, false, List, [], ◌∷◌, ◌++◌, length, get_or, take, drop, append-nil, slice_index_or, ap, sym, ◌∙◌, refl, arith, add-one, ne_eqb}
+use Rattle.std.specs.Prelude.{nat_le, nat_lt, Option, Some, None, Result, Ok, Err, if◌then◌else◌}
 use Rattle.std.specs.List.{list_all, range_with_len}
-use Rattle.std.proofs.lemmas.List.{get_or_past}
+use Rattle.std.proofs.lemmas.Bool.{and_parts, ltb-true}
+use Rattle.std.proofs.lemmas.List.{get_or_past, drop_all, take_all}
+use Rattle.std.proofs.lemmas.List.Sums.{AllPass-from_list_all}
 use Rattle.std.proofs.lemmas.List.Folds.{list_all-append}
 use Rattle.std.proofs.Math.Bool.{and-false, and-true}
 use Rattle.cut_definitions.proofs.Ranges.{range_push}
@@ -38,6 +40,19 @@ lacks_last marks (suc m) h =
     ∙ ap (λ (b : Bool). list_all there (range_with_len 1 m) && (b && true)) lacking
     ∙ and-false (list_all there (range_with_len 1 m))
     ∙ sym (ne_eqb (suc m) 0 (λ e. omega (arith, e)))
+
+-- what numbers below an end are, one by one
+pub all_below : (low end : ℕ) (xs : List ℕ) → list_all (λ x. nat_le low x && nat_lt x end) xs ≡ true → (k d : ℕ) → k < length xs → get_or xs k d < end
+all_below low end xs all k d h =
+    let here = AllPass-from_list_all (λ x. nat_le low x && nat_lt x end) xs all k d h in
+    ltb-true (get_or xs k d) end (and_parts (nat_le low (get_or xs k d)) (nat_lt (get_or xs k d) end) here).1
+
+-- a vector whose items were lent and written has just those
+pub written_back : (items marks : List ℕ) (n : ℕ) → length items ≡ n → length marks ≡ length items → take n (marks ++ drop (length marks) items) ≡ marks
+written_back items marks n size count =
+    ap (λ (l : List ℕ). take n (marks ++ l)) (drop_all (length marks) items (omega (arith, count)))
+    ∙ ap (take n) (append-nil marks)
+    ∙ take_all n marks (omega (arith, size, count))
 
 pub stated_more : (k : ℕ) (counts : Counts) (flat next : Flat) (l : List ℕ) (ls : List (List ℕ)) → with_line counts flat l ≡ Some next
     → stated k counts flat (l ∷ ls) ≡ stated (suc k) counts next ls

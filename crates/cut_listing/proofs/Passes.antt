@@ -1,11 +1,11 @@
 -- Gathering the sides of a walk, and how many are allowed.
 use Rattle.std.proofs.Common.{◌≡◌, ℕ, length, ◌==◌, ◌||◌, ◌&&◌, inl, inr, true≢false, ◌+◌, ◌*◌, ◌/◌, ◌<◌, ◌≤◌, Bool, true, false, List, [], ◌∷◌, ◌++◌, get_or, refl, sym, ◌∙◌, ap, subst, arith}
-use Rattle.std.specs.Prelude.{◌↔◌}
+use Rattle.std.specs.Prelude.{◌↔◌, Result, Ok, Err, IfOk}
 use Rattle.std.specs.List.{All, Contains, filter, flat_map, range_with_len}
 use Rattle.std.proofs.Math.Nat.{div-mul-le_self}
 use Rattle.std.proofs.lemmas.Nat.{mul-le, le-div}
 use Rattle.std.proofs.lemmas.Bool.{cases_Bool, eq-eqb, eqb-true}
-use Rattle.std.proofs.lemmas.List.{append_assoc, nil_from_length}
+use Rattle.std.proofs.lemmas.List.{append_assoc, map-append, nil_from_length}
 use Rattle.std.proofs.lemmas.List.Elements.{All-nil, All-contains, All-head, All-map, All-tail, filter-append}
 use Rattle.cut_definitions.proofs.Lists.{Contains-filter, Contains-from_filter}
 use Rattle.rooted_cactus.specs.Different.{AreDifferent}
@@ -55,6 +55,19 @@ asked_differ q (x ∷ xs) d = elim (cases_Bool (q x)) [
 pub gathered : (q : List ℕ → Bool) (old new to_come rest : List (List ℕ)) (m : List ℕ) → to_come ≡ m ∷ rest → new ≡ old ++ filter q (m ∷ []) → new ++ filter q rest ≡ old ++ filter q to_come
 gathered q old new to_come rest m e f =
     ap (λ l. l ++ filter q rest) f ∙ append_assoc old (filter q (m ∷ [])) (filter q rest) ∙ ap (λ l. old ++ l) (sym (ap (filter q) e ∙ filter-append q (m ∷ []) rest))
+
+kept_single : (q : List ℕ → Bool) (m : List ℕ) → q m ≡ true → filter q (m ∷ []) ≡ m ∷ []
+kept_single q m is = rw is refl
+
+-- a side that is asked for was put behind the others
+pub kept_one : (q : List ℕ → Bool) (found new : List VertexList) (room : VertexList) → new ≡ found ++ room ∷ [] → q room.members ≡ true → members_of new ≡ members_of found ++ filter q (room.members ∷ [])
+kept_one q found new room e is =
+    ap members_of e ∙ map-append (λ (s : VertexList). s.members) found (room ∷ []) ∙ ap (λ l. members_of found ++ l) (sym (kept_single q room.members is))
+
+-- what holds whatever a call answers
+pub whatever : {T E P : Type 0} (r : Result T E) → P → IfOk r (λ _. P)
+whatever (Ok x) p = p
+whatever (Err e) p = tt
 
 -- ---- how many are allowed
 pub few_fit : (count largest n size : ℕ) → count ≤ largest / n → size ≡ n → count * size ≤ largest

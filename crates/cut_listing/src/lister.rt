@@ -2,6 +2,7 @@
 
 ghost use Rattle.std.specs.Prelude.{◌≡◌, ◌*◌, ◌<◌, ◌≤◌, ◌^◌, ◌++◌, ◌&&◌, ◌==◌, [], ◌∷◌, true, IfOk, IfErr, map, length};
 ghost use Rattle.std.specs.List.{All, filter};
+ghost use Rattle.cut_definitions.specs.Cuts.{IsAscendingWithin};
 ghost use Rattle.rooted_cactus.specs.Different.{AreDifferent};
 ghost use Rattle.rooted_cactus.specs.Normal.{is_normal};
 ghost use Rattle.cut_listing.specs.Asks.{AnswersAsk, HasMasses, IsOver, TakesSides, has_masses-prop, lets};
@@ -92,6 +93,21 @@ impl<'a> Lister<'a> {
         Side::empty(alloc, self.n)
     }
 
+    /// Those of the sides that a walk gives that are asked for, in their order.
+    fn asked_of(&self, alloc: Global, walk: &mut Walk) -> Result<Vec<Side>, NoMemory>
+        requires walk { walk.old.vertices ≡ self.now.n }
+        requires ascending { All (IsAscendingWithin 1 self.now.n) walk.old.to_come }
+        ensures over_n { IfOk result (λ v. All (λ s. s.vertices ≡ self.now.n) v.items) }
+        ensures asked { IfOk result (λ v. members_of v.items ≡ filter (lets self.now.ask) walk.old.to_come) }
+    {
+        let mut room = Side::empty(alloc, self.n)?;
+        let mut found = Vec::new(alloc);
+        'sides: while walk.next(&mut room) {
+            room = self.keep(alloc, room, &mut found)?;
+        }
+        Ok(found)
+    }
+
     /// The sides of a walk that are asked for, in the order of the tree.
     fn walked_sides(&self, alloc: Global, cactus: &Cactus) -> Result<Vec<Side>, NoMemory>
         requires n { cactus.now.vertices ≡ self.now.n }
@@ -101,12 +117,7 @@ impl<'a> Lister<'a> {
         ensures same { IfOk result (λ v. different (members_of v.items) ≡ different (asked_sides self.now.ask cactus.now)) }
     {
         let mut walk = Walk::new(alloc, cactus)?;
-        let mut room = Side::empty(alloc, self.n)?;
-        let mut found = Vec::new(alloc);
-        'sides: while walk.next(&mut room) {
-            room = self.keep(alloc, room, &mut found)?;
-        }
-        Ok(found)
+        self.asked_of(alloc, &mut walk)
     }
 
     /// The different sides that are asked for, in the order of the tree.

@@ -45,3 +45,4 @@ pub mod BlockLaws
 pub mod Within
 pub mod SizesOut
 pub mod NodePlaces
+pub mod Steps

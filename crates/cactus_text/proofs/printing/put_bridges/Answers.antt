@@ -3,7 +3,7 @@ use Rattle.std.proofs.lemmas.List.{get_or_default}
 use Rattle.std.proofs.lemmas.Result.{err_from_is_err_and}
 use Rattle.std.specs.Prelude.{codes}
 use Rattle.cactus_text.specs.Text.{line, bridge_lines}
-use Rattle.cactus_text.proofs.Putting.{split_then, split_as, puts_as, puts_after, puts_failed, entry_put, entries_put}
+use Rattle.cactus_text.proofs.Putting.{split_then, split_as, puts_as, puts_after, puts_failed, puts_ok, all_put, entry_put, entries_put}
 use Rattle.cactus_text.proofs.printing.put_bridges.Goals as goal
 
 pub each_bridge-preserved : goal.each_bridge-preserved
@@ -30,3 +30,8 @@ returns-in_err-put_line g c =
     puts_as (entries_put text c.args.page.now xs i x there within)
     (puts_failed (bridge_lines (drop (i + 1) xs)) c.put_line.new.page (err_from_is_err_and c.from_residual.result c.from_residual.ensures.1).1
     (puts_after (text x) c.each_bridge.invariant.put c.each_bridge.invariant.same c.in_err-put_line.ensures))
+
+pub returns : goal.returns
+returns g c =
+    let text = λ (b : ℕ × ℕ). line (codes "bridge") (b.0 ∷ b.1 ∷ []) in
+    puts_ok tt (split_as (all_put text c.args.page.now c.args.bridges.now c.each_bridge.i c.each_bridge-test.false) c.each_bridge.invariant.put) c.each_bridge.invariant.same

@@ -1,7 +1,7 @@
 -- The moving end stays within its block.
 use Rattle.std.proofs.Common.{◌+◌, ◌<◌, length, arith}
 use Rattle.rooted_cactus.specs.Borders.{border_at}
-use Rattle.cut_listing.proofs.Bands.{block_there, place_there}
+use Rattle.cut_listing.proofs.Bands.{block_there, mass_small, place_there}
 use Rattle.cut_listing.proofs.weighed.end_from.Goals as goal
 
 pub overflow_add-end : goal.overflow_add-end
@@ -49,3 +49,7 @@ overflow_add-at c =
     let bs = c.args.borders.now in
     let there : c.ends.at < length bs = block_there _ bs c.args.start c.ends.at c.requires.borders c.requires.start (omega (arith, c.requires.behind, c.ends.invariant.behind)) (omega (arith, c.ends-test.true, c.ends.invariant.end)) in
     omega (arith, there, c.well_formed)
+
+pub overflow_add-reached : goal.overflow_add-reached
+overflow_add-reached c =
+    omega (arith, mass_small c.args.before.now c.args.borders.now c.args.start c.requires.borders c.requires.before c.requires.start, c.requires.before.small, c.requires.mass)

@@ -1,7 +1,7 @@
 -- The band of a border has the ranges that are gathered there.
-use Rattle.std.proofs.Common.{◌≡◌, ◌+◌, ◌-◌, ◌++◌, drop, length, map, refl, ap, ◌∙◌, sym, subst, arith, append_assoc}
+use Rattle.std.proofs.Common.{◌≡◌, ◌+◌, ◌-◌, ◌++◌, drop, length, map, refl, ap, ◌∙◌, sym, subst, arith, append_assoc, append-nil}
 use Rattle.std.specs.List.{filter}
-use Rattle.std.proofs.lemmas.List.{map-append}
+use Rattle.std.proofs.lemmas.List.{map-append, drop_all}
 use Rattle.rooted_cactus.specs.Places.{side_at}
 use Rattle.cactus_walk.specs.Repeats.{ranges_kept}
 use Rattle.cactus_walk.specs.Walking.{AreBorders}
@@ -42,3 +42,13 @@ starts-preserved c =
           ∙ ap (λ l. members_of c.starts.found.items ++ l) (sym (ap (map side) band ∙ map-append side (ranges_of bs start kept to) rest))
           ∙ c.starts.invariant.gathered;
     }
+
+pub returns-clause-sides : goal.returns-clause-sides
+returns-clause-sides c =
+    let ms = c.args.repeats.now in
+    let start = c.starts.start in
+    let side = side_at c.args.n c.args.order.now in
+    let found = members_of c.starts.found.items in
+    sym (append-nil found)
+    ∙ ap (λ bs. found ++ map side (filter (is_heavy c.args.before.now c.args.least) (ranges_kept bs (drop start ms)))) (sym (drop_all start c.args.borders.now c.starts-test.false))
+    ∙ c.starts.invariant.gathered

@@ -2,8 +2,46 @@ use Rattle.std.proofs.Common.{◌≡◌, ◌<◌, ◌∙◌, ap, subst, sym, ari
 use Rattle.std.specs.Prelude.{slice_index, slice_set}
 use Rattle.std.proofs.lemmas.List.{get_or_read, length-set}
 use Rattle.cactus_text.specs.Labels.{IsLabelled}
-use Rattle.cactus_text.proofs.Labelling.{halved, still_own, set_down}
+use Rattle.cactus_text.proofs.Labelling.{halved, still_own, set_down, stepped}
 use Rattle.cactus_text.proofs.sets.Joined.least.Goals as goal
+
+pub index-next-requires : goal.index-next-requires
+index-next-requires c =
+    let above = c.climb.self.above.items in
+    let at = c.climb.at in
+    let within = c.climb.invariant.within in
+    let over = c.index-in-climb.result.now in
+    omega (
+      arith,
+      get_or_read above at over within c.index-in-climb.ensures 0,
+      get_or_read above at c.index.result.now within c.index.ensures 0,
+      c.climb-test.true,
+      within,
+      c.climb.self.above.ok.0,
+    )
+
+pub invariant_of-self : goal.invariant_of-self
+invariant_of-self c =
+    let above = c.climb.self.above.items in
+    let at = c.climb.at in
+    let next = c.index-next.result.now in
+    let within = c.climb.invariant.within in
+    let down = c.climb.invariant.down in
+    let below =
+    stepped above at c.index.result.now c.index-in-climb.result.now next within c.index.ensures c.index-in-climb.ensures c.index-next.ensures c.climb-test.true down in
+    record { down = set_down above at next below within down }
+
+pub climb-smaller : goal.climb-smaller
+climb-smaller c =
+    let above = c.climb.self.above.items in
+    stepped above c.climb.at c.index.result.now c.index-in-climb.result.now c.index-next.result.now c.climb.invariant.within c.index.ensures c.index-in-climb.ensures
+    c.index-next.ensures c.climb-test.true c.climb.invariant.down
+
+pub returns-clause-least : goal.returns-clause-least
+returns-clause-least c =
+    let above = c.climb.self.above.items in
+    let at = c.climb.at in
+    omega (arith, get_or_read above at c.index.result.now c.climb.invariant.within c.index.ensures 0, c.climb-test.false, c.climb.invariant.down at)
 
 pub climb-preserved : goal.climb-preserved
 climb-preserved c =

@@ -1,10 +1,9 @@
 use Rattle.std.proofs.Common.{◌≡◌, ◌++◌, length}
 use Rattle.std.specs.List.{All, filter}
 use Rattle.cut_definitions.specs.Cuts.{IsAscendingWithin}
-use Rattle.rooted_cactus.specs.Different.{AreDifferent}
 use Rattle.cut_listing.specs.Asks.{lets}
-use Rattle.cut_listing.specs.Listings.{asked_sides, different, members_of}
-use Rattle.cut_listing.proofs.lister.Lister.walked_sides.Given as goal
+use Rattle.cut_listing.specs.Listings.{members_of}
+use Rattle.cut_listing.proofs.lister.Lister.asked_of.Given as goal
 
 abbrev pub invariant-sides : goal.invariant-sides
 invariant-sides g l = record {
@@ -12,8 +11,7 @@ invariant-sides g l = record {
   room : l.room.vertices ≡ l.self.n;
   over_n : All (λ s. s.vertices ≡ l.self.n) l.found.items;
   ascending : All (IsAscendingWithin 1 l.self.n) l.walk.to_come;
-  differ : AreDifferent (members_of l.found.items ++ filter (lets l.self.ask) l.walk.to_come);
-  listed : different (members_of l.found.items ++ filter (lets l.self.ask) l.walk.to_come) ≡ different (asked_sides l.self.ask l.cactus);
+  listed : members_of l.found.items ++ filter (lets l.self.ask) l.walk.to_come ≡ filter (lets l.self.ask) l.initial.walk.to_come;
 }
 
 abbrev pub decreases-sides : goal.decreases-sides
