@@ -97,3 +97,9 @@ returns-in-Outer-clause-stays c = on_ok c.take-in-Outer.result c.take-in-Outer.e
 pub returns-in-Outer-clause-taken : goal.returns-in-Outer-clause-taken
 returns-in-Outer-clause-taken c = rw c.in-Outer.is
     (on_ok c.take-in-Outer.result c.take-in-Outer.ensures.taken (λ taken. each_taken _ _ _ _ _ c.args.self.now.near _ _ _ _ _ _ _ c.requires.ended.1.search c.found-found.ensures taken))
+
+pub take-requires-clause-bordered : goal.take-requires-clause-bordered
+take-requires-clause-bordered c = rw c.labels.ensures c.requires.between.halves.inner_half.bordered
+
+pub take-requires-in-Outer-clause-bordered : goal.take-requires-in-Outer-clause-bordered
+take-requires-in-Outer-clause-bordered c = rw c.labels-in-Outer.ensures c.requires.between.halves.outer_half.bordered
