@@ -2,7 +2,7 @@
 
 ghost use Rattle.std.specs.Prelude.{◌≡◌, ◌∷◌, ◌++◌, [], OnOk, OnErr};
 
-use cut_definitions::NoMemory;
+use crate::NoMemory;
 use std::alloc::Global;
 use std::marker::Model;
 

@@ -1,7 +1,7 @@
 //! The words of the program `mincut`: which command they ask for, and the notices that it gives for help and version.
 //!
 //! `read_words` reads a command by way of `clap`, and `notice_of` finds the notice. Nothing here knows a graph, so it is
-//! proved beside the solver.
+//! proved beside all that does.
 #![tactic(auto)]
 
 mod command;
@@ -13,3 +13,6 @@ mod number;
 pub use command::{Command, Job, WordsRefusal, read_words};
 pub use insertions::Insertions;
 pub use notice::{Notice, notice_of};
+
+/// Memory was wanting; the same as in the crates of graphs, which this crate does without.
+type NoMemory = std::alloc::AllocError;
