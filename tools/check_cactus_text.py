@@ -363,7 +363,7 @@ def compare(path, command):
     return wrong
 
 
-CRATES = ('outside', 'cut_definitions', 'vertex_set', 'rooted_cactus', 'flat_cactus', 'cactus_text')
+CRATES = ('outside', 'cut_definitions', 'vertex_set', 'rooted_cactus', 'flat_cactus', 'cactus_printing', 'cactus_text')
 
 TRIAL = '''// Reads cases of cactus texts, and prints for each the number of the line that is refused, or 0.
 #![tactic(auto)]

@@ -4,12 +4,12 @@ ghost use Rattle.std.specs.Prelude.{◌≡◌, ◌≤◌, ◌∷◌, ◌++◌, [
 ghost use Rattle.std.specs.Io.KnownBytes.{Appends};
 ghost use Rattle.std.specs.List.{flat_map};
 ghost use Rattle.outside.specs.Faults.{HasCause, AppendsPrefix, Rose};
-ghost use Rattle.cactus_text.specs.Puts.{Puts};
-ghost use Rattle.cactus_text.specs.Text.{line};
+ghost use Rattle.cactus_printing.specs.Puts.{Puts};
+ghost use Rattle.cactus_printing.specs.Text.{line};
 ghost use Rattle.answer_pages.specs.Augmenting.{edge_line, set_line, augment_text};
 
 use crate::pages::put_count;
-use cactus_text::{Page, PrintRefusal};
+use cactus_printing::{Page, PrintRefusal};
 use edge_augment::Plan;
 use outside::{Sink, SinkFailed};
 use std::alloc::Global;

@@ -4,11 +4,11 @@ ghost use Rattle.std.specs.Prelude.{◌≡◌, ◌≤◌, ◌∷◌, ◌++◌, [
 ghost use Rattle.std.specs.Io.KnownBytes.{Appends};
 ghost use Rattle.std.specs.List.{flat_map};
 ghost use Rattle.outside.specs.Faults.{HasCause, AppendsPrefix, Rose};
-ghost use Rattle.cactus_text.specs.Puts.{Puts};
-ghost use Rattle.cactus_text.specs.Text.{spaced, line};
+ghost use Rattle.cactus_printing.specs.Puts.{Puts};
+ghost use Rattle.cactus_printing.specs.Text.{spaced, line};
 ghost use Rattle.answer_pages.specs.Listings.{above, side_line, listing_text, balanced_text};
 
-use cactus_text::{Page, PrintRefusal};
+use cactus_printing::{Page, PrintRefusal};
 use itoa::Buffer;
 use outside::{Sink, SinkFailed};
 use std::alloc::Global;

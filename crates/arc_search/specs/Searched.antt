@@ -1,4 +1,4 @@
--- What a flow shows of the members of a region.
+-- The vertices that were listed: those with a turn above 0.
 use Rattle.std.specs.Prelude.{ℕ, nat_lt, List, slice_index}
 use Rattle.cut_definitions.specs.Weight.{VertexSet}
 

@@ -1,7 +1,6 @@
 //! What halts a search.
 
-ghost use Rattle.std.specs.Prelude.{◌≡◌, ◌||◌, ◌<◌, ℕ, Bool, true, false, length};
-ghost use Rattle.weighted_graph.specs.Searches.{is_seen};
+ghost use Rattle.std.specs.Prelude.{◌≡◌, ℕ, Bool, true, false};
 
 /// The vertices that halt a search as soon as it finds one.
 ///
@@ -40,26 +39,5 @@ impl Halts for NoHalts {
 
     fn halts(&self, _v: u32) -> bool {
         false
-    }
-}
-
-/// What either of two lists marks halts a search. Each has a mark for each number from 0 on.
-#[derive(Clone, Copy)]
-pub struct MarkedHalts<'a> {
-    pub first: &'a [bool],
-    pub second: &'a [bool],
-}
-
-impl Halts for MarkedHalts<'_> {
-    ghost halts = { λ h v. is_seen h.first.now v || is_seen h.second.now v };
-
-    ghost must = { λ h v. is_seen h.first.now v || is_seen h.second.now v };
-
-    ghost must_halt = { λ h v is. is };
-
-    ghost can_ask = { λ h v. (v < length h.first.now) × (v < length h.second.now) };
-
-    fn halts(&self, v: u32) -> bool {
-        self.first[v as usize] || self.second[v as usize]
     }
 }

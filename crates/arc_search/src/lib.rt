@@ -18,7 +18,7 @@ mod walking;
 mod way;
 
 pub use direction::Direction;
-pub use halts::{Halts, MarkedHalts, NoHalts};
+pub use halts::{Halts, NoHalts};
 pub use path_memory::PathMemory;
 pub use search::{Reached, Search};
 pub use side_listing::{Listing, unmark};

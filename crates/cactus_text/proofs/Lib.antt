@@ -1,5 +1,3 @@
-pub mod Putting
-pub mod Lines
 pub mod Numbers
 pub mod Scanning
 pub mod Splitting

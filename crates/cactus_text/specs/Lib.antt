@@ -1,5 +1,3 @@
-pub mod Text
-pub mod Puts
 pub mod Reading
 pub mod Scanned
 pub mod Reader

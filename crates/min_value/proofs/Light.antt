@@ -20,7 +20,7 @@ use Rattle.weighted_graph.specs.declared.graph.Arc.{Arc}
 use Rattle.weighted_graph.specs.Rows.{row_of, weight_in}
 use Rattle.weighted_graph.proofs.RowLaws.{weight_to_is}
 use Rattle.weighted_graph.proofs.RowSearch.{between-swap}
-use Rattle.scan_forest.specs.Scan.{ScanState, waits, is_live, rank, NoneWaits, StandsFor, IsStarted, IsNext}
+use Rattle.capped_scan.specs.Scan.{ScanState, waits, is_live, rank, NoneWaits, StandsFor, IsStarted, IsNext}
 use Rattle.round_workers.specs.Round.{LinksAreBelow}
 use Rattle.min_value.specs.Kernels.{IsLight}
 

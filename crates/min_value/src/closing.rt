@@ -4,17 +4,17 @@ ghost use Rattle.std.specs.Prelude.{◌≡◌, ℕ, ◌+◌, ◌<◌, ◌≤◌,
 ghost use Rattle.cut_definitions.specs.Cuts.{has, value as least_value};
 ghost use Rattle.cut_definitions.specs.Contraction.{classes};
 ghost use Rattle.weighted_graph.specs.Marks.{MarksAreSafe};
-ghost use Rattle.scan_forest.specs.Scan.{StandsFor};
+ghost use Rattle.capped_scan.specs.Scan.{StandsFor};
 ghost use Rattle.round_workers.specs.Round.{SomeIsMarked};
 ghost use Rattle.min_value.specs.Kernels.{NoneIsCertified, IsKept, IsKeptOn, IsLight};
 
 use crate::bare::is_bare;
 use crate::kept_graph::{Kernel, contract_safely, is_tenth_less, keep_less, round_at_value};
+use capped_scan::Scan;
 use cut_definitions::NoMemory;
 use mark_board::Marks;
 use outside::Gate;
 use round_workers::mark_links;
-use scan_forest::Scan;
 use std::alloc::Global;
 use std::thread::Threads;
 use weighted_graph::Graph;

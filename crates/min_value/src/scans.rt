@@ -3,15 +3,15 @@
 ghost use Rattle.std.specs.Prelude.{◌≡◌, ◌*◌, ◌≤◌, ◌^◌, ℕ, IfOk, length, min};
 ghost use Rattle.cut_definitions.specs.Cuts.{has, value};
 ghost use Rattle.weighted_graph.specs.Marks.{MarksAreSafe};
-ghost use Rattle.scan_forest.specs.Scan.{StandsFor};
+ghost use Rattle.capped_scan.specs.Scan.{StandsFor};
 ghost use Rattle.min_value.specs.Left.{IsScanned, IsShrunk, IsToTell};
 
+use capped_scan::Scan;
 use cut_definitions::{EdgeList, NoMemory};
 use least_cut::least_weight_below;
 use mark_board::Marks;
 use round_contract::{classes_of_marks, contracted_list};
 use round_workers::{lowered, mark_links};
-use scan_forest::Scan;
 use std::alloc::Global;
 use weighted_graph::Graph;
 

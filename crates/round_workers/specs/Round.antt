@@ -8,7 +8,7 @@ use Rattle.weighted_graph.specs.declared.graph.Arc.{Arc}
 use Rattle.weighted_graph.specs.Rows.{row_of}
 use Rattle.weighted_graph.specs.RowLaws.{edge_at}
 use Rattle.edge_certificates.specs.Certificates.{IsHeavyEdge, IsHeavyVertex, IsTriangle, IsShared}
-use Rattle.scan_forest.specs.Scan.{ScanState, waits, rank}
+use Rattle.capped_scan.specs.Scan.{ScanState, waits, rank}
 use Rattle.mark_board.specs.Marks.{MarkList}
 
 -- one of the four local tests holds for an edge and a limit

@@ -3,7 +3,7 @@ use Rattle.std.specs.Prelude.{ℕ, ◌≡◌, ◌+◌, ◌%◌, ◌^◌, ◌<◌
 use Rattle.cut_definitions.specs.Graph.{Graph}
 use Rattle.cut_definitions.specs.Safe.{IsFair}
 use Rattle.weighted_graph.specs.RowLaws.{edge_at}
-use Rattle.scan_forest.specs.Scan.{StandsFor}
+use Rattle.capped_scan.specs.Scan.{StandsFor}
 use Rattle.mark_board.specs.Seen.{BoardView, SeatView}
 use Rattle.round_workers.specs.Round.{IsCertified}
 use Rattle.round_workers.specs.declared.working.Worker.{Worker}

@@ -3,11 +3,11 @@
 ghost use Rattle.std.specs.Prelude.{◌≡◌, ℕ, ◌+◌, ◌<◌, ◌≤◌, ◌^◌, List, ◌∷◌, true, false, length};
 ghost use Rattle.cut_definitions.specs.Cuts.{has};
 ghost use Rattle.weighted_graph.specs.Marks.{MarksAreSafe};
-ghost use Rattle.scan_forest.specs.Scan.{StandsFor};
+ghost use Rattle.capped_scan.specs.Scan.{StandsFor};
 ghost use Rattle.round_workers.specs.Round.{AreKept, IsLatest, LinksAreBelow, SomeIsMarked};
 
+use capped_scan::Scan;
 use mark_board::Marks;
-use scan_forest::Scan;
 use weighted_graph::Graph;
 
 /// Marks the edges from the vertex scanned last to those whose link reaches the bound and the slack, and answers whether

@@ -2,7 +2,7 @@
 
 ghost use Rattle.std.specs.Prelude.{◌≡◌, if◌then◌else◌, min};
 
-use scan_forest::Scanned;
+use capped_scan::Scanned;
 
 /// The lesser of a bound and the weight of the scanned set, where that set is not everything.
 pub fn lowered(next: Scanned, bound: u64) -> u64

@@ -3,13 +3,13 @@
 ghost use Rattle.std.specs.Prelude.{◌≡◌, ◌+◌, ◌<◌, ◌≤◌, ◌^◌, ◌⊎◌, ◌∷◌, true, false, length};
 ghost use Rattle.cut_definitions.specs.Safe.{IsFair};
 ghost use Rattle.scan_core.specs.Machine.{IsSafeEdge};
-ghost use Rattle.scan_forest.specs.Scan.{StandsFor, waits};
+ghost use Rattle.capped_scan.specs.Scan.{StandsFor, waits};
 ghost use Rattle.round_workers.specs.Round.{IsLatest};
 ghost use Rattle.round_workers.specs.Seats.{HasSeen, IsLater};
 
 use crate::lowering::lowered;
+use capped_scan::{Scan, Scanned};
 use mark_board::{Board, BoardSeat};
-use scan_forest::{Scan, Scanned};
 use weighted_graph::Graph;
 
 /// Lowers the board's bound to a lower one than the seat saw, and answers what the seat has then seen. Where it saw no higher

@@ -5,10 +5,10 @@ ghost use Rattle.round_workers.specs.Seats.{HasSeen, HasAll, IsReady, IsDone, Ar
 
 use crate::scanning::scan_on_board;
 use crate::shares::mark_share;
+use capped_scan::Scan;
 use cut_definitions::NoMemory;
 use mark_board::{Board, BoardSeat};
 use outside::Gate;
-use scan_forest::Scan;
 use std::alloc::Global;
 use std::thread;
 use std::thread::Threads;

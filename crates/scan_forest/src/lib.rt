@@ -1,19 +1,16 @@
 //! Scans of a graph that take in each turn the vertex with the greatest weight to those before it, and what they
-//! show: the last two vertices of a scan, and by phases the value of the graph. A capped scan of a graph shows lower bounds
-//! of cuts, and tells the weight of each set that it scanned.
+//! show: the last two vertices of a scan, and by phases the value of the graph. A capped scan of a graph, of the crate
+//! `capped_scan`, shows lower bounds of cuts, and tells the weight of each set that it scanned.
 #![tactic(auto)]
 
 mod by_phases;
-mod capped;
 pub mod laws;
 mod matrix;
-mod maxima;
 mod merge_pair;
 mod pairs;
-mod raising;
 mod table_scan;
 
 pub use by_phases::plain_value;
-pub use capped::{Scan, Scanned};
+pub use capped_scan::{Scan, Scanned};
 pub use pairs::last_pair;
 pub use table_scan::LastPair;

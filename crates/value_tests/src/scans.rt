@@ -1,7 +1,7 @@
 //! Capped scans.
 
 ghost use Rattle.std.specs.Prelude.{◌≡◌};
-ghost use Rattle.scan_forest.specs.Scan.{StandsFor};
+ghost use Rattle.capped_scan.specs.Scan.{StandsFor};
 
 use crate::graphs::uneven_triangle;
 use cut_definitions::EdgeList;

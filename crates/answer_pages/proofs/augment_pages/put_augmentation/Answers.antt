@@ -2,8 +2,8 @@ use Rattle.std.proofs.Common.{◌++◌, ◌∷◌, [], ℕ, List, length, ◌∙
 use Rattle.std.specs.Prelude.{codes}
 use Rattle.std.specs.List.{flat_map}
 use Rattle.std.proofs.lemmas.Result.{err_from_is_err_and}
-use Rattle.cactus_text.specs.Text.{line}
-use Rattle.cactus_text.proofs.Putting.{split_then, puts_as, puts_after, puts_failed}
+use Rattle.cactus_printing.specs.Text.{line}
+use Rattle.cactus_printing.proofs.Putting.{split_then, puts_as, puts_after, puts_failed}
 use Rattle.answer_pages.specs.Augmenting.{edge_line, set_line}
 use Rattle.answer_pages.proofs.Augmented.{first_of_five, two_of_five, three_of_five, all_five, parts_told}
 use Rattle.answer_pages.proofs.augment_pages.put_augmentation.Goals as goal

@@ -2,7 +2,7 @@ use Rattle.std.proofs.Common.{◌+◌, ◌∙◌, ◌≡◌, ◌<◌, length, ge
 use Rattle.std.specs.List.{flat_map}
 use Rattle.std.proofs.lemmas.List.{get_or_default}
 use Rattle.std.proofs.lemmas.Result.{err_from_is_err_and}
-use Rattle.cactus_text.proofs.Putting.{split_then, split_as, puts_as, puts_after, puts_failed, entry_put, entries_put}
+use Rattle.cactus_printing.proofs.Putting.{split_then, split_as, puts_as, puts_after, puts_failed, entry_put, entries_put}
 use Rattle.answer_pages.specs.Augmenting.{edge_line}
 use Rattle.answer_pages.proofs.augment_pages.put_edges.Goals as goal
 

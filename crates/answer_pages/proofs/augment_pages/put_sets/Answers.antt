@@ -2,7 +2,7 @@ use Rattle.std.proofs.Common.{◌+◌, ◌∙◌, ◌≡◌, get_or, drop, sym, 
 use Rattle.std.specs.List.{flat_map}
 use Rattle.std.proofs.lemmas.Option.{get_or_from_slice_get}
 use Rattle.std.proofs.lemmas.Result.{err_from_is_err_and}
-use Rattle.cactus_text.proofs.Putting.{split_then, split_as, puts_as, puts_after, puts_failed, entry_put, entries_put}
+use Rattle.cactus_printing.proofs.Putting.{split_then, split_as, puts_as, puts_after, puts_failed, entry_put, entries_put}
 use Rattle.answer_pages.specs.Augmenting.{set_line}
 use Rattle.answer_pages.proofs.augment_pages.put_sets.Goals as goal
 

@@ -1,7 +1,7 @@
 use Rattle.std.proofs.Common.{◌++◌, ◌∷◌, [], ◌∙◌}
 use Rattle.std.proofs.lemmas.Result.{err_from_is_err_and}
-use Rattle.cactus_text.specs.Text.{spaced}
-use Rattle.cactus_text.proofs.Putting.{split_then, puts_as, puts_after, puts_failed, line_word, three_parts}
+use Rattle.cactus_printing.specs.Text.{spaced}
+use Rattle.cactus_printing.proofs.Putting.{split_then, puts_as, puts_after, puts_failed, line_word, three_parts}
 use Rattle.answer_pages.proofs.augment_pages.put_vertices.Goals as goal
 
 pub returns-in_err-put : goal.returns-in_err-put

@@ -4,8 +4,8 @@ use Rattle.std.specs.List.{flat_map}
 use Rattle.std.proofs.lemmas.Result.{err_from_is_err_and}
 use Rattle.std.proofs.lemmas.List.{length-map}
 use Rattle.vertex_set.specs.Side.{VertexList}
-use Rattle.cactus_text.specs.Text.{line}
-use Rattle.cactus_text.proofs.Putting.{split_then, puts_as, puts_after, puts_failed, line_word, three_parts}
+use Rattle.cactus_printing.specs.Text.{line}
+use Rattle.cactus_printing.proofs.Putting.{split_then, puts_as, puts_after, puts_failed, line_word, three_parts}
 use Rattle.answer_pages.specs.Listings.{side_line}
 use Rattle.answer_pages.proofs.pages.put_listing.Goals as goal
 

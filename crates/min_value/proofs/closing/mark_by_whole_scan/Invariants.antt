@@ -1,7 +1,7 @@
 use Rattle.std.proofs.Common.{◌≡◌, true, false}
 use Rattle.cut_definitions.specs.Cuts.{has}
 use Rattle.weighted_graph.specs.Marks.{MarksAreSafe}
-use Rattle.scan_forest.specs.Scan.{StandsFor}
+use Rattle.capped_scan.specs.Scan.{StandsFor}
 use Rattle.round_workers.specs.Round.{SomeIsMarked}
 use Rattle.min_value.proofs.Light.{IsWhole, IsBelowValue, unscanned}
 use Rattle.min_value.proofs.closing.mark_by_whole_scan.Given as goal

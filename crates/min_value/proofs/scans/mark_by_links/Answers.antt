@@ -1,6 +1,6 @@
 use Rattle.std.proofs.Common.{refl, ◌∙◌, arith}
 use Rattle.cut_definitions.specs.Cuts.{has}
-use Rattle.scan_forest.proofs.Standing.{law_of_prefixes}
+use Rattle.capped_scan.proofs.Standing.{law_of_prefixes}
 use Rattle.round_workers.proofs.Marking.{safe-lower, lowered-le}
 use Rattle.min_value.proofs.Scanned.{least_lowered}
 use Rattle.min_value.proofs.scans.mark_by_links.Goals as goal

@@ -8,7 +8,7 @@ use Rattle.weighted_graph.specs.RowLaws.{IsArcAt}
 use Rattle.weighted_graph.proofs.MarkLaws.{safe_from_cuts}
 use Rattle.weighted_graph.proofs.RowLaws.{law_of_rows}
 use Rattle.weighted_graph.proofs.Searched.{row_within}
-use Rattle.scan_forest.specs.Scan.{waits, rank}
+use Rattle.capped_scan.specs.Scan.{waits, rank}
 use Rattle.round_workers.proofs.Marking.{more_kept, more_here, safe-more, arc_safe, read_row}
 use Rattle.round_workers.proofs.linking.mark_links.Goals as goal
 use Rattle.round_workers.proofs.linking.mark_links.Goals.{then-link-bound, else-link-bound}

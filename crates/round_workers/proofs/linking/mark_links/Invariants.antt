@@ -2,7 +2,7 @@ use Rattle.std.proofs.Common.{◌≡◌, ℕ, ◌+◌, ◌<◌, true, false, get
 use Rattle.cut_definitions.specs.Cuts.{has}
 use Rattle.weighted_graph.specs.Rows.{row_of, no_arc}
 use Rattle.weighted_graph.specs.Marks.{MarksAreSafe}
-use Rattle.scan_forest.specs.Scan.{waits, rank}
+use Rattle.capped_scan.specs.Scan.{waits, rank}
 use Rattle.round_workers.specs.Round.{AreKept, SomeIsMarked}
 use Rattle.round_workers.proofs.linking.mark_links.Given as goal
 

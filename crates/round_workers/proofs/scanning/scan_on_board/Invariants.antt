@@ -1,4 +1,4 @@
-use Rattle.scan_forest.specs.Scan.{StandsFor}
+use Rattle.capped_scan.specs.Scan.{StandsFor}
 use Rattle.round_workers.specs.Seats.{HasSeen, IsLater}
 use Rattle.round_workers.proofs.scanning.scan_on_board.Given as goal
 

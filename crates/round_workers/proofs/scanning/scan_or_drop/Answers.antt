@@ -1,4 +1,4 @@
-use Rattle.scan_forest.proofs.Standing.{law_of_prefixes}
+use Rattle.capped_scan.proofs.Standing.{law_of_prefixes}
 use Rattle.round_workers.proofs.Seats.{later_both}
 use Rattle.round_workers.proofs.scanning.scan_or_drop.Goals as goal
 

@@ -1,0 +1,4 @@
+pub mod MaxTrees
+pub mod Raised
+pub mod Layouts
+pub mod Standing
