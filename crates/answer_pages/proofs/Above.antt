@@ -1,5 +1,5 @@
 -- The members of an ascending list above a number, one after another.
-use Rattle.std.proofs.Common.{◌≡◌, ℕ, ◌+◌, ◌<◌, ◌≤◌, ⊎_elim, true, false, List, [], ◌∷◌, ◌++◌, length, refl, sym, ◌∙◌, ap, append_assoc, append-nil, arith}
+use Rattle.std.proofs.Common.{◌≡◌, ℕ, ◌+◌, ◌<◌, ◌≤◌, ⊎_elim, true, false, List, [], ◌∷◌, ◌++◌, refl, sym, ◌∙◌, ap, append_assoc, append-nil, arith}
 use Rattle.std.specs.Prelude.{MatchOption, Option, None, Some, Result, Err}
 use Rattle.std.specs.Fmt.{decimal}
 use Rattle.std.proofs.lemmas.Bool.{cases_lt, lt-ltb, le-ltb, false≢true}
@@ -61,11 +61,6 @@ pub above_next : (s : VertexList) (k : ℕ) (next : Option ℕ) → IsAscendingW
 above_next s k None a h = above_none k s.members h
 above_next s k (Some v) a h = above_some 1 s.vertices k v s.members a h.not_before h.member h.none_between
 
--- there are no more members than numbers
-pub ascending_few : (low high : ℕ) (xs : List ℕ) → IsAscendingWithin low high xs → low ≤ high + 1 → length xs + low ≤ high + 1
-ascending_few low high [] a h = omega (arith, h)
-ascending_few low high (x ∷ xs) a h = omega (arith, ascending_few (x + 1) high xs a.2 (omega (arith, a.1)), a.0)
-
 -- ---- the members so far, and one more
 
 pub member_put : (a done : List ℕ) (v : ℕ) → (a ++ spaced done) ++ 32 ∷ decimal v ≡ a ++ spaced (done ++ v ∷ [])
@@ -79,9 +74,6 @@ members_put a all done rest v e =
     ap (λ (l : List ℕ). l ++ spaced rest) (member_put a done v)
     ∙ (append_assoc a (spaced (done ++ v ∷ [])) (spaced rest)
     ∙ ap (λ (l : List ℕ). a ++ l) (sym (flat_map-append (λ n. 32 ∷ decimal n) (done ++ v ∷ []) rest) ∙ ap spaced (sym (members_further all done rest v e))))
-
-pub members_all : (a all done : List ℕ) → all ≡ done ++ [] → a ++ spaced done ≡ a ++ spaced all
-members_all a all done e = ap (λ (l : List ℕ). a ++ spaced l) (sym (e ∙ append-nil done))
 
 -- ---- the last page
 

@@ -6,27 +6,8 @@ use Rattle.std.proofs.lemmas.List.{length-set}
 use Rattle.weighted_graph.specs.declared.graph.Arc.{Arc}
 use Rattle.weighted_graph.specs.Rows.{arc_at}
 use Rattle.arc_search.specs.Marks.{mark_of}
-use Rattle.arc_search.specs.Paths.{SearchArcs, HasArcs, arcs_in_rows, IsAscending, IsJoin, LeadsOn, LeadsBack, IsLooking, IsAmong, HasGiven}
+use Rattle.arc_search.specs.Paths.{SearchArcs, HasArcs, arcs_in_rows, IsJoin, LeadsOn, LeadsBack, IsLooking, IsAmong, HasGiven}
 use Rattle.arc_search.proofs.Marking.{mark-set_same, mark-set_other}
-
--- below the last border that is below a mark, all are
-pub below_all : (borders : List ℕ) (depth mark left : ℕ) → IsAscending borders depth → left ≤ depth → (0 < left → slice_index borders (left - 1) < mark) →
-    (i : ℕ) → i < left → slice_index borders i < mark
-below_all borders depth mark left up l h i m =
-    let last : slice_index borders (left - 1) < mark = h (omega arith) in
-    ⊎_elim
-    (λ (e : i < left - 1). omega (arith, up i (left - 1) e (omega arith), last))
-    (λ (e : left - 1 ≤ i). let q : left - 1 ≡ i = omega arith in subst (λ (j : ℕ). slice_index borders j < mark) q last)
-    (cases_lt i (left - 1))
-
-pub IsLooking-start : (arcs : SearchArcs) (v from : ℕ) (part_of marks borders : List ℕ) (depth : ℕ) → IsLooking arcs v from part_of marks borders depth from depth
-IsLooking-start arcs v from part_of marks borders depth = record {
-  after = omega arith;
-  fewer = omega arith;
-  marked = λ k a b. absurd (omega arith);
-  above = λ k a b. absurd (omega arith);
-  joined = λ l. absurd (omega arith);
-}
 
 LeadsBack-more : (arcs : SearchArcs) (v from to : ℕ) (part_of marks : List ℕ) (border : ℕ) → LeadsBack arcs v from to part_of marks border → LeadsBack arcs v from (to + 1) part_of marks border
 LeadsBack-more arcs v from to part_of marks border h = record {

@@ -1,12 +1,10 @@
 -- What searches show of closed sets.
-use Rattle.std.proofs.Common.{◌≡◌, ℕ, zero, suc, ◌-◌, ◌<◌, ◌≤◌, ⊎_elim, Bool, true, eqb, List, get_or, sym, ◌∙◌, subst, ap, arith}
-use Rattle.std.proofs.lemmas.Bool.{lt-ltb, eqb-true, or_left, or_right, or_cases}
+use Rattle.std.proofs.Common.{◌≡◌, ℕ, zero, suc, ◌-◌, ◌<◌, ◌≤◌, ⊎_elim, Bool, true, eqb, List, get_or, ◌∙◌, subst, ap, arith}
+use Rattle.std.proofs.lemmas.Bool.{eqb-true}
 use Rattle.cut_definitions.specs.Weight.{VertexSet}
-use Rattle.weighted_graph.specs.Searches.{is_seen}
 use Rattle.arc_search.specs.Closed.{IsClosed}
 use Rattle.arc_search.specs.Found.{SearchState, Leads, IsFoundFrom, IsSearch}
-use Rattle.arc_search.specs.Searched.{is_listed}
-use Rattle.arc_search.specs.SearchLaws.{LawOfNothing, LawOfFound, LawOfEnded, LawOfWay}
+use Rattle.arc_search.specs.SearchLaws.{LawOfNothing, LawOfFound, LawOfWay}
 use Rattle.arc_search.proofs.Finding.{nothing as nothing_found}
 use Rattle.arc_search.proofs.Climbing.{all_the_way}
 
@@ -32,17 +30,6 @@ found n goes halts turns starts s h x closed begins v is =
     subst (λ (k : ℕ). x k ≡ true) p.there (found_upto n goes halts turns starts s h x closed begins p.place p.place (omega arith) p.below)
 
 -- ---- the end
-
-pub ended : LawOfEnded
-ended n goes halts turns starts s h all closed u v step k = ⊎_elim
-    (λ (q : is_listed turns u ≡ true). or_left (is_listed turns v) (is_seen s.seen v) (closed u v step q))
-    (λ (q : is_seen s.seen u ≡ true).
-    let p = h.stands u q in
-    ⊎_elim
-    (λ (l : 1 ≤ get_or turns v 0). or_left (is_listed turns v) (is_seen s.seen v) (lt-ltb 0 (get_or turns v 0) (omega (arith, l))))
-    (λ (is : is_seen s.seen v ≡ true). or_right (is_listed turns v) (is_seen s.seen v) is)
-    (h.followed p.place (omega (arith, p.below, all)) v (subst (λ (x : ℕ). goes x v ≡ true) (sym p.there) step)))
-    (or_cases (is_listed turns u) (is_seen s.seen u) k)
 
 -- ---- the way
 

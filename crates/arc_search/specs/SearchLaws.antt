@@ -1,11 +1,10 @@
 -- What searches show of closed sets.
 use Rattle.std.specs.Prelude.{ℕ, Bool, ◌≡◌, ◌==◌, ◌-◌, ◌≤◌, true, List, slice_index, IsTrue}
-use Rattle.cut_definitions.specs.Weight.{VertexSet, either}
+use Rattle.cut_definitions.specs.Weight.{VertexSet}
 use Rattle.weighted_graph.specs.Searches.{is_seen}
 use Rattle.arc_search.specs.Closed.{IsClosed}
 use Rattle.arc_search.specs.Found.{SearchState, Leads, IsSearch, IsNoneFound}
 use Rattle.arc_search.specs.Way.{AreEarlier, IsOnWay}
-use Rattle.arc_search.specs.Searched.{is_listed}
 
 -- a search that has found nothing yet is one by any steps, from any starts
 abbrev pub LawOfNothing : Type 0
@@ -17,11 +16,6 @@ abbrev pub LawOfFound : Type 0
 LawOfFound = (n : ℕ) (goes : ℕ → ℕ → Bool) (halts : ℕ → Bool) (turns : List ℕ) (starts : VertexSet) (s : SearchState) →
     IsSearch n goes halts turns starts s → (x : VertexSet) → IsClosed goes x → ((v : ℕ) → IsTrue (starts v) → IsTrue (x v)) →
     (v : ℕ) → is_seen s.seen v ≡ true → IsTrue (x v)
-
--- where all rows have been followed, what was found is closed with what is listed, where that is
-abbrev pub LawOfEnded : Type 0
-LawOfEnded = (n : ℕ) (goes : ℕ → ℕ → Bool) (halts : ℕ → Bool) (turns : List ℕ) (starts : VertexSet) (s : SearchState) →
-    IsSearch n goes halts turns starts s → s.place ≡ s.count → IsClosed goes (is_listed turns) → IsClosed goes (either (is_listed turns) (is_seen s.seen))
 
 -- in a search from one vertex each vertex on the way from the last place leads to the vertex that was found last
 abbrev pub LawOfWay : Type 0

@@ -93,13 +93,6 @@ impl Search {
         self.count
     }
 
-    /// The place of the next row to be followed.
-    pub fn place(&self) -> usize
-        ensures { result ≡ self.now.place }
-    {
-        self.place
-    }
-
     /// The vertices that were found, at the places below the count, lent without a copy.
     pub fn order(&self) -> &[u32]
         ensures { result.now ≡ self.now.order }

@@ -1,4 +1,4 @@
-//! What a path-based search goes along.
+//! What a search goes along.
 
 ghost use Rattle.std.specs.Prelude.{◌≡◌, ℕ, ◌<◌, ◌≤◌, Bool, List, length};
 ghost use Rattle.weighted_graph.specs.declared.graph.Arc.{Arc};

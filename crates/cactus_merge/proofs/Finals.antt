@@ -22,19 +22,12 @@ use Rattle.rooted_cactus.specs.declared.tree.Node.{Node}
 use Rattle.rooted_cactus.proofs.Segments.{has_append_at}
 use Rattle.rooted_cactus.proofs.Layouts.{laid_out}
 use Rattle.cactus_merge.specs.declared.part.PartCactus.{PartCactus}
-use Rattle.cactus_merge.specs.Joined.{IsRuns, IsWide, SameSets, joined_cuts, run_cuts, run_parts, tails, held, has_some}
+use Rattle.cactus_merge.specs.Joined.{IsWide, SameSets, joined_cuts, run_cuts, run_parts, tails, held, has_some}
 use Rattle.cut_definitions.specs.Members.{SameMembers}
 use Rattle.cactus_merge.specs.Assembled.{ArePartsOf, AreNodesOf, IsNodeOf, assembled_sides, chain_sides, run_sides, part_sides, set_list}
 use Rattle.cactus_merge.proofs.Names.{count_of, count_yes, count_no}
 use Rattle.cactus_merge.proofs.Numbered.{AreNumbered, rest_numbered, tails_sides, interval_list}
 use Rattle.cactus_merge.proofs.Within.{all_lack, none_counted}
-
--- ---- the runs of a chain
-pub runs_inside : (c : ChainView) (nodes : List Node) → IsChainShape c → length nodes ≡ c.parts → IsRuns (length nodes) c.runs
-runs_inside c nodes shape n = record {
-  inside = λ i d h. (let r = shape.inner i d h in (r.from_two, r.ordered, omega (arith, r.below, n)));
-  ascending = shape.ascending;
-}
 
 -- ---- lists without the empty ones
 kept_some : (x : ℕ) (l : List ℕ) (ls : List (List ℕ)) → filter has_some ((x ∷ l) ∷ ls) ≡ (x ∷ l) ∷ filter has_some ls

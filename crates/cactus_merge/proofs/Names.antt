@@ -25,10 +25,6 @@ ascends_less low high (x ∷ l) i zero a p h = absurd (omega (arith, p))
 ascends_less low high (x ∷ l) zero (suc j) a p h = omega (arith, (ascends_at (x + 1) high l j a.2 (omega (arith, h))).0)
 ascends_less low high (x ∷ l) (suc i) (suc j) a p h = ascends_less (x + 1) high l i j a.2 (omega (arith, p)) (omega (arith, h))
 
-pub lower : (low low' high : ℕ) (l : List ℕ) → low' ≤ low → IsAscendingWithin low high l → IsAscendingWithin low' high l
-lower low low' high [] p a = tt
-lower low low' high (x ∷ l) p a = (omega (arith, a.0, p), a.1, a.2)
-
 pub from_two : (k : ℕ) (l : List ℕ) → IsAscendingWithin 1 k l → Lacks 1 l → IsAscendingWithin 2 k l
 from_two k [] a h = tt
 from_two k (x ∷ l) a h = ⊎_elim

@@ -40,9 +40,6 @@ no_end_right a o x y p e = grind arith
 regroup : (a b : Bool) → (a || b) ≡ ((a || false) || b)
 regroup a b = grind arith
 
-only_one : (a : Bool) → (a || false) ≡ true → a ≡ true
-only_one a h = grind arith
-
 module _ (c : ChainView) (shape : IsChainShape c) (source : c.s ≡ 1) (p : PartCactus) (y : Node) (r : IsRenamed p y) where
   own_lacks_s : (number : ℕ) → IsPartOf c number p → has p.own c.s ≡ false
   own_lacks_s number part = no_end (mark_of c.numbers c.s == number) _ _ _ (eq-eqb c.s c.s refl) (part.exact c.s shape.numbered.s_from_one shape.numbered.s_to_n)

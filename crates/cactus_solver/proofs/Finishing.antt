@@ -1,5 +1,5 @@
 -- The sides of a finished tree, as lists, are the minimum cuts; and what a smaller graph keeps.
-use Rattle.std.proofs.Common.{◌≡◌, ℕ, zero, suc, ◌<◌, ◌≤◌, ⊎_elim, false, List, length, map, get_or, sym, ◌∙◌, subst, arith}
+use Rattle.std.proofs.Common.{◌≡◌, ℕ, zero, suc, ◌<◌, ◌≤◌, ⊎_elim, List, length, map, get_or, sym, ◌∙◌, subst, arith}
 use Rattle.std.specs.Prelude.{◌↔◌}
 use Rattle.std.specs.List.{All, Contains, filter, range_with_len}
 use Rattle.std.proofs.lemmas.Bool.{cases_lt}
@@ -9,7 +9,7 @@ use Rattle.cut_definitions.specs.Weight.{VertexSet, weight}
 use Rattle.cut_definitions.specs.Cuts.{has, sides, least, value, mincuts}
 use Rattle.cut_definitions.specs.Components.{IsConnected}
 use Rattle.cut_definitions.proofs.Bridge.{has_low, side_of-has, IsCut-has, IsMinimumCut-from_mincuts, Contains-mincuts_side_of, value-le_cut}
-use Rattle.cut_definitions.proofs.Values.{value_is_weight, Contains-mincuts, IsSide-from_mincuts}
+use Rattle.cut_definitions.proofs.Values.{value_is_weight, IsSide-from_mincuts}
 use Rattle.cut_definitions.proofs.Lists.{Contains-from_map}
 use Rattle.cut_definitions.proofs.ListLaws.{some_long}
 use Rattle.rooted_cactus.specs.Rooted.{Rooted, sides_of}
@@ -41,10 +41,6 @@ finished g a c ok one tree over sides s =
     )
 
 -- ---- a smaller graph
-
--- there is a minimum cut
-some_cut : (g : Graph) → 2 ≤ g.vertices → (s : List ℕ) × Contains (mincuts g) s
-some_cut g two = let v = value_is_weight g two in (v.0, Contains-mincuts g v.0 v.1 v.2)
 
 -- a value of 1 or more is that of a graph with vertices
 some_of_value : (g : Graph) → 1 ≤ value g → 1 ≤ g.vertices

@@ -4,7 +4,7 @@ use Rattle.std.specs.List.{All}
 use Rattle.std.proofs.lemmas.Bool.{cases_lt}
 use Rattle.std.proofs.lemmas.List.{get_or_default, get_or-map, get_or_past, length-map}
 use Rattle.cut_definitions.specs.Graph.{Graph, IsGraph}
-use Rattle.cut_definitions.specs.Weight.{VertexSet, IsMinimumCut, either}
+use Rattle.cut_definitions.specs.Weight.{VertexSet, IsMinimumCut}
 use Rattle.cut_definitions.specs.Chain.{SameOn}
 use Rattle.cut_definitions.specs.Cuts.{has, side_of}
 use Rattle.cut_definitions.specs.Contraction.{label, classes, lift}

@@ -36,9 +36,6 @@ ascends_is low high (v ∷ vs) e =
     let both = and_parts (nat_le low v) (nat_le v high) parts.0 in
     (leb-true low v both.0, leb-true v high both.1, ascends_is (v + 1) high vs parts.1)
 
-all_weaker : {X : Type 0} (P Q : X → Type 0) (xs : List X) → ((x : X) → P x → Q x) → All P xs → All Q xs
-all_weaker P Q xs f h = λ k d g. f (slice_index_or xs k d) (h k d g)
-
 filter_none : (p : List ℕ → Bool) (xs : List (List ℕ)) → list_any p xs ≡ false → length (filter p xs) ≡ 0
 filter_none p [] h = refl
 filter_none p (x ∷ xs) h = elim (cases_Bool (p x)) [

@@ -57,9 +57,6 @@ takes_back old n new (m ∷ ms) t h =
     ∙ ap (λ k. drop k (decimal m ++ tail)) once.1 ∙ drop_at (decimal m) tail (length (decimal m)) refl in
     (ms, ap (λ k. k ∷ ms) (sym once.0), record { parts = rest; small = h.small.1 })
 
-pub follows_start : (rest : List ℕ) → Follows rest [] rest
-follows_start rest = record { forward = λ more h. h; back = λ all h. (all, refl, h) }
-
 -- one number more was taken
 pub follows_more : (start numbers old : List ℕ) (n : ℕ) (new : List ℕ) → Follows start numbers old → TakesNumber old n new → Follows start (numbers ++ n ∷ []) new
 follows_more start numbers old n new f t =
@@ -114,9 +111,6 @@ pub some_more : (word bytes start numbers rest all : List ℕ) → bytes ≡ wor
 some_more word bytes start numbers rest all e f open_ h =
     let (more, is, last) = f.back all (rest_of word bytes start all e h) in
     omega (arith, ap (length {A = ℕ}) is, length-append numbers more, something_more (length numbers) rest more open_ last)
-
-pub takes_less : (old : List ℕ) (n : ℕ) (new : List ℕ) → TakesNumber old n new → length new < length old
-takes_less old n new t = omega (arith, ap (length {A = ℕ}) t.parts, length-append (decimal n) new)
 
 -- where no rest of a line stands behind the numbers that were taken the line states none
 pub broken_off : (word bytes start numbers rest all : List ℕ) → bytes ≡ word ++ start → Follows start numbers rest

@@ -1,12 +1,12 @@
 -- A line states the numbers whose line it is, and no others.
-use Rattle.std.proofs.Common.{◌≡◌, ℕ, Bool, true, false, ◌-◌, ◌<◌, ◌^◌, ◌==◌, ◌&&◌, ◌++◌, ◌∷◌, [], List, length, take, drop, map, ap, subst, ◌∙◌, refl, arith, length-append, append-nil, ⊎_elim, ne_eqb}
+use Rattle.std.proofs.Common.{◌≡◌, ℕ, Bool, true, false, ◌-◌, ◌<◌, ◌^◌, ◌==◌, ◌&&◌, ◌++◌, ◌∷◌, [], List, length, take, drop, map, ap, subst, ◌∙◌, refl, arith, length-append, append-nil, ne_eqb}
 use Rattle.std.specs.Prelude.{Option, Some, None, nat_lt, if◌then◌else◌}
 use Rattle.std.specs.List.{list_all}
 use Rattle.std.specs.Fmt.{decimal}
 use Rattle.std.specs.Char.{digit_value}
 use Rattle.std.specs.Str.{bytes_eq}
 use Rattle.std.specs.Str.Parse.{digits_value, AllDigits}
-use Rattle.std.proofs.lemmas.Bool.{lt-ltb, ltb-true, cases_Bool}
+use Rattle.std.proofs.lemmas.Bool.{lt-ltb, ltb-true}
 use Rattle.std.proofs.lemmas.Fmt.{decimal_is_IsNumeral}
 use Rattle.std.proofs.lemmas.List.{take_at}
 use Rattle.std.proofs.lemmas.Slice.Eq.{bytes_eq-Decides}
@@ -69,17 +69,6 @@ numbers_line word numbers w s =
 small_from : (numbers : List ℕ) → list_all (λ n. nat_lt n (2 ^ 64)) numbers ≡ true → AreSmall numbers
 small_from [] h = tt
 small_from (n ∷ ns) h = (ltb-true n (2 ^ 64) (and_first _ _ h), small_from ns (and_second _ _ h))
-
--- where no numbers have this line none are found
-pub numbers_none : (word bytes : List ℕ) → ((numbers : List ℕ) → bytes ≡ line word numbers → AreSmall numbers → ⊥) → numbers_of word bytes ≡ None
-numbers_none word bytes h =
-    let vs = values bytes in
-    let same = bytes_eq bytes (line word vs) in
-    let small = list_all (λ n. nat_lt n (2 ^ 64)) vs in
-    ⊎_elim
-    (λ (t : (same && small) ≡ true). absurd (h vs ((bytes_eq-Decides bytes (line word vs)).0 (and_first same small t)) (small_from vs (and_second same small t))))
-    (λ (f : (same && small) ≡ false). ap (λ (b : Bool). if b then Some vs else None) f)
-    (cases_Bool (same && small))
 
 some_of : (b : Bool) (vs ns : List ℕ) → (if b then Some vs else None) ≡ Some ns → (b ≡ true) × (vs ≡ ns)
 some_of true vs ns e = (refl, cc e)

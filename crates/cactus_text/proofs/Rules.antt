@@ -8,7 +8,7 @@ use Rattle.std.proofs.lemmas.List.Sums.{AllPass-from_list_all}
 use Rattle.std.proofs.lemmas.List.Folds.{list_all-append}
 use Rattle.std.proofs.Math.Bool.{and-false, and-true}
 use Rattle.cut_definitions.proofs.Ranges.{range_push}
-use Rattle.flat_cactus.specs.Flat.{Flat, appended_from, appended_to_last}
+use Rattle.flat_cactus.specs.Flat.{Flat}
 use Rattle.cactus_text.specs.declared.reading.Counts.{Counts}
 use Rattle.cactus_text.specs.Reading.{counts_of, with_bridge, with_line, is_whole, stated}
 
@@ -58,14 +58,8 @@ pub stated_more : (k : ℕ) (counts : Counts) (flat next : Flat) (l : List ℕ) 
     → stated k counts flat (l ∷ ls) ≡ stated (suc k) counts next ls
 stated_more k counts flat next l ls e = ap (λ (o : Option Flat). elim o as (λ _. Result Flat ℕ) [ None ↦ Err k | Some f ↦ stated (suc k) counts f ls ]) e
 
-pub stated_broken : (k : ℕ) (counts : Counts) (flat : Flat) (l : List ℕ) (ls : List (List ℕ)) → with_line counts flat l ≡ None → stated k counts flat (l ∷ ls) ≡ Err k
-stated_broken k counts flat l ls e = ap (λ (o : Option Flat). elim o as (λ _. Result Flat ℕ) [ None ↦ Err k | Some f ↦ stated (suc k) counts f ls ]) e
-
 pub stated_whole : (k : ℕ) (counts : Counts) (flat : Flat) → is_whole counts flat ≡ true → stated k counts flat [] ≡ Ok flat
 stated_whole k counts flat e = ap (λ (b : Bool). if b then Ok flat else Err k) e
-
-pub stated_partial : (k : ℕ) (counts : Counts) (flat : Flat) → is_whole counts flat ≡ false → stated k counts flat [] ≡ Err k
-stated_partial k counts flat e = ap (λ (b : Bool). if b then Ok flat else Err k) e
 
 pub all_more : (there : ℕ → Bool) (m : ℕ) → list_all there (range_with_len 1 (m + 1)) ≡ (list_all there (range_with_len 1 m) && there (m + 1))
 all_more there m =
@@ -75,12 +69,3 @@ all_more there m =
     ∙ ap (list_all there) (range_push 1 m)
     ∙ list_all-append there (range_with_len 1 m) ((1 + m) ∷ [])
     ∙ ap (λ (b : Bool). list_all there (range_with_len 1 m) && b) (last (there (1 + m)) ∙ ap there same)
-
-appended_count : (l : List ℕ) (ks : List (List ℕ)) (x : ℕ) → length (appended_from l ks x) ≡ suc (length ks)
-appended_count l [] x = refl
-appended_count l (k ∷ ks) x = ap suc (appended_count k ks x)
-
--- what is appended to the last list makes no list more
-pub appended_length : (ls : List (List ℕ)) (x : ℕ) → length (appended_to_last ls x) ≡ length ls
-appended_length [] x = refl
-appended_length (l ∷ ls) x = appended_count l ls x

@@ -1,10 +1,10 @@
 -- An answer for a list, by that for what is still to come of it.
-use Rattle.std.proofs.Common.{◌≡◌, ◌≤◌, ◌<◌, ◌+◌, ◌-◌, ◌^◌, ◌⊎◌, inl, inr, ◌&&◌, ◌||◌, ◌==◌, ℕ, zero, suc, Bool, true, false, List, [], ◌∷◌, length, get_or, set, take, drop, ◌++◌, ap, sym, ◌∙◌, refl, arith}
+use Rattle.std.proofs.Common.{◌≡◌, ◌≤◌, ◌<◌, ◌+◌, ◌-◌, ◌^◌, ◌⊎◌, inl, inr, ◌&&◌, ◌==◌, ℕ, zero, suc, Bool, true, false, List, [], ◌∷◌, length, get_or, take, drop, ◌++◌, ap, sym, ◌∙◌, refl, arith}
 use Rattle.std.specs.Prelude.{nat_le, nat_lt, not, slice_index}
 use Rattle.std.specs.List.{list_all, sum_by, All}
 use Rattle.std.proofs.Math.Seq.{drop-cons, take-suc}
-use Rattle.std.proofs.lemmas.Bool.{cases_eq, eq-eqb, ne_eqb, lt-ltb, le-ltb, le-leb, lt-leb, and_right, and_parts, leb-true}
-use Rattle.std.proofs.lemmas.List.{drop_all, get_or-set_same, get_or-set_other}
+use Rattle.std.proofs.lemmas.Bool.{eq-eqb, lt-ltb, le-ltb, le-leb, lt-leb, and_right, and_parts, leb-true}
+use Rattle.std.proofs.lemmas.List.{drop_all}
 use Rattle.std.proofs.lemmas.List.Sums.{sum_by-cons}
 use Rattle.cut_definitions.specs.Cuts.{has}
 use Rattle.cactus_text.specs.Reading.{ascends, distinct}
@@ -61,24 +61,6 @@ distinct_from (x ∷ xs) (suc i) h = and_right (not (has xs x)) (distinct xs) (d
 
 pub twice : (x : ℕ) (xs : List ℕ) → has xs x ≡ true → distinct (x ∷ xs) ≡ false
 twice x xs h = ap (λ (b : Bool). not b && distinct xs) h
-
-pub once_more : (x : ℕ) (xs : List ℕ) → has xs x ≡ false → distinct xs ≡ true → distinct (x ∷ xs) ≡ true
-once_more x xs h g = ap (λ (b : Bool). not b && distinct xs) h ∙ g
-
--- a mark is put at one place
-pub marked_more : (marks : List ℕ) (mark x k : ℕ) (xs : List ℕ) → x < length marks → k < length marks → (slice_index marks k == mark) ≡ has xs k
-    → (slice_index (set marks x mark) k == mark) ≡ has (x ∷ xs) k
-marked_more marks mark x k xs h g so = elim (cases_eq k x) [
-  | inl e ↦ ap (λ j. slice_index (set marks x mark) j == mark) e ∙ eq-eqb (slice_index (set marks x mark) x) mark (get_or-set_same marks x mark 0 h)
-      ∙ sym (ap (λ (b : Bool). b || has xs k) (eq-eqb x k (sym e)))
-  | inr e ↦ ap (λ j. j == mark) (get_or-set_other marks x k mark 0 e) ∙ so ∙ sym (ap (λ (b : Bool). b || has xs k) (ne_eqb x k (λ d. e (sym d))))
-]
-
-pub marks_below : (marks : List ℕ) (mark x k : ℕ) → x < length marks → slice_index marks k ≤ mark → slice_index (set marks x mark) k ≤ mark
-marks_below marks mark x k h low = elim (cases_eq k x) [
-  | inl e ↦ omega (arith, ap (slice_index (set marks x mark)) e, get_or-set_same marks x mark 0 h)
-  | inr e ↦ omega (arith, get_or-set_other marks x k mark 0 e, low)
-]
 
 -- a node that is marked stood in the list before
 pub repeated : (marks nodes : List ℕ) (cycle i : ℕ) → 0 < i → i ≤ length nodes → ((k : ℕ) → k < length marks → (slice_index marks k == cycle) ≡ has (drop i nodes) k)

@@ -172,7 +172,7 @@ impl Reader {
         Ok(self.has_different(room))
     }
 
-    /// Whether the last cycle has three or more different nodes, the first of them the least.
+    /// Whether the last cycle has three or more different numbers of nodes, the first of them the least.
     fn has_different(&mut self, cycle: &[u64]) -> bool
         requires some { 0 < length self.old.flat.cycles }
         requires one_each { length self.old.last_cycles.items ≡ length self.old.flat.nodes }

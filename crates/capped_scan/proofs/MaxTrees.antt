@@ -1,60 +1,14 @@
 -- Trees of maxima: what a write keeps, and how the first of the greatest leaves is found.
-use Rattle.std.proofs.Common.{◌≡◌, ℕ, zero, suc, ◌+◌, ◌*◌, ◌/◌, ◌^◌, ◌<◌, ◌≤◌, ⊎_elim, List, length, get_or, set, max, refl, sym, subst, ap, arith, pow-suc, get_or-set_same, get_or-set_other}
-use Rattle.std.specs.Prelude.{◌≢◌}
-use Rattle.std.proofs.lemmas.Bool.{cases_eq, cases_lt}
+use Rattle.std.proofs.Common.{◌≡◌, ℕ, zero, suc, ◌+◌, ◌*◌, ◌^◌, ◌<◌, ◌≤◌, ⊎_elim, List, get_or, max, refl, sym, subst, ap, arith, pow-suc}
+use Rattle.std.proofs.lemmas.Bool.{cases_lt}
 use Rattle.capped_scan.specs.Maxima.{IsMaxTree}
 
 abbrev pub NodeIs : List ℕ → ℕ → Type 0
 NodeIs tree i = get_or tree i 0 ≡ max (get_or tree (2 * i) 0) (get_or tree (2 * i + 1) 0)
 
--- a node whose number and whose two below stay as they were
-node_kept : (tree : List ℕ) (p x i : ℕ) → i ≢ p → 2 * i ≢ p → 2 * i + 1 ≢ p → NodeIs tree i → NodeIs (set tree p x) i
-node_kept tree p x i a b c h =
-    let here : get_or (set tree p x) i 0 ≡ get_or tree i 0 = get_or-set_other tree p i x 0 a in
-    let left : get_or (set tree p x) (2 * i) 0 ≡ get_or tree (2 * i) 0 = get_or-set_other tree p (2 * i) x 0 b in
-    let right : get_or (set tree p x) (2 * i + 1) 0 ≡ get_or tree (2 * i + 1) 0 = get_or-set_other tree p (2 * i + 1) x 0 c in
-    rw (here, left, right) h
-
--- a node that is given the greater of the two below
-node_made : (tree : List ℕ) (p : ℕ) → 1 ≤ p → p < length tree → NodeIs (set tree p (max (get_or tree (2 * p) 0) (get_or tree (2 * p + 1) 0))) p
-node_made tree p one l =
-    let x = max (get_or tree (2 * p) 0) (get_or tree (2 * p + 1) 0) in
-    let here : get_or (set tree p x) p 0 ≡ x = get_or-set_same tree p x 0 l in
-    let left : get_or (set tree p x) (2 * p) 0 ≡ get_or tree (2 * p) 0 = get_or-set_other tree p (2 * p) x 0 (λ q. omega arith) in
-    let right : get_or (set tree p x) (2 * p + 1) 0 ≡ get_or tree (2 * p + 1) 0 = get_or-set_other tree p (2 * p + 1) x 0 (λ q. omega arith) in
-    rw (here, left, right) refl
-
 -- ---- building
 
-pub built_step : (tree : List ℕ) (size p : ℕ) → 1 ≤ p → p < size → length tree ≡ 2 * size → ((i : ℕ) → p + 1 ≤ i → i < size → NodeIs tree i) →
-    (i : ℕ) → p ≤ i → i < size → NodeIs (set tree p (max (get_or tree (2 * p) 0) (get_or tree (2 * p + 1) 0))) i
-built_step tree size p one l long rest i low high =
-    ⊎_elim
-    (λ (e : p ≡ i). subst (λ (k : ℕ). NodeIs (set tree p (max (get_or tree (2 * p) 0) (get_or tree (2 * p + 1) 0))) k) e (node_made tree p one (omega arith)))
-    (λ (ne : p ≢ i). node_kept tree p _ i (λ q. ne (sym q)) (λ q. omega arith) (λ q. omega arith) (rest i (omega arith) high))
-    (cases_eq p i)
-
 -- ---- writing
-
--- after a leaf is written all nodes but the one above it are right
-pub leaf_written : (tree : List ℕ) (size leaf x : ℕ) → ((i : ℕ) → 1 ≤ i → i < size → NodeIs tree i) → size ≤ leaf →
-    (i : ℕ) → 1 ≤ i → i < size → i ≢ leaf / 2 → NodeIs (set tree leaf x) i
-leaf_written tree size leaf x all low i one high ne =
-    node_kept tree leaf x i (λ q. omega arith) (λ q. ne (omega arith)) (λ q. ne (omega arith)) (all i one high)
-
--- where the node p is made right all nodes but the one above it are
-pub written_step : (tree : List ℕ) (size p : ℕ) → 1 ≤ p → p < size → length tree ≡ 2 * size → ((i : ℕ) → 1 ≤ i → i < size → i ≢ p → NodeIs tree i) →
-    (i : ℕ) → 1 ≤ i → i < size → i ≢ p / 2 → NodeIs (set tree p (max (get_or tree (2 * p) 0) (get_or tree (2 * p + 1) 0))) i
-written_step tree size p one l long rest i low high ne =
-    ⊎_elim
-    (λ (e : p ≡ i). subst (λ (k : ℕ). NodeIs (set tree p (max (get_or tree (2 * p) 0) (get_or tree (2 * p + 1) 0))) k) e (node_made tree p one (omega arith)))
-    (λ (other : p ≢ i). node_kept tree p _ i (λ q. other (sym q)) (λ q. ne (omega arith)) (λ q. ne (omega arith)) (rest i low high (λ q. other (sym q))))
-    (cases_eq p i)
-
--- where the node p is right too, all are
-pub all_right : (tree : List ℕ) (size p : ℕ) → ((i : ℕ) → 1 ≤ i → i < size → i ≢ p → NodeIs tree i) → NodeIs tree p → (i : ℕ) → 1 ≤ i → i < size → NodeIs tree i
-all_right tree size p rest here i low high =
-    ⊎_elim (λ (e : p ≡ i). subst (λ (k : ℕ). NodeIs tree k) e here) (λ (other : p ≢ i). rest i low high (λ q. other (sym q))) (cases_eq p i)
 
 -- ---- the leaves under a node
 

@@ -26,20 +26,6 @@ raised-le cap k m =
     (λ (some : 1 ≤ k). omega (arith, raised-some cap k m some))
     (cases_lt k 1)
 
-pub raised-capped : (cap k m : ℕ) → raised cap k m ≤ cap + 1
-raised-capped cap k m =
-    ⊎_elim
-    (λ (none : k < 1). let e : k ≡ 0 = omega arith in rw e (omega (arith, raised-zero cap m)))
-    (λ (some : 1 ≤ k). omega (arith, raised-some cap k m some))
-    (cases_lt k 1)
-
-pub raised-none : (cap k : ℕ) → k ≤ cap + 1 → raised cap k 0 ≡ k
-raised-none cap k le =
-    ⊎_elim
-    (λ (none : k < 1). let e : k ≡ 0 = omega arith in rw e refl)
-    (λ (some : 1 ≤ k). omega (arith, raised-some cap k 0 some))
-    (cases_lt k 1)
-
 pub raised-twice : (cap k m w : ℕ) → raised cap (raised cap k m) w ≡ raised cap k (m + w)
 raised-twice cap k m w =
     ⊎_elim
@@ -69,9 +55,6 @@ inside_fits marks row i l total =
 pub record IsRaised (size cap : ℕ) (row : List Arc) (i : ℕ) (old new : List ℕ) : Type 0 where
   pub tree : IsMaxTree size new
   pub keys : (v : ℕ) → v < size → get_or new (size + v) 0 ≡ raised cap (get_or old (size + v) 0) (weight_in (take i row) v)
-
-pub raised_start : (size cap : ℕ) (row : List Arc) (tree : List ℕ) → IsMaxTree size tree → ((v : ℕ) → v < size → get_or tree (size + v) 0 ≤ cap + 1) → IsRaised size cap row 0 tree tree
-raised_start size cap row tree t capped = record { tree = t; keys = λ v l. sym (raised-none cap (get_or tree (size + v) 0) (capped v l)) }
 
 module _ (size cap : ℕ) (row : List Arc) (i : ℕ) (old tree : List ℕ) (h : IsRaised size cap row i old tree) (l : i < length row) where
   here : (v : ℕ) → v ≡ (get_or row i no_arc).to → weight_in (take (i + 1) row) v ≡ weight_in (take i row) v + (get_or row i no_arc).weight

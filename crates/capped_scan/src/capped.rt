@@ -1,12 +1,11 @@
 //! Scans of a graph with a cap, in which vertices can be dropped.
 
-ghost use Rattle.std.specs.Prelude.{◌≡◌, ◌≢◌, ◌↔◌, ℕ, ◌+◌, ◌*◌, ◌<◌, ◌≤◌, ◌^◌, true, false, length, List, ◌∷◌, None, IfOk, IfSome, IfNone, IsTrue, if◌then◌else◌, slice_index};
+ghost use Rattle.std.specs.Prelude.{◌≡◌, ◌↔◌, ℕ, ◌+◌, ◌*◌, ◌<◌, ◌≤◌, ◌^◌, true, false, List, ◌∷◌, None, IfOk, IfSome, IfNone, if◌then◌else◌};
 ghost use Rattle.std.specs.List.{sum_by};
 ghost use Rattle.cut_definitions.specs.Graph.{Graph};
 ghost use Rattle.cut_definitions.specs.Weight.{VertexSet, parts, weight};
 ghost use Rattle.cut_definitions.specs.Cuts.{has};
 ghost use Rattle.weighted_graph.specs.declared.graph.Arc.{Arc};
-ghost use Rattle.capped_scan.specs.Maxima.{IsMaxTree};
 
 use crate::maxima::{first_greatest, write, write_ones};
 use crate::raising::raise_along;
@@ -69,7 +68,7 @@ impl Model for Scan {
 }
 
 impl Scan {
-    ghost use Rattle.capped_scan.specs.Scan.{ScanState, StandsFor, IsChoice, IsStarted, IsWithout, IsNext, IsAbsorbed, IsRowOf, NoneWaits, waits, key, link_of, rank};
+    ghost use Rattle.capped_scan.specs.Scan.{ScanState, StandsFor, IsChoice, IsStarted, IsWithout, IsNext, IsAbsorbed, IsRowOf, NoneWaits, waits, link_of, rank};
 
     /// A scan of the graph that begins at vertex 1 with the cap 0; where there is no vertex nothing waits.
     ///

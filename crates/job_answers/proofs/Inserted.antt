@@ -6,7 +6,6 @@ use Rattle.std.proofs.lemmas.Bool.{cases_lt}
 use Rattle.std.proofs.lemmas.List.{take-append-drop, take_all}
 use Rattle.std.proofs.lemmas.List.Elements.{All-append, All-cons, All-contains, All-nil, Contains-append_right}
 use Rattle.cut_definitions.proofs.Lists.{Contains-here}
-use Rattle.program_words.specs.Texts.{disconnected_line}
 use Rattle.cut_definitions.specs.Components.{IsConnected, HasComponents}
 use Rattle.cut_definitions.specs.Graph.{Graph, IsEdgeList}
 use Rattle.cut_definitions.specs.Weight.{VertexSet, parts, weight}
@@ -16,10 +15,7 @@ use Rattle.cactus_growth.specs.Laws.{LawOfWeights}
 use Rattle.job_answers.specs.GrowReplies.{IsGrowReply, IsGrowStop}
 use Rattle.program_words.specs.Insertions.{Insertion}
 use Rattle.job_answers.specs.GrownGraphs.{grown, step_of, steps_of, with_insertion, IsFirstBeyond, StaysWithin}
-use Rattle.job_answers.specs.Jobs.{AreInRange, GoesByCactus, IsAnswerOf, IsFirstOutside, IsGrowText, IsOutsidePair, IsInRange, IsStopFor, IsTextOf, IsVertex, IsWithin, KeepsLimit, asked_cuts}
-use Rattle.program_words.specs.declared.command.Command.{Command}
-use Rattle.program_words.specs.declared.command.Job.{Job}
-use Rattle.program_words.specs.declared.command.Job.TheVariants.{Grow}
+use Rattle.job_answers.specs.Jobs.{AreInRange, IsFirstOutside, IsGrowText, IsOutsidePair, IsVertex}
 use Rattle.stop_lines.specs.declared.stop.Stop.{Stop}
 use Rattle.stop_lines.specs.declared.stop.Stop.TheVariants as stop
 
@@ -142,15 +138,6 @@ none_inserted g is edges k le =
     let none : k ≡ 0 = omega (arith, le) in
     subst (λ (j : ℕ). IsEdgeList (grown g (take j is))) (sym none) edges
 
--- the answer for several components, and for one
-pub apart_growth : (g graph : Graph) (is : List Insertion) (count : ℕ) (text : List ℕ) → graph ≡ g → HasComponents graph count → StaysWithin g is → 2 ≤ count → text ≡ disconnected_line count → IsGrowReply g is text
-apart_growth g graph is count text e counted within several told = record {
-  within = within;
-  count = count;
-  components = subst (λ (h : Graph). HasComponents h count) e counted;
-  answer = inl (several, told);
-}
-
 pub whole_growth : (g graph : Graph) (is : List Insertion) (count : ℕ) (text : List ℕ) → graph ≡ g → HasComponents graph count → StaysWithin g is → IsConnected g → IsGrowText g is text → IsGrowReply g is text
 whole_growth g graph is count text e counted within connected told = record {
   within = within;
@@ -165,50 +152,3 @@ growth_stop g graph is count s e counted (inl memory) = subst (IsGrowStop g is) 
 growth_stop g graph is count s e counted (inr large) = subst (IsGrowStop g is) (sym large.1) ((count, subst (λ (h : Graph). HasComponents h count) e counted), large.2)
 
 -- ---- in the words of the job
-
-grow_keeps : (command : Command) (masses : List ℕ) (g : Graph) (is : List Insertion) → command.job ≡ Grow is → StaysWithin g is → IsWithin command masses g
-grow_keeps command masses g is job within components counted =
-    subst (λ (j : Job). KeepsLimit j (asked_cuts command masses g) masses g components) (sym job) within
-
-pub grow_answer : (command : Command) (masses : List ℕ) (g : Graph) (is : List Insertion) → command.job ≡ Grow is → IsInRange command.job g.vertices → 2 ≤ g.vertices →
-    (text : List ℕ) → IsGrowReply g is text → IsAnswerOf command masses g text
-grow_answer command masses g is job inside two text reply = record {
-  in_range = inside;
-  answer = ⊎_elim
-      (λ apart. inr (inl (record {
-        by_cactus = subst GoesByCactus (sym job) tt;
-        within = grow_keeps command masses g is job reply.within;
-        count = reply.count;
-        components = reply.components;
-        several = apart.0;
-        text_is = apart.1;
-      })))
-      (λ whole. inr (inr (record {
-        enough = two;
-        connected = λ _. whole.0;
-        within = grow_keeps command masses g is job reply.within;
-        text_is = subst (λ (j : Job). IsTextOf j (asked_cuts command masses g) masses g text) (sym job) whole.1;
-      })))
-      reply.answer;
-}
-
-pub grow_stop : (command : Command) (masses : List ℕ) (g : Graph) (is : List Insertion) → command.job ≡ Grow is → IsInRange command.job g.vertices → 2 ≤ g.vertices →
-    (s : Stop) → IsGrowStop g is s → IsStopFor command masses g s
-grow_stop command masses g is job inside two (stop.GrowTooLarge number) why = record {
-  in_range = inside;
-  enough = two;
-  insertions = is;
-  job = job;
-  components = why.0.0;
-  has_components = why.0.1;
-  first = why.1;
-}
-grow_stop command masses g is job inside two stop.NoMemory why = tt
-grow_stop command masses g is job inside two (stop.TooLarge c n) why = absurd why
-grow_stop command masses g is job inside two (stop.TooManyUnions c n) why = absurd why
-grow_stop command masses g is job inside two (stop.CountTooLarge c) why = absurd why
-grow_stop command masses g is job inside two (stop.BalanceTooLarge c total) why = absurd why
-grow_stop command masses g is job inside two (stop.BadVertex x n) why = absurd why
-grow_stop command masses g is job inside two stop.BadWords why = absurd why
-grow_stop command masses g is job inside two (stop.Refused fault) why = absurd why
-grow_stop command masses g is job inside two stop.ReadFailed why = absurd why

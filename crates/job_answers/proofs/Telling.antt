@@ -239,10 +239,6 @@ pub record Telling (words : List (List ℕ)) (left now : Option (List ℕ)) (m n
   pub cause : IsCause words left now m n stop
   pub writes : Writes (status_of stop) (line_of stop) before after p q result
 
-pub telling : (s : Stop) (words : List (List ℕ)) (left now : Option (List ℕ)) (m n : ℕ) → IsCause words left now m n s →
-    (before after : Option (List ℕ)) (p q : ℕ) (result : Status) → Writes (status_of s) (line_of s) before after p q result → Telling words left now m n before after p q result
-telling s words left now m n cause before after p q result told = record { stop = s; cause = cause; writes = told }
-
 no_write_fault : (s : Stop) → status_of s ≡ status.WriteFault → ⊥
 no_write_fault stop.BadWords e = cc
 no_write_fault (stop.Refused fault) e = cc

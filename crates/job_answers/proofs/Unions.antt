@@ -1,8 +1,6 @@
 -- The answers for a graph in several components.
-use Rattle.std.proofs.Common.{◌≡◌, ℕ, ◌+◌, ◌-◌, ◌*◌, ◌/◌, ◌<◌, ◌≤◌, ◌^◌, List, length, sym, ◌∙◌, ap, subst, arith, inl, inr}
-use Rattle.std.specs.Prelude.{◌↔◌}
-use Rattle.std.specs.List.{filter}
-use Rattle.std.proofs.Math.Nat.{le-div_iff_mul-le, mul-le-mul_left}
+use Rattle.std.proofs.Common.{◌≡◌, ℕ, ◌+◌, ◌-◌, ◌*◌, ◌<◌, ◌≤◌, ◌^◌, List, length, sym, ◌∙◌, ap, subst, arith, inr}
+use Rattle.std.proofs.Math.Nat.{mul-le-mul_left}
 use Rattle.std.proofs.Math.Pow.{pow_mono}
 use Rattle.cut_definitions.specs.Balance.{balance, IsBest}
 use Rattle.cut_definitions.specs.Components.{IsConnected, HasComponents}
@@ -10,16 +8,13 @@ use Rattle.cut_definitions.specs.Cuts.{mincuts, value}
 use Rattle.cut_definitions.specs.Graph.{Graph, IsEdgeList}
 use Rattle.component_cuts.specs.Laws as laws
 use Rattle.component_cuts.specs.Parts.{Parts, unions, AreComponents}
-use Rattle.cut_listing.specs.Asks.{lets}
 use Rattle.cut_listing.specs.declared.ask.Ask.{Ask}
 use Rattle.job_answers.specs.Apart.{AreUnionsFew, IsApartGraph, IsCountStop, IsTableStop, IsUnionList, IsUnionStop}
-use Rattle.job_answers.specs.Jobs.{AsksCuts, GoesByCactus, IsAnswerOf, IsBalancedText, IsInRange, IsListed, IsListWithin, IsStopFor, IsTextFor, IsWithin, KeepsLimit, asked_cuts, total_of}
+use Rattle.job_answers.specs.Jobs.{GoesByCactus, IsAnswerOf, IsBalancedText, IsInRange, IsListed, IsListWithin, IsStopFor, IsTextFor, IsWithin, KeepsLimit, asked_cuts, total_of}
 use Rattle.answer_pages.specs.Listings.{balanced_text, count_text, listing_text}
 use Rattle.job_answers.specs.Asked.{cuts_for}
-use Rattle.program_words.specs.Texts.{disconnected_line}
 use Rattle.program_words.specs.declared.command.Command.{Command}
-use Rattle.program_words.specs.declared.command.Job.{Job}
-use Rattle.program_words.specs.declared.command.Job.TheVariants.{Value, Cactus, Cuts, Part, Count, Balanced, Augment, Grow, Trial}
+use Rattle.program_words.specs.declared.command.Job.TheVariants.{Count, Balanced}
 use Rattle.stop_lines.specs.declared.stop.Stop.{Stop}
 use Rattle.stop_lines.specs.declared.stop.Stop.TheVariants as stop
 use Rattle.job_answers.proofs.Answering.{listed_keeps}
@@ -33,13 +28,6 @@ apart_graph g p count components one edges two has several are =
 
 -- ---- the limit of a list
 
--- the number of unions is within the limit where it is at most the limit over n
-pub few_unions : (components n unions : ℕ) → 2 ≤ n → unions ≡ 2 ^ (components - 1) - 1 → (unions ≤ 1073741824 / n) ↔ AreUnionsFew components n
-few_unions components n unions two is =
-    let both = le-div_iff_mul-le {k = n} {x = unions} {y = 1073741824} (omega (arith, two)) in
-    let same : (unions * n ≤ 1073741824) ≡ ((2 ^ (components - 1) - 1) * n ≤ 1073741824) = ap (λ (k : ℕ). k * n ≤ 1073741824) is in
-    (λ le. subst (λ (k : ℕ). k * n ≤ 1073741824) is (both.0 le), λ le. both.1 (subst (λ (k : ℕ). k * n ≤ 1073741824) (sym is) le))
-
 -- more than 127 components have too many unions
 pub many_unions : (components n : ℕ) → 127 < components → 2 ≤ n → AreUnionsFew components n → ⊥
 many_unions components n many two few =
@@ -50,12 +38,6 @@ many_unions components n many two few =
     no : (p q : ℕ) → 2 ^ 31 ≤ p → (p - 1) * 2 ≤ q → q ≤ 2 ^ 30 → ⊥
     no p q a b c = omega (arith, a, b, c)
 
-pub not_few : (components n : ℕ) → (AreUnionsFew components n → ⊥) → 2 ^ 30 < (2 ^ (components - 1) - 1) * n
-not_few components n large = more ((2 ^ (components - 1) - 1) * n) large
-  where
-    more : (k : ℕ) → (k ≤ 2 ^ 30 → ⊥) → 2 ^ 30 < k
-    more k large = omega (arith, large)
-
 -- ---- the minimum cuts
 
 pub value_is : (g : Graph) (p : Parts) → laws.LawOfMinimumCuts → IsApartGraph g p → value g ≡ 0
@@ -63,13 +45,6 @@ value_is g p law apart = (law g p apart.edge_list.is_graph apart.components apar
 
 pub cuts_are : (g : Graph) (p : Parts) → laws.LawOfMinimumCuts → IsApartGraph g p → mincuts g ≡ unions p
 cuts_are g p law apart = (law g p apart.edge_list.is_graph apart.components apart.several).1
-
--- the list of the unions that are asked for
-pub list_text : (g : Graph) (p : Parts) (ask : Ask) (all asked : List (List ℕ)) → laws.LawOfMinimumCuts → IsApartGraph g p → all ≡ unions p → asked ≡ filter (lets ask) all →
-    listing_text 0 asked ≡ listing_text (value g) (cuts_for ask g)
-list_text g p ask all asked law apart are selected =
-    let same : asked ≡ cuts_for ask g = selected ∙ ap (filter (lets ask)) (are ∙ sym (cuts_are g p law apart)) in
-    λ i. listing_text (sym (value_is g p law apart) i) (same i)
 
 -- their number
 pub counted : (g : Graph) (p : Parts) (count : ℕ) → laws.LawOfMinimumCuts → laws.LawOfNumber → IsApartGraph g p → count ≡ 2 ^ (length p.parts - 1) - 1 →
@@ -98,25 +73,6 @@ within_of : (command : Command) (masses : List ℕ) (g : Graph) (components : �
     KeepsLimit command.job (asked_cuts command masses g) masses g components → IsWithin command masses g
 within_of command masses g components one has kept other counted =
     subst (λ (c : ℕ). KeepsLimit command.job (asked_cuts command masses g) masses g c) (one g components other has counted) kept
-
--- a job on the cuts that goes by the cactus has no limit
-no_limit : (job : Job) (cuts : List (List ℕ)) (masses : List ℕ) (g : Graph) (components : ℕ) → AsksCuts job → GoesByCactus job → KeepsLimit job cuts masses g components
-no_limit Cactus cuts masses g components asks by = tt
-no_limit Augment cuts masses g components asks by = tt
-no_limit (Grow is) cuts masses g components asks by = absurd asks
-no_limit Value cuts masses g components asks by = absurd by
-no_limit Cuts cuts masses g components asks by = absurd by
-no_limit (Part u v) cuts masses g components asks by = absurd by
-no_limit Count cuts masses g components asks by = absurd by
-no_limit Balanced cuts masses g components asks by = absurd by
-no_limit (Trial number) cuts masses g components asks by = absurd by
-
-pub apart_text : (command : Command) (masses : List ℕ) (g : Graph) (count : ℕ) → AsksCuts command.job → GoesByCactus command.job → IsInRange command.job g.vertices → HasComponents g count → 2 ≤ count →
-    (text : List ℕ) → text ≡ disconnected_line count → IsAnswerOf command masses g text
-apart_text command masses g count asks by inside has several text is = record {
-  in_range = inside;
-  answer = inr (inl (record { by_cactus = by; within = λ components counted. no_limit command.job (asked_cuts command masses g) masses g components asks by; count = count; components = has; several = several; text_is = is }));
-}
 
 -- a text of a job that does not go by the cactus
 pub union_text : (command : Command) (masses : List ℕ) (g : Graph) (p : Parts) → laws.LawOfComponents → laws.LawOfOneNumber → IsApartGraph g p → (GoesByCactus command.job → ⊥) → IsInRange command.job g.vertices →

@@ -1,6 +1,6 @@
 //! What a job asks of a listing, and those of some sides that are asked for.
 
-ghost use Rattle.std.specs.Prelude.{ℕ, ◌≡◌, ◌≢◌, ◌≤◌, All, IfOk, length};
+ghost use Rattle.std.specs.Prelude.{ℕ, ◌≡◌, All, IfOk, length};
 ghost use Rattle.std.specs.List.{filter};
 ghost use Rattle.cut_definitions.specs.Cuts.{mincuts};
 ghost use Rattle.cut_definitions.specs.Graph.{Graph as EdgeGraph};

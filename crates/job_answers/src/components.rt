@@ -1,6 +1,6 @@
 //! The components of a graph that has several, and the limit of a list of the unions of these.
 
-ghost use Rattle.std.specs.Prelude.{◌≡◌, ◌≤◌, ◌↔◌, IfOk, IsTrue, length};
+ghost use Rattle.std.specs.Prelude.{◌≤◌, ◌↔◌, IfOk, IsTrue, length};
 ghost use Rattle.cut_definitions.specs.Components.{HasComponents};
 ghost use Rattle.job_answers.specs.Apart.{AreUnionsFew, IsApartGraph};
 

@@ -1,6 +1,6 @@
 //! What the jobs answer for a graph in several components: its minimum cuts are the unions of these.
 
-ghost use Rattle.std.specs.Prelude.{◌≡◌, ◌≢◌, ◌≤◌, ◌*◌, ◌+◌, ◌^◌, IfOk, IfErr, length};
+ghost use Rattle.std.specs.Prelude.{◌≡◌, ◌≤◌, IfOk, IfErr, length};
 ghost use Rattle.cut_definitions.specs.Components.{HasComponents};
 ghost use Rattle.cut_listing.specs.Asks.{IsAskWithin};
 ghost use Rattle.job_answers.specs.Apart.{IsApartGraph, IsCountStop, IsTableStop, IsUnionBalance, IsUnionCount, IsUnionList, IsUnionStop};

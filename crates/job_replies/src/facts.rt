@@ -76,7 +76,7 @@ pub fn made_for(alloc: Global, number: u32) -> Result<Graph, NoMemory>
     Ok(graph)
 }
 
-/// The reply that tells of a solved graph. Both are given back.
+/// The reply that tells of a solved graph, which is taken over with what was found.
 pub fn facts_reply(alloc: Global, graph: Graph, solved: Solved) -> Result<Reply, NoMemory>
     requires enough { 2 ≤ graph.vertices }
     requires solved { IsSolved graph solved }

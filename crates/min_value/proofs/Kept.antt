@@ -128,10 +128,6 @@ kept_more g small smaller least again labels next h k =
       enough = k.enough;
     }
 
--- the labels that a contraction composes are as many as classes
-pub next_long : (g small smaller : Graph) (least : ℕ) (labels next : List ℕ) → IsKept g least small labels → IsKept small least smaller next → length next ≡ classes labels
-next_long g small smaller least labels next h k = k.labelled.long ∙ sym h.counted
-
 -- what is kept of a graph has its value
 pub value_of_small : (g small : Graph) (least : ℕ) (labels : List ℕ) → IsKept g least small labels → least ≡ value small
 value_of_small g small least labels h = h.is_value ∙ sym h.same_value

@@ -1,6 +1,6 @@
 -- What a scan leaves to be known of a value, below any bound.
 use Rattle.std.proofs.Common.{◌≡◌, ℕ, ◌≤◌, Bool, true, false, List, min, refl, sym, subst, arith}
-use Rattle.std.specs.Prelude.{if◌then◌else◌, Option}
+use Rattle.std.specs.Prelude.{if◌then◌else◌}
 use Rattle.cut_definitions.specs.Graph.{Graph, IsGraph}
 use Rattle.cut_definitions.specs.Cuts.{value}
 use Rattle.cut_definitions.specs.Safe.{IsFair}
@@ -12,12 +12,12 @@ use Rattle.weighted_graph.proofs.MarkLaws.{law_of_marked_classes}
 use Rattle.weighted_graph.proofs.SafeContraction.{parts_none}
 use Rattle.round_contract.specs.Classes.{AreClassesOfMarks}
 use Rattle.forest_contraction.specs.Left.{IsLesser}
-use Rattle.forest_contraction.proofs.Lessening.{lesser_many, shrunk_left}
+use Rattle.forest_contraction.proofs.Lessening.{shrunk_left}
 use Rattle.least_cut.specs.declared.sweep.Swept.{Swept}
 use Rattle.least_cut.specs.declared.sweep.Swept.TheVariants.{Whole, Part}
 use Rattle.least_cut.specs.Sweep.{TellsLeast}
 use Rattle.round_workers.proofs.Marking.{fair_small}
-use Rattle.min_value.specs.Left.{IsScanned, IsToTell, TellsValue}
+use Rattle.min_value.specs.Left.{TellsValue}
 
 -- a bound that is lowered by the weight of a cut is not below the lesser of the first bound and the value
 pub least_lowered : (g : Graph) (bound least weight : ℕ) (all : Bool) → min bound (value g) ≤ least → (all ≡ false → IsFair g weight) → min bound (value g) ≤ (if all then least else min least weight)
@@ -31,10 +31,6 @@ left_marks g ok marked labels bound best small two le ge safe labelled classes_a
     let classes_safe = law_of_marked_classes g labels marked best 0 safe (λ u v u1 un v1 vn same. (classes_are.joined u v u1 un v1 vn).0 same) in
     let same : min best (value g) ≡ min bound (value g) = omega arith in
     subst (λ (s : Graph). IsLesser (min bound (value g)) best s) (sym is) (subst (λ (w : ℕ). IsLesser w best (relabel g labels)) same (shrunk_left g ok labels best two labelled (parts_none g labels best classes_safe)))
-
--- a step that leaves the lesser of a bound and the value to be told leaves as much of what that bound was left for
-pub scanned_on : (whole bound best : ℕ) (g : Graph) (smaller : Option Graph) → 2 ≤ g.vertices → IsLesser whole bound g → IsScanned g bound best smaller → IsToTell whole best smaller
-scanned_on whole bound best g smaller two outer h = subst (λ (w : ℕ). IsToTell w best smaller) (sym (lesser_many whole bound g two outer)) h.told
 
 -- a sweep from a fair bound tells the value, or a bound on it
 pub tells_value : (g : Graph) → IsGraph g → (bound most : ℕ) (swept : Swept) → IsFair g bound → TellsLeast g bound most swept → TellsValue g swept

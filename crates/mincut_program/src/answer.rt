@@ -3,7 +3,6 @@
 ghost use Rattle.std.specs.Prelude.{◌≡◌, ◌≤◌, IfOk, IfErr, length};
 ghost use Rattle.cut_definitions.specs.Components.{IsConnected};
 ghost use Rattle.cut_definitions.specs.Cuts.{value, value as least_value};
-ghost use Rattle.cut_definitions.specs.Graph.{IsEdgeList};
 ghost use Rattle.job_answers.specs.Jobs.{AsksCuts, IsAnswerOf, IsInRange, IsStopFor};
 ghost use Rattle.rooted_cactus.specs.Solving.{IsSolved};
 ghost use Rattle.job_replies.specs.Replies.{text_of, IsPrintable};

@@ -1,6 +1,7 @@
 //! All that the program `mincut` does, over whatever source and sinks: its words, its jobs, and what it writes.
 //!
-//! `read_words` reads the words and `run` does the rest; the program itself hands them its own words and streams.
+//! `run` does all of it; the program itself hands it its own words and streams. `read_words` and the laws of the jobs are
+//! handed on.
 #![tactic(auto)]
 
 mod answer;

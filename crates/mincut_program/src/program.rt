@@ -1,5 +1,5 @@
-ghost use Rattle.std.specs.Prelude.{◌≡◌, ◌≢◌, ◌≤◌, ◌⊎◌, ℕ, List, IfOk, IfErr, IfSome, OnOk, IsErrOf, string_bytes};
-ghost use Rattle.std.specs.Io.KnownBytes.{Appends, IsAtEnd};
+ghost use Rattle.std.specs.Prelude.{◌≡◌, ◌≢◌, ◌≤◌, ◌⊎◌, ℕ, List, IfOk, IfErr, IfSome, OnOk, IsErrOf};
+ghost use Rattle.std.specs.Io.KnownBytes.{IsAtEnd};
 ghost use Rattle.outside.specs.Faults.{Rose};
 ghost use Rattle.cut_definitions.specs.Graph.{Graph};
 ghost use Rattle.program_words.specs.declared.command.Command.{Command};
@@ -9,7 +9,7 @@ ghost use Rattle.metis_reader.specs.File.{graph_of, masses_of};
 ghost use Rattle.program_words.specs.Words.{texts, command_of, AsksNothing, IsMakeable, IsReading, ReadsGraph};
 ghost use Rattle.job_answers.specs.Intake.{IsCause, IsJobAnswer, IsJobReply, IsReply};
 ghost use Rattle.job_replies.specs.Replies.{text_of, IsPrintable, TakesMemory};
-ghost use Rattle.job_answers.specs.Answers.{over_status, Writes, TakesReply, ReplyFailed, Told, TellingFailed};
+ghost use Rattle.job_answers.specs.Answers.{over_status, TakesReply, ReplyFailed, Told, TellingFailed};
 
 use crate::answer::answer;
 use crate::trial::trial_reply;
@@ -109,9 +109,9 @@ fn reply<R: Threads + Sync, S: Source, G: Gate>(
 /// the text of the reply to `out` or the line that tells why there is none to `err`, and answers how it ended. The job
 /// `trial` makes its graph and reads nothing. The runtime starts the threads of the workers.
 ///
-/// The value takes memory in proportion to the graph and a sweep of flows, each of which is local on most graphs. Beside that
-/// the jobs on all minimum cuts take a sweep and a flow for each split of the graph, and a number for each vertex of a graph
-/// that is split and not yet put together.
+/// Memory is in proportion to the graph and to what is printed, and where workers share large regions each has a graph of its
+/// own. The value takes a sweep of flows, each of which is local on most graphs; the jobs on all minimum cuts take a further
+/// sweep, which lists all but one of the parts of each region that it splits.
 pub fn run<R: Threads + Sync, S: Source, K: Sink, E: Sink, G: Gate>(
     rt: &R,
     alloc: Global,

@@ -1,6 +1,6 @@
 //! The job `trial`: a graph is made for a number, solved, and described.
 
-ghost use Rattle.std.specs.Prelude.{◌≡◌, ◌≤◌, IfOk};
+ghost use Rattle.std.specs.Prelude.{◌≤◌, IfOk};
 ghost use Rattle.job_replies.specs.Replies.{text_of, IsPrintable, TakesMemory};
 ghost use Rattle.job_answers.specs.Trials.{IsTrialText};
 

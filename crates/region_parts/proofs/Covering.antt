@@ -1,9 +1,9 @@
 -- Open vertices and fed ones while labels are refined.
-use Rattle.std.proofs.Common.{◌≡◌, ◌≢◌, ℕ, ◌<◌, ◌≤◌, ⊎_elim, Bool, true, false, not, cond, eqb, List, length, get_or, set, refl, sym, ◌∙◌, subst, ap, arith}
+use Rattle.std.proofs.Common.{◌≡◌, ◌≢◌, ℕ, ◌<◌, ◌≤◌, ⊎_elim, Bool, true, not, eqb, List, length, get_or, refl, sym, ◌∙◌, subst, ap, arith}
 use Rattle.std.specs.Prelude.{if◌then◌else◌}
 use Rattle.std.specs.List.{Contains}
 use Rattle.std.proofs.lemmas.Bool.{cases_eq, cases_lt, eq-eqb, eqb-true}
-use Rattle.std.proofs.lemmas.List.{get_or_past, length-set}
+use Rattle.std.proofs.lemmas.List.{get_or_past}
 use Rattle.std.proofs.lemmas.List.Elements.{All-contains}
 use Rattle.cut_definitions.specs.Graph.{IsEdgeWithin}
 use Rattle.cut_definitions.specs.Weight.{VertexSet, parts}
@@ -50,12 +50,6 @@ one_region g labels f ok same v h =
     absurd (h.apart (same h.other v at_u.0 at_u.1 at_v.0 at_v.1))
 
 -- ---- labels that are refined
-
-kept_label : (b : Bool) (x y : ℕ) → b ≡ false → cond b x y ≡ y
-kept_label b x y e = rw e refl
-
-set_at_end : (labels : List ℕ) (t : ℕ) → length labels ≤ t → get_or (set labels t 0) t 0 ≡ 0
-set_at_end labels t past = get_or_past (set labels t 0) t 0 (omega (arith, length-set labels t 0))
 
 pub refining_one : LawOfRefiningOne
 refining_one labels t = record {

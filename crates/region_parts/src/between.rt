@@ -196,7 +196,7 @@ impl Splitter {
         self.search_outer(region, fronts, hub, passed)
     }
 
-    /// Lists parts from both sides, until nothing is left between the lists but one part.
+    /// Lists parts from both sides, until nothing is left between the lists but at most one part.
     pub(crate) fn list_parts(
         &mut self,
         region: Region<'_>,

@@ -8,7 +8,7 @@ use crate::side::Side;
 use region_flow::RegionFlow;
 use weighted_graph::Graph;
 
-/// How many arcs one search of a race looks at before the other goes on.
+/// How many arcs one search of a race looks at, at most, before the other goes on.
 pub const STEP: usize = 24;
 
 /// The region of a vertex `t` that an edge joins to the outside, in a flow.

@@ -1,7 +1,7 @@
 //! The parts of a region around one of its vertices.
 //!
-//! Parts are listed from that of `t` and from that with all that is outside the region, until one part is left between the
-//! two lists, which is not listed. It is the part of a hub: all that is outside, or `t`, or any vertex that is left. Around
+//! Parts are listed from that of `t` and from that with all that is outside the region, until at most one part is left between
+//! the two lists, which is not listed. It is the part of a hub: all that is outside, or `t`, or any vertex that is left. Around
 //! each list searches start from the vertices beside it, each in a race with one from the hub: where they meet, no part ends
 //! between, and where one of them ends first, what it found is further parts of a list. So what is listed is paid for by
 //! searches that would have listed more.

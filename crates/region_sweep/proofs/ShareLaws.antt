@@ -302,10 +302,6 @@ behind_more labels labels' labels'' shares xs rest share is h left = record {
   left = left_more labels labels' labels'' h.behind share.region h.left left;
 }
 
-pub behind_all : (labels labels' : List ℕ) (shares first : List Share) → first ≡ [] → HaveLeftBehind labels shares first labels' → HaveLeft labels (regions_of shares) labels'
-behind_all labels labels' shares first none h =
-    subst (λ (k : List ℕ). HaveLeft labels k labels') (sym (h.all ∙ ap (λ (k : List Share). regions_of k ++ h.behind) none)) h.left
-
 -- ---- regions that ascend
 
 abbrev pub AscendTo : ℕ → List ℕ → Type 0

@@ -130,16 +130,6 @@ pub record IsSplit (g : Graph) (labels labels' : List ℕ) (h h' : HomesState) (
   pub finer : IsFiner g.vertices labels labels' (part_in p labels (get_or labels t 0))
   pub root : get_or labels' 1 0 ≡ 0
 
--- where each vertex has entered no number has a label
-pub all_zero : (labels : List ℕ) (n : ℕ) → length labels ≡ n + 1 → get_or labels 0 0 ≡ 0 → ((v : ℕ) → 1 ≤ v → v ≤ n → get_or labels v 0 ≡ 0) → (v : ℕ) → get_or labels v 0 ≡ 0
-all_zero labels n long nobody all v = ⊎_elim
-    (λ (l : v < n + 1). ⊎_elim
-    (λ (z : v ≡ 0). ap (λ (k : ℕ). get_or labels k 0) z ∙ nobody)
-    (λ (ne : v ≢ 0). all v (omega (arith, ne)) (omega (arith, l)))
-    (cases_eq v 0))
-    (λ (l : n + 1 ≤ v). get_or_past labels v 0 (omega (arith, l, long)))
-    (cases_lt v (n + 1))
-
 pub split_sweeping : (g : Graph) (labels labels' : List ℕ) (h h' : HomesState) (links links' : TreeLinks) (p : PartsState) (nodes : List ℕ) (t amount : ℕ) → IsGraph g →
     IsSweeping g labels (nodes_of h labels links) → IsLeastWeight g amount → length labels ≡ g.vertices + 1 → get_or labels 0 0 ≡ 0 → 2 ≤ t → t ≤ g.vertices → 1 ≤ get_or labels t 0 →
     IsSplit g labels labels' h h' links links' p nodes t amount → IsSweeping g labels' (nodes_of h' labels' links')

@@ -1,6 +1,6 @@
 -- Seats, their marks, and the shares that workers test.
-use Rattle.std.proofs.Common.{◌≡◌, ℕ, suc, ◌+◌, ◌*◌, ◌-◌, ◌/◌, ◌%◌, ◌^◌, ◌<◌, ◌≤◌, ⊎_elim, Bool, true, false, List, ◌∷◌, ◌++◌, length, get_or, take, refl, sym, ◌∙◌, ap, subst, arith}
-use Rattle.std.specs.Prelude.{◌≢◌, slice_index_or, Contains, if◌then◌else◌, min}
+use Rattle.std.proofs.Common.{◌≡◌, ℕ, suc, ◌+◌, ◌-◌, ◌%◌, ◌<◌, ◌≤◌, ⊎_elim, List, ◌∷◌, ◌++◌, length, take, refl, sym, ◌∙◌, ap, subst, arith}
+use Rattle.std.specs.Prelude.{◌≢◌, slice_index_or, Contains}
 use Rattle.std.proofs.lemmas.Bool.{cases_eq}
 use Rattle.std.proofs.lemmas.List.Elements.{Contains-append_left, Contains-append_right}
 use Rattle.std.proofs.lemmas.List.{get_or-take, length-take-le}
@@ -36,9 +36,6 @@ later_same s = record { seen = omega arith; own = λ e h. h }
 
 pub later_gaining : (s : SeatView) (e : ℕ) → IsLater s (gaining s e)
 later_gaining s e = record { seen = omega arith; own = λ i h. contains_tail s.own e i h }
-
-pub later_seeing : (s : SeatView) (n : ℕ) → n ≤ s.seen → IsLater s (seeing s n)
-later_seeing s n le = record { seen = le; own = λ i h. h }
 
 pub later_both : (r s t : SeatView) → IsLater r s → IsLater s t → IsLater r t
 later_both r s t a b = record { seen = omega (arith, a.seen, b.seen); own = λ e h. b.own e (a.own e h) }
@@ -91,20 +88,7 @@ tested_step g limit share shares edge s t lt at later h here = record {
       (cases_eq e edge);
 }
 
-pub tested_end : (g : Graph) (limit share shares upto m : ℕ) (s : SeatView) → m ≤ upto → HasTested g limit share shares upto s → HasTested g limit share shares m s
-tested_end g limit share shares upto m s le h = record { each = λ e l is cert. h.each e (omega arith) is cert }
-
 -- ---- workers
-
--- what was tested at a bound that was seen is tested at the opening one, where the seat never saw a lower one
-pub worked_from : (b : BoardView) (g : Graph) (slack bound share shares : ℕ) (s t : SeatView) → HasSeen b g slack bound s → t.board ≡ b → IsLater s t →
-    HasTested g (bound + slack) share shares (length g.edges) s → HasWorked g slack share shares t
-worked_from b g slack bound share shares s t seen same later h = record {
-  tested = λ low.
-      let opening : t.board.opening ≡ b.opening = ap (λ (v : BoardView). v.opening) same in
-      let is : bound ≡ t.board.opening = omega (arith, opening, low, later.seen, seen.seen, seen.at_most) in
-      subst (λ (k : ℕ). HasTested g (k + slack) share shares (length g.edges) t) is (tested_later g (bound + slack) share shares (length g.edges) s t later h);
-}
 
 pub worked_later : (g : Graph) (slack share shares : ℕ) (s t : SeatView) → t.board ≡ s.board → IsLater s t → HasWorked g slack share shares s → HasWorked g slack share shares t
 worked_later g slack share shares s t same later h = record {

@@ -1,6 +1,6 @@
 //! Scans by workers, which lower the bound of a board and mark by links.
 
-ghost use Rattle.std.specs.Prelude.{◌≡◌, ◌+◌, ◌<◌, ◌≤◌, ◌^◌, ◌⊎◌, ◌∷◌, true, false, length};
+ghost use Rattle.std.specs.Prelude.{◌≡◌, ◌+◌, ◌<◌, ◌≤◌, ◌⊎◌, ◌∷◌, true, false, length};
 ghost use Rattle.cut_definitions.specs.Safe.{IsFair};
 ghost use Rattle.scan_core.specs.Machine.{IsSafeEdge};
 ghost use Rattle.capped_scan.specs.Scan.{StandsFor, waits};

@@ -1,6 +1,6 @@
 //! Marks on a board by the four local tests, each worker for its share of the edges.
 
-ghost use Rattle.std.specs.Prelude.{◌≡◌, ℕ, ◌+◌, ◌<◌, ◌≤◌, ◌^◌, length, Contains};
+ghost use Rattle.std.specs.Prelude.{◌+◌, ◌<◌, ◌≤◌, length, Contains};
 ghost use Rattle.weighted_graph.specs.RowLaws.{edge_at};
 ghost use Rattle.round_workers.specs.Round.{IsCertified};
 ghost use Rattle.round_workers.specs.Seats.{HasSeen, IsLater, HasTested};

@@ -1,6 +1,6 @@
 //! Workers of a round, which run side by side, each with its own seat of the board.
 
-ghost use Rattle.std.specs.Prelude.{◌≡◌, ℕ, ◌+◌, ◌<◌, ◌≤◌, All, IfOk, length, vec_len};
+ghost use Rattle.std.specs.Prelude.{◌≡◌, ◌+◌, ◌<◌, ◌≤◌, All, IfOk, length, vec_len};
 ghost use Rattle.round_workers.specs.Seats.{HasSeen, HasAll, IsReady, IsDone, AreDone};
 
 use crate::scanning::scan_on_board;

@@ -1,8 +1,7 @@
 -- The parts of a chain that the tests take: each with the cactus of one node.
-use Rattle.std.proofs.Common.{◌≡◌, ℕ, ◌+◌, ◌<◌, ◌&&◌, ◌||◌, Bool, true, false, not, cond, suc, List, [], ◌∷◌, ◌++◌, length, get_or, sym, ◌∙◌, ap, subst, arith, ⊎_elim}
+use Rattle.std.proofs.Common.{◌≡◌, ℕ, ◌+◌, ◌<◌, suc, List, [], ◌∷◌, ◌++◌, length, get_or, sym, ◌∙◌, ap, subst, arith, ⊎_elim}
 use Rattle.std.specs.List.{filter, range_with_len}
 use Rattle.std.proofs.lemmas.Bool.{cases_lt}
-use Rattle.std.proofs.lemmas.List.{append-nil}
 use Rattle.std.proofs.lemmas.List.Elements.{filter-append}
 use Rattle.cut_definitions.specs.Weight.{VertexSet}
 use Rattle.cut_definitions.specs.Cuts.{has, IsAscendingWithin}
@@ -12,15 +11,6 @@ use Rattle.residual_chain.specs.Chain.{ChainView}
 use Rattle.cactus_merge.specs.declared.part.PartCactus.{PartCactus}
 use Rattle.cactus_merge.specs.Assembled.{IsPartOf, is_own}
 use Rattle.cactus_merge.proofs.Pushed.{at_front, at_seam}
-
-pub own_is : (a b c : Bool) → (a && (not b && not c)) ≡ (a && not (b || c))
-own_is a b c = grind arith
-
-pub taken : (p : VertexSet) (v : ℕ) (list new : List ℕ) → p v ≡ true → new ≡ list ++ v ∷ [] → new ≡ list ++ filter p (v ∷ [])
-taken p v list new h e = e ∙ ap (λ (b : Bool). list ++ cond b (v ∷ []) []) (sym h)
-
-pub left_out : (p : VertexSet) (v : ℕ) (list : List ℕ) → p v ≡ false → list ≡ list ++ filter p (v ∷ [])
-left_out p v list h = sym (append-nil list) ∙ ap (λ (b : Bool). list ++ cond b (v ∷ []) []) (sym h)
 
 -- one more vertex was looked at
 pub more_own : (p : VertexSet) (v : ℕ) (list new : List ℕ) → list ≡ filter p (range_with_len 1 v) → new ≡ list ++ filter p ((v + 1) ∷ []) → new ≡ filter p (range_with_len 1 (v + 1))

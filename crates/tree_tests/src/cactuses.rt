@@ -1,7 +1,5 @@
 //! Cactuses, their sides, and trees that are built and taken apart.
 
-ghost use Rattle.std.specs.Prelude.{◌≡◌};
-
 use crate::trees::{one_bridge, one_ring, ring_and_bridge};
 use cactus_tree::{
     Block, Cactus, Children, CutPlaces, Node, VertexList, Walk, cut_places, next_start, put_range,

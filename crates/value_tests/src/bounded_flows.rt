@@ -1,8 +1,8 @@
 //! Bounded flows between two vertices, and what a preflow tells.
 
-ghost use Rattle.std.specs.Prelude.{◌↔◌, ◌≡◌, ◌≢◌, ◌<◌, ◌≤◌, ◌^◌, [], ◌∷◌, IsTrue, IfOk};
+ghost use Rattle.std.specs.Prelude.{◌↔◌, ◌≡◌, ◌≢◌, ◌<◌, ◌≤◌, ◌^◌, IsTrue, IfOk};
 ghost use Rattle.std.specs.List.{All};
-ghost use Rattle.cut_definitions.specs.Graph.{IsBefore, IsEdgeList};
+ghost use Rattle.cut_definitions.specs.Graph.{IsBefore};
 ghost use Rattle.cut_definitions.specs.Weight.{VertexSet, weight, IsCut};
 ghost use Rattle.max_flow.specs.Flow.{StandsFor};
 

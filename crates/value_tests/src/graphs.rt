@@ -1,6 +1,6 @@
 //! The graphs of the tests.
 
-ghost use Rattle.std.specs.Prelude.{◌≡◌, ◌+◌, ◌<◌, ◌≤◌, ◌^◌, [], ◌∷◌, IfOk, length};
+ghost use Rattle.std.specs.Prelude.{◌≡◌, ◌<◌, [], ◌∷◌, IfOk};
 ghost use Rattle.cut_definitions.specs.Graph.{IsEdgeList};
 
 use cut_definitions::{Edge, EdgeList, NoMemory};

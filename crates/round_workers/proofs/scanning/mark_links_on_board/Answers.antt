@@ -1,4 +1,4 @@
-use Rattle.std.proofs.Common.{◌≡◌, ◌≤◌, ◌<◌, ◌+◌, ℕ, get_or, length, ap, arith, inl, inr}
+use Rattle.std.proofs.Common.{◌≤◌, get_or, length, ap, arith, inl, inr}
 use Rattle.cut_definitions.specs.Graph.{Graph}
 use Rattle.weighted_graph.specs.declared.graph.Arc.{Arc}
 use Rattle.weighted_graph.specs.Rows.{row_of, no_arc}

@@ -1,6 +1,5 @@
-use Rattle.std.proofs.Common.{◌≡◌, ◌-◌, ℕ, sym, subst, vec_len, arith}
+use Rattle.std.proofs.Common.{◌-◌, sym, subst, vec_len, arith}
 use Rattle.mark_board.specs.Seen.{SeatView}
-use Rattle.round_workers.specs.declared.working.Worker.{Worker}
 use Rattle.round_workers.specs.Seats.{HasSeen}
 use Rattle.round_workers.proofs.Seats.{AreJoinedFrom, join_step, seen_joined, all_shares}
 use Rattle.round_workers.proofs.working.join_workers.Goals as goal

@@ -1,4 +1,4 @@
-use Rattle.std.proofs.Common.{◌∙◌, arith}
+use Rattle.std.proofs.Common.{arith}
 use Rattle.solver_tests.proofs.Tested.{is_part}
 use Rattle.solver_tests.proofs.assemblies.part.Goals as goal
 
