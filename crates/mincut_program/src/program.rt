@@ -109,9 +109,10 @@ fn reply<R: Threads + Sync, S: Source, G: Gate>(
 /// the text of the reply to `out` or the line that tells why there is none to `err`, and answers how it ended. The job
 /// `trial` makes its graph and reads nothing. The runtime starts the threads of the workers.
 ///
-/// Memory is in proportion to the graph and to what is printed, and where workers share large regions each has a graph of its
-/// own. The value takes a sweep of flows, each of which is local on most graphs; the jobs on all minimum cuts take a further
-/// sweep, which lists all but one of the parts of each region that it splits.
+/// Memory is in proportion to the graph and to what is printed; where workers share large regions each has a graph of its own,
+/// and `balanced` on a graph of several components takes a table of at most 2^32 bits. The value takes a sweep of flows, each of
+/// which is local on most graphs; the jobs on all minimum cuts take a further sweep, which lists all but one of the parts of
+/// each region that it splits.
 pub fn run<R: Threads + Sync, S: Source, K: Sink, E: Sink, G: Gate>(
     rt: &R,
     alloc: Global,
