@@ -1,21 +1,37 @@
 #!/usr/bin/env python3
 """Proves and builds the program alone: the crates that it is made of, without their tests and must-fail edits.
 
-usage: first_build.py
+usage: first_build.py [--measure]
 
-It runs the toolchain's own gate on a copy of these crates. The gate proves crates side by side, first those with the longest chain of
-others behind them, and keeps on this machine what it proved, so that a later run of the gate does not prove it again. The program
-goes to crates/mincut/out/mincut. Progress goes to standard error. The status is 0 where the program was built, and 1 elsewhere.
+It runs the toolchain's own gate on a copy of these crates. The gate proves crates side by side and keeps on this machine what it
+proved, so that a run that was cut off is taken up again, and a later run of the gate does not prove it again. The program goes to
+crates/mincut/out/mincut, and what it was made of is written beside it. Progress goes to standard error. The status is 0 where the
+program was built, and 1 elsewhere. With --measure the processor time that each crate took here is written to tools/proof_costs.txt,
+by which the time that is left is told; all is proved anew then, and nothing else should run.
 """
+import contextlib
+import fcntl
+import hashlib
 import os
 import re
 import shutil
+import signal
 import subprocess
 import sys
 import tempfile
+import time
+
+from proving_time import Costs, Watch, loop_seconds
 
 ROOT = os.path.dirname(os.path.dirname(os.path.abspath(__file__)))
 PROGRAM = 'mincut'
+OUT = f'{ROOT}/crates/{PROGRAM}/out'
+BUILT = f'{OUT}/{PROGRAM}'
+MADE_OF = f'{OUT}/made_of'
+PARTS = ('src', 'specs', 'proofs')
+COSTS = f'{ROOT}/tools/proof_costs.txt'
+# A line of progress comes at least so often, in seconds.
+PAUSE = 25
 
 
 def lines_of_crates():
@@ -38,43 +54,155 @@ def crates_below(name, lines, found):
     return found
 
 
-def copied(room):
-    """Copies what the program is made of to the folder, as the top of a repository, and answers the crates' names."""
-    lines = lines_of_crates()
+def folders_of(names):
+    """The folders whose files the program is made of."""
+    found = [f'crates/{name}/{part}' for name in names for part in PARTS]
+    return [folder for folder in found if os.path.isdir(f'{ROOT}/{folder}')]
+
+
+def sum_of(names, lines):
+    """A checksum of all that the program is made of."""
+    total = hashlib.sha256(repr([lines[name] for name in names]).encode())
+    for folder in folders_of(names):
+        for at, below, files in os.walk(f'{ROOT}/{folder}'):
+            below.sort()
+            for name in sorted(files):
+                with open(f'{at}/{name}', 'rb') as file:
+                    total.update(repr((os.path.relpath(f'{at}/{name}', ROOT), file.read())).encode())
+    return total.hexdigest()
+
+
+def newest_of(names):
+    """When the last of these files was changed."""
+    return max(os.stat(f'{at}/{name}').st_mtime_ns for folder in folders_of(names) for at, _, files in os.walk(f'{ROOT}/{folder}') for name in files)
+
+
+def note(total, names, since):
+    """Writes what the program was made of, as of that time in nanoseconds: what is changed later is newer than the program."""
+    with open(f'{MADE_OF}.new', 'w', encoding='utf-8') as file:
+        file.write('\n'.join([total, *folders_of(names)]) + '\n')
+    os.replace(f'{MADE_OF}.new', MADE_OF)
+    os.utime(BUILT, ns=(since, since))
+
+
+def is_current():
+    """Whether the program is built of the files as they stand. One that the gate or a developer built, which has no note, counts where
+    it is newer than all of them."""
+    if not os.access(BUILT, os.X_OK):
+        return False
+    now, lines = time.time_ns(), lines_of_crates()
     names = crates_below(PROGRAM, lines, [])
+    try:
+        with open(MADE_OF, encoding='utf-8') as file:
+            noted = file.readline().strip()
+    except FileNotFoundError:
+        noted = None
+    total = sum_of(names, lines)
+    if noted != total and (noted or newest_of(names) >= os.stat(BUILT).st_mtime_ns):
+        return False
+    with contextlib.suppress(OSError):
+        note(total, names, now)
+    return True
+
+
+def copied(room, names, lines):
+    """Copies what the program is made of to the folder, as the top of a repository."""
     os.mkdir(f'{room}/.git')
     shutil.copyfile(f'{ROOT}/HANDLES', f'{room}/HANDLES')
     with open(f'{room}/crates.txt', 'w', encoding='utf-8') as file:
         file.writelines(lines[name][0] for name in names)
     for name in names:
         shutil.copytree(f'{ROOT}/crates/{name}', f'{room}/crates/{name}', ignore=shutil.ignore_patterns('out', 'must-fail'))
-    return names
 
 
-def proved(room, names):
+@contextlib.contextmanager
+def in_turn(say):
+    """Waits while another run here builds the program."""
+    os.makedirs(OUT, exist_ok=True)
+    with open(f'{ROOT}/crates/{PROGRAM}/out/building', 'w', encoding='utf-8') as lock:
+        try:
+            fcntl.flock(lock, fcntl.LOCK_EX | fcntl.LOCK_NB)
+        except BlockingIOError:
+            say('another run is proving the program; waiting for it')
+            fcntl.flock(lock, fcntl.LOCK_EX)
+        yield
+
+
+@contextlib.contextmanager
+def gate_over(room, log, words):
+    """The toolchain's gate over the folder, in a session of its own, which ends with this process."""
+    gate = subprocess.Popen(words, cwd=room, stdin=subprocess.DEVNULL, stdout=log, stderr=subprocess.STDOUT, start_new_session=True)
+    try:
+        yield gate
+    finally:
+        for number in (signal.SIGINT, signal.SIGKILL):
+            with contextlib.suppress(ProcessLookupError):
+                os.killpg(gate.pid, number)
+            with contextlib.suppress(subprocess.TimeoutExpired):
+                gate.wait(10)
+
+
+def proved(room, watch, say, words):
     """Runs the gate there, tells how far it is, and answers whether all passed, with what it printed."""
-    printed, done = [], set()
-    with subprocess.Popen(['rt', 'ci'], cwd=room, stdout=subprocess.PIPE, stderr=subprocess.STDOUT, text=True, errors='replace') as gate:
-        for line in gate.stdout:
-            printed.append(line)
-            told = re.match(r'rt: (\w+) (?:proved|is kept)', line)
-            if told and told[1] in names and told[1] not in done:
-                done.add(told[1])
-                print(f'mincut: {len(done)} of {len(names)} crates proved ({told[1]})', file=sys.stderr, flush=True)
-    return gate.returncode == 0, ''.join(printed)
+    with open(f'{room}/.git/log', 'w+b') as log, gate_over(room, log, words) as gate:
+        printed, place, told_at = '', 0, time.monotonic()
+        say(f'proving and building the program, which is made of {len(watch.names)} crates; {watch.left()}')
+        while True:
+            ended = gate.poll() is not None
+            log.seek(place)
+            new = log.read().decode('utf-8', 'replace')
+            place = log.seek(0, os.SEEK_END)
+            printed += new
+            watch.look(gate.pid)
+            kept = [name for name in re.findall(r'^rt: (\w+) is kept', new, re.M) if watch.keep(name)]
+            done = [name for name in re.findall(r'^rt: (\w+) proved', new, re.M) if watch.end(name)]
+            if kept:
+                say(f'proved by an earlier run here, which is taken up: {len(kept)} ({", ".join(kept)})')
+            if done or not ended and time.monotonic() - told_at >= PAUSE:
+                say(f'{watch.told(done)}; {watch.left()}')
+                told_at = time.monotonic()
+            if ended:
+                return gate.returncode == 0, printed
+            time.sleep(1)
+
+
+def build_now(say, measures):
+    """Proves and builds the program from the files as they stand."""
+    since, lines = time.time_ns(), lines_of_crates()
+    names = crates_below(PROGRAM, lines, [])
+    total = sum_of(names, lines)
+    watch = Watch(names, {name: lines[name][1] for name in names}, Costs.read(COSTS))
+    with tempfile.TemporaryDirectory(prefix='mincut-build-') as room:
+        copied(room, names, lines)
+        passed, printed = proved(room, watch, say, ['rt', 'ci', '--anew'] if measures else ['rt', 'ci'])
+        if not passed:
+            print(printed, file=sys.stderr)
+            say("the program was not built; above stands what 'rt ci' printed")
+            return False
+        shutil.copy(f'{room}/crates/{PROGRAM}/out/{PROGRAM}', f'{BUILT}.new')
+    os.replace(f'{BUILT}.new', BUILT)
+    note(total, names, since)
+    if measures:
+        watch.costs(loop_seconds()).write(COSTS)
+    say(f'proved and built: {os.path.relpath(BUILT, ROOT)}, {watch.spent()}')
+    return True
+
+
+def build(say, measures=False):
+    """Whether the program is built now; it is proved and built where it was not."""
+    with in_turn(say):
+        return not measures and is_current() or build_now(say, measures)
 
 
 def main():
-    with tempfile.TemporaryDirectory(prefix='mincut-build-') as room:
-        passed, printed = proved(room, copied(room))
-        if not passed:
-            print(printed, file=sys.stderr)
-            return 1
-        to = f'{ROOT}/crates/{PROGRAM}/out'
-        os.makedirs(to, exist_ok=True)
-        shutil.copy(f'{room}/crates/{PROGRAM}/out/{PROGRAM}', f'{to}/{PROGRAM}.new')
-        os.replace(f'{to}/{PROGRAM}.new', f'{to}/{PROGRAM}')
-    return 0
+    def say(text):
+        print(f'mincut: {text}', file=sys.stderr, flush=True)
+
+    try:
+        return 0 if build(say, sys.argv[1:] == ['--measure']) else 1
+    except KeyboardInterrupt:
+        say('interrupted; what was proved is kept, and the next run goes on from there')
+        return 130
 
 
 if __name__ == '__main__':

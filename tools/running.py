@@ -28,11 +28,13 @@ def add_program(parser):
 
 
 def ready(program):
-    """The program's path, once it is built; `./mincut` does that at its first call, which may take some minutes."""
-    status = subprocess.run([program, '--version'], stdin=subprocess.DEVNULL, stdout=subprocess.DEVNULL).returncode
+    """The program's path, once it is built; `./mincut --build` does that, which may take some minutes."""
+    is_wrapper = os.path.realpath(program) == os.path.realpath(WRAPPER)
+    words = ['--build' if is_wrapper else '--version']
+    status = subprocess.run([program, *words], stdin=subprocess.DEVNULL, stdout=subprocess.DEVNULL).returncode
     if status != 0:
-        sys.exit(f'{program} is no program that tells its version: status {status}')
-    return BUILT if os.path.realpath(program) == os.path.realpath(WRAPPER) else program
+        sys.exit(f'{program} {words[0]} ended with status {status}')
+    return BUILT if is_wrapper else program
 
 
 def run_program(program, words, text):

@@ -1,0 +1,157 @@
+#!/usr/bin/env python3
+"""Tests of ./mincut on a fresh checkout, with a toolchain that only plays: it 'proves' a crate in an instant. usage: test_first_run.py"""
+import os
+import shutil
+import signal
+import stat
+import subprocess
+import sys
+import tempfile
+import time
+import unittest
+
+TOP = os.path.dirname(os.path.dirname(os.path.abspath(__file__)))
+GRAPH = b'2 1\n2\n1\n'
+
+# It keeps what it 'proved' beside itself, as the toolchain does, and can be told to be slow at a crate, or to fail.
+PLAYED = r'''#!/usr/bin/env python3
+import os, sys, time
+at = os.path.dirname(os.path.abspath(__file__))
+def told(name):
+    path = os.path.join(at, name)
+    return open(path).read().split() if os.path.exists(path) else []
+open(os.path.join(at, 'calls'), 'a').write(' '.join(sys.argv[1:]) + '\n')
+if sys.argv[1] == 'try':
+    sys.stdout.write('looked at %d bytes for %s\n' % (len(sys.stdin.read()), ' '.join(sys.argv[3:])))
+    sys.stderr.write('a line of the program\nchecked: ended status=7\nrun=ended status=7 runners=1 races=unchecked proved=no\n')
+    sys.exit(7)
+kept = told('kept')
+for line in open('crates.txt'):
+    name = line.split(':')[0].split()[0]
+    if name in kept:
+        print('rt: %s is kept: an earlier run on this machine proved the same files' % name, flush=True)
+        continue
+    if name in told('slow'):
+        time.sleep(60)
+    if name in told('fails'):
+        print('rt: %s NOT PROVED' % name, flush=True)
+        print('0 passed, 1 failed')
+        sys.exit(1)
+    open(os.path.join(at, 'kept'), 'a').write(name + '\n')
+    print('rt: %s proved' % name, flush=True)
+out = 'crates/mincut/out'
+os.makedirs(out, exist_ok=True)
+with open(out + '/mincut', 'w') as file:
+    file.write('#!/bin/sh\necho "proved $*"\nwc -c\nexit 3\n')
+os.chmod(out + '/mincut', 0o755)
+'''
+
+
+class FirstRun(unittest.TestCase):
+    def setUp(self):
+        self.room = tempfile.TemporaryDirectory()
+        self.addCleanup(self.room.cleanup)
+        self.top, self.kit = f'{self.room.name}/checkout', f'{self.room.name}/kit'
+        shutil.copytree(TOP, self.top, ignore=shutil.ignore_patterns('out', '.git', 'docs', 'bench', 'python', '__pycache__', 'specs', 'proofs', 'must-fail'))
+        os.mkdir(self.kit)
+        self.tell('rt', PLAYED)
+        os.chmod(f'{self.kit}/rt', stat.S_IRWXU)
+        # python3 itself, and not a shim that needs more of the path
+        os.symlink(sys.executable, f'{self.kit}/python3')
+
+    def tell(self, name, text):
+        with open(f'{self.kit}/{name}', 'w', encoding='utf-8') as file:
+            file.write(text)
+
+    def told(self, name):
+        try:
+            with open(f'{self.kit}/{name}', encoding='utf-8') as file:
+                return file.read().split('\n')[:-1]
+        except FileNotFoundError:
+            return []
+
+    def calls(self):
+        return self.told('calls')
+
+    def kept(self):
+        return self.told('kept')
+
+    def start(self, *words, path=None, **how):
+        env = {**os.environ, 'PATH': path or f'{self.kit}:/usr/bin:/bin'}
+        return subprocess.Popen([f'{self.top}/mincut', *words], env=env, stdout=subprocess.PIPE, stderr=subprocess.PIPE, **how)
+
+    def mincut(self, *words, given=GRAPH, path=None):
+        child = self.start(*words, path=path, stdin=subprocess.PIPE)
+        out, err = child.communicate(given, timeout=100)
+        return child.returncode, out.decode(), err.decode()
+
+    def test_a_look_comes_first_and_the_proved_answer_alone_on_standard_output(self):
+        status, out, err = self.mincut('value')
+        self.assertEqual((status, out), (3, f'proved value\n{len(GRAPH)}\n'))
+        before, look, after = (err.index(text) for text in ('below is not proved', f'looked at {len(GRAPH)} bytes for value', 'above is not proved'))
+        self.assertTrue(before < look < after)
+        self.assertIn('a line of the program', err)
+        self.assertNotIn('run=ended', err)
+
+    def test_a_large_input_has_no_look_and_is_kept(self):
+        status, out, err = self.mincut('count', given=b'x' * 20_000_000)
+        self.assertEqual((status, out), (3, 'proved count\n20000000\n'))
+        self.assertNotIn('looked', err)
+        self.assertEqual(self.calls(), ['ci'])
+
+    def test_a_built_program_starts_at_once_until_a_file_of_its_own_changes(self):
+        self.mincut('value')
+        for crate, builds in (('base_tests', 1), ('outside', 2)):
+            with open(f'{self.top}/crates/{crate}/src/lib.rt', 'a', encoding='utf-8') as file:
+                file.write('\n// changed\n')
+            os.utime(f'{self.top}/crates/vertex_set/src/side.rt')
+            self.assertEqual(self.mincut('value')[0], 3)
+            self.assertEqual(self.calls().count('ci'), builds)
+        self.assertEqual(self.mincut('value'), (3, f'proved value\n{len(GRAPH)}\n', ''))
+        os.remove(f'{self.top}/crates/outside/src/gate.rt')
+        self.mincut('value')
+        self.assertEqual(self.calls().count('ci'), 3)
+
+    def test_an_interrupted_run_is_taken_up(self):
+        self.tell('slow', 'vertex_set')
+        child = self.start('--build', stdin=subprocess.DEVNULL)
+        while 'outside' not in self.kept() or 'cut_definitions' not in self.kept():
+            time.sleep(0.1)
+        child.send_signal(signal.SIGINT)
+        self.assertIn(b'interrupted', child.communicate(timeout=30)[1])
+        self.assertEqual(child.returncode, 130)
+        self.tell('slow', '')
+        kept = self.kept()
+        status, _, err = self.mincut('--build')
+        self.assertEqual(status, 0)
+        self.assertIn(f'taken up: {len(kept)} (', err)
+
+    def test_without_the_toolchain_one_line_says_where_to_look(self):
+        os.remove(f'{self.kit}/rt')
+        for words in (['value'], ['--look', 'value'], ['--build']):
+            status, out, err = self.mincut(*words)
+            self.assertEqual((status, out, err.count('\n')), (11, '', 1))
+            self.assertIn('README.md', err)
+
+    def test_a_failed_proof_is_told(self):
+        self.tell('fails', 'vertex_set')
+        status, out, err = self.mincut('value')
+        self.assertEqual((status, out), (11, ''))
+        self.assertIn('vertex_set NOT PROVED', err)
+
+    def test_words_of_the_script(self):
+        self.assertEqual(self.mincut('--look', 'cuts', '--least', '2')[:2], (7, f'looked at {len(GRAPH)} bytes for cuts --least 2\n'))
+        self.assertTrue(self.mincut('--help')[1].startswith('usage: mincut JOB'))
+        self.assertEqual(self.mincut('-V')[:2], (0, 'mincut 0.1.0\n'))
+        self.assertEqual([call for call in self.calls() if call == 'ci'], [])
+
+    def test_standard_input_that_cannot_be_read_is_left_to_the_program(self):
+        for given in ('<.', '<&-'):
+            env = {**os.environ, 'PATH': f'{self.kit}:/usr/bin:/bin'}
+            ran = subprocess.run(['sh', '-c', f'./mincut value {given}'], cwd=self.top, env=env, stdout=subprocess.PIPE, stderr=subprocess.PIPE, timeout=100)
+            self.assertEqual((ran.returncode, ran.stdout[:13]), (3, b'proved value\n'))
+            self.assertIn(b'wc: ', ran.stderr)
+
+
+if __name__ == '__main__':
+    unittest.main()
