@@ -100,6 +100,7 @@ best cactus h k some sets edges moved moved_edges =
     let long : length edges ≡ length ends - length ends / 2 = length_permutation (new_edges ends) edges moved_edges ∙ edges_long ends in
     let many : length sets ≡ length ends = length_permutation ends sets moved in
     record {
+      disjoint = apart_moved ends sets moved (ends_once n root h);
       within = All-permutation (IsEdgeIn n) (new_edges ends) edges moved_edges (edges_within n root h k some);
       parted = λ side c. let p = pairing n root h k side c in (
         upward p.0,

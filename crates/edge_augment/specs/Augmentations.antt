@@ -1,6 +1,6 @@
 -- Augmentations: new edges that raise the value, and the sets that show that fewer do not.
 use Rattle.std.specs.Prelude.{ℕ, ◌≡◌, ◌-◌, ◌/◌, ◌<◌, ◌≤◌, ◌↔◌, List, length}
-use Rattle.std.specs.List.{All, Contains}
+use Rattle.std.specs.List.{All, AllPairs, Contains}
 use Rattle.std.specs.List.Sorted.{IsStrictlySortedBy}
 use Rattle.std.specs.Ordering.{nat_cmp, ordering_then}
 use Rattle.std.specs.Cmp.Lexicographic.{slice_cmp}
@@ -10,7 +10,7 @@ use Rattle.cut_definitions.specs.Cuts.{has, value, mincuts}
 use Rattle.rooted_cactus.specs.Rooted.{Rooted, sides_of}
 use Rattle.rooted_cactus.specs.Places.{IsVertex}
 use Rattle.edge_augment.specs.Ends.{end_sets}
-use Rattle.edge_augment.specs.Laws.{IsMinimalSet}
+use Rattle.edge_augment.specs.Laws.{AreDisjoint, IsMinimalSet}
 use Rattle.edge_augment.specs.NewEdges.{new_edges, with_unit_edges, IsParted}
 
 -- new edges as pairs of vertices, and sets of vertices as lists
@@ -29,8 +29,9 @@ pub record IsAugmentation (cactus : Rooted) (a : Augmentation) : Type 0 where
   pub edges_ascend : IsStrictlySortedBy pair_cmp a.edges
   pub edges : (edge : ℕ × ℕ) → Contains a.edges edge ↔ Contains (new_edges (end_sets cactus.root)) edge
 
--- each edge joins two vertices, the lesser one first, every side has exactly one end of some edge in it, and there are half as many edges as sets, rounded up: no fewer pairs of vertices do that
+-- no two of the sets share a vertex, each edge joins two vertices, the lesser one first, every side has exactly one end of some edge in it, and there are half as many edges as sets, rounded up: no fewer pairs of vertices do that
 pub record IsLeast (cactus : Rooted) (a : Augmentation) : Type 0 where
+  pub disjoint : AllPairs AreDisjoint a.sets
   pub within : All (λ e. IsVertex cactus.vertices e.0 × IsVertex cactus.vertices e.1 × (e.0 < e.1)) a.edges
   pub parted : (side : List ℕ) → Contains (sides_of cactus) side → IsParted a.edges (has side)
   pub number : length a.edges ≡ length a.sets - length a.sets / 2

@@ -1,6 +1,6 @@
 -- An opened board's table meets the rule.
 use Rattle.std.proofs.Common.{◌≡◌, ℕ, zero, suc, ◌+◌, ◌≤◌, Bool, true, false, true≢false, List, [], ◌∷◌, length, set, get_or, replicate, refl, sym, ap, ◌∙◌, subst, if◌then◌else◌, length-set, get_or-set_same, lt_of_not-le, arith}
-use Rattle.std.specs.Prelude.{slice_index, nat_lt}
+use Rattle.std.specs.Prelude.{slice_index, nat_lt, Contains}
 use Rattle.std.proofs.lemmas.List.{length-replicate, get_or-replicate, get_or_past}
 use mathlib.Core.Logic.{dite}
 use mathlib.Core.Option.{some, some-injective, some-ne-none}
@@ -8,11 +8,11 @@ use native.Mathlib.Decide.{dec_le}
 use lib.ListN.{get_elem?}
 use Rattle.atomic_table.specs.Table.{opening}
 use Rattle.cut_definitions.specs.Safe.{IsFair}
-use Rattle.scan_core.specs.Machine.{Knows, fresh, FitsSeat, IsKept, wins}
+use Rattle.scan_core.specs.Machine.{Knows, Machine, ended, fresh, FitsSeat, IsKept, times, wins}
 use Rattle.mark_board.specs.declared.rule.View.{View}
 use Rattle.mark_board.specs.declared.rule.Opened.{Opened}
 use Rattle.mark_board.specs.Words.{word_of, bit_of, is_flagged, base_of, words_for, taken_at}
-use Rattle.mark_board.specs.Rule.{edge_count, IsBoard, Agrees, first_view, machine_of, knows}
+use Rattle.mark_board.specs.Rule.{edge_count, IsBoard, Agrees, first_view, machine_of, knows, IsBare}
 use Rattle.mark_board.proofs.Bits.{bit_of_none, is_flagged_bound, marked_in}
 
 abbrev pub zeros : ℕ → List ℕ
@@ -50,6 +50,8 @@ opens key count is fair =
         safe = λ e marked. absurd (true≢false (sym (marked_in ws edges e marked).1 ∙ none e));
         seats = λ k x at live. only k x (knows (first_view key)) m at mine;
         once = λ v. sym (ap (λ (c : Bool). if c then 1 else 0) (no_taken ws edges key.graph.value.vertices v none));
+        gone = λ k x at dead. alive k x (knows (first_view key)) at refl dead;
+        marker = λ e marked. absurd (true≢false (sym (marked_in ws edges e marked).1 ∙ none e));
       };
       agree = λ k v at live. first k v at;
       sized = length-set (zeros count) 0 key.bound ∙ (len ∙ is);
@@ -57,10 +59,38 @@ opens key count is fair =
       past = λ f h. none f;
     }
   where
-    only : (k : ℕ) (x y : Knows) (m : Rattle.scan_core.specs.Machine.Machine) → get_elem? (y ∷ []) k ≡ some x → FitsSeat m y → FitsSeat m x
+    alive : (k : ℕ) (x y : Knows) → get_elem? (y ∷ []) k ≡ some x → y.live ≡ true → x.live ≡ false → x ≡ ended
+    alive zero x y at live dead = absurd (true≢false (sym live ∙ ap (λ (z : Knows). z.live) (some-injective y x at) ∙ dead))
+    alive (suc k) x y at live dead = absurd (some-ne-none x (sym at))
+
+    only : (k : ℕ) (x y : Knows) (m : Machine) → get_elem? (y ∷ []) k ≡ some x → FitsSeat m y → FitsSeat m x
     only zero x y m at h = subst (FitsSeat m) (some-injective y x at) h
     only (suc k) x y m at h = absurd (some-ne-none x (sym at))
 
     first : (k : ℕ) (v : View) → get_elem? (first_view key ∷ []) k ≡ some v → Agrees key v
     first zero v at = subst (Agrees key) (some-injective (first_view key) v at) (record { graph = refl; slack = refl; opening = refl })
     first (suc k) v at = absurd (some-ne-none v (sym at))
+
+-- a seat that has marked and won nothing, alone on a board
+pub bare : (v : View) → v.own ≡ [] → v.won ≡ [] → IsBare v
+bare v own won m kept seats = (λ e. unmarked e (m.is_marked e) refl, λ x. untaken x (m.is_taken x) refl)
+  where
+    unmarked : (e : ℕ) (b : Bool) → m.is_marked e ≡ b → m.is_marked e ≡ false
+    unmarked e false is = is
+    unmarked e true is = absurd (nobody (kept.marker e is).0 (kept.marker e is).1 (kept.marker e is).2 (kept.marker e is).3)
+      where
+        its : (k : ℕ) (s : Knows) → get_elem? (knows v ∷ []) k ≡ some s → Contains s.own e → ⊥
+        its zero s at has =
+            let none : Contains [] e = subst (λ (l : List ℕ). Contains l e) (ap (λ (z : Knows). z.own) (sym (some-injective (knows v) s at)) ∙ own) has in
+            let lt = none.1 in omega arith
+        its (suc k) s at has = absurd (some-ne-none s (sym at))
+
+        nobody : (k : ℕ) (s : Knows) → get_elem? m.seats k ≡ some s → Contains s.own e → ⊥
+        nobody k s at has = its k s (subst (λ (l : List Knows). get_elem? l k ≡ some s) seats at) has
+
+    untaken : (x : ℕ) (b : Bool) → m.is_taken x ≡ b → m.is_taken x ≡ false
+    untaken x false is = is
+    untaken x true is =
+        let none : wins x m.seats ≡ 0 = ap (λ (l : List Knows). wins x l) seats ∙ ap (λ (l : List ℕ). 0 + times x l) won in
+        let one : wins x m.seats ≡ 1 = kept.once x ∙ ap (λ (b : Bool). if b then 1 else 0) is in
+        absurd (omega arith)

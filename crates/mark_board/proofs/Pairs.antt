@@ -1,14 +1,16 @@
 -- A load followed by the splitting of a seat is a split, and the joining of two seats followed by a load is a join.
-use Rattle.std.proofs.Common.{◌≡◌, ◌≢◌, ℕ, ◌+◌, ◌<◌, ◌≤◌, min, true, List, [], ◌∷◌, ◌++◌, length, set, get_or, refl, sym, ap, ◌∙◌, subst, ⊎_elim, length-set, get_or-set_same, cond, arith}
-use Rattle.std.specs.Prelude.{◌==◌}
+use Rattle.std.proofs.Common.{◌≡◌, ◌≢◌, ℕ, ◌+◌, ◌<◌, ◌≤◌, min, true, true≢false, List, [], ◌∷◌, ◌++◌, length, set, get_or, refl, sym, ap, ◌∙◌, subst, ⊎_elim, length-set, get_or-set_same, cond, arith}
+use Rattle.std.specs.Prelude.{◌==◌, Contains}
+use mathlib.Core.Logic.{dite}
+use native.Mathlib.Decide.{ℕ_discrete}
 use Rattle.std.proofs.lemmas.List.{set-set, set-append_left}
 use Rattle.std.proofs.lemmas.List.Sums.{sum_by-append}
-use Rattle.std.proofs.lemmas.List.Elements.{Contains-append_left, Contains-append_right}
+use Rattle.std.proofs.lemmas.List.Elements.{Contains-append_cases, Contains-append_left, Contains-append_right}
 use mathlib.Core.Option.{some, some-injective}
 use lib.ListN.{get_elem?}
 use Rattle.atomic_table.proofs.Lists.{set_here, set_else, set_again, at_longer, at_last}
 use Rattle.cut_definitions.specs.Safe.{IsFair}
-use Rattle.scan_core.specs.Machine.{Knows, Machine, ended, fresh, both, merged, loaded, loads, seat_at, sees, times, wins, FitsSeat, IsKept}
+use Rattle.scan_core.specs.Machine.{Knows, Machine, ended, fresh, both, merged, loaded, loads, seat_at, sees, times, wins, FitsSeat, IsOwned, IsKept}
 use Rattle.scan_core.proofs.Keeps.{at_set, at_snoc, or_at, wins_set}
 use Rattle.mark_board.specs.declared.rule.View.{View}
 use Rattle.mark_board.specs.Rule.{knows, fresh_view, joined_view, IsStep, IsSplit, IsJoin}
@@ -82,8 +84,21 @@ module _ (m : Machine) (k : ℕ) (v x : View) where
       ap (λ (s : Knows). set (set apart_seats k s) other ended) joined ∙ (ap (λ (l : List Knows). set l other ended) lists ∙ gone) in
       ap (λ (l : List Knows). record m { seats = l }) all
 
-  apart_kept : IsKept m → get_elem? m.seats k ≡ some (knows (joined_view v x)) → v.live ≡ true → IsFair m.graph v.seen → IsFair m.graph x.seen → IsKept apart
-  apart_kept kept before live fair fair' =
+  -- what the one seat has after the join one of the two had before
+  apart_owned : get_elem? m.seats k ≡ some (knows (joined_view v x)) → (e : ℕ) → IsOwned m.seats e → IsOwned apart_seats e
+  apart_owned before e (i, s, at, has) =
+      let lt = (or_at m.seats k (knows (joined_view v x)) ended before).0 in
+      dite (ℕ_discrete i k)
+      (λ (same : i ≡ k).
+      let is : s ≡ knows (joined_view v x) = some-injective s (knows (joined_view v x)) (sym at ∙ (ap (λ (j : ℕ). get_elem? m.seats j) same ∙ before)) in
+      ⊎_elim
+      (λ (own : Contains v.own e). (k, knows v, apart_first lt, own))
+      (λ (own : Contains x.own e). (other, knows x, apart_other, own))
+      (Contains-append_cases v.own x.own e (subst (λ (y : Knows). Contains y.own e) is has)))
+      (λ (apart_from : i ≢ k). (i, s, at_longer (set m.seats k (knows v)) (knows x ∷ []) i s (set_else m.seats k i (knows v) apart_from ∙ at), has))
+
+  apart_kept : IsKept m → get_elem? m.seats k ≡ some (knows (joined_view v x)) → v.live ≡ true → x.live ≡ true → IsFair m.graph v.seen → IsFair m.graph x.seen → IsKept apart
+  apart_kept kept before live live' fair fair' =
       let u : Knows = knows (joined_view v x) in
       let at = or_at m.seats k u ended before in
       let lt = at.0 in
@@ -108,6 +123,14 @@ module _ (m : Machine) (k : ℕ) (v x : View) where
             let all : wins e apart_seats ≡ wins e (set m.seats k (knows v)) + (0 + times e x.won) = sum_by-append (λ (s : Knows). times e s.won) (set m.seats k (knows v)) (knows x ∷ []) in
             let stays : wins e apart_seats ≡ wins e m.seats = omega arith in
             stays ∙ kept.once e;
+        gone = λ j s there dead. ⊎_elim
+            (λ (old : get_elem? (set m.seats k (knows v)) j ≡ some s). ⊎_elim
+            (λ (t : (j ≡ k) × (knows v ≡ s)). absurd (true≢false (sym live ∙ ap (λ (y : Knows). y.live) t.1 ∙ dead)))
+            (λ (t : (j ≢ k) × (get_elem? m.seats j ≡ some s)). kept.gone j s t.1 dead)
+            (at_set m.seats k j (knows v) s old))
+            (λ (new : knows x ≡ s). absurd (true≢false (sym live' ∙ ap (λ (y : Knows). y.live) new ∙ dead)))
+            (at_snoc (set m.seats k (knows v)) (knows x) s j there);
+        marker = λ e is. apart_owned before e (kept.marker e is);
       }
 
 pub join_of : (v x w : View) → IsStep loads (joined_view v x) w → v.live ≡ true → x.live ≡ true → IsFair v.graph v.seen → IsFair v.graph x.seen → IsJoin v x w
@@ -136,7 +159,7 @@ join_of v x w h live live' fair fair' =
       graph = h.graph;
       slack = h.slack;
       opening = h.opening;
-      kept = apart_kept m k v x h.kept h.before live (subst (λ g. IsFair g v.seen) (sym h.graph) fair) (subst (λ g. IsFair g x.seen) (sym h.graph) fair');
+      kept = apart_kept m k v x h.kept h.before live live' (subst (λ g. IsFair g v.seen) (sym h.graph) fair) (subst (λ g. IsFair g x.seen) (sym h.graph) fair');
       allowed = ((f.0, ap (λ (y : Knows). y.live) f.1 ∙ live), (s.0, ap (λ (y : Knows). y.live) s.1 ∙ live'), λ e. omega arith);
       before = first;
       other_before = second;

@@ -15,7 +15,7 @@ use Rattle.mark_board.specs.declared.rule.View.{View}
 use Rattle.mark_board.specs.declared.rule.Opened.{Opened}
 use Rattle.mark_board.specs.Words.{word_of, mask_of, base_of, bit_of, is_flagged, marked_at, taken_at}
 use Rattle.mark_board.specs.Rule.{edge_count, knows, machine_of, Agrees, IsBoard, seeing, gaining, fresh_view, joined_view, ended_view, IsStep, loaded, lowered, looked, marked, took, learning}
-use Rattle.mark_board.proofs.Bits.{is_flagged_bound, edge_is, marked_in, marked_by, with_flag, flag_other, bound_marked, bound_taken, mark_marks, mark_takes, take_marks, take_takes, taken_flag}
+use Rattle.mark_board.proofs.Bits.{is_flagged_bound, edge_is, marked_in, marked_by, marked_same, with_flag, flag_other, bound_marked, bound_taken, mark_marks, mark_takes, take_marks, take_takes, taken_flag}
 
 abbrev St : Type 0
 St = State (Unit {0}) View
@@ -69,7 +69,7 @@ module _ (key : Opened) where
     past = λ f h. spare f (λ l. omega arith) (inr h);
   }
 
-  told : (s : St) (id : ℕ) (v w : View) (move : ℕ → Move) → IsBoard key s → get_elem? s.views id ≡ some v → v.live ≡ true → IsAllowed (M s) (move id)
+  abbrev told : (s : St) (id : ℕ) (v w : View) (move : ℕ → Move) → IsBoard key s → get_elem? s.views id ≡ some v → v.live ≡ true → IsAllowed (M s) (move id)
       → (after (M s) (move id)).seats ≡ set (map knows s.views) id (knows w) → IsStep move v w
   told s id v w move board at live allowed seats =
       let a = board.agree id v at live in
@@ -185,7 +185,15 @@ module _ (key : Opened) where
               let there : marked_at s.words (edge_count key.graph.value) e ≡ true = marked_by s.words (edge_count key.graph.value) e (subst (λ g. e < edge_count g) a.graph lt) (subst (λ (j : ℕ). bit_of (slice_index s.words j) e ≡ true) (sym is) set_there) in
               (slice_index s.words 0, subst (λ g. IsFair g (slice_index s.words 0)) (sym a.graph) board.kept.fair, f.above, safe_here v a (slice_index s.words 0) e (board.kept.safe e there))),
           (λ e is has. subst (λ (j : ℕ). bit_of (slice_index s.words j) e ≡ true) is (marked_in s.words (edge_count key.graph.value) e (f.marked e has)).1),
-          (λ e is lt. told s id v v (λ k. looks k e) board at live (l, subst (λ g. e < edge_count g) a.graph lt) (sym (set_again (map knows s.views) id (knows v) (at_map knows s.views id v at)))),
+          (λ e is lt. record {
+            step = told s id v v (λ k. looks k e) board at live (l, subst (λ g. e < edge_count g) a.graph lt) (sym (set_again (map knows s.views) id (knows v) (at_map knows s.views id v at)));
+            answered = ap (λ (j : ℕ). bit_of (slice_index s.words j) e) (sym is) ∙ sym (marked_same s.words (edge_count key.graph.value) e (subst (λ g. e < edge_count g) a.graph lt));
+            fair = subst (λ g. IsFair g (slice_index s.words 0)) (sym a.graph) board.kept.fair;
+            at_most = f.above;
+            safe = λ set_there.
+                let there : marked_at s.words (edge_count key.graph.value) e ≡ true = marked_by s.words (edge_count key.graph.value) e (subst (λ g. e < edge_count g) a.graph lt) (subst (λ (j : ℕ). bit_of (slice_index s.words j) e ≡ true) (sym is) set_there) in
+                safe_here v a (slice_index s.words 0) e (board.kept.safe e there);
+          }),
         ),
       )
 

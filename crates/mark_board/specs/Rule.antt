@@ -67,6 +67,10 @@ learning v x was = record v { won = if was then v.won else (x ∷ v.won); known 
 abbrev pub ended_view : View
 ended_view = record { live = false; graph = record { vertices = 0; edges = [] }; slack = 0; opening = 0; seen = 0; own = []; won = []; known = [] }
 
+-- a machine that keeps the facts and has this seat alone has no marked edge and no taken vertex
+abbrev pub IsBare : View → Type 0
+IsBare v = (m : Machine) → IsKept m → m.seats ≡ knows v ∷ [] → ((e : ℕ) → m.is_marked e ≡ false) × ((x : ℕ) → m.is_taken x ≡ false)
+
 -- the seat went from v to w by one step of a machine that keeps the facts
 pub record IsStep (move : ℕ → Move) (v w : View) : Type 0 where
   pub machine : Machine
@@ -78,6 +82,15 @@ pub record IsStep (move : ℕ → Move) (v w : View) : Type 0 where
   pub allowed : IsAllowed machine (move seat)
   pub before : get_elem? machine.seats seat ≡ some (knows v)
   pub next : get_elem? (after machine (move seat)).seats seat ≡ some (knows w)
+
+-- a look at an edge answered so: the step, and what the machine shows at that moment, where its bound is fair, is no more
+-- than what the seat saw, and the edge is safe for it if it is marked
+pub record IsLook (v w : View) (edge : ℕ) (answer : Bool) : Type 0 where
+  pub step : IsStep (λ k. looks k edge) v w
+  pub answered : answer ≡ step.machine.is_marked edge
+  pub fair : IsFair v.graph step.machine.bound
+  pub at_most : step.machine.bound ≤ v.seen
+  pub safe : answer ≡ true → IsSafeEdge v.graph step.machine.bound v.slack edge
 
 -- the seat went from v to w, and a new seat has x, by one split
 pub record IsSplit (v w x : View) : Type 0 where
@@ -127,7 +140,7 @@ looked st me n me' =
     (me' ≡ me)
     × ((e : ℕ) → word_of e ≡ st.word → e < edge_count me.0.graph → bit_of n e ≡ true → IsSafeNow me.0 e)
     × ((e : ℕ) → word_of e ≡ st.word → Contains me.0.own e → bit_of n e ≡ true)
-    × ((e : ℕ) → word_of e ≡ st.word → e < edge_count me.0.graph → IsStep (λ k. looks k e) me.0 me'.0)
+    × ((e : ℕ) → word_of e ≡ st.word → e < edge_count me.0.graph → IsLook me.0 me'.0 e (bit_of n e))
 
 abbrev pub marked : Step (Unit {0}) → Sat → ℕ → Sat → Type 0
 marked st me n me' =

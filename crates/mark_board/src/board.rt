@@ -5,7 +5,7 @@ ghost use Rattle.cut_definitions.specs.Safe.{IsFair};
 ghost use Rattle.cut_definitions.specs.Cuts.{has};
 ghost use Rattle.weighted_graph.specs.Marks.{MarksAreSafe};
 ghost use Rattle.scan_core.specs.Machine.{IsSafeEdge, loads, lowers, looks, marks, takes, times};
-ghost use Rattle.mark_board.specs.Rule.{IsStep, IsSplit, IsJoin, IsSafeNow};
+ghost use Rattle.mark_board.specs.Rule.{IsBare, IsStep, IsLook, IsSplit, IsJoin, IsSafeNow};
 ghost use Rattle.mark_board.specs.Seen.{fresh_seat, view_of};
 
 use crate::marks::Marks;
@@ -56,6 +56,9 @@ impl Board {
         requires fair { IsFair graph.now bound }
         ensures board { IfOk result (λ r. (r.0.graph ≡ graph.now) × (r.0.slack ≡ slack) × (r.0.opening ≡ bound)) }
         ensures seat { IfOk result (λ r. r.1 ≡ fresh_seat r.0 bound) }
+
+        // No mark stands and no vertex is taken while this seat, which has done nothing, is the only one.
+        ensures bare { IfOk result (λ r. IsBare (view_of r.1)) }
     {
         let edges = graph.edges();
         let marks = Marks::none(alloc, edges)?;
@@ -124,7 +127,8 @@ impl Board {
     }
 
     /// Whether the edge is marked. True for an edge of the seat's own set. True means that the edge is safe for some weight
-    /// of a cut that is at most what the seat saw, the bound at that moment. One atomic load.
+    /// of a cut that is at most what the seat saw, the bound at that moment. The answer, that bound and the step are those of
+    /// one state of the machine. One atomic load.
     pub fn is_marked(&self, seat: &mut BoardSeat, edge: usize) -> bool
         requires seat { seat.old.board ≡ self.now }
         requires edge { edge < length self.now.graph.edges }
@@ -132,6 +136,7 @@ impl Board {
         ensures own { Contains seat.old.own edge → result ≡ true }
         ensures safe { result ≡ true → IsSafeNow (view_of seat.old) edge }
         ensures step { IsStep (λ k. looks k edge) (view_of seat.old) (view_of seat.new) }
+        ensures look { IsLook (view_of seat.old) (view_of seat.new) edge result }
     {
         let word = self
             .table
@@ -174,7 +179,8 @@ impl Board {
         (found >> (flag % 64)) & 1 == 0
     }
 
-    /// The seat sees the bound, and a new seat has seen the same, marked nothing, won nothing and knows no vertex.
+    /// The seat sees the bound, and a new seat has seen the same, marked nothing, won nothing and knows no vertex. Two
+    /// operations: a load of the bound, and then the splitting of the seat, which costs a load too.
     pub fn split(&self, seat: &mut BoardSeat) -> BoardSeat
         requires { seat.old.board ≡ self.now }
         ensures seat { seat.new ≡ record seat.old { seen = seat.new.seen } }
@@ -187,7 +193,8 @@ impl Board {
         self.fork(seat)
     }
 
-    /// The seat takes over the other's three sets, and sees the bound. No vertex was won by both.
+    /// The seat takes over the other's three sets, and sees the bound. No vertex was won by both. Two operations: the joining
+    /// of the seats, which costs a load, and then a load of the bound.
     pub fn join(&self, seat: &mut BoardSeat, other: BoardSeat)
         requires seat { seat.old.board ≡ self.now }
         requires other { other.board ≡ self.now }

@@ -7,11 +7,11 @@ use mathlib.Core.Option.{some, some-injective, some-ne-none}
 use native.Mathlib.Decide.{ℕ_discrete}
 use lib.ListN.{get_elem?}
 use Rattle.std.proofs.lemmas.List.Sums.{sum_by-set, sum_by-cons, sum_by-append, get_or-le-sum_by}
-use Rattle.std.proofs.lemmas.List.Elements.{Contains-append_cases}
+use Rattle.std.proofs.lemmas.List.Elements.{Contains-append_cases, Contains-append_left, Contains-append_right}
 use Rattle.cut_definitions.specs.Graph.{Graph}
 use Rattle.cut_definitions.proofs.SafeLaws.{IsSafe-lower, IsFair-min}
 use Rattle.weighted_graph.specs.RowLaws.{edge_at}
-use Rattle.scan_core.specs.Machine.{IsSafeEdge, Knows, Machine, ended, fresh, forked, merged, loaded, Move, loads, lowers, looks, marks, splits, joins, takes, seat_at, sees, gains, both, learns, times, wins, IsLive, IsAllowed, after, FitsSeat, IsKept}
+use Rattle.scan_core.specs.Machine.{IsSafeEdge, Knows, Machine, ended, fresh, forked, merged, loaded, Move, loads, lowers, looks, marks, splits, joins, takes, seat_at, sees, gains, both, learns, times, wins, IsLive, IsAllowed, after, FitsSeat, IsOwned, IsKept}
 
 safe_below : (g : Graph) (low high slack e : ℕ) → low ≤ high → IsSafeEdge g high slack e → IsSafeEdge g low slack e
 safe_below g low high slack e le h = IsSafe-lower g high low slack (edge_at g e).u (edge_at g e).v le h
@@ -34,6 +34,23 @@ module _ {A : Type 0} where
   at_set (x ∷ xs) (suc i) zero a b e = inr ((λ h. omega arith), e)
   at_set (x ∷ xs) (suc i) (suc j) a b e = ⊎_elim (λ t. inl (ap suc t.0, t.1)) (λ t. let n = t.0 in inr ((λ h. n (omega arith)), t.1)) (at_set xs i j a b e)
 
+  pub at_here : (l : List A) (i : ℕ) (a : A) → i < length l → get_elem? (set l i a) i ≡ some a
+  at_here [] i a h = absurd (omega arith)
+  at_here (x ∷ xs) zero a h = refl
+  at_here (x ∷ xs) (suc i) a h = at_here xs i a (omega arith)
+
+  pub at_else : (l : List A) (i j : ℕ) (a : A) → j ≢ i → get_elem? (set l i a) j ≡ get_elem? l j
+  at_else [] i j a h = refl
+  at_else (x ∷ xs) zero zero a h = absurd (h refl)
+  at_else (x ∷ xs) zero (suc j) a h = refl
+  at_else (x ∷ xs) (suc i) zero a h = refl
+  at_else (x ∷ xs) (suc i) (suc j) a h = at_else xs i j a (λ e. h (ap suc e))
+
+  pub at_left : (l r : List A) (j : ℕ) (a : A) → get_elem? l j ≡ some a → get_elem? (l ++ r) j ≡ some a
+  at_left [] r j a e = absurd (some-ne-none a (sym e))
+  at_left (x ∷ xs) r zero a e = e
+  at_left (x ∷ xs) r (suc j) a e = at_left xs r j a e
+
   pub at_snoc : (l : List A) (a b : A) (j : ℕ) → get_elem? (l ++ a ∷ []) j ≡ some b → (get_elem? l j ≡ some b) ⊎ (a ≡ b)
   at_snoc [] a b zero e = inr (some-injective a b e)
   at_snoc [] a b (suc j) e = absurd (some-ne-none b (sym e))
@@ -50,6 +67,19 @@ one_seat m n k w e mine others kept j s at live = ⊎_elim
     (λ (t : (j ≡ k) × (w ≡ s)). subst (λ (x : Knows). x.live ≡ true → FitsSeat n x) t.1 mine live)
     (λ (t : (j ≢ k) × (get_elem? m.seats j ≡ some s)). others s (kept.seats j s t.1 live))
     (at_set m.seats k j w s (subst (λ l. get_elem? l j ≡ some s) e at))
+
+-- seats that ended are as they were after a change of one seat that stays live
+one_gone : (m : Machine) (k : ℕ) (w : Knows) → w.live ≡ true → IsKept m → (j : ℕ) (s : Knows) → get_elem? (set m.seats k w) j ≡ some s → s.live ≡ false → s ≡ ended
+one_gone m k w live kept j s at dead = ⊎_elim
+    (λ (t : (j ≡ k) × (w ≡ s)). absurd (true≢false (sym live ∙ ap (λ (x : Knows). x.live) t.1 ∙ dead)))
+    (λ (t : (j ≢ k) × (get_elem? m.seats j ≡ some s)). kept.gone j s t.1 dead)
+    (at_set m.seats k j w s at)
+
+-- an edge that a seat has is still some seat's after a change of one seat that gives up none
+pub owned_set : (l : List Knows) (k : ℕ) (w : Knows) (e : ℕ) → k < length l → (Contains (get_or l k ended).own e → Contains w.own e) → IsOwned l e → IsOwned (set l k w) e
+owned_set l k w e lt grows (j, s, at, has) = dite (ℕ_discrete j k)
+    (λ (same : j ≡ k). (k, w, at_here l k w lt, grows (subst (λ (x : Knows). Contains x.own e) (sym (or_at l k s ended (subst (λ (i : ℕ). get_elem? l i ≡ some s) same at)).1) has)))
+    (λ (apart : j ≢ k). (j, s, at_else l k j w apart ∙ at, has))
 
 pub wins_set : (m : Machine) (k : ℕ) (w : Knows) (v : ℕ) → k < length m.seats → wins v (set m.seats k w) + times v (seat_at m k).won ≡ wins v m.seats + times v w.won
 wins_set m k w v lt = sum_by-set (λ (s : Knows). times v s.won) m.seats k w ended lt
@@ -77,6 +107,8 @@ kept_loads m k kept live = let n = after m (loads k) in let mine = seat_fits m k
       (λ _. record { above = omega arith; fair = kept.fair; marked = mine.marked; taken = mine.taken })
       (λ s f. record { above = f.above; fair = f.fair; marked = f.marked; taken = f.taken }) kept;
   once = λ v. wins_same m k (sees (seat_at m k) m.bound) v live.0 refl ∙ kept.once v;
+  gone = one_gone m k (sees (seat_at m k) m.bound) live.1 kept;
+  marker = λ e is. owned_set m.seats k (sees (seat_at m k) m.bound) e live.0 (λ h. h) (kept.marker e is);
 }
 
 pub kept_lowers : (m : Machine) (k x : ℕ) → IsKept m → IsAllowed m (lowers k x) → IsKept (after m (lowers k x))
@@ -93,6 +125,8 @@ kept_lowers m k x kept allowed =
           (λ _. record { above = omega arith; fair = now; marked = mine.marked; taken = mine.taken })
           (λ s f. let above = f.above in record { above = omega arith; fair = f.fair; marked = f.marked; taken = f.taken }) kept;
       once = λ v. wins_same m k (sees (seat_at m k) (min m.bound x)) v allowed.0.0 refl ∙ kept.once v;
+      gone = one_gone m k (sees (seat_at m k) (min m.bound x)) allowed.0.1 kept;
+      marker = λ e is. owned_set m.seats k (sees (seat_at m k) (min m.bound x)) e allowed.0.0 (λ h. h) (kept.marker e is);
     }
 
 pub kept_looks : (m : Machine) (k e : ℕ) → IsKept m → IsAllowed m (looks k e) → IsKept (after m (looks k e))
@@ -124,8 +158,16 @@ kept_marks m k e kept allowed =
           (λ _. record { above = mine.above; fair = mine.fair; marked = own_marked m k e mine; taken = mine.taken })
           (λ s f. record { above = f.above; fair = f.fair; marked = λ i has. marked_still m k e i (f.marked i has); taken = f.taken }) kept;
       once = λ v. wins_same m k (gains (seat_at m k) e) v allowed.0.0 refl ∙ kept.once v;
+      gone = one_gone m k (gains (seat_at m k) e) allowed.0.1 kept;
+      marker = λ i is. ⊎_elim
+          (λ (same : i ≡ e). (k, gains (seat_at m k) e, at_here m.seats k (gains (seat_at m k) e) allowed.0.0, (0, omega arith, sym same)))
+          (λ (was : m.is_marked i ≡ true). owned_set m.seats k (gains (seat_at m k) e) i allowed.0.0 (further e i (seat_at m k).own) (kept.marker i was))
+          (marked_after m k e i is);
     }
   where
+    further : (e i : ℕ) (own : List ℕ) → Contains own i → Contains (e ∷ own) i
+    further e i own (p, lt, is) = (suc p, omega arith, is)
+
     own_marked : (m : Machine) (k e : ℕ) → FitsSeat m (seat_at m k) → (i : ℕ) → Contains (e ∷ (seat_at m k).own) i → (after m (marks k e)).is_marked i ≡ true
     own_marked m k e mine i (zero, lt, is) = subst (λ (x : ℕ). (after m (marks k e)).is_marked x ≡ true) is (marked_new m k e)
     own_marked m k e mine i (suc p, lt, is) = marked_still m k e i (mine.marked i (p, omega arith, is))
@@ -142,7 +184,30 @@ kept_forked m k kept live =
           (λ (new : fresh (seat_at m k).seen ≡ s). subst (FitsSeat n) new (record { above = mine.above; fair = mine.fair; marked = λ i has. let none = has.1 in absurd (omega arith); taken = λ i has. let none = has.1 in absurd (omega arith) }))
           (at_snoc m.seats (fresh (seat_at m k).seen) s j at);
       once = λ v. let sum = sum_by-append (λ (s : Knows). times v s.won) m.seats (fresh (seat_at m k).seen ∷ []) in let was = kept.once v in sum ∙ (add-zero _ ∙ was);
+      gone = λ j s at dead. ⊎_elim
+          (λ (old : get_elem? m.seats j ≡ some s). kept.gone j s old dead)
+          (λ (new : fresh (seat_at m k).seen ≡ s). absurd (true≢false (ap (λ (x : Knows). x.live) new ∙ dead)))
+          (at_snoc m.seats (fresh (seat_at m k).seen) s j at);
+      marker = λ e is. let h = kept.marker e is in (h.0, h.1, at_left m.seats (fresh (seat_at m k).seen ∷ []) h.0 h.1 h.2, h.3);
     }
+
+-- what the two seats had the first one has after a join
+module _ (m : Machine) (k j e : ℕ) (allowed : IsAllowed m (joins k j)) where
+  abbrev taker : Knows
+  taker = both (seat_at m k) (seat_at m j)
+
+  its : (i : ℕ) (s : Knows) → get_elem? m.seats i ≡ some s → Contains s.own e → (n : ℕ) → i ≡ n → Contains (seat_at m n).own e
+  its i s at has n same = subst (λ (x : Knows). Contains x.own e) (sym (or_at m.seats n s ended (subst (λ (y : ℕ). get_elem? m.seats y ≡ some s) same at)).1) has
+
+  of_taker : Contains taker.own e → IsOwned (merged m k j).seats e
+  of_taker h = (k, taker, at_else (set m.seats k taker) j k ended (λ t. allowed.2 (sym t)) ∙ at_here m.seats k taker allowed.0.0, h)
+
+  owned_joined : IsOwned m.seats e → IsOwned (merged m k j).seats e
+  owned_joined (i, s, at, has) = dite (ℕ_discrete i k)
+      (λ (same : i ≡ k). of_taker (Contains-append_left (seat_at m k).own (seat_at m j).own e (its i s at has k same)))
+      (λ (out : i ≢ k). dite (ℕ_discrete i j)
+      (λ (same : i ≡ j). of_taker (Contains-append_right (seat_at m k).own (seat_at m j).own e (its i s at has j same)))
+      (λ (away : i ≢ j). (i, s, at_else (set m.seats k taker) j i ended away ∙ (at_else m.seats k i taker out ∙ at), has)))
 
 pub kept_merged : (m : Machine) (k j : ℕ) → IsKept m → IsAllowed m (joins k j) → IsKept (merged m k j)
 kept_merged m k j kept allowed =
@@ -163,6 +228,11 @@ kept_merged m k j kept allowed =
           (at_set m.seats k i w s t.1))
           (at_set (set m.seats k w) j i ended s at);
       once = λ v. wins_joined m k j v allowed.0.0 allowed.1.0 allowed.2 ∙ kept.once v;
+      gone = λ i s at dead. ⊎_elim
+          (λ (t : (i ≡ j) × (ended ≡ s)). sym t.1)
+          (λ (t : (i ≢ j) × (get_elem? (set m.seats k w) i ≡ some s)). one_gone m k w allowed.0.1 kept i s t.1 dead)
+          (at_set (set m.seats k w) j i ended s at);
+      marker = λ e is. owned_joined m k j e allowed (kept.marker e is);
     }
 
 -- the seat is live after a load, and after it took over another
@@ -245,6 +315,8 @@ kept_takes m k v kept allowed =
           (λ _. record { above = mine.above; fair = mine.fair; marked = mine.marked; taken = known_taken m k v mine })
           (λ s f. record { above = f.above; fair = f.fair; marked = f.marked; taken = λ u has. taken_still m k v u (f.taken u has) }) kept;
       once = once_takes m k v kept allowed.0.0;
+      gone = one_gone m k (learns (seat_at m k) v (m.is_taken v)) allowed.0.1 kept;
+      marker = λ e is. owned_set m.seats k (learns (seat_at m k) v (m.is_taken v)) e allowed.0.0 (λ h. h) (kept.marker e is);
     }
 
 -- no vertex was won by a seat twice

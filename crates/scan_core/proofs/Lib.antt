@@ -2,3 +2,4 @@ pub mod Keeps
 pub mod Opened
 pub mod Shows
 pub mod Gone
+mod Winners

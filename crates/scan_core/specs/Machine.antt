@@ -112,6 +112,10 @@ after m (splits k) = forked (loaded m k) k
 after m (joins k j) = loaded (merged m k j) k
 after m (takes k v) = record m { is_taken = λ u. if u == v then true else m.is_taken u; seats = slice_set m.seats k (learns (seat_at m k) v (m.is_taken v)) }
 
+-- some seat marked the edge, or took it over
+abbrev pub IsOwned : List Knows → ℕ → Type 0
+IsOwned seats e = (k : ℕ) × (s : Knows) × (get_elem? seats k ≡ some s) × Contains s.own e
+
 -- what holds of a live seat: it saw the weight of a cut that is at least the bound, its edges are marked, and the vertices
 -- that it knows are taken
 pub record FitsSeat (m : Machine) (s : Knows) : Type 0 where
@@ -128,3 +132,7 @@ pub record IsKept (m : Machine) : Type 0 where
   pub seats : (k : ℕ) (s : Knows) → get_elem? m.seats k ≡ some s → s.live ≡ true → FitsSeat m s
   -- a taken vertex was won by one seat, once, and any other by none
   pub once : (v : ℕ) → wins v m.seats ≡ (if m.is_taken v then 1 else 0)
+  -- a seat that has ended has marked nothing, won nothing and knows no vertex
+  pub gone : (k : ℕ) (s : Knows) → get_elem? m.seats k ≡ some s → s.live ≡ false → s ≡ ended
+  -- a marked edge stands in the set of some seat
+  pub marker : (e : ℕ) → m.is_marked e ≡ true → IsOwned m.seats e

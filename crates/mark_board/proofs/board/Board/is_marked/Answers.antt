@@ -1,8 +1,12 @@
 use Rattle.std.specs.Prelude.{◌==◌, Contains}
 use Rattle.std.proofs.lemmas.Nat.Bits.{shr_and_one}
-use Rattle.std.proofs.Common.{◌≡◌, ◌<◌, ◌+◌, ◌/◌, ◌%◌, ℕ, true, length, refl, sym, ap, ◌∙◌, subst, arith}
-use Rattle.mark_board.specs.Seen.{SeatView, BoardView, view_of}
-use Rattle.mark_board.specs.Rule.{edge_count, IsSafeNow}
+use Rattle.std.proofs.Common.{◌≡◌, ◌<◌, ◌+◌, ◌/◌, ◌%◌, ℕ, Bool, true, length, refl, sym, ap, ◌∙◌, subst, arith}
+use Rattle.mark_board.specs.Seen.{SeatView, BoardView, seat_view, view_of}
+use Rattle.atomic_table.specs.Seated.{TableId}
+use Rattle.mark_board.specs.declared.rule.View.{View}
+use Rattle.scan_core.specs.Machine.{looks}
+use Rattle.mark_board.specs.Words.{bit_of}
+use Rattle.mark_board.specs.Rule.{edge_count, IsSafeNow, IsStep, IsLook}
 use Rattle.mark_board.proofs.Steps.{looks_allowed}
 use Rattle.mark_board.proofs.board.Board.is_marked.Goals as goal
 
@@ -26,3 +30,21 @@ pub returns-clause-own : goal.returns-clause-own
 returns-clause-own c = λ has.
     let there = c.load-word.ensures.2.2 c.args.edge refl (subst (λ (x : SeatView). Contains x.own c.args.edge) (sym c.seat.view_is) has) in
     ap (λ (n : ℕ). n == 1) (shr_and_one c.load-word.result (c.args.edge % 64)) ∙ there
+
+lives : (t : TableId) (v : View) → v.live ≡ true → v ≡ view_of (seat_view t v)
+lives t v live = λ i. record v { live = live i }
+
+pub returns-clause-look : goal.returns-clause-look
+returns-clause-look c =
+    let me = c.seat.inside.seat.me in
+    let lt : c.args.edge < edge_count me.0.graph =
+    subst (λ (x : SeatView). c.args.edge < edge_count x.board.graph) (sym c.seat.view_is) (subst (λ (b : BoardView). c.args.edge < edge_count b.graph) (sym c.requires.seat) c.requires.edge) in
+    let old : me.0 ≡ view_of c.args.seat.now = lives c.seat.inside.seat.table_id me.0 c.seat.invariant.1 ∙ ap view_of c.seat.view_is in
+    let same = c.load-word.ensures.2.0 in
+    let new : c.load-word.new.seat.me.0 ≡ view_of (seat_view c.load-word.new.seat.table_id c.load-word.new.seat.me.0) =
+    lives c.load-word.new.seat.table_id c.load-word.new.seat.me.0 (ap (λ m. m.0.live) same ∙ c.seat.invariant.1) in
+    let answer : bit_of c.load-word.result c.args.edge ≡ _ = ap (λ (n : ℕ). n == 1) (sym (shr_and_one c.load-word.result (c.args.edge % 64))) in
+    subst (λ (z : View × View × Bool). IsLook z.0 z.1 c.args.edge z.2) (λ i. (old i, new i, answer i)) (c.load-word.ensures.2.3 c.args.edge refl lt)
+
+pub returns-clause-step : goal.returns-clause-step
+returns-clause-step c = (returns-clause-look c).step
