@@ -1,13 +1,16 @@
 -- Seats, their marks, and the shares that workers test.
-use Rattle.std.proofs.Common.{◌≡◌, ℕ, suc, ◌+◌, ◌-◌, ◌%◌, ◌<◌, ◌≤◌, ⊎_elim, List, ◌∷◌, ◌++◌, length, take, refl, sym, ◌∙◌, ap, subst, arith}
-use Rattle.std.specs.Prelude.{◌≢◌, slice_index_or, Contains}
-use Rattle.std.proofs.lemmas.Bool.{cases_eq}
+use Rattle.std.proofs.Common.{◌≡◌, ℕ, Bool, true, false, suc, ◌+◌, ◌%◌, ◌<◌, ◌≤◌, ⊎_elim, List, [], ◌∷◌, ◌++◌, eqb, length, take, refl, sym, ◌∙◌, ap, subst, arith}
+use Rattle.std.specs.Prelude.{◌≢◌, slice_index_or, Contains, if◌then◌else◌}
+use Rattle.std.proofs.lemmas.Bool.{cases_eq, ne_eqb, false≢true}
 use Rattle.std.proofs.lemmas.List.Elements.{Contains-append_left, Contains-append_right}
 use Rattle.std.proofs.lemmas.List.{get_or-take, length-take-le}
 use Rattle.std.proofs.Math.Seq.{take-append_seam}
 use Rattle.std.proofs.lemmas.Nat.{mod_below}
 use Rattle.cut_definitions.specs.Graph.{Graph, IsGraph}
 use Rattle.cut_definitions.specs.Safe.{IsFair}
+use Rattle.cut_definitions.specs.Cuts.{has}
+use Rattle.capped_scan.specs.Scan.{ScanState}
+use Rattle.cut_definitions.proofs.Bools.{nothing_or}
 use Rattle.weighted_graph.specs.RowLaws.{edge_at}
 use Rattle.scan_core.specs.Machine.{IsSafeEdge}
 use Rattle.mark_board.specs.Seen.{BoardView, SeatView, fresh_seat}
@@ -15,7 +18,7 @@ use Rattle.round_workers.specs.Round.{IsCertified}
 use Rattle.round_workers.proofs.Marking.{fair_small}
 use Rattle.round_workers.proofs.Places.{below_step, no_place}
 use Rattle.round_workers.specs.declared.working.Worker.{Worker}
-use Rattle.round_workers.specs.Seats.{HasSeen, IsLater, HasTested, HasWorked, HasAll, IsDone, AreDone}
+use Rattle.round_workers.specs.Seats.{HasSeen, IsLater, AreWon, HasTested, HasWorked, HasAll, IsDone, AreDone}
 
 -- ---- one seat
 
@@ -25,6 +28,10 @@ gaining s e = record s { own = e ∷ s.own }
 abbrev pub seeing : SeatView → ℕ → SeatView
 seeing s n = record s { seen = n }
 
+-- what a longer list has it had before, but for its first vertex
+has_tail : (x v : ℕ) (xs : List ℕ) → x ≢ v → has (x ∷ xs) v ≡ true → has xs v ≡ true
+has_tail x v xs ne is = sym (nothing_or (eqb x v) (has xs v) (ne_eqb x v ne)) ∙ is
+
 contains_tail : (xs : List ℕ) (y x : ℕ) → Contains xs x → Contains (y ∷ xs) x
 contains_tail xs y x h = let lt : h.0 < length xs = h.1 in (suc h.0, omega arith, h.2)
 
@@ -32,13 +39,40 @@ pub gained : (s : SeatView) (e : ℕ) → Contains (gaining s e).own e
 gained s e = (0, omega arith, refl)
 
 pub later_same : (s : SeatView) → IsLater s s
-later_same s = record { seen = omega arith; own = λ e h. h }
+later_same s = record { seen = omega arith; own = λ e h. h; won = λ v h. h }
 
 pub later_gaining : (s : SeatView) (e : ℕ) → IsLater s (gaining s e)
-later_gaining s e = record { seen = omega arith; own = λ i h. contains_tail s.own e i h }
+later_gaining s e = record { seen = omega arith; own = λ i h. contains_tail s.own e i h; won = λ v h. h }
 
 pub later_both : (r s t : SeatView) → IsLater r s → IsLater s t → IsLater r t
-later_both r s t a b = record { seen = omega (arith, a.seen, b.seen); own = λ e h. b.own e (a.own e h) }
+later_both r s t a b = record { seen = omega (arith, a.seen, b.seen); own = λ e h. b.own e (a.own e h); won = λ v h. b.won v (a.won v h) }
+
+-- ---- vertices that a seat takes
+
+abbrev pub taking : SeatView → ℕ → Bool → SeatView
+taking s v free = record s { won = if free then (v ∷ s.won) else s.won; known = v ∷ s.known }
+
+pub later_taking : (s : SeatView) (v : ℕ) (free : Bool) → IsLater s (taking s v free)
+later_taking s v true = record { seen = omega arith; own = λ e h. h; won = λ x h. contains_tail s.won v x h }
+later_taking s v false = record { seen = omega arith; own = λ e h. h; won = λ x h. h }
+
+pub won_taking : (s : SeatView) (v : ℕ) (free : Bool) → free ≡ true → Contains (taking s v free).won v
+won_taking s v true is = (0, omega arith, refl)
+won_taking s v false is = absurd (false≢true is)
+
+-- what was scanned before was won before
+pub won_later : (before after : ScanState) (s t : SeatView) → after.order ≡ before.order → IsLater s t → AreWon before s → AreWon after t
+won_later before after s t same later h v is = later.won v (h v (subst (λ (order : List ℕ). has order v ≡ true) same is))
+
+-- one more vertex was scanned, which was won
+pub won_more : (before after : ScanState) (x : ℕ) (s t : SeatView) → after.order ≡ x ∷ before.order → IsLater s t → Contains t.won x → AreWon before s → AreWon after t
+won_more before after x s t more later here h v is = ⊎_elim
+    (λ (q : x ≡ v). subst (λ (k : ℕ). Contains t.won k) q here)
+    (λ (ne : x ≢ v). later.won v (h v (has_tail x v before.order ne (subst (λ (order : List ℕ). has order v ≡ true) more is))))
+    (cases_eq x v)
+
+pub won_none : (scan : ScanState) (s : SeatView) → scan.order ≡ [] → AreWon scan s
+won_none scan s none v is = absurd (false≢true (subst (λ (order : List ℕ). has order v ≡ true) none is))
 
 pub seen_gaining : (b : BoardView) (g : Graph) (slack bound e : ℕ) (s : SeatView) → HasSeen b g slack bound s → HasSeen b g slack bound (gaining s e)
 seen_gaining b g slack bound e s h = record { board = h.board; graph = h.graph; slack_is = h.slack_is; seen = h.seen; fair = h.fair; small = h.small; at_most = h.at_most }
@@ -114,10 +148,10 @@ abbrev pub joined : SeatView → SeatView → ℕ → SeatView
 joined s t n = record s { seen = n; own = s.own ++ t.own; won = s.won ++ t.won; known = s.known ++ t.known }
 
 pub later_joined : (s t : SeatView) (n : ℕ) → n ≤ s.seen → IsLater s (joined s t n)
-later_joined s t n le = record { seen = le; own = λ e h. Contains-append_left s.own t.own e h }
+later_joined s t n le = record { seen = le; own = λ e h. Contains-append_left s.own t.own e h; won = λ v h. Contains-append_left s.won t.won v h }
 
 pub later_joined_other : (s t : SeatView) (n : ℕ) → n ≤ t.seen → IsLater t (joined s t n)
-later_joined_other s t n le = record { seen = le; own = λ e h. Contains-append_right s.own t.own e h }
+later_joined_other s t n le = record { seen = le; own = λ e h. Contains-append_right s.own t.own e h; won = λ v h. Contains-append_right s.won t.won v h }
 
 pub seen_joined : (b : BoardView) (g : Graph) (slack bound n : ℕ) (s t : SeatView) → HasSeen b g slack bound s → IsFair b.graph n → n ≤ s.seen → HasSeen b g slack n (joined s t n)
 seen_joined b g slack bound n s t h fair le = record {
@@ -131,31 +165,32 @@ seen_joined b g slack bound n s t h fair le = record {
 }
 
 -- the first workers of a list have done their shares, and the seats of all others are joined
-pub record AreJoinedFrom (b : BoardView) (g : Graph) (slack shares : ℕ) (ws : List Worker) (s : SeatView) : Type 0 where
+pub record AreJoinedFrom (b : BoardView) (g : Graph) (slack : ℕ) (certifies : Bool) (shares : ℕ) (ws : List Worker) (s : SeatView) : Type 0 where
   pub few : length ws ≤ shares
-  pub left : (i : ℕ) (d : Worker) → i < length ws → IsDone b g slack i shares (slice_index_or ws i d)
-  pub joined : (i : ℕ) → length ws ≤ i → i < shares → HasWorked g slack i shares s
+  pub left : (i : ℕ) (d : Worker) → i < length ws → IsDone b g slack certifies i shares (slice_index_or ws i d)
+  pub joined : certifies ≡ true → (i : ℕ) → length ws ≤ i → i < shares → HasWorked g slack i shares s
 
-pub join_step : (b : BoardView) (g : Graph) (slack shares n k : ℕ) (xs ys : List Worker) (w : Worker) (s : SeatView) → HasSeen b g slack s.seen s → AreJoinedFrom b g slack shares xs s →
-    k + 1 ≡ length xs → ((d : Worker) → w ≡ slice_index_or xs k d) → ys ≡ take k xs → n ≤ s.seen → n ≤ w.seat.seen →
-    AreJoinedFrom b g slack shares ys (joined s w.seat n)
-join_step b g slack shares n k xs ys w s seen h some last rest le le_other =
+pub join_step : (b : BoardView) (g : Graph) (slack : ℕ) (certifies : Bool) (shares n k : ℕ) (xs ys : List Worker) (w : Worker) (s : SeatView) → HasSeen b g slack s.seen s →
+    AreJoinedFrom b g slack certifies shares xs s → k + 1 ≡ length xs → ((d : Worker) → w ≡ slice_index_or xs k d) → ys ≡ take k xs → n ≤ s.seen → n ≤ w.seat.seen →
+    AreJoinedFrom b g slack certifies shares ys (joined s w.seat n)
+join_step b g slack certifies shares n k xs ys w s seen h some last rest le le_other =
     let long : length ys ≡ k = ap (λ (l : List Worker). length l) rest ∙ length-take-le k xs (omega arith) in
-    let done : IsDone b g slack k shares w = subst (λ (v : Worker). IsDone b g slack k shares v) (sym (last w)) (h.left k w (omega arith)) in
+    let done : IsDone b g slack certifies k shares w = subst (λ (v : Worker). IsDone b g slack certifies k shares v) (sym (last w)) (h.left k w (omega arith)) in
     record {
       few = omega (arith, long, h.few);
-      left = λ i d l. subst (λ (v : Worker). IsDone b g slack i shares v)
+      left = λ i d l. subst (λ (v : Worker). IsDone b g slack certifies i shares v)
           (sym (ap (λ (l : List Worker). slice_index_or l i d) rest ∙ get_or-take k xs i d (omega (arith, long))))
           (h.left i d (omega (arith, long)));
-      joined = λ i low l. ⊎_elim
+      joined = λ is i low l. ⊎_elim
           (λ (q : i ≡ k). subst (λ (j : ℕ). HasWorked g slack j shares (joined s w.seat n)) (sym q)
-          (worked_later g slack k shares w.seat (joined s w.seat n) (seen.board ∙ sym done.seated.board) (later_joined_other s w.seat n le_other) done.worked))
-          (λ (ne : i ≢ k). worked_later g slack i shares s (joined s w.seat n) refl (later_joined s w.seat n le) (h.joined i (omega (arith, long)) l))
+          (worked_later g slack k shares w.seat (joined s w.seat n) (seen.board ∙ sym done.seated.board) (later_joined_other s w.seat n le_other) (done.worked is)))
+          (λ (ne : i ≢ k). worked_later g slack i shares s (joined s w.seat n) refl (later_joined s w.seat n le) (h.joined is i (omega (arith, long)) l))
           (cases_eq i k);
     }
 
 -- workers that are written back to where they stood
-pub done_written : (b : BoardView) (g : Graph) (slack same n m : ℕ) (xs ys : List Worker) → slack ≡ same → n ≡ m → m ≡ length xs → AreDone b g slack n xs → AreDone b g same m (take m (xs ++ ys))
-done_written b g slack same n m xs ys e count long h =
+pub done_written : (b : BoardView) (g : Graph) (slack same : ℕ) (certifies : Bool) (n m : ℕ) (xs ys : List Worker) → slack ≡ same → n ≡ m → m ≡ length xs → AreDone b g slack certifies n xs →
+    AreDone b g same certifies m (take m (xs ++ ys))
+done_written b g slack same certifies n m xs ys e count long h =
     let is : take m (xs ++ ys) ≡ xs = ap (λ (k : ℕ). take k (xs ++ ys)) long ∙ take-append_seam xs ys in
-    subst (λ (l : List Worker). AreDone b g same m l) (sym is) (subst (λ (k : ℕ). AreDone b g k m xs) e (subst (λ (k : ℕ). AreDone b g slack k xs) count h))
+    subst (λ (l : List Worker). AreDone b g same certifies m l) (sym is) (subst (λ (k : ℕ). AreDone b g k certifies m xs) e (subst (λ (k : ℕ). AreDone b g slack certifies k xs) count h))

@@ -1,9 +1,10 @@
 -- What workers do with the seats of a board.
-use Rattle.std.specs.Prelude.{ℕ, ◌≡◌, ◌+◌, ◌%◌, ◌^◌, ◌<◌, ◌≤◌, List, length, slice_index_or, Contains}
+use Rattle.std.specs.Prelude.{ℕ, Bool, true, ◌≡◌, ◌+◌, ◌%◌, ◌^◌, ◌<◌, ◌≤◌, List, length, slice_index_or, Contains}
 use Rattle.cut_definitions.specs.Graph.{Graph}
 use Rattle.cut_definitions.specs.Safe.{IsFair}
+use Rattle.cut_definitions.specs.Cuts.{has}
 use Rattle.weighted_graph.specs.RowLaws.{edge_at}
-use Rattle.capped_scan.specs.Scan.{StandsFor}
+use Rattle.capped_scan.specs.Scan.{ScanState, StandsFor}
 use Rattle.mark_board.specs.Seen.{BoardView, SeatView}
 use Rattle.round_workers.specs.Round.{IsCertified}
 use Rattle.round_workers.specs.declared.working.Worker.{Worker}
@@ -18,10 +19,15 @@ pub record HasSeen (b : BoardView) (g : Graph) (slack bound : ℕ) (s : SeatView
   pub small : bound ≤ 2 ^ 61
   pub at_most : bound ≤ b.opening
 
--- the seat forgets no mark, and sees no greater bound
+-- the seat forgets no mark and no vertex that it won, and sees no greater bound
 pub record IsLater (s t : SeatView) : Type 0 where
   pub seen : t.seen ≤ s.seen
   pub own : (e : ℕ) → Contains s.own e → Contains t.own e
+  pub won : (v : ℕ) → Contains s.won v → Contains t.won v
+
+-- each vertex that was scanned was won by the seat
+abbrev pub AreWon : ScanState → SeatView → Type 0
+AreWon scan s = (v : ℕ) → has scan.order v ≡ true → Contains s.won v
 
 -- the edges of a share below a place are marked where they are certified at a limit
 pub record HasTested (g : Graph) (limit share shares upto : ℕ) (s : SeatView) : Type 0 where
@@ -40,11 +46,12 @@ pub record IsReady (b : BoardView) (g : Graph) (slack : ℕ) (w : Worker) : Type
   pub seated : HasSeen b g slack w.seat.seen w.seat
   pub stands : StandsFor w.scan g
 
--- a worker that has done its share
-pub record IsDone (b : BoardView) (g : Graph) (slack share shares : ℕ) (w : Worker) : Type 0 where
+-- a worker that has scanned nothing but what it took, and has done its share where it was to certify
+pub record IsDone (b : BoardView) (g : Graph) (slack : ℕ) (certifies : Bool) (share shares : ℕ) (w : Worker) : Type 0 where
   pub seated : HasSeen b g slack w.seat.seen w.seat
-  pub worked : HasWorked g slack share shares w.seat
+  pub won : AreWon w.scan w.seat
+  pub worked : certifies ≡ true → HasWorked g slack share shares w.seat
 
 -- each worker of a list has done the share of its place
-pub record AreDone (b : BoardView) (g : Graph) (slack shares : ℕ) (ws : List Worker) : Type 0 where
-  pub each : (i : ℕ) (d : Worker) → i < length ws → IsDone b g slack i shares (slice_index_or ws i d)
+pub record AreDone (b : BoardView) (g : Graph) (slack : ℕ) (certifies : Bool) (shares : ℕ) (ws : List Worker) : Type 0 where
+  pub each : (i : ℕ) (d : Worker) → i < length ws → IsDone b g slack certifies i shares (slice_index_or ws i d)

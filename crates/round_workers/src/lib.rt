@@ -16,4 +16,4 @@ mod working;
 
 pub use linking::mark_links;
 pub use lowering::lowered;
-pub use one_round::round;
+pub use one_round::{round, scan_round};

@@ -1,6 +1,6 @@
 //! One round.
 
-ghost use Rattle.std.specs.Prelude.{◌≡◌, ◌+◌, ◌/◌, ◌<◌, ◌≤◌, IfOk, length};
+ghost use Rattle.std.specs.Prelude.{◌≡◌, ◌+◌, ◌/◌, ◌<◌, ◌≤◌, IfOk, length, true};
 ghost use Rattle.cut_definitions.specs.Safe.{IsFair};
 ghost use Rattle.cut_definitions.specs.Cuts.{has};
 ghost use Rattle.weighted_graph.specs.Marks.{MarksAreSafe};
@@ -8,7 +8,7 @@ ghost use Rattle.round_workers.specs.Round.{CertifiedAreMarked};
 ghost use Rattle.round_workers.specs.Seats.{HasSeen, HasAll};
 
 use crate::certifying::mark_certified;
-use crate::working::{join_workers, race, workers_for};
+use crate::working::{Task, join_workers, race, workers_for};
 use cut_definitions::NoMemory;
 use mark_board::{Board, BoardSeat, Marks};
 use outside::Gate;
@@ -22,6 +22,33 @@ fn shares_for(edges: usize, workers: u32) -> usize
     ensures { (1 ≤ result) × (result ≤ 64) }
 {
     (workers as usize).min(edges / 4).max(1)
+}
+
+/// A board that is opened with a bound, after each worker of a task has run, and the seat to which all of their seats were
+/// joined.
+fn run_workers<R: Threads + Sync, G: Gate>(
+    rt: &R,
+    alloc: Global,
+    graph: &Graph,
+    bound: u64,
+    task: Task,
+    gate: &G,
+) -> Result<(Board, BoardSeat), NoMemory>
+    requires enough { 2 ≤ graph.now.vertices }
+    requires fair { IsFair graph.now bound }
+    requires slack { task.slack ≤ 1 }
+    requires shares { (1 ≤ task.shares) × (task.shares ≤ 64) }
+    ensures seated { IfOk result (λ r. HasSeen r.0 graph.now task.slack r.1.seen r.1) }
+    ensures opening { IfOk result (λ r. r.0.opening ≡ bound) }
+    ensures all { task.certifies ≡ true → IfOk result (λ r. HasAll graph.now task.slack r.1) }
+{
+    // known by this call: the graph is an edge list, so no bound is above 2^61
+    let _n = graph.n();
+    let (board, mut seat) = Board::open(alloc, graph, bound, task.slack)?;
+    let mut seated = workers_for(alloc, graph, &board, &mut seat, task.shares)?;
+    race(rt, &board, graph, seated.as_mut_slice(), task, gate);
+    join_workers(&board, graph, &mut seat, seated, task);
+    Ok((board, seat))
 }
 
 /// The bound and the marks of a board whose workers are done. Where the bound has fallen, workers may have tested an edge
@@ -74,12 +101,47 @@ pub fn round<R: Threads + Sync, G: Gate>(
     ensures safe { IfOk result (λ r. MarksAreSafe graph.now (has r.1.marked) r.0 slack) }
     ensures certified { IfOk result (λ r. CertifiedAreMarked graph.now (has r.1.marked) (r.0 + slack)) }
 {
-    // known by this call: the graph is an edge list, so no bound is above 2^61
-    let _n = graph.n();
-    let shares = shares_for(graph.edges(), workers);
-    let (board, mut seat) = Board::open(alloc, graph, bound, slack)?;
-    let mut seated = workers_for(alloc, graph, &board, &mut seat, shares)?;
-    race(rt, &board, graph, seated.as_mut_slice(), slack, gate);
-    join_workers(&board, graph, &mut seat, seated);
+    let task = Task {
+        shares: shares_for(graph.edges(), workers),
+        slack,
+        certifies: true,
+    };
+    let (board, seat) = run_workers(rt, alloc, graph, bound, task, gate)?;
     Ok(close_round(board, seat, graph, bound, slack))
+}
+
+/// Marks edges that may be contracted by scans alone, and lowers a bound: a round as `round`, in which no edge is tested by a
+/// certificate, so that it costs little on a large graph (after Henzinger, Noe and Schulz, 2020).
+///
+/// The bound is the weight of some cut; the slack is 0 where only the value is to be kept, and 1 where all minimum cuts are.
+/// The answered bound is the weight of some cut, and each mark is safe for it and the slack. There are 1 to 64 workers, each of
+/// which runs, so the caller sees that the graph is worth them. Each passes the gate with its number, and scans from a vertex
+/// of its own what no other worker takes; they share the bound, the marks and the taken vertices, and none waits for another.
+/// All together go along each row about once: O(m log n), and O(n log n) for each worker. It takes O(m) memory, and O(n) for
+/// each worker before the first of them runs, and is refused only where that is wanting.
+pub fn scan_round<R: Threads + Sync, G: Gate>(
+    rt: &R,
+    alloc: Global,
+    graph: &Graph,
+    bound: u64,
+    slack: u64,
+    workers: u32,
+    gate: &G,
+) -> Result<(u64, Marks), NoMemory>
+    requires enough { 2 ≤ graph.now.vertices }
+    requires fair { IsFair graph.now bound }
+    requires slack { slack ≤ 1 }
+    requires workers { (1 ≤ workers) × (workers ≤ 64) }
+    ensures fair { IfOk result (λ r. IsFair graph.now r.0) }
+    ensures at_most { IfOk result (λ r. r.0 ≤ bound) }
+    ensures edges { IfOk result (λ r. r.1.edges ≡ length graph.now.edges) }
+    ensures safe { IfOk result (λ r. MarksAreSafe graph.now (has r.1.marked) r.0 slack) }
+{
+    let task = Task {
+        shares: workers as usize,
+        slack,
+        certifies: false,
+    };
+    let (board, seat) = run_workers(rt, alloc, graph, bound, task, gate)?;
+    Ok(board.close(seat))
 }

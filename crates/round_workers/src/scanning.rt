@@ -1,11 +1,11 @@
 //! Scans by workers, which lower the bound of a board and mark by links.
 
-ghost use Rattle.std.specs.Prelude.{◌≡◌, ◌+◌, ◌<◌, ◌≤◌, ◌⊎◌, ◌∷◌, true, false, length};
+ghost use Rattle.std.specs.Prelude.{◌≡◌, ◌+◌, ◌<◌, ◌≤◌, ◌⊎◌, ◌∷◌, true, false, length, Contains};
 ghost use Rattle.cut_definitions.specs.Safe.{IsFair};
 ghost use Rattle.scan_core.specs.Machine.{IsSafeEdge};
-ghost use Rattle.capped_scan.specs.Scan.{StandsFor, waits};
+ghost use Rattle.capped_scan.specs.Scan.{StandsFor, IsChoice};
 ghost use Rattle.round_workers.specs.Round.{IsLatest};
-ghost use Rattle.round_workers.specs.Seats.{HasSeen, IsLater};
+ghost use Rattle.round_workers.specs.Seats.{HasSeen, IsLater, AreWon};
 
 use crate::lowering::lowered;
 use capped_scan::{Scan, Scanned};
@@ -114,6 +114,7 @@ fn take_vertex(
     requires to_n { vertex ≤ graph.now.vertices }
     ensures seen { HasSeen board.now graph.now slack bound seat.new }
     ensures later { IsLater seat.old seat.new }
+    ensures won { result ≡ true → Contains seat.new.won vertex }
 {
     board.take(seat, vertex)
 }
@@ -132,10 +133,12 @@ fn scan_or_drop(
     requires seen { HasSeen board.now graph.now slack bound seat.old }
     requires slack { slack ≤ 1 }
     requires stands { StandsFor scan.old graph.now }
-    requires waiting { waits scan.old vertex ≡ true }
+    requires choice { IsChoice scan.old vertex }
+    requires won { AreWon scan.old seat.old }
     ensures seen { HasSeen board.now graph.now slack result seat.new }
     ensures later { IsLater seat.old seat.new }
     ensures stands { StandsFor scan.new graph.now }
+    ensures won { AreWon scan.new seat.new }
 {
     // known by this call: the graph is an edge list
     let _n = graph.n();
@@ -167,6 +170,7 @@ pub(crate) fn scan_on_board(
     requires root_to_n { root ≤ graph.now.vertices }
     ensures seen { HasSeen board.now graph.now slack seat.new.seen seat.new }
     ensures later { IsLater seat.old seat.new }
+    ensures won { AreWon scan.new seat.new }
 {
     scan.start(root, bound + slack);
     let mut seen = bound;

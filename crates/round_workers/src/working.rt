@@ -1,7 +1,7 @@
 //! Workers of a round, which run side by side, each with its own seat of the board.
 
-ghost use Rattle.std.specs.Prelude.{◌≡◌, ◌+◌, ◌<◌, ◌≤◌, All, IfOk, length, vec_len};
-ghost use Rattle.round_workers.specs.Seats.{HasSeen, HasAll, IsReady, IsDone, AreDone};
+ghost use Rattle.std.specs.Prelude.{◌≡◌, ◌+◌, ◌<◌, ◌≤◌, All, IfOk, length, true, vec_len};
+ghost use Rattle.round_workers.specs.Seats.{HasSeen, HasAll, HasTested, IsLater, IsReady, IsDone, AreDone};
 
 use crate::scanning::scan_on_board;
 use crate::shares::mark_share;
@@ -19,6 +19,15 @@ use weighted_graph::Graph;
 pub(crate) struct Worker {
     pub(crate) seat: BoardSeat,
     pub(crate) scan: Scan,
+}
+
+/// What the workers of a round do: into how many shares the edges are divided, one for each worker, the slack of all marks, and
+/// whether each worker tests the edges of its share by certificates before it scans.
+#[derive(Clone, Copy)]
+pub(crate) struct Task {
+    pub(crate) shares: usize,
+    pub(crate) slack: u64,
+    pub(crate) certifies: bool,
 }
 
 /// A worker for each share, with a seat that is split off. A worker takes memory O(n) for its scan.
@@ -43,28 +52,55 @@ pub(crate) fn workers_for(
     Ok(workers)
 }
 
-/// The work of one worker: it passes the gate, looks at the bound, tests the edges of its share, and scans the graph from a
-/// vertex of its own.
+/// Tests the edges of a worker's share, where the task asks for that.
+fn certify(board: &Board, seat: &mut BoardSeat, graph: &Graph, share: usize, task: Task, bound: u64)
+    requires seen { HasSeen board.now graph.now task.slack bound seat.old }
+    requires slack { task.slack ≤ 1 }
+    requires share { share < task.shares }
+    requires shares { task.shares ≤ 64 }
+    ensures seen { HasSeen board.now graph.now task.slack bound seat.new }
+    ensures later { IsLater seat.old seat.new }
+    ensures tested { task.certifies ≡ true → HasTested graph.now (bound + task.slack) share task.shares (length graph.now.edges) seat.new }
+{
+    if task.certifies {
+        mark_share(board, seat, graph, share, task.shares, bound, task.slack);
+    }
+}
+
+/// The vertex from which a worker scans: the vertices are divided into as many runs as there are shares, and it is the first
+/// of the worker's run.
+fn first_of_run(graph: &Graph, share: usize, shares: usize) -> u32
+    requires enough { 1 ≤ graph.now.vertices }
+    requires share { share < shares }
+    requires shares { shares ≤ 64 }
+    ensures from_one { 1 ≤ result }
+    ensures to_n { result ≤ graph.now.vertices }
+{
+    let before = graph.n() as usize * share / shares;
+    before as u32 + 1
+}
+
+/// The work of one worker: it passes the gate, looks at the bound, tests the edges of its share, where that is asked for, and
+/// scans the graph from a vertex of its own.
 fn work<G: Gate>(
     board: &Board,
     graph: &Graph,
     worker: &mut Worker,
     share: usize,
-    shares: usize,
-    slack: u64,
+    task: Task,
     gate: &G,
 )
-    requires ready { IsReady board.now graph.now slack worker.old }
+    requires ready { IsReady board.now graph.now task.slack worker.old }
     requires enough { 1 ≤ graph.now.vertices }
-    requires slack { slack ≤ 1 }
-    requires share { share < shares }
-    requires shares { shares ≤ 64 }
-    ensures { IsDone board.now graph.now slack share shares worker.new }
+    requires slack { task.slack ≤ 1 }
+    requires share { share < task.shares }
+    requires shares { task.shares ≤ 64 }
+    ensures { IsDone board.now graph.now task.slack task.certifies share task.shares worker.new }
 {
     gate.pass(share as u32);
     let bound = board.bound(&mut worker.seat);
-    mark_share(board, &mut worker.seat, graph, share, shares, bound, slack);
-    let root = share as u32 % graph.n() + 1;
+    certify(board, &mut worker.seat, graph, share, task, bound);
+    let root = first_of_run(graph, share, task.shares);
     scan_on_board(
         board,
         &mut worker.seat,
@@ -72,7 +108,7 @@ fn work<G: Gate>(
         &mut worker.scan,
         root,
         bound,
-        slack,
+        task.slack,
     );
 }
 
@@ -82,24 +118,24 @@ pub(crate) fn race<R: Threads + Sync, G: Gate>(
     board: &Board,
     graph: &Graph,
     workers: &mut [Worker],
-    slack: u64,
+    task: Task,
     gate: &G,
 )
-    requires ready { All (IsReady board.now graph.now slack) workers.old }
+    requires ready { All (IsReady board.now graph.now task.slack) workers.old }
     requires enough { 1 ≤ graph.now.vertices }
-    requires slack { slack ≤ 1 }
-    requires some { 1 ≤ length workers.old }
-    requires few { length workers.old ≤ 64 }
-    ensures { AreDone board.now graph.now slack (length workers.old) workers.new }
+    requires slack { task.slack ≤ 1 }
+    requires some { 1 ≤ task.shares }
+    requires few { task.shares ≤ 64 }
+    requires shares { length workers.old ≡ task.shares }
+    ensures { AreDone board.now graph.now task.slack task.certifies (length workers.old) workers.new }
 {
-    let shares = workers.len();
     thread::for_each_mut(
         rt,
         workers,
-        shares,
+        task.shares,
         &|share: usize, worker: &mut Worker|
-            requires { IsReady board.now graph.now slack worker.now × (1 ≤ graph.now.vertices) × (slack ≤ 1) × (share < shares) × (shares ≤ 64) }
-        { work(board, graph, worker, share, shares, slack, gate) },
+            requires { IsReady board.now graph.now task.slack worker.now × (1 ≤ graph.now.vertices) × (task.slack ≤ 1) × (share < task.shares) × (task.shares ≤ 64) }
+        { work(board, graph, worker, share, task, gate) },
     );
 }
 
@@ -109,12 +145,13 @@ pub(crate) fn join_workers(
     graph: &Graph,
     seat: &mut BoardSeat,
     mut workers: Vec<Worker>,
+    task: Task,
 )
     requires seated { HasSeen board.now graph.now board.now.slack seat.old.seen seat.old }
     requires some { 1 ≤ vec_len workers }
-    requires done { AreDone board.now graph.now board.now.slack (vec_len workers) workers.items }
+    requires done { AreDone board.now graph.now board.now.slack task.certifies (vec_len workers) workers.items }
     ensures seated { HasSeen board.now graph.now board.now.slack seat.new.seen seat.new }
-    ensures all { HasAll graph.now board.now.slack seat.new }
+    ensures all { task.certifies ≡ true → HasAll graph.now board.now.slack seat.new }
 {
     'seats: while let Some(worker) = workers.pop() {
         let Worker { seat: other, .. } = worker;

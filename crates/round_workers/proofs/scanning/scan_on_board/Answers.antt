@@ -1,4 +1,4 @@
-use Rattle.round_workers.proofs.Seats.{later_same, later_both}
+use Rattle.round_workers.proofs.Seats.{later_same, later_both, won_none}
 use Rattle.round_workers.proofs.scanning.scan_on_board.Goals as goal
 
 pub loop-init : goal.loop-init
@@ -6,6 +6,7 @@ loop-init c = record {
   stands = c.start.ensures.stands c.args.graph.now c.requires.stands;
   seen = c.requires.seen;
   later = later_same c.args.seat.now;
+  won = won_none c.start.new.self c.args.seat.now c.start.ensures.started.order;
 }
 
 pub loop-preserved : goal.loop-preserved
@@ -13,4 +14,5 @@ loop-preserved c = record {
   stands = c.scan_or_drop-seen.ensures.stands;
   seen = c.scan_or_drop-seen.ensures.seen;
   later = later_both c.args.seat.now c.loop.seat c.scan_or_drop-seen.new.seat c.loop.invariant.later c.scan_or_drop-seen.ensures.later;
+  won = c.scan_or_drop-seen.ensures.won;
 }

@@ -1,5 +1,5 @@
 use Rattle.capped_scan.specs.Scan.{StandsFor}
-use Rattle.round_workers.specs.Seats.{HasSeen, IsLater}
+use Rattle.round_workers.specs.Seats.{HasSeen, IsLater, AreWon}
 use Rattle.round_workers.proofs.scanning.scan_on_board.Given as goal
 
 abbrev pub invariant-loop : goal.invariant-loop
@@ -7,4 +7,5 @@ invariant-loop l = record {
   stands : StandsFor l.scan l.graph;
   seen : HasSeen l.board l.graph l.slack l.seen l.seat;
   later : IsLater l.fn.seat l.seat;
+  won : AreWon l.scan l.seat;
 }

@@ -10,7 +10,7 @@ seats-init c = record {
   joined = record {
     few = omega arith;
     left = c.requires.done.each;
-    joined = λ i low l. absurd (omega arith);
+    joined = λ is i low l. absurd (omega arith);
   };
 }
 
@@ -26,8 +26,8 @@ seats-preserved c =
     let some = c.in-Some.ensures.cases in
     record {
       seated = subst (λ (t : SeatView). HasSeen b g b.slack n t) (sym c.join.ensures.seat) (seen_joined b g b.slack s.seen n s w.seat inv.seated c.join.ensures.fair c.join.ensures.at_most.0);
-      joined = subst (λ (t : SeatView). AreJoinedFrom b g b.slack (vec_len c.args.workers) c.pop.new.self.items t) (sym c.join.ensures.seat)
-          (join_step b g b.slack (vec_len c.args.workers) n (vec_len c.seats.workers - 1) xs c.pop.new.self.items w s inv.seated inv.joined
+      joined = subst (λ (t : SeatView). AreJoinedFrom b g b.slack c.args.task.certifies (vec_len c.args.workers) c.pop.new.self.items t) (sym c.join.ensures.seat)
+          (join_step b g b.slack c.args.task.certifies (vec_len c.args.workers) n (vec_len c.seats.workers - 1) xs c.pop.new.self.items w s inv.seated inv.joined
           (omega arith)
           (λ d. let is = c.in-Some.ensures.value d (omega arith) in cc)
           c.in-Some.ensures.rest
@@ -36,7 +36,7 @@ seats-preserved c =
     }
 
 pub returns-clause-all : goal.returns-clause-all
-returns-clause-all c =
+returns-clause-all c is =
     let none = c.in_default.ensures.cases in
     all_shares c.args.graph.now c.args.board.now.slack (vec_len c.args.workers) c.seats.seat (omega (arith, c.requires.some))
-    (λ i l. c.seats.invariant.joined.joined i (omega (arith, none.0)) l)
+    (λ i l. c.seats.invariant.joined.joined is i (omega (arith, none.0)) l)

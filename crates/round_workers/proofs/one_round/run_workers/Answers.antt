@@ -2,7 +2,7 @@ use Rattle.std.proofs.Common.{◌≡◌, length, drop, sym, subst, arith}
 use Rattle.mark_board.specs.Seen.{SeatView}
 use Rattle.round_workers.specs.Seats.{HasSeen}
 use Rattle.round_workers.proofs.Seats.{seen_opened, done_written}
-use Rattle.round_workers.proofs.one_round.round.Goals as goal
+use Rattle.round_workers.proofs.one_round.run_workers.Goals as goal
 
 pub workers_for-requires : goal.workers_for-requires
 workers_for-requires g c =
@@ -20,4 +20,4 @@ join_workers-requires-clause-done g c =
     let new = c.race.new.workers in
     let m = c.in_ok-seated.seated.len in
     let count : length old ≡ m = omega (arith, c.as_mut_slice.ensures.len) in
-    done_written b c.args.graph.now c.args.slack b.slack (length old) m new (drop (length new) c.in_ok-seated.seated.items) (sym c.in_ok-board.ensures.board.1) count (omega (arith, count, c.race.auto.workers)) c.race.ensures
+    done_written b c.args.graph.now c.args.task.slack b.slack c.args.task.certifies (length old) m new (drop (length new) c.in_ok-seated.seated.items) (sym c.in_ok-board.ensures.board.1) count (omega (arith, count, c.race.auto.workers)) c.race.ensures
