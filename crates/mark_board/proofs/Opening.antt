@@ -8,7 +8,7 @@ use native.Mathlib.Decide.{dec_le}
 use lib.ListN.{get_elem?}
 use Rattle.atomic_table.specs.Table.{opening}
 use Rattle.cut_definitions.specs.Safe.{IsFair}
-use Rattle.scan_core.specs.Machine.{Knows, Machine, ended, fresh, FitsSeat, IsKept, times, wins}
+use Rattle.scan_core.specs.Machine.{Knows, Machine, ended, FitsSeat, times, wins}
 use Rattle.mark_board.specs.declared.rule.View.{View}
 use Rattle.mark_board.specs.declared.rule.Opened.{Opened}
 use Rattle.mark_board.specs.Words.{word_of, bit_of, is_flagged, base_of, words_for, taken_at}

@@ -7,6 +7,7 @@
 #![tactic(auto)]
 
 mod board;
+pub mod laws;
 mod marks;
 mod rule;
 mod seat;

@@ -4,9 +4,8 @@ use Rattle.std.proofs.Common.{◌≡◌, ◌<◌, ◌+◌, ◌/◌, ◌%◌, ℕ
 use Rattle.mark_board.specs.Seen.{SeatView, BoardView, seat_view, view_of}
 use Rattle.atomic_table.specs.Seated.{TableId}
 use Rattle.mark_board.specs.declared.rule.View.{View}
-use Rattle.scan_core.specs.Machine.{looks}
 use Rattle.mark_board.specs.Words.{bit_of}
-use Rattle.mark_board.specs.Rule.{edge_count, IsSafeNow, IsStep, IsLook}
+use Rattle.mark_board.specs.Rule.{edge_count, IsSafeNow, IsLook}
 use Rattle.mark_board.proofs.Steps.{looks_allowed}
 use Rattle.mark_board.proofs.board.Board.is_marked.Goals as goal
 

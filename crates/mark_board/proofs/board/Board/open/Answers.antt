@@ -1,4 +1,4 @@
-use Rattle.std.proofs.Common.{◌≡◌, ◌+◌, ◌/◌, ℕ, List, [], set, refl, sym, ap, ◌∙◌, subst}
+use Rattle.std.proofs.Common.{◌≡◌, ◌+◌, ◌/◌, ℕ, List, [], set, sym, ap, ◌∙◌, subst}
 use Rattle.atomic_table.specs.Table.{Me, opening}
 use Rattle.mark_board.specs.declared.rule.View.{View}
 use Rattle.mark_board.specs.Seen.{seat_view, view_of}
