@@ -1,9 +1,10 @@
 -- Which fault of a neighbour is the first.
-use Rattle.std.proofs.Common.{◌≡◌, ◌≢◌, ◌<◌, ◌≤◌, ◌⊎◌, ℕ, suc, Bool, true, false, ◌||◌, List, [], ◌++◌, length, map, ◌+◌, not, refl, ap, sym, ◌∙◌, arith}
+use Rattle.std.proofs.Common.{◌≡◌, ◌≢◌, ◌<◌, ◌≤◌, ◌⊎◌, ℕ, suc, Bool, true, false, ◌||◌, List, [], ◌++◌, length, map, ◌+◌, ◌*◌, not, refl, ap, sym, ◌∙◌, inl, inr, arith}
 use Rattle.std.specs.Prelude.{◌==◌, nat_lt}
 use Rattle.std.specs.List.Sorted.{IsPermutation}
 use Rattle.std.proofs.lemmas.List.Sorted.{length_permutation}
 use Rattle.std.specs.List.{filter}
+use Rattle.std.proofs.lemmas.Bool.{cases_eq}
 use Rattle.std.proofs.lemmas.Bool.Decides.{nat_tests}
 use Rattle.cut_definitions.proofs.ListLaws.{mapped_length}
 use Rattle.metis_reader.specs.declared.fault.FaultKind.{FaultKind}
@@ -12,7 +13,7 @@ use Rattle.metis_reader.specs.declared.body.Body.{Body}
 use Rattle.metis_reader.specs.Profile.{Header, Entry, where_true}
 use Rattle.metis_reader.specs.File.{VertexLine, edge_of}
 use Rattle.metis_reader.specs.Machine.{vertex}
-use Rattle.metis_reader.specs.Bodies.{vertex_of, entry_count, greater_of, lesser_of}
+use Rattle.metis_reader.specs.Bodies.{CanEnter, vertex_of, entry_count, greater_of, lesser_of}
 use Rattle.metis_reader.specs.Shown.{BodyShows, BeginsWith, is_upward, mirrored}
 use Rattle.metis_reader.proofs.Counts.{entry_counts}
 
@@ -60,3 +61,12 @@ sizes b header done all shows = record {
   entries = kept_entries b all shows.greater shows.lesser;
   vertex = ap (λ n. suc n) (sym (ap length shows.numbers ∙ mapped_length _ done));
 }
+
+-- a number that might be a neighbour, and can't be one, is the vertex itself
+own_by : (b : Body) (value own : ℕ) → (value ≡ own) ⊎ (value ≡ own → ⊥) → 1 ≤ value → value ≤ b.header.vertices → own ≡ vertex_of b → entry_count b < 2 * b.header.edges → (CanEnter b value → ⊥) → value ≡ own
+own_by b value own (inl same) from to is room barred = same
+own_by b value own (inr other) from to is room barred = absurd (barred (record { from_one = from; to_n = to; is_other = λ e. other (e ∙ sym is); room = room }))
+
+pub own_vertex : (b : Body) (header : Header) (done : List VertexLine) (all : List Entry) (value : ℕ) → Sizes b header done all → 1 ≤ value → value ≤ b.header.vertices → entry_count b < 2 * b.header.edges
+    → (CanEnter b value → ⊥) → value ≡ vertex done
+own_vertex b header done all value size from to room barred = own_by b value (vertex done) (cases_eq value (vertex done)) from to size.vertex room barred

@@ -27,7 +27,7 @@ no_word_is = record { length = omega arith; is_number = refl; value = λ is. ref
 as_no_word : (word : Word) (bytes : List ℕ) → (word.length == 0) ≡ true → IsWord word bytes → IsWord no_word bytes
 as_no_word word bytes empty is = subst (λ bytes. IsWord no_word bytes) (sym (no_bytes word bytes empty is)) no_word_is
 
-still : (word : Word) (bytes : List ℕ) → (word.length == 0) ≡ true → IsWord word bytes → IsWord word []
+pub still : (word : Word) (bytes : List ℕ) → (word.length == 0) ≡ true → IsWord word bytes → IsWord word []
 still word bytes empty is = subst (λ bytes. IsWord word bytes) (no_bytes word bytes empty is) is
 
 apart_behind : (part : LinePart) (bytes : List ℕ) → part ≢ Comment → part_behind part bytes ≢ Comment

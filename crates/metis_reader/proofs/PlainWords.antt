@@ -50,7 +50,7 @@ no_bytes word (b ∷ bytes) none is =
 
 -- a blank
 
-not_feed : (b : ℕ) → is_blank b ≡ true → is_line_feed b ≡ false
+pub not_feed : (b : ℕ) → is_blank b ≡ true → is_line_feed b ≡ false
 not_feed b h = grind (arith, nat_tests)
 
 blank_by : (part : LinePart) (percent : Bool) (parser : Parser) (line old : ℕ) (empty : Word) (s : State) (bytes : List ℕ) (ended next b : ℕ) → part ≢ Comment → line ≡ suc ended → old ≡ suc ended
