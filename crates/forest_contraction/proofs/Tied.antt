@@ -1,12 +1,14 @@
 -- What an edge adds to the levels and to the classes that are tied.
-use Rattle.std.proofs.Common.{◌≡◌, ℕ, zero, suc, ◌+◌, ◌*◌, ◌/◌, ◌<◌, ◌≤◌, ⊎_elim, inl, inr, true, false, List, [], ◌∷◌, ◌++◌, length, refl, sym, subst, arith}
+use Rattle.std.proofs.Common.{◌≡◌, ℕ, zero, suc, ◌+◌, ◌*◌, ◌/◌, ◌<◌, ◌≤◌, ⊎_elim, inl, inr, true, false, List, [], ◌∷◌, ◌++◌, length, refl, sym, subst, ◌∙◌, arith}
 use Rattle.std.proofs.Math.Nat.{div-mul-le_self, mul-le-mul_right, add-mul}
 use Rattle.std.proofs.lemmas.Bool.{cases_Bool, cases_lt}
 use Rattle.std.proofs.lemmas.List.Sums.{sum_by-cons, sum_by-append}
 use Rattle.cut_definitions.specs.declared.edge_list.Edge.{Edge}
 use Rattle.cut_definitions.specs.Weight.{VertexSet, parts}
-use Rattle.vertex_classes.specs.Classes.{Respects, AreJoined, HasJoined}
-use Rattle.forest_contraction.specs.Forests.{cut_term, cut_weight, level, AreForests, AreTied, HasSameLevels}
+use Rattle.cut_definitions.specs.Graph.{Graph}
+use Rattle.forest_contraction.specs.Left.{AreLabelsTied}
+use Rattle.vertex_classes.specs.Classes.{AreNumbersOf, Respects, AreJoined, HasJoined, HasSameClasses}
+use Rattle.forest_contraction.specs.Forests.{cut_term, cut_weight, level, AreForests, AreTied, HasReach, HasSameLevels, HasTaken}
 use Rattle.forest_contraction.proofs.Levels.{HaveJoined}
 
 -- a set parts two vertices or has both or neither
@@ -70,10 +72,40 @@ forests-same es step old new same forests l h s light =
     let lo : l < length old = omega (arith, same.count) in
     ((same.each l lo).respected s).1 (forests l lo s light)
 
--- the ends of an edge are made one
-pub tied-more : (es whole : List Edge) (step j bound : ℕ) (e : Edge) (levels : List (List ℕ)) (old new : List ℕ) → AreForests es step levels → j ≤ length levels →
-    ((l : ℕ) → l + 1 ≡ j → AreJoined (level levels l) e.u e.v) → bound ≤ j * step + e.w → ((s : VertexSet) → cut_weight es s + cut_term s e ≤ cut_weight whole s) →
-    AreTied whole bound old → HasJoined old new e.u e.v → AreTied whole bound new
-tied-more es whole step j bound e levels old new forests le joined enough part tied step_is s light =
-    let ends = ends_of es step j e levels s forests le joined (omega (arith, part s)) in
-    (step_is.respected s).1 (tied s light, ends)
+-- an edge is joined as heavily as the levels before and its own weight
+pub has_reach : (step j : ℕ) (e : Edge) (levels : List (List ℕ)) → j ≤ length levels → ((l : ℕ) → l + 1 ≡ j → AreJoined (level levels l) e.u e.v) → HasReach levels step e (j * step + e.w)
+has_reach step j e levels le joined es forests s light = ends_of es step j e levels s forests le joined light
+
+-- classes that stay as they are have taken an edge, and so have those in which its ends are made one where they are joined as heavily as the bound
+pub taken_same : (levels : List (List ℕ)) (step bound : ℕ) (e : Edge) (old new : List ℕ) → HasSameClasses old new → HasTaken levels step bound e old new
+taken_same levels step bound e old new same = record {
+  long = same.long;
+  kept = λ s h. (same.respected s).0 h;
+  no_other = λ s h ends. (same.respected s).1 h;
+  tied = λ es whole forests tied part s light. (same.respected s).1 (tied s light);
+}
+
+pub taken_joined : (levels : List (List ℕ)) (step bound reach : ℕ) (e : Edge) (old new : List ℕ) → HasReach levels step e reach → bound ≤ reach → HasJoined old new e.u e.v →
+    HasTaken levels step bound e old new
+taken_joined levels step bound reach e old new reaches enough is = record {
+  long = is.long;
+  kept = λ s h. ((is.respected s).0 h).0;
+  no_other = λ s h ends. (is.respected s).1 (h, ends);
+  tied = λ es whole forests tied part s light. (is.respected s).1 (tied s light, reaches es forests s (omega (arith, part s)));
+}
+
+-- other parents for the same classes before
+pub taken_after : (levels : List (List ℕ)) (step bound : ℕ) (e : Edge) (old mid new : List ℕ) → HasSameClasses old mid → HasTaken levels step bound e mid new → HasTaken levels step bound e old new
+taken_after levels step bound e old mid new same is = record {
+  long = is.long ∙ same.long;
+  kept = λ s h. (same.respected s).0 (is.kept s h);
+  no_other = λ s h ends. is.no_other s ((same.respected s).1 h) ends;
+  tied = λ es whole forests tied part. is.tied es whole forests (λ s light. (same.respected s).1 (tied s light)) part;
+}
+
+-- labels of tied classes are tied
+pub labels_tied : (g : Graph) (bound : ℕ) (parents labels : List ℕ) → length parents ≡ g.vertices + 1 → AreNumbersOf parents labels → AreTied g.edges bound parents → AreLabelsTied g bound labels
+labels_tied g bound parents labels long numbers tied = record {
+  long = omega (arith, numbers.long);
+  tied = λ s light u v u1 un v1 vn same. (numbers.joined u v u1 (omega (arith, long)) v1 (omega (arith, long))).0 same s (tied s light);
+}

@@ -37,3 +37,15 @@ pub record HasSameLevels (old new : List (List ℕ)) : Type 0 where
 -- the ends of each edge that weighs the bound are in one class
 abbrev pub JoinsHeavy : List Edge → ℕ → List ℕ → Type 0
 JoinsHeavy edges bound parents = All (λ (e : Edge). bound ≤ e.w → AreJoined parents e.u e.v) edges
+
+-- no set that weighs less, with the edge, than so much parts the ends of an edge
+abbrev pub HasReach : List (List ℕ) → ℕ → Edge → ℕ → Type 0
+HasReach levels step e reach = (es : List Edge) → AreForests es step levels → (s : VertexSet) → cut_weight es s + cut_term s e < reach → s e.u ≡ s e.v
+
+-- classes that are tied for a bound have taken an edge: at most its ends were made one, and what was tied for all edges is so still
+pub record HasTaken (levels : List (List ℕ)) (step bound : ℕ) (e : Edge) (old new : List ℕ) : Type 0 where
+  pub long : length new ≡ length old
+  pub kept : (s : VertexSet) → Respects new s → Respects old s
+  pub no_other : (s : VertexSet) → Respects old s → s e.u ≡ s e.v → Respects new s
+  pub tied : (es whole : List Edge) → AreForests es step levels → AreTied whole bound old → ((s : VertexSet) → cut_weight es s + cut_term s e ≤ cut_weight whole s) →
+      AreTied whole bound new

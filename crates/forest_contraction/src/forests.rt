@@ -3,9 +3,8 @@
 ghost use Rattle.std.specs.Prelude.{◌≡◌, ◌⊎◌, ◌+◌, ◌*◌, ◌^◌, ◌<◌, ◌≤◌, ℕ, [], ◌∷◌, ◌++◌, IfOk, List, length};
 ghost use Rattle.std.specs.List.{All, sum_by};
 ghost use Rattle.cut_definitions.specs.declared.edge_list.Edge.{Edge};
-ghost use Rattle.cut_definitions.specs.Weight.{VertexSet};
-ghost use Rattle.vertex_classes.specs.Classes.{AreJoined, HasJoined, Respects};
-ghost use Rattle.forest_contraction.specs.Forests.{cut_term, cut_weight, level, AreForests, AreOver, AreTied, HasSameLevels};
+ghost use Rattle.vertex_classes.specs.Classes.{AreJoined, HasJoined};
+ghost use Rattle.forest_contraction.specs.Forests.{level, AreForests, AreOver, HasReach, HasSameLevels, HasTaken};
 
 use cut_definitions::{Edge, NoMemory};
 use std::alloc::Global;
@@ -66,8 +65,39 @@ fn put_edge(levels: &mut [Classes], joined: usize, edge: Edge, step: u64)
     join_levels(levels, joined, joined + count, edge.u, edge.v);
 }
 
-/// Puts an edge into the levels, and makes its ends one in the classes that are tied for a bound, where the steps of the
-/// levels that joined them before and its own weight reach that.
+/// Puts an edge into the levels, and tells how heavily its ends are joined: by the steps of the levels that joined them before,
+/// and by its own weight.
+fn put_and_reach(levels: &mut [Classes], edge: Edge, step: u64) -> u64
+    requires positive { 1 ≤ step }
+    requires light { edge.w ≤ 2 ^ 61 }
+    requires few { length levels.old * step ≤ 2 ^ 62 }
+    requires first { (l : ℕ) → l < length levels.old → edge.u < length (level levels.old l) }
+    requires second { (l : ℕ) → l < length levels.old → edge.v < length (level levels.old l) }
+    ensures count { length levels.new ≡ length levels.old }
+    ensures over { (size : ℕ) → AreOver size levels.old → AreOver size levels.new }
+    ensures forests { (es : List Edge) → AreForests es step levels.old → AreForests (es ++ edge ∷ []) step levels.new }
+    ensures heavy { edge.w ≤ result }
+    ensures reach { HasReach levels.old step edge result }
+{
+    let joined = count_joined(levels, edge.u, edge.v);
+    put_edge(levels, joined, edge, step);
+    joined as u64 * step + edge.w
+}
+
+/// Makes the ends of an edge one, where they are joined as heavily as a bound.
+fn join_reached(classes: &mut Classes, edge: Edge, reach: u64, bound: u64)
+    requires first { edge.u < length classes.old }
+    requires second { edge.v < length classes.old }
+    ensures taken { (levels : List (List ℕ)) (step : ℕ) → HasReach levels step edge reach → HasTaken levels step bound edge classes.old classes.new }
+    ensures heavy { bound ≤ reach → AreJoined classes.new edge.u edge.v }
+{
+    if reach >= bound {
+        classes.join(edge.u, edge.v);
+    }
+}
+
+/// Puts an edge into the levels, and makes its ends one in the classes that are tied for a bound, where the levels and its own
+/// weight reach that. An edge within a class is passed over: it could make no other vertices one.
 pub(crate) fn tie_edge(
     levels: &mut [Classes],
     tied: &mut Classes,
@@ -83,17 +113,45 @@ pub(crate) fn tie_edge(
     requires over { AreOver (length tied.old) levels.old }
     ensures count { length levels.new ≡ length levels.old }
     ensures over { AreOver (length tied.old) levels.new }
-    ensures long { length tied.new ≡ length tied.old }
     ensures forests { (es : List Edge) → AreForests es step levels.old → AreForests (es ++ edge ∷ []) step levels.new }
-    ensures kept { (s : VertexSet) → Respects tied.new s → Respects tied.old s }
-    ensures no_other { (s : VertexSet) → Respects tied.old s → s edge.u ≡ s edge.v → Respects tied.new s }
+    ensures taken { HasTaken levels.old step bound edge tied.old tied.new }
     ensures heavy { bound ≤ edge.w → AreJoined tied.new edge.u edge.v }
-    ensures tied { (es whole : List Edge) → AreForests es step levels.old → AreTied whole bound tied.old
-        → ((s : VertexSet) → cut_weight es s + cut_term s edge ≤ cut_weight whole s) → AreTied whole bound tied.new }
 {
-    let joined = count_joined(levels, edge.u, edge.v);
-    if joined as u64 * step + edge.w >= bound {
-        tied.join(edge.u, edge.v);
+    if tied.are_joined(edge.u, edge.v) {
+        return;
     }
-    put_edge(levels, joined, edge, step);
+    let reach = put_and_reach(levels, edge, step);
+    join_reached(tied, edge, reach, bound);
+}
+
+/// The same for two kinds of classes: some that are tied for a bound, and some that are tied for one more. An edge within one
+/// of the latter is passed over.
+pub(crate) fn tie_edge_twice(
+    levels: &mut [Classes],
+    tied: &mut Classes,
+    tied_above: &mut Classes,
+    edge: Edge,
+    bound: u64,
+    step: u64,
+)
+    requires positive { 1 ≤ step }
+    requires light { edge.w ≤ 2 ^ 61 }
+    requires fits { bound ≤ 2 ^ 61 }
+    requires few { length levels.old * step ≤ 2 ^ 62 }
+    requires first { edge.u < length tied.old }
+    requires second { edge.v < length tied.old }
+    requires same { length tied_above.old ≡ length tied.old }
+    requires over { AreOver (length tied.old) levels.old }
+    ensures count { length levels.new ≡ length levels.old }
+    ensures over { AreOver (length tied.old) levels.new }
+    ensures forests { (es : List Edge) → AreForests es step levels.old → AreForests (es ++ edge ∷ []) step levels.new }
+    ensures taken { HasTaken levels.old step bound edge tied.old tied.new }
+    ensures taken_above { HasTaken levels.old step (bound + 1) edge tied_above.old tied_above.new }
+{
+    if tied_above.are_joined(edge.u, edge.v) {
+        return;
+    }
+    let reach = put_and_reach(levels, edge, step);
+    join_reached(tied, edge, reach, bound);
+    join_reached(tied_above, edge, reach, bound + 1);
 }

@@ -4,10 +4,10 @@ ghost use Rattle.std.specs.Prelude.{◌≡◌, ◌^◌, ◌<◌, ◌≤◌, ℕ,
 ghost use Rattle.cut_definitions.specs.Cuts.{value};
 ghost use Rattle.cut_definitions.specs.Graph.{Graph};
 ghost use Rattle.weighted_graph.specs.ContractionLaws.{PartsNoClass};
-ghost use Rattle.forest_contraction.specs.Left.{IsContracted, IsLesser, IsLowered};
+ghost use Rattle.forest_contraction.specs.Left.{AreTies, IsContracted, IsLesser, IsLowered, Tells};
 
 use crate::leaning::leaning_classes;
-use crate::tying::tied_classes;
+use crate::tying::{TwoKinds, tied_classes, two_kinds};
 use cut_definitions::{EdgeList, NoMemory};
 use least_cut::least_degree;
 use std::alloc::Global;
@@ -78,6 +78,40 @@ fn shrunk(alloc: Global, list: &EdgeList, bound: u64) -> Result<Option<EdgeList>
     }
     let labels = tied_classes(alloc, list, bound)?;
     between_classes(alloc, list, &labels)
+}
+
+/// Labels of classes that no cut parts which weighs less than a bound, and that bound.
+#[derive(Drop)]
+pub struct Ties {
+    pub bound: u64,
+    pub labels: Labels,
+}
+
+/// The list with the classes that are tied for a bound made one, where these are a tenth fewer than the vertices, and the
+/// classes that are tied for one more.
+fn shrunk_with_ties(
+    alloc: Global,
+    list: &EdgeList,
+    bound: u64,
+) -> Result<Option<(EdgeList, Ties)>, NoMemory>
+    requires enough { 2 ≤ list.now.vertices }
+    requires fits { bound ≤ 2 ^ 61 }
+    requires above { value list.now ≤ bound }
+    ensures left { IfOk result (λ found. IfSome found (λ made. IsLesser (min bound (value list.now)) bound made.0)) }
+    ensures ties { IfOk result (λ found. IfSome found (λ made. AreTies list.now made.1)) }
+{
+    if are_held(list, bound) {
+        return Ok(None);
+    }
+    let TwoKinds { tied, tied_above } = two_kinds(alloc, list, bound)?;
+    let Some(small) = between_classes(alloc, list, &tied)? else {
+        return Ok(None);
+    };
+    let ties = Ties {
+        bound: bound + 1,
+        labels: tied_above,
+    };
+    Ok(Some((small, ties)))
 }
 
 /// The same with the classes of vertices that lean on one another.
@@ -191,15 +225,14 @@ fn pass(alloc: Global, list: &EdgeList, bound: u64) -> Result<Contracted, NoMemo
     after_pass(alloc, found, bound)
 }
 
-/// The first pass by forests; where it comes to nothing, one at a lower bound, if there is one.
-fn pass_by_forests(alloc: Global, list: &EdgeList, bound: u64) -> Result<Contracted, NoMemory>
+/// The pass by forests at a lower bound, if there is one, where that at the bound came to nothing.
+fn pass_below(alloc: Global, list: &EdgeList, bound: u64) -> Result<Contracted, NoMemory>
     requires enough { 2 ≤ list.now.vertices }
     requires fits { bound ≤ 2 ^ 61 }
     ensures { IfOk result (IsContracted list.now bound) }
 {
-    let made = pass(alloc, list, bound)?;
-    if made.list.is_some() || bound < LOW_BOUND {
-        return Ok(made);
+    if bound < LOW_BOUND {
+        return Ok(Contracted { bound, list: None });
     }
     let found = lighter(alloc, list, bound)?;
     if found.list.is_some() || found.bound >= bound {
@@ -209,13 +242,14 @@ fn pass_by_forests(alloc: Global, list: &EdgeList, bound: u64) -> Result<Contrac
     Ok(again)
 }
 
-/// The first pass: by forests, or where these come to nothing by vertices that lean on one another.
-fn first_pass(alloc: Global, list: &EdgeList, bound: u64) -> Result<Contracted, NoMemory>
+/// What is tried where a pass by forests at the bound came to nothing: one at a lower bound, and vertices that lean on one
+/// another.
+fn other_pass(alloc: Global, list: &EdgeList, bound: u64) -> Result<Contracted, NoMemory>
     requires enough { 2 ≤ list.now.vertices }
     requires fits { bound ≤ 2 ^ 61 }
     ensures { IfOk result (IsContracted list.now bound) }
 {
-    let made = pass_by_forests(alloc, list, bound)?;
+    let made = pass_below(alloc, list, bound)?;
     if made.list.is_some() {
         return Ok(made);
     }
@@ -250,6 +284,22 @@ fn contract_further(alloc: Global, list: EdgeList, bound: u64) -> Result<Left, N
     Ok(left)
 }
 
+/// What further passes leave of what the first one left.
+fn contract_rest(alloc: Global, first: Contracted) -> Result<Contracted, NoMemory>
+    requires { first.bound ≤ 2 ^ 61 }
+    ensures { (g : Graph) (bound : ℕ) → 2 ≤ g.vertices → value g ≤ bound → IsContracted g bound first → IfOk result (Tells g) }
+{
+    let Contracted { bound, list: found } = first;
+    let Some(small) = found else {
+        return Ok(Contracted { bound, list: None });
+    };
+    let Left { bound, list: left } = contract_further(alloc, small, bound)?;
+    Ok(Contracted {
+        bound,
+        list: Some(left),
+    })
+}
+
 /// A bound, and perhaps a smaller graph, from which the value of a graph of two or more vertices can be told: it is the lesser
 /// of the bound and the value of the smaller graph, or the bound where that has one vertex. Where there is no smaller graph
 /// the value is at most the bound. How small it is is free.
@@ -274,13 +324,61 @@ pub fn contract_list(alloc: Global, list: &EdgeList) -> Result<Contracted, NoMem
             list: None,
         });
     }
-    let Contracted { bound, list: found } = first_pass(alloc, list, least)?;
+    let Contracted { bound, list: found } = pass(alloc, list, least)?;
     let Some(small) = found else {
-        return Ok(Contracted { bound, list: None });
+        let other = other_pass(alloc, list, bound)?;
+        return contract_rest(alloc, other);
     };
-    let Left { bound, list: left } = contract_further(alloc, small, bound)?;
-    Ok(Contracted {
+    let made = Contracted {
         bound,
-        list: Some(left),
+        list: Some(small),
+    };
+    contract_rest(alloc, made)
+}
+
+/// What contraction leaves of a graph, and classes that no minimum cut parts, if the first pass came upon such.
+#[derive(Drop)]
+pub struct WithTies {
+    pub contracted: Contracted,
+    pub ties: Option<Ties>,
+}
+
+/// What `contract_list` answers, and with it classes that no minimum cut parts, where a pass by forests at the least degree
+/// shortens the list: no cut parts one of these that weighs less than one more than the least degree. Which vertices are
+/// made one, and whether there are such classes, is free.
+///
+/// One pass of forests makes both kinds of classes, in about the time of one. It takes 8 bytes more for each vertex than
+/// `contract_list`, and is refused only where memory is wanting.
+pub fn contract_with_ties(alloc: Global, list: &EdgeList) -> Result<WithTies, NoMemory>
+    requires { 2 ≤ list.now.vertices }
+    ensures left { IfOk result (λ c. MatchOption c.contracted.list (value list.now ≤ c.contracted.bound)
+        (λ small. value list.now ≡ (if nat_lt small.vertices 2 then c.contracted.bound else min c.contracted.bound (value small)))) }
+    ensures ties { IfOk result (λ c. IfSome c.ties (AreTies list.now)) }
+{
+    // known by this call: it is an edge list
+    let _n = list.n();
+    let least = least_degree(alloc, list)?;
+    if list.len() <= FEW_EDGES || least == 0 {
+        return Ok(WithTies {
+            contracted: Contracted {
+                bound: least,
+                list: None,
+            },
+            ties: None,
+        });
+    }
+    let Some((small, ties)) = shrunk_with_ties(alloc, list, least)? else {
+        let other = other_pass(alloc, list, least)?;
+        let contracted = contract_rest(alloc, other)?;
+        return Ok(WithTies {
+            contracted,
+            ties: None,
+        });
+    };
+    let made = after_pass(alloc, Some(small), least)?;
+    let contracted = contract_rest(alloc, made)?;
+    Ok(WithTies {
+        contracted,
+        ties: Some(ties),
     })
 }

@@ -8,8 +8,9 @@ ghost use Rattle.cut_definitions.specs.Graph.{IsEdgeWithin};
 ghost use Rattle.cut_definitions.specs.Weight.{VertexSet, weight};
 ghost use Rattle.vertex_classes.specs.Classes.{no_vertex, Respects};
 ghost use Rattle.forest_contraction.specs.Forests.{level, AreForests, AreOver, AreTied, JoinsHeavy};
+ghost use Rattle.forest_contraction.specs.Left.{AreLabelsTied};
 
-use crate::forests::tie_edge;
+use crate::forests::{tie_edge, tie_edge_twice};
 use cut_definitions::{Edge, EdgeList, NoMemory};
 use std::alloc::Global;
 use vertex_classes::Classes;
@@ -37,9 +38,10 @@ struct Measure {
 }
 
 /// The levels for a bound: with what an edge weighs at least they reach it, where there may be so many; and none where no edge
-/// weighs a step. The answer rests on neither; with a step above that some edges are not seen to reach the bound.
-fn measure_for(list: &EdgeList, bound: u64) -> Measure
-    requires { bound ≤ 2 ^ 62 }
+/// weighs a step. As far as there may be so many they fill a weight of their own. The answer rests on none of this; with a
+/// step above what an edge weighs some edges are not seen to reach the bound.
+fn measure_for(list: &EdgeList, bound: u64, filled: u64) -> Measure
+    requires { filled ≤ 2 ^ 62 }
     ensures positive { 1 ≤ result.step }
     ensures few { result.levels ≤ 16 }
     ensures fits { result.levels * result.step ≤ 2 ^ 62 }
@@ -52,7 +54,7 @@ fn measure_for(list: &EdgeList, bound: u64) -> Measure
     if heaviest < step {
         return Measure { levels: 0, step };
     }
-    let levels = (below / step).min(MOST_LEVELS) as usize;
+    let levels = (filled / step).min(MOST_LEVELS) as usize;
     Measure { levels, step }
 }
 
@@ -90,6 +92,71 @@ fn tie_edges(levels: &mut [Classes], tied: &mut Classes, edges: &[Edge], bound: 
     }
 }
 
+/// Puts all edges into the levels, and makes one what is tied for a bound, and in other classes what is tied for one more.
+fn tie_edges_twice(
+    levels: &mut [Classes],
+    tied: &mut Classes,
+    tied_above: &mut Classes,
+    edges: &[Edge],
+    bound: u64,
+    step: u64,
+)
+    requires positive { 1 ≤ step }
+    requires fits { bound ≤ 2 ^ 61 }
+    requires total { sum_by (λ (e : Edge). e.w) edges.now ≤ 2 ^ 61 }
+    requires few { length levels.old * step ≤ 2 ^ 62 }
+    requires within { All (IsEdgeWithin (length tied.old - 1)) edges.now }
+    requires same { length tied_above.old ≡ length tied.old }
+    requires over { AreOver (length tied.old) levels.old }
+    requires bare { (l : ℕ) → l < length levels.old → (s : VertexSet) → Respects (level levels.old l) s }
+    requires alone { (s : VertexSet) → Respects tied.old s }
+    requires alone_above { (s : VertexSet) → Respects tied_above.old s }
+    ensures long { length tied.new ≡ length tied.old }
+    ensures long_above { length tied_above.new ≡ length tied.old }
+    ensures tied { AreTied edges.now bound tied.new }
+    ensures tied_above { AreTied edges.now (bound + 1) tied_above.new }
+    ensures apart { Respects tied.new no_vertex }
+    ensures apart_above { Respects tied_above.new no_vertex }
+{
+    for edge in edges {
+        tie_edge_twice(levels, tied, tied_above, *edge, bound, step);
+    }
+}
+
+/// Classes that are tied for a bound, and classes that are tied for one more.
+#[derive(Drop)]
+pub(crate) struct TwoKinds {
+    pub(crate) tied: Labels,
+    pub(crate) tied_above: Labels,
+}
+
+/// Classes of the vertices that no cut parts which weighs less than a bound, and such for one more, by one pass over the
+/// edges. Which vertices are made one is as free as for `tied_classes`.
+pub(crate) fn two_kinds(alloc: Global, list: &EdgeList, bound: u64) -> Result<TwoKinds, NoMemory>
+    requires { bound ≤ 2 ^ 61 }
+    ensures tied { IfOk result (λ kinds. AreLabelsTied list.now bound kinds.tied) }
+    ensures tied_above { IfOk result (λ kinds. AreLabelsTied list.now (bound + 1) kinds.tied_above) }
+{
+    let n = list.n();
+    let measure = measure_for(list, bound, bound);
+    let mut levels = bare_levels(alloc, n, measure.levels)?;
+    let mut tied = Classes::new(alloc, n)?;
+    let mut above = Classes::new(alloc, n)?;
+    let edges = list.edges();
+    tie_edges_twice(
+        &mut levels,
+        &mut tied,
+        &mut above,
+        edges,
+        bound,
+        measure.step,
+    );
+    Ok(TwoKinds {
+        tied: Labels::of_classes(alloc, &tied)?,
+        tied_above: Labels::of_classes(alloc, &above)?,
+    })
+}
+
 /// Classes of the vertices that no cut parts which weighs less than a bound of at most 2^62. The ends of each edge that weighs
 /// the bound or more are in one.
 ///
@@ -103,7 +170,7 @@ pub fn tied_classes(alloc: Global, list: &EdgeList, bound: u64) -> Result<Labels
     ensures heavy { IfOk result (λ labels. All (λ (e : Edge). bound ≤ e.w → label labels e.u ≡ label labels e.v) list.now.edges) }
 {
     let n = list.n();
-    let measure = measure_for(list, bound);
+    let measure = measure_for(list, bound, bound.saturating_sub(1));
     let mut levels = bare_levels(alloc, n, measure.levels)?;
     let mut tied = Classes::new(alloc, n)?;
     tie_edges(&mut levels, &mut tied, list.edges(), bound, measure.step);

@@ -48,13 +48,13 @@ loop-edge-preserved c =
     record {
       count = omega (arith, so.count, inv.count);
       over = λ l h. omega (arith, so.over l h, inv.long);
-      long = omega (arith, so.long, inv.long);
+      long = omega (arith, so.taken.long, inv.long);
       forests = subst (λ (xs : List Edge). AreForests xs c.args.step c.tie_edge.new.levels) (sym more) (so.forests (take i es) inv.forests);
-      tied = so.tied (take i es) es inv.forests inv.tied (λ s. sum_by_more_le_part (cut_term s) (cut_term s) es i no_edge c.loop-edge-test.true (λ e. omega arith));
+      tied = so.taken.tied (take i es) es inv.forests inv.tied (λ s. sum_by_more_le_part (cut_term s) (cut_term s) es i no_edge c.loop-edge-test.true (λ e. omega arith));
       heavy = All-more (λ (d : Edge). c.args.bound ≤ d.w → AreJoined c.tie_edge.new.tied d.u d.v) es i no_edge c.loop-edge-test.true
           (All-weaker (λ (d : Edge). c.args.bound ≤ d.w → AreJoined c.loop-edge.tied d.u d.v) (λ (d : Edge). c.args.bound ≤ d.w → AreJoined c.tie_edge.new.tied d.u d.v)
-          (λ d h le s r. h le s (so.kept s r)) (take i es) inv.heavy) so.heavy;
-      apart = so.no_other no_vertex inv.apart (zero_out e.u ends.0 ∙ sym (zero_out e.v (omega (arith, ends.0, ends.1))));
+          (λ d h le s r. h le s (so.taken.kept s r)) (take i es) inv.heavy) so.heavy;
+      apart = so.taken.no_other no_vertex inv.apart (zero_out e.u ends.0 ∙ sym (zero_out e.v (omega (arith, ends.0, ends.1))));
     }
 
 pub returns-clause-heavy : goal.returns-clause-heavy

@@ -1,0 +1,62 @@
+-- One edge after another is put into the levels.
+use Rattle.std.proofs.Common.{◌∙◌, ◌-◌, ◌≡◌, List, get_or, length, take, refl, sym, subst, arith, false}
+use Rattle.std.proofs.lemmas.List.Elements.{All-get_or}
+use Rattle.std.proofs.lemmas.List.Sums.{sum_by_more_le_part}
+use Rattle.cut_definitions.specs.declared.edge_list.Edge.{Edge}
+use Rattle.cut_definitions.specs.Graph.{IsEdgeWithin}
+use Rattle.cut_definitions.specs.Weight.{VertexSet}
+use Rattle.std.proofs.lemmas.List.{take_more}
+use Rattle.cut_definitions.proofs.Running.{cut_part_le}
+use Rattle.vertex_classes.specs.Classes.{no_vertex}
+use Rattle.vertex_classes.proofs.Numbered.{zero_out}
+use Rattle.forest_contraction.specs.Forests.{cut_term, AreForests}
+use Rattle.weighted_graph.proofs.Rows.{no_edge}
+use Rattle.forest_contraction.proofs.tying.tie_edges_twice.Goals as goal
+
+pub tie_edge_twice-requires-clause-light : goal.tie_edge_twice-requires-clause-light
+tie_edge_twice-requires-clause-light c = omega (arith, cut_part_le (λ v. false) c.args.edges.now c.loop-edge.edge-index no_edge c.loop-edge-test.true, c.requires.total)
+
+pub tie_edge_twice-requires-clause-first : goal.tie_edge_twice-requires-clause-first
+tie_edge_twice-requires-clause-first c =
+    let at = All-get_or (IsEdgeWithin (length c.args.tied.now - 1)) c.args.edges.now c.loop-edge.edge-index no_edge c.loop-edge-test.true c.requires.within in
+    omega (arith, at.0, at.1, at.2, c.loop-edge.invariant.long)
+
+pub tie_edge_twice-requires-clause-second : goal.tie_edge_twice-requires-clause-second
+tie_edge_twice-requires-clause-second c =
+    let at = All-get_or (IsEdgeWithin (length c.args.tied.now - 1)) c.args.edges.now c.loop-edge.edge-index no_edge c.loop-edge-test.true c.requires.within in
+    omega (arith, at.0, at.1, at.2, c.loop-edge.invariant.long)
+
+pub loop-edge-init : goal.loop-edge-init
+loop-edge-init c = record {
+  count = refl;
+  over = c.requires.over;
+  long = refl;
+  long_above = c.requires.same;
+  forests = λ l h s light. c.requires.bare l h s;
+  tied = λ s light. c.requires.alone s;
+  tied_above = λ s light. c.requires.alone_above s;
+  apart = c.requires.alone no_vertex;
+  apart_above = c.requires.alone_above no_vertex;
+}
+
+pub loop-edge-preserved : goal.loop-edge-preserved
+loop-edge-preserved c =
+    let es = c.args.edges.now in
+    let i = c.loop-edge.edge-index in
+    let e = get_or es i no_edge in
+    let inv = c.loop-edge.invariant in
+    let so = c.tie_edge_twice.ensures in
+    let ends = All-get_or (IsEdgeWithin (length c.args.tied.now - 1)) es i no_edge c.loop-edge-test.true c.requires.within in
+    let zeros : no_vertex e.u ≡ no_vertex e.v = zero_out e.u ends.0 ∙ sym (zero_out e.v (omega (arith, ends.0, ends.1))) in
+    let part = λ (s : VertexSet). sum_by_more_le_part (cut_term s) (cut_term s) es i no_edge c.loop-edge-test.true (λ e. omega arith) in
+    record {
+      count = omega (arith, so.count, inv.count);
+      over = λ l h. omega (arith, so.over l h, inv.long);
+      long = omega (arith, so.taken.long, inv.long);
+      long_above = omega (arith, so.taken_above.long, inv.long_above);
+      forests = subst (λ (xs : List Edge). AreForests xs c.args.step c.tie_edge_twice.new.levels) (sym (take_more es i no_edge c.loop-edge-test.true)) (so.forests (take i es) inv.forests);
+      tied = so.taken.tied (take i es) es inv.forests inv.tied part;
+      tied_above = so.taken_above.tied (take i es) es inv.forests inv.tied_above part;
+      apart = so.taken.no_other no_vertex inv.apart zeros;
+      apart_above = so.taken_above.no_other no_vertex inv.apart_above zeros;
+    }
