@@ -1,0 +1,156 @@
+"""The shared library as a back end: the calls of mincut.h by ctypes, for the value, the count and the cactus.
+
+A call on a small graph without a time limit runs in this process, and an interrupt waits for its end, some milliseconds. All others run
+in a process of their own, which is ended where the call is interrupted or its time is over.
+"""
+from __future__ import annotations
+
+import ctypes
+import os
+import pickle
+import select
+import signal
+from array import array
+from collections.abc import Callable
+from ctypes import POINTER, byref, c_size_t, c_uint32, c_uint64
+from typing import Any, Optional
+
+from .cactus import Cactus, canonical
+from .errors import Disconnected, MincutError, NoCut, NoProgram, OutOfMemory, Refused, TimedOut, TooLarge
+from .graph import Graph
+
+EDGES_IN_PROCESS = 20_000
+MOST_COMPONENTS = 127                  # as in the program, whose count has 127 bits
+NO_CUT, OUT_OF_MEMORY, DISCONNECTED = 1, 2, 8
+FAULTS = {3: 'the arrays differ in length', 4: 'too many vertices', 5: 'too many edges', 6: 'an end of an edge is no vertex',
+          7: 'the weights add up to more than 2^61', 9: 'an array is too short'}
+
+
+class Bridge(ctypes.Structure):
+    _fields_ = [('upper', c_uint64), ('lower', c_uint64)]
+
+
+class Sizes(ctypes.Structure):
+    _fields_ = [('value', c_uint64), ('nodes', c_size_t), ('vertices', c_size_t), ('bridges', c_size_t), ('cycles', c_size_t),
+                ('members', c_size_t)]
+
+
+class Library:
+    """Answers by the shared library; lists of vertices are lists of their places, counted from 0."""
+    name = 'library'
+
+    def __init__(self, path: str):
+        """Raises NoProgram where the file is no such library."""
+        graph = [c_uint32, c_size_t, POINTER(c_uint32), POINTER(c_uint32), POINTER(c_uint64)]
+        try:
+            loaded = ctypes.CDLL(path)
+            loaded.mincut_value.argtypes = loaded.mincut_count.argtypes = graph + [POINTER(c_uint64)]
+            loaded.mincut_cactus.argtypes = graph + [POINTER(Sizes), POINTER(c_size_t), POINTER(c_uint32), POINTER(Bridge),
+                                                     POINTER(c_size_t), POINTER(c_uint64)]
+        except (OSError, AttributeError) as fault:
+            raise NoProgram(f'{path} is no library of mincut ({fault})') from None
+        self.path, self.loaded = path, loaded
+
+    def value(self, graph: Graph, time_limit: Optional[float] = None) -> int:
+        return alone(lambda: self.number(self.loaded.mincut_value, graph), graph, time_limit)
+
+    def count(self, graph: Graph, time_limit: Optional[float] = None) -> tuple[int, int]:
+        """(value, number of minimum cuts)."""
+        def both() -> tuple[int, int]:
+            return self.number(self.loaded.mincut_value, graph), self.number(self.loaded.mincut_count, graph)
+        try:
+            return alone(both, graph, time_limit)
+        except Disconnected as fault:
+            if fault.components > MOST_COMPONENTS:
+                raise TooLarge(8, f'count too large: {fault.components} components') from None
+            return 0, 2 ** (fault.components - 1) - 1
+
+    def cactus(self, graph: Graph, time_limit: Optional[float] = None) -> Cactus:
+        return alone(lambda: self.whole_cactus(graph), graph, time_limit)
+
+    def number(self, call: Callable[..., int], graph: Graph) -> int:
+        result = c_uint64()
+        checked(call(*arrays(graph), byref(result)), graph)
+        return result.value
+
+    def whole_cactus(self, graph: Graph) -> Cactus:
+        n, sizes = len(graph.names), Sizes()
+        starts, vertices, bridges = (c_size_t * (2 * n))(), (c_uint32 * n)(), (Bridge * (2 * n))()
+        cycles, members = (c_size_t * n)(), (c_uint64 * (3 * n))()
+        checked(self.loaded.mincut_cactus(*arrays(graph), byref(sizes), starts, vertices, bridges, cycles, members), graph)
+        return canonical(Cactus(sizes.value, lists_of(vertices, starts, sizes.nodes, sizes.vertices),
+                                [(bridge.upper, bridge.lower) for bridge in bridges[:sizes.bridges]],
+                                lists_of(members, cycles, sizes.cycles, sizes.members)))
+
+
+def arrays(graph: Graph) -> tuple[Any, ...]:
+    """The graph as the first five arguments of each call."""
+    columns = zip(*graph.edges) if graph.edges else ((), (), ())
+    try:
+        heads, tails, weights = (array(code, column) for code, column in zip('IIQ', columns))
+    except OverflowError:
+        raise Refused(1, FAULTS[7]) from None
+    count = len(graph.edges)
+    return (len(graph.names), count, (c_uint32 * count).from_buffer(heads), (c_uint32 * count).from_buffer(tails),
+            (c_uint64 * count).from_buffer(weights))
+
+
+def lists_of(items: Any, starts: Any, count: int, total: int) -> list[list[int]]:
+    ends = [*starts[1:count], total]
+    return [list(items[starts[i]:ends[i]]) for i in range(count)]
+
+
+def checked(status: int, graph: Graph) -> None:
+    if status == NO_CUT:
+        raise NoCut('the graph has fewer than two vertices, so there is no cut; give one with two or more')
+    if status == DISCONNECTED:
+        raise Disconnected(len(graph.components()))
+    if status == OUT_OF_MEMORY:
+        raise OutOfMemory(5, 'out of memory')
+    if status:
+        raise Refused(1, FAULTS.get(status, f'the library ended with status {status}'))
+
+
+# A call in a process of its own
+
+def alone(call: Callable[[], Any], graph: Graph, time_limit: Optional[float]) -> Any:
+    """What the call answers or raises: in a child where a time limit is set or the graph is large, else in this process."""
+    if time_limit is None and len(graph.edges) <= EDGES_IN_PROCESS:
+        return call()
+    reading, writing = os.pipe()
+    child = os.fork()
+    if child == 0:
+        answer_and_exit(call, writing)
+    os.close(writing)
+    try:
+        with os.fdopen(reading, 'rb') as answers:
+            if not select.select([answers], [], [], time_limit)[0]:
+                raise TimedOut(time_limit or 0)
+            text = answers.read()
+    except BaseException:
+        os.kill(child, signal.SIGKILL)
+        raise
+    finally:
+        os.waitpid(child, 0)
+    if not text:
+        raise MincutError('the library ended without an answer')
+    answer = pickle.loads(text)
+    if isinstance(answer, Exception):
+        raise answer
+    return answer
+
+
+def answer_and_exit(call: Callable[[], Any], writing: int) -> None:
+    """In the child: writes the answer, or the exception, and ends without anything of its parent's being closed or flushed."""
+    status = 1
+    try:
+        signal.signal(signal.SIGINT, signal.SIG_IGN)
+        try:
+            answer = call()
+        except MincutError as fault:
+            answer = fault
+        with os.fdopen(writing, 'wb') as pipe:
+            pickle.dump(answer, pipe)
+        status = 0
+    finally:
+        os._exit(status)

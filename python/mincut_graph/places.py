@@ -1,0 +1,45 @@
+"""Where the program and the library are found."""
+from __future__ import annotations
+
+import os
+import shutil
+from pathlib import Path
+from typing import Optional
+
+HERE = Path(__file__).resolve().parent
+
+
+def checkout() -> Optional[Path]:
+    """The folder of the repository: the one that the package lies in, or the one that it was installed from, where that is still there."""
+    folders = [HERE.parent.parent]
+    remembered = HERE / 'checkout.txt'
+    if remembered.is_file():
+        folders.append(Path(remembered.read_text('utf-8').strip()))
+    return next((folder for folder in folders if (folder / 'mincut').is_file() and (folder / 'crates.txt').is_file()), None)
+
+
+def find_program(named: Optional[str] = None) -> Optional[str]:
+    """The path of the program: the one that is named, or that of the environment's MINCUT, or `mincut` of the repository, or the one
+    on the path; None where there is none."""
+    if named or os.environ.get('MINCUT'):
+        return named or os.environ['MINCUT']
+    folder = checkout()
+    return str(folder / 'mincut') if folder else shutil.which('mincut')
+
+
+def find_library(named: Optional[str] = None) -> Optional[str]:
+    """The path of the shared library: the one that is named, or that of the environment's MINCUT_LIBRARY, or out/libmincut.so of the
+    repository where that is built; None where there is none."""
+    if named or os.environ.get('MINCUT_LIBRARY'):
+        return named or os.environ['MINCUT_LIBRARY']
+    folder = checkout()
+    built = folder / 'out' / 'libmincut.so' if folder else None
+    return str(built) if built and built.is_file() else None
+
+
+def unbuilt(program: str) -> bool:
+    """Whether this is the `mincut` of the repository, which has yet to prove and build the program."""
+    folder = checkout()
+    if folder is None or os.path.realpath(program) != os.path.realpath(folder / 'mincut'):
+        return False
+    return not (folder / 'crates' / 'mincut' / 'out' / 'mincut').exists()

@@ -1,0 +1,141 @@
+"""The program `mincut` as a back end: each call runs it once, in a process of its own that ends with the call."""
+from __future__ import annotations
+
+import os
+import signal
+import subprocess
+from collections.abc import Sequence
+from typing import Optional
+
+from .cactus import Cactus, read_cactus
+from .errors import Disconnected, MincutError, NoCut, NoProgram, TimedOut, failure
+from .graph import Graph
+from .places import find_program, unbuilt
+
+GRACE = 2.0                            # seconds between the request to end and the order
+HINT = 'name it by program=, --program or the variable MINCUT, or install this package from its repository'
+
+
+class Program:
+    """Answers by the program; lists of vertices are lists of their places, counted from 0.
+
+    A call that is interrupted, or takes longer than `time_limit` seconds, ends the process before it raises."""
+    name = 'program'
+
+    def __init__(self, path: Optional[str] = None, workers: Optional[int] = None):
+        """`path` as in `places.find_program`; raises NoProgram where there is none. `workers` is 1 to 64; None leaves it to the program."""
+        found = find_program(path)
+        if found is None:
+            raise NoProgram(f'the program mincut was not found; {HINT}')
+        self.path = found
+        self.options = ['--workers', str(workers)] if workers else []
+
+    def run(self, words: Sequence[object], text: str, time_limit: Optional[float] = None) -> list[list[str]]:
+        """The lines that the program prints for these words and this input, each as a list of words."""
+        if unbuilt(self.path):
+            self.build()
+        try:
+            child = subprocess.Popen([self.path, *map(str, words), *self.options], stdin=subprocess.PIPE, stdout=subprocess.PIPE,
+                                     stderr=subprocess.PIPE, start_new_session=True)
+        except OSError as fault:
+            raise NoProgram(f'{self.path} cannot be run ({fault.strerror}); {HINT}') from None
+        try:
+            out, err = child.communicate(text.encode(), time_limit)
+        except subprocess.TimeoutExpired:
+            end(child)
+            raise TimedOut(time_limit or 0) from None
+        except BaseException:
+            end(child)
+            raise
+        if child.returncode != 0:
+            raise failure(child.returncode, err.decode('utf-8', 'replace').strip())
+        return [line.split() for line in out.decode().splitlines()]
+
+    def build(self) -> None:
+        """Lets the repository's `mincut` prove and build the program, which it tells on standard error; no time limit is on that."""
+        child = subprocess.Popen([self.path, '--version'], stdin=subprocess.DEVNULL, stdout=subprocess.DEVNULL, start_new_session=True)
+        try:
+            child.wait()
+        except BaseException:
+            end(child)
+            raise
+        if child.returncode != 0:
+            raise failure(child.returncode, 'the program could not be proved and built')
+
+    def answer(self, graph: Graph, words: Sequence[object], time_limit: Optional[float]) -> list[list[str]]:
+        """The lines for a graph; raises NoCut and Disconnected where these are the answer."""
+        lines = self.run(words, graph.metis_text(), time_limit)
+        if not lines:
+            raise MincutError(f'{self.path} printed nothing for the job {words[0]}')
+        if lines[0] == ['no', 'cut']:
+            raise NoCut('the graph has fewer than two vertices, so there is no cut; give one with two or more')
+        if lines[0][0] == 'disconnected':
+            raise Disconnected(int(lines[0][1]))
+        return lines
+
+    def value(self, graph: Graph, time_limit: Optional[float] = None) -> int:
+        return int(self.answer(graph, ['value'], time_limit)[0][1])
+
+    def count(self, graph: Graph, time_limit: Optional[float] = None) -> tuple[int, int]:
+        lines = self.answer(graph, ['count'], time_limit)
+        return int(lines[0][1]), int(lines[1][1])
+
+    def cactus(self, graph: Graph, time_limit: Optional[float] = None) -> Cactus:
+        return read_cactus(self.answer(graph, ['cactus'], time_limit))
+
+    def sides(self, graph: Graph, least: Optional[int], parting: Optional[tuple[int, int]],
+              time_limit: Optional[float] = None) -> tuple[int, list[list[int]]]:
+        """(value, sides) of all minimum cuts, or of those of balance `least` or more, or of those that part two vertices."""
+        words: list[object] = ['part', parting[0] + 1, parting[1] + 1] if parting is not None else ['cuts']
+        words += ['--least', least] if least is not None else []
+        lines = self.answer(graph, words, time_limit)
+        return int(lines[0][1]), [places(line) for line in lines[2:]]
+
+    def balanced(self, graph: Graph, time_limit: Optional[float] = None) -> tuple[int, int, list[int]]:
+        """(value, balance, side) of a most balanced minimum cut."""
+        lines = self.answer(graph, ['balanced'], time_limit)
+        return int(lines[0][1]), int(lines[1][1]), places(lines[2][1:])
+
+    def augment(self, graph: Graph, time_limit: Optional[float] = None) -> tuple[int, list[list[int]], list[list[int]]]:
+        """(value, edges, sets) of the job `augment`."""
+        lines = self.answer(graph, ['augment'], time_limit)
+        return (int(lines[0][1]), [places(line[1:]) for line in lines if line[0] == 'edge'],
+                [places(line[1:]) for line in lines if line[0] == 'set'])
+
+    def grow(self, graph: Graph, insertions: Sequence[tuple[int, int, int]],
+             time_limit: Optional[float] = None) -> tuple[list[tuple[int, int]], Cactus]:
+        """(steps, cactus) after insertions of edges (i, j, w): the value and the count after each, and the cactus after the last."""
+        words = [number for i, j, w in insertions for number in (i + 1, j + 1, w)]
+        lines = self.answer(graph, ['grow', *words], time_limit)
+        steps = [(int(line[3]), int(line[5])) for line in lines[:len(insertions)]]
+        if lines[len(insertions)][0] == 'disconnected':
+            raise Disconnected(int(lines[len(insertions)][1]))
+        return steps, read_cactus(lines[len(insertions):])
+
+    def version(self) -> str:
+        """What the program says of itself, as 'mincut 1.0.0'."""
+        return ' '.join(self.run(['--version'], '', 60)[0])
+
+
+def places(words: Sequence[str]) -> list[int]:
+    return [int(word) - 1 for word in words]
+
+
+def end(child: subprocess.Popen[bytes]) -> None:
+    """Ends a process and all that it started, and takes in what is left of it."""
+    for signal_number, seconds in ((signal.SIGTERM, GRACE), (signal.SIGKILL, None)):
+        try:
+            os.killpg(child.pid, signal_number)
+        except ProcessLookupError:
+            pass
+        try:
+            child.wait(seconds)
+            break
+        except subprocess.TimeoutExpired:
+            continue
+    for stream in (child.stdin, child.stdout, child.stderr):
+        if stream is not None:
+            try:
+                stream.close()
+            except OSError:
+                pass

@@ -1,0 +1,4 @@
+"""Files of other programs, as raw graphs."""
+from .files import FORMATS, ReadOptions, read_graph
+
+__all__ = ['FORMATS', 'ReadOptions', 'read_graph']

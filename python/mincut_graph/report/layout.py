@@ -1,0 +1,302 @@
+"""Where the vertices of a graph and the nodes of its cactus stand in a picture. All places are (right, down) in units of one step."""
+from __future__ import annotations
+
+import heapq
+import math
+from collections.abc import Mapping, Sequence
+
+Point = tuple[float, float]
+Lengths = list[dict[int, float]]
+
+STEPS = 5_000_000                      # pairs that are looked at, a few seconds' work
+
+
+# A graph
+
+def graph_places(near: Sequence[Sequence[int]]) -> list[Point]:
+    """Places whose distances fit the numbers of steps between the vertices of a connected graph: a start by pivots, then stress
+    majorization (Gansner, Koren and North, 2004). `near` has the neighbours of each vertex."""
+    count = len(near)
+    if count == 1:
+        return [(0.0, 0.0)]
+    distances = [steps_from(near, i) for i in range(count)]
+    xs, ys = pivot_places(distances)
+    weights = [[0.0 if i == j else 1.0 / (d * d) for j, d in enumerate(row)] for i, row in enumerate(distances)]
+    for _ in range(max(8, min(200, STEPS // (count * count)))):
+        for i in range(count):
+            xs[i], ys[i] = pulled(xs[i], ys[i], xs, ys, distances[i], weights[i])
+    return list(zip(xs, ys))
+
+
+def pulled(x: float, y: float, xs: list[float], ys: list[float], lengths: Sequence[float], weights: Sequence[float]) -> Point:
+    """Where a point wants to be, for all others where they are."""
+    sum_x = sum_y = total = 0.0
+    for other_x, other_y, length, weight in zip(xs, ys, lengths, weights):
+        if weight:
+            away_x, away_y = x - other_x, y - other_y
+            share = length / (math.sqrt(away_x * away_x + away_y * away_y) or 1e-9)
+            sum_x += weight * (other_x + share * away_x)
+            sum_y += weight * (other_y + share * away_y)
+            total += weight
+    return sum_x / total, sum_y / total
+
+
+def steps_from(near: Sequence[Sequence[int]], start: int) -> list[int]:
+    """The number of steps from one vertex to each."""
+    steps = [-1] * len(near)
+    steps[start] = 0
+    reached = [start]
+    for i in reached:
+        for j in near[i]:
+            if steps[j] < 0:
+                steps[j] = steps[i] + 1
+                reached.append(j)
+    return steps
+
+
+def pivot_places(distances: list[list[int]]) -> tuple[list[float], list[float]]:
+    """Places by the distances to some far vertices (Pivot MDS, Brandes and Pich, 2006): the two directions of greatest spread."""
+    count = len(distances)
+    pivots = [0]
+    far = list(distances[0])
+    while len(pivots) < min(count, 30):
+        pivots.append(max(range(count), key=far.__getitem__))
+        far = [min(a, b) for a, b in zip(far, distances[pivots[-1]])]
+    rows = [[float(distances[p][i] ** 2) for p in pivots] for i in range(count)]
+    column_means = [sum(column) / count for column in zip(*rows)]
+    mean = sum(column_means) / len(pivots)
+    table = []
+    for row in rows:
+        row_mean = sum(row) / len(row)
+        table.append([-(entry - row_mean - column + mean) / 2 for entry, column in zip(row, column_means)])
+    axes: list[list[float]] = []
+    for turn in range(2):
+        axes.append(main_axis(table, axes, turn))
+    found = [[sum(a * b for a, b in zip(row, axis)) for row in table] for axis in axes]
+    spread = max(max(map(abs, found[0])), 1e-9)
+    scale = max(map(max, distances)) / 2 / spread
+    return [[scale * x + 0.01 * math.sin(7.0 * i + k) for i, x in enumerate(line)] for k, line in enumerate(found)][:2] # type: ignore[return-value]
+
+
+def main_axis(table: list[list[float]], others: list[list[float]], turn: int) -> list[float]:
+    """The direction of greatest spread that stands upright on the others, by power iteration."""
+    width = len(table[0])
+    axis = [math.cos(1.0 + turn + 3.0 * k) for k in range(width)]
+    for _ in range(60):
+        for other in others:
+            share = sum(a * b for a, b in zip(axis, other))
+            axis = [a - share * b for a, b in zip(axis, other)]
+        sums = [sum(a * b for a, b in zip(row, axis)) for row in table]
+        axis = [sum(s * row[k] for s, row in zip(sums, table)) for k in range(width)]
+        length = math.sqrt(sum(a * a for a in axis)) or 1.0
+        axis = [a / length for a in axis]
+    return axis
+
+
+# A small cactus
+
+def small_cactus_places(count: int, bridges: Sequence[Sequence[int]], cycles: Sequence[Sequence[int]]) -> list[Point]:
+    """Places of the nodes of a cactus with up to some 40 nodes: in circles around node 0, and from there moved to where the lengths of
+    the ways fit best, as long as no two lines come to cross."""
+    near = cactus_lengths(count, bridges, cycles)
+    places = dict(enumerate(circles_around(0, blocks_at(count, bridges, cycles))))
+    lines = [(i, j) for i, j in bridges] + [pair for cycle in cycles for pair in zip(cycle, [*cycle[1:], cycle[0]])]
+    spread(places, near, lines)
+    return upright([places[i] for i in range(count)])
+
+
+def cactus_lengths(count: int, bridges: Sequence[Sequence[int]], cycles: Sequence[Sequence[int]]) -> Lengths:
+    """How far two nodes of one block should stand apart: a step for a bridge, and the chords of a regular polygon for a cycle."""
+    near: Lengths = [{} for _ in range(count)]
+    for i, j in bridges:
+        near[i][j] = near[j][i] = 1.0
+    for cycle in cycles:
+        size = len(cycle)
+        for p, i in enumerate(cycle):
+            for q, j in enumerate(cycle):
+                if i != j:
+                    near[i][j] = math.sin(math.pi * abs(p - q) / size) / math.sin(math.pi / size)
+    return near
+
+
+def blocks_at(count: int, bridges: Sequence[Sequence[int]], cycles: Sequence[Sequence[int]]) -> list[list[list[int]]]:
+    at: list[list[list[int]]] = [[] for _ in range(count)]
+    for block in [list(bridge) for bridge in bridges] + [list(cycle) for cycle in cycles]:
+        for i in block:
+            at[i].append(block)
+    return at
+
+
+def tree_below(root: int, at: list[list[list[int]]]) -> tuple[list[int], dict[int, list[int]]]:
+    """(the nodes from the root downwards, the children of each), children of one block side by side and in its order."""
+    seen, order = {root}, [root]
+    below: dict[int, list[int]] = {}
+    for i in order:
+        below[i] = []
+        for block in at[i]:
+            place = block.index(i)
+            fresh = [j for j in block[place + 1:] + block[:place] if j not in seen]
+            seen.update(fresh)
+            order += fresh
+            below[i] += fresh
+    return order, below
+
+
+def circles_around(root: int, at: list[list[list[int]]]) -> list[Point]:
+    """Nodes on circles around the root by their depth, each in the sector of its branch: no two lines cross."""
+    order, below = tree_below(root, at)
+    leaves: dict[int, int] = {}
+    for i in reversed(order):
+        leaves[i] = sum(leaves[j] for j in below[i]) or 1
+    step = max(1.0, leaves[root] / (2 * math.pi))
+    depth, sector = {root: 0}, {root: (0.0, 2 * math.pi)}
+    places: dict[int, Point] = {}
+    for i in order:
+        low, high = sector[i]
+        angle = (low + high) / 2
+        places[i] = (step * depth[i] * math.cos(angle), step * depth[i] * math.sin(angle))
+        slots = leaves[i] if i != root else leaves[root] + len(at[root])
+        room = min(high - low, 2 * math.acos(depth[i] / (depth[i] + 1))) if i != root else high
+        low = angle - room / 2
+        for j in below[i]:
+            depth[j] = depth[i] + 1
+            sector[j] = (low, low + room * leaves[j] / slots)
+            low = sector[j][1]
+    return [places[i] for i in range(len(at))]
+
+
+def all_distances(near: Lengths) -> list[dict[int, float]]:
+    """The lengths of the shortest ways between all pairs."""
+    table = []
+    for start in range(len(near)):
+        length: dict[int, float] = {}
+        todo = [(0.0, start)]
+        while todo:
+            here, i = heapq.heappop(todo)
+            if i not in length:
+                length[i] = here
+                for j, step in near[i].items():
+                    heapq.heappush(todo, (here + step, j))
+        table.append(length)
+    return table
+
+
+def spread(places: dict[int, Point], near: Lengths, lines: list[tuple[int, int]]) -> None:
+    """Moves all to where their distances fit the lengths of the shortest ways best; neighbours count eight times."""
+    names = list(places)
+    wanted = all_distances(near)
+    lengths = [[wanted[i][j] for j in names] for i in names]
+    weights = [[0.0 if i == j else (8.0 if j in near[i] else 1.0) / wanted[i][j] ** 2 for j in names] for i in names]
+    work = len(names) ** 2 + 10 * len(lines) * len(names)
+    for _ in range(max(5, min(300, STEPS // work))):
+        xs, ys = [places[i][0] for i in names], [places[i][1] for i in names]
+        for i in names:
+            x, y = places[i]
+            goal = pulled(x, y, xs, ys, lengths[i], weights[i]) if len(names) > 1 else (x, y)
+            for share in (1.0, 0.3):
+                spot = (x + share * (goal[0] - x), y + share * (goal[1] - y))
+                if may_move(i, spot, places, lines):
+                    places[i] = spot
+                    xs[i], ys[i] = spot
+                    break
+
+
+def turns_left(a: Point, b: Point, c: Point) -> bool:
+    return (b[0] - a[0]) * (c[1] - a[1]) - (b[1] - a[1]) * (c[0] - a[0]) > 0
+
+
+def cross(a: Point, b: Point, c: Point, d: Point) -> bool:
+    """Whether the lines from a to b and from c to d cross."""
+    return turns_left(a, b, c) != turns_left(a, b, d) and turns_left(c, d, a) != turns_left(c, d, b)
+
+
+def may_move(i: int, spot: Point, places: Mapping[int, Point], lines: list[tuple[int, int]]) -> bool:
+    """Whether node i can move straight to the spot so that no line comes to cross another or goes over a node."""
+    old = places[i]
+    mine = [k if j == i else j for j, k in lines if i in (j, k)]
+    others = [(places[j], places[k], j, k) for j, k in lines if i not in (j, k)]
+    if any(cross(old, spot, a, b) for a, b, _, _ in others):
+        return False
+    for j in mine:
+        if any(cross(spot, places[j], a, b) for a, b, k, m in others if j not in (k, m)):
+            return False
+    return all(keeps_clear(old, spot, other, [places[j] for j in mine if j != k]) for k, other in places.items() if k != i)
+
+
+def keeps_clear(old: Point, spot: Point, other: Point, ends: list[Point]) -> bool:
+    """Whether a node that moves from `old` to `spot`, with lines to the ends, stays off another node."""
+    length = math.hypot(spot[0] - other[0], spot[1] - other[1])
+    if length < 0.6 and length < math.hypot(old[0] - other[0], old[1] - other[1]):
+        return False
+    return all(len({turns_left(old, spot, other), turns_left(spot, end, other), turns_left(end, old, other)}) > 1 for end in ends)
+
+
+def upright(places: list[Point]) -> list[Point]:
+    """The places turned so that their longest direction is downwards, with the first in the upper half."""
+    mid_x = sum(x for x, _ in places) / len(places)
+    mid_y = sum(y for _, y in places) / len(places)
+    xx = sum((x - mid_x) ** 2 for x, _ in places)
+    yy = sum((y - mid_y) ** 2 for _, y in places)
+    xy = sum((x - mid_x) * (y - mid_y) for x, y in places)
+    turn = math.pi / 2 - math.atan2(2 * xy, xx - yy) / 2
+    cos, sin = math.cos(turn), math.sin(turn)
+    turned = [((x - mid_x) * cos - (y - mid_y) * sin, (x - mid_x) * sin + (y - mid_y) * cos) for x, y in places]
+    return [(-x, -y) for x, y in turned] if turned[0][1] > 0 else turned
+
+
+# A large cactus
+
+def large_cactus_places(count: int, bridges: Sequence[Sequence[int]], cycles: Sequence[Sequence[int]]) -> tuple[list[Point], list[float]]:
+    """(places, angles) of any cactus: circles around the node, or the cycle, in its middle; each branch has a sector as wide as its leaves
+    need. One unit is the room of a leaf along its circle; an angle says in which direction a node lies from the middle."""
+    at = blocks_at(count, bridges, cycles)
+    middle, ring = middle_of(at, cycles)
+    order, below = tree_below(middle, at)
+    if ring:
+        below[middle] = [j for j in below[middle] if j not in ring]
+    depth = {middle: 1 if ring else 0}
+    depth.update({i: 1 for i in ring})
+    for i in order:
+        for j in below[i]:
+            depth[j] = depth[i] + 1
+    need: dict[int, float] = {}
+    for i in reversed(order):
+        need[i] = max(sum(need[j] for j in below[i]), 1 / max(depth[i], 1))
+    tops = ring or [middle]
+    whole = sum(need[i] for i in tops)
+    step = max(3.0, whole / (2 * math.pi))
+    angles = [0.0] * count
+    low = -math.pi / 2
+    sectors = {}
+    for i in tops:
+        sectors[i] = (low, low + 2 * math.pi * need[i] / whole)
+        low = sectors[i][1]
+    for i in ([*ring, *(k for k in order if k not in set(ring))] if ring else order):
+        low, high = sectors[i]
+        angles[i] = (low + high) / 2
+        inner = sum(need[j] for j in below[i])
+        low = angles[i] - (high - low) / 2 * min(1.0, inner / need[i])
+        for j in below[i]:
+            sectors[j] = (low, low + (high - sectors[i][0]) * need[j] / need[i])
+            low = sectors[j][1]
+    return [(step * depth[i] * math.cos(angles[i]), step * depth[i] * math.sin(angles[i])) for i in range(count)], angles
+
+
+def middle_of(at: list[list[list[int]]], cycles: Sequence[Sequence[int]]) -> tuple[int, list[int]]:
+    """(node, cycle): a node of whose branches none has more than half of all nodes, and the longest cycle at it if that has a tenth of
+    all nodes, else an empty list."""
+    order, below = tree_below(0, at)
+    size: dict[int, int] = {}
+    for i in reversed(order):
+        size[i] = 1 + sum(size[j] for j in below[i])
+    middle = 0
+    while True:
+        heavy = [j for j in below[middle] if 2 * size[j] > len(at)]
+        if not heavy:
+            break
+        middle = heavy[0]
+    ring = max((cycle for cycle in cycles if middle in cycle), key=len, default=[])
+    if len(ring) < max(4, len(at) / 10):
+        return middle, []
+    place = list(ring).index(middle)
+    return middle, [*ring[place:], *ring[:place]]
