@@ -1,7 +1,7 @@
 //! The flat cactus: nodes, bridges and cycles by the numbers of the nodes.
 
 ghost use Rattle.std.specs.Prelude.{◌≡◌, ◌<◌, ◌+◌, [], ◌∷◌, ◌++◌, slice_range, IfOk, OnOk, OnErr, Some, length, slice_get};
-ghost use Rattle.flat_cactus.specs.Flat.{AreStarts, appended_to_last, start_of};
+ghost use Rattle.flat_cactus.specs.Flat.{AreStarts, appended_to_last, cut_at, start_of};
 
 use cut_definitions::NoMemory;
 use std::alloc::Global;
@@ -150,6 +150,20 @@ impl FlatCactus {
         ensures { slice_get self.now.nodes i ≡ Some result.now }
     {
         list_at(&self.vertices, &self.node_starts, i)
+    }
+
+    /// Where the vertices of each node begin in one list of them all, and that list, lent without a copy.
+    pub fn node_lists(&self) -> (&[usize], &[u32])
+        ensures { cut_at result.0.now result.1.now ≡ self.now.nodes }
+    {
+        (&self.node_starts, &self.vertices)
+    }
+
+    /// Where the members of each cycle begin in one list of them all, and that list, lent without a copy.
+    pub fn cycle_lists(&self) -> (&[usize], &[u64])
+        ensures { cut_at result.0.now result.1.now ≡ self.now.cycles }
+    {
+        (&self.cycle_starts, &self.members)
     }
 
     /// All bridges, lent without a copy.

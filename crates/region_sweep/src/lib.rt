@@ -17,4 +17,4 @@ mod surplus;
 mod sweep;
 mod weights;
 
-pub use sweep::tree_by_workers;
+pub use sweep::{tree_by_workers, tree_of};
