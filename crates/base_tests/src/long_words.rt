@@ -33,7 +33,10 @@ fn long_words_are_read_in_pieces(rt: HostRuntime) -> Result<(), Fail> {
                 v: 2,
                 w: *weight,
             };
-            assert_eq!(rt; edges(rt.alloc(), text, length)?.as_slice(), [wanted].as_slice());
+            assert_eq!(rt;
+                edges(rt.alloc(), text, length)?.as_slice(),
+                [wanted].as_slice()
+            );
         }
     }
     Ok(())
