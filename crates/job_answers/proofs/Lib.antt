@@ -2,6 +2,7 @@ pub mod Answering
 pub mod Bytes
 pub mod Connected
 pub mod Inserted
+mod OneAnswer
 pub mod OneAugmentation
 pub mod OneText
 pub mod Raises

@@ -31,7 +31,7 @@ flat_over m n c d e hc hd kc kd =
 pub same_sides : (g : Graph) (c d : Rooted) → IsCactusOf g c → IsCactusOf g d → HaveSameSides c d
 same_sides g c d a b = λ side. ((λ k. (b.sides side).1 ((a.sides side).0 k)), (λ k. (a.sides side).1 ((b.sides side).0 k)))
 
-one_flat_of : (g : Graph) (c d : Rooted) → IsCactusOf g c → IsCactusOf g d → flat_of c ≡ flat_of d
+pub one_flat_of : (g : Graph) (c d : Rooted) → IsCactusOf g c → IsCactusOf g d → flat_of c ≡ flat_of d
 one_flat_of g c d a b =
     flat_over c.vertices d.vertices c.root d.root (a.over ∙ sym b.over) a.is_cactus b.is_cactus a.canonical b.canonical (same_sides g c d a b)
 

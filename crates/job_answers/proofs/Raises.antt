@@ -1,8 +1,12 @@
 -- The edges that the canonical cactus of a graph gives raise its value, and no fewer do.
-use Rattle.std.proofs.Common.{◌≡◌, ℕ, ◌≤◌, List, refl, sym, subst}
+use Rattle.std.proofs.Common.{◌≡◌, ℕ, ◌≤◌, List, get_or, refl, sym, ◌∙◌, subst}
 use Rattle.std.specs.Prelude.{◌<◌}
 use Rattle.std.specs.List.{All, Contains}
-use Rattle.std.proofs.lemmas.List.Elements.{All-weaker}
+use Rattle.std.proofs.lemmas.List.Elements.{All-contains, All-weaker}
+use Rattle.std.proofs.lemmas.List.{get_or_default}
+use Rattle.cut_definitions.proofs.ChainLists.{first_parts_side}
+use Rattle.edge_augment.proofs.Raising.{raising}
+use Rattle.edge_augment.specs.NewEdges.{IsParted}
 use Rattle.cut_definitions.specs.Graph.{Graph}
 use Rattle.cut_definitions.specs.Cuts.{has, mincuts, side_of, IsAscendingWithin}
 use Rattle.rooted_cactus.specs.Rooted.{Rooted, sides_of}
@@ -11,6 +15,15 @@ use Rattle.edge_augment.specs.Laws as ends
 use Rattle.job_answers.specs.Jobs.{IsAugmentText, IsCactusOf, IsCutSet, IsLeastRaise, IsMinimalCutSet, IsVertex}
 use Rattle.answer_pages.specs.Augmenting.{augment_text}
 use Rattle.cut_definitions.specs.Cuts.{value}
+
+All-each : (P : List ℕ → Type 0) (xs : List (List ℕ)) → ((x : List ℕ) → Contains xs x → P x) → All P xs
+All-each P xs each i d lt = each (get_or xs i d) (i, lt, get_or_default xs i (get_or xs i d) d lt)
+
+-- pairs of vertices that part the side of a set part the set
+parted_set : (n : ℕ) (pairs : List (ℕ × ℕ)) (set : List ℕ) → All (λ p. IsVertex n p.0 × IsVertex n p.1) pairs → IsParted pairs (has (side_of n (has set))) → IsParted pairs (has set)
+parted_set n pairs set within (p, there, parts_side) =
+    let v : IsVertex n p.0 × IsVertex n p.1 = All-contains (λ q. IsVertex n q.0 × IsVertex n q.1) pairs p within there in
+    (p, there, sym (first_parts_side n (has set) p.0 p.1 v.0.0 v.0.1 v.1.0 v.1.1) ∙ parts_side)
 
 -- a set of the cactus is one of the graph, and the other way round
 module _ (g : Graph) (c : Rooted) (of_graph : IsCactusOf g c) where
@@ -49,6 +62,10 @@ module _ (g : Graph) (c : Rooted) (of_graph : IsCactusOf g c) where
         number = least.number;
         raised = raises.0;
         fewest = raises.1;
+        disjoint = least.disjoint;
+        needed = λ pairs within more. All-each (λ (set : List ℕ). IsParted pairs (has set)) plan.sets (λ set there.
+            let cut = (minimal_to set ((is.sets set).0 there)).is_set.is_cut in
+            parted_set g.vertices pairs set within ((raising g pairs two).0 more (side_of g.vertices (has set)) cut));
       }
 
   pub raise_text : (plan : Augmentation) (v : ℕ) → LawOfAugmentation → 2 ≤ g.vertices → IsAugmentation c plan → IsLeast c plan → v ≡ value g → IsAugmentText g (augment_text v plan)

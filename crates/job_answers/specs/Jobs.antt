@@ -1,6 +1,6 @@
 -- What the jobs answer for a graph.
 use Rattle.std.specs.Prelude.{ℕ, ◌≡◌, ◌⊎◌, ◌<◌, ◌≤◌, ◌+◌, ◌-◌, ◌*◌, ◌/◌, ◌^◌, ◌↔◌, ⊤, true, List, ◌∷◌, ◌++◌, Option, Some, length, nat_le}
-use Rattle.std.specs.List.{All, Contains, filter}
+use Rattle.std.specs.List.{All, AllPairs, Contains, filter}
 use Rattle.cut_definitions.specs.Graph.{Graph}
 use Rattle.cut_definitions.specs.Weight.{parts}
 use Rattle.cut_definitions.specs.Cuts.{has, value, mincuts, side_of, IsAscendingWithin}
@@ -15,7 +15,7 @@ use Rattle.cactus_printing.specs.Text.{cactus_text}
 use Rattle.canonical_cactus.specs.Canonical.{is_canonical}
 use Rattle.canonical_cactus.specs.FirstBest.{IsFirstBest}
 use Rattle.edge_augment.specs.Augmentations.{Augmentation, IsAugmentation}
-use Rattle.edge_augment.specs.Laws.{IsSublist}
+use Rattle.edge_augment.specs.Laws.{AreDisjoint, IsSublist}
 use Rattle.edge_augment.specs.NewEdges.{with_unit_edges, IsParted}
 use Rattle.program_words.specs.declared.command.Command.{Command}
 use Rattle.program_words.specs.declared.command.Job.{Job}
@@ -73,14 +73,16 @@ IsVertex n v = (1 ≤ v) × (v ≤ n)
 abbrev pub AreVertexPairs : Graph → List (ℕ × ℕ) → Type 0
 AreVertexPairs g pairs = All (λ p. IsVertex g.vertices p.0 × IsVertex g.vertices p.1) pairs
 
--- the sets are the minimal ones; the edges, of which there are half as many, rounded up, have exactly one end in some side of each minimum cut; they raise the value, and no fewer unit edges do
+-- the sets are the minimal ones, and no two share a vertex; the edges, of which there are half as many, rounded up, have exactly one end in some side of each minimum cut; they raise the value, and no fewer unit edges do; whatever unit edges raise it, each set has one end of some of them in it alone
 pub record IsLeastRaise (g : Graph) (plan : Augmentation) : Type 0 where
   pub sets : (set : List ℕ) → Contains plan.sets set ↔ IsMinimalCutSet g set
+  pub disjoint : AllPairs AreDisjoint plan.sets
   pub pairs : AreVertexPairs g plan.edges
   pub parted : (side : List ℕ) → Contains (mincuts g) side → IsParted plan.edges (has side)
   pub number : length plan.edges ≡ length plan.sets - length plan.sets / 2
   pub raised : value g < value (with_unit_edges g plan.edges)
   pub fewest : (pairs : List (ℕ × ℕ)) → AreVertexPairs g pairs → value g < value (with_unit_edges g pairs) → length plan.edges ≤ length pairs
+  pub needed : (pairs : List (ℕ × ℕ)) → AreVertexPairs g pairs → value g < value (with_unit_edges g pairs) → All (λ set. IsParted pairs (has set)) plan.sets
 
 -- the text of the augmentation that the canonical cactus gives: its edges and sets, each list ascending
 pub record IsAugmentText (g : Graph) (text : List ℕ) : Type 0 where

@@ -1,6 +1,6 @@
 //! Laws of what is written. Each function does nothing, and its contract is a law.
 
-ghost use Rattle.job_answers.specs.TextLaws.{LawOfOneAugmentText, LawOfOneBalancedText, LawOfOneCactusText};
+ghost use Rattle.job_answers.specs.TextLaws.{LawOfOneAnswer, LawOfOneAugmentText, LawOfOneBalancedText, LawOfOneCactusText};
 
 /// A graph has one text of its cactus: what the job `cactus` prints is a function of the file alone, whatever the number
 /// of workers, since the canonical cactus is the only one of its form with these sides.
@@ -18,4 +18,10 @@ pub fn one_balanced_text()
 /// number of workers, since the end nodes of the canonical cactus stand in one order.
 pub fn one_augment_text()
     ensures { LawOfOneAugmentText }
+{}
+
+/// For the bytes of a file a command that reads a graph has one text: what is printed is a function of the bytes read,
+/// whatever the number of workers; so is that of `balanced` where the graph is connected.
+pub fn one_answer()
+    ensures { LawOfOneAnswer }
 {}
