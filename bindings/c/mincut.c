@@ -1,0 +1,43 @@
+/* From the calls of mincut.h to the proved exports: these take each array as a pointer that is not null, and its length. */
+#include "mincut.h"
+
+/* what an array without entries points to */
+static const uint64_t nothing = 0;
+
+static const void *some(const void *array) { return array ? array : &nothing; }
+
+static int is_bad(size_t m, const uint32_t *u, const uint32_t *v, const uint64_t *w) { return m > 0 && (!u || !v || !w); }
+
+uint32_t mincut_version(void) { return MINCUT_VERSION; }
+
+mincut_status mincut_value(uint32_t n, size_t m, const uint32_t *u, const uint32_t *v, const uint64_t *w, uint64_t *value) {
+    if (is_bad(m, u, v, w) || !value) return MINCUT_BAD_LENGTH;
+    return (mincut_status)mincut_raw_value(n, some(u), m, some(v), m, some(w), m, value);
+}
+
+mincut_status mincut_value_below(uint32_t n, size_t m, const uint32_t *u, const uint32_t *v, const uint64_t *w, uint64_t bound,
+                                 uint64_t *value) {
+    if (is_bad(m, u, v, w) || !value) return MINCUT_BAD_LENGTH;
+    return (mincut_status)mincut_raw_value_below(n, some(u), m, some(v), m, some(w), m, bound, value);
+}
+
+mincut_status mincut_count(uint32_t n, size_t m, const uint32_t *u, const uint32_t *v, const uint64_t *w, uint64_t *count) {
+    if (is_bad(m, u, v, w) || !count) return MINCUT_BAD_LENGTH;
+    return (mincut_status)mincut_raw_count(n, some(u), m, some(v), m, some(w), m, count);
+}
+
+mincut_status mincut_cactus(uint32_t n, size_t m, const uint32_t *u, const uint32_t *v, const uint64_t *w, mincut_sizes *sizes,
+                            size_t *node_starts, uint32_t *vertices, mincut_bridge *bridges, size_t *cycle_starts,
+                            uint64_t *members) {
+    const size_t size = n;
+    if (is_bad(m, u, v, w) || !sizes || !node_starts || !vertices || !bridges || !cycle_starts || !members) return MINCUT_BAD_LENGTH;
+    return (mincut_status)mincut_raw_cactus(n, some(u), m, some(v), m, some(w), m, sizes, node_starts, 2 * size, vertices, size,
+                                            bridges, 2 * size, cycle_starts, size, members, 3 * size);
+}
+
+void mincut_node_of(const mincut_sizes *sizes, const size_t *node_starts, const uint32_t *vertices, uint64_t *node_of) {
+    for (size_t i = 0; i < sizes->nodes; ++i) {
+        const size_t end = i + 1 < sizes->nodes ? node_starts[i + 1] : sizes->vertices;
+        for (size_t k = node_starts[i]; k < end; ++k) node_of[vertices[k]] = i;
+    }
+}

@@ -1,0 +1,46 @@
+/* A few graphs and faults through mincut.h. It ends with the number of the first check that fails, or 0. */
+#include "mincut.h"
+#include <stdio.h>
+
+#define MOST 64
+
+static mincut_sizes sizes;
+static size_t starts[2 * MOST], cycles[MOST];
+static uint32_t vertices[MOST];
+static mincut_bridge bridges[2 * MOST];
+static uint64_t members[3 * MOST], node_of[MOST];
+
+static mincut_status cactus(uint32_t n, size_t m, const uint32_t *u, const uint32_t *v, const uint64_t *w) {
+    return mincut_cactus(n, m, u, v, w, &sizes, starts, vertices, bridges, cycles, members);
+}
+
+int main(void) {
+    const uint32_t u[] = {0, 1, 2, 3, 2, 2}, v[] = {1, 2, 3, 0, 2, 1};
+    const uint64_t one[] = {1, 1, 1, 1, 9, 0}, great[] = {1ull << 61, 1, 1, 1, 1, 1};
+    uint64_t value = 77;
+    if (mincut_version() != MINCUT_VERSION) return 16;
+    if (mincut_value(4, 6, u, v, one, &value) != MINCUT_OK || value != 2) return 1;
+    if (mincut_value_below(4, 6, u, v, one, 1, &value) != MINCUT_OK || value != 1) return 17;
+    if (mincut_value_below(4, 6, u, v, one, 3, &value) != MINCUT_OK || value != 2) return 18;
+    value = 77;
+    if (mincut_value(3, 4, u, v, one, &value) != MINCUT_BAD_VERTEX || value != 77) return 2;
+    if (mincut_value(4, 6, u, v, great, &value) != MINCUT_WEIGHT_SUM || value != 77) return 3;
+    if (mincut_value(0, 0, NULL, NULL, NULL, &value) != MINCUT_NO_CUT) return 4;
+    if (mincut_value(1, 0, NULL, NULL, NULL, &value) != MINCUT_NO_CUT) return 5;
+    if (mincut_value(2, 0, NULL, NULL, NULL, &value) != MINCUT_OK || value != 0) return 6;
+    if (mincut_value(4194305, 0, NULL, NULL, NULL, &value) != MINCUT_TOO_MANY_VERTICES) return 7;
+    if (mincut_value(4, 6, u, NULL, one, &value) != MINCUT_BAD_LENGTH) return 8;
+    if (cactus(2, 0, NULL, NULL, NULL) != MINCUT_DISCONNECTED) return 9;
+    if (cactus(4, 6, u, v, one) != MINCUT_OK) return 10;
+    if (sizes.value != 2 || sizes.nodes != 4 || sizes.bridges != 0 || sizes.cycles != 1 || sizes.members != 4) return 11;
+    mincut_node_of(&sizes, starts, vertices, node_of);
+    if (node_of[0] != 0 || sizes.vertices != 4) return 12;
+    uint64_t count = 77;
+    if (mincut_count(4, 6, u, v, one, &count) != MINCUT_OK || count != 6) return 14;
+    count = 77;
+    if (mincut_count(2, 0, NULL, NULL, NULL, &count) != MINCUT_DISCONNECTED || count != 77) return 15;
+    const uint32_t a[] = {0, 1}, b[] = {1, 2};
+    if (cactus(3, 2, a, b, one) != MINCUT_OK || sizes.bridges != 2 || sizes.cycles != 0) return 13;
+    puts("all checks passed");
+    return 0;
+}

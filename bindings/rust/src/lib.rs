@@ -1,0 +1,214 @@
+//! Minimum cuts of a weighted undirected graph: their value, their number, and a cactus of all of them.
+//!
+//! A graph has `n` vertices, 0 to n - 1; edge i joins `u[i]` and `v[i]` and weighs `w[i]`. Edges with the same ends are as one of
+//! the sum of their weights; loops and edges of weight 0 count for nothing. All limits are checked, and told by an [`Error`].
+//! The calls stand on proved exports of C, start no thread, and keep nothing.
+//!
+//! ```
+//! // a ring of four vertices
+//! let (u, v, w) = ([0, 1, 2, 3], [1, 2, 3, 0], [1, 1, 1, 1]);
+//! assert_eq!(mincut::value(4, &u, &v, &w), Ok(2));
+//! assert_eq!(mincut::count(4, &u, &v, &w), Ok(6));
+//! let cactus = mincut::cactus(4, &u, &v, &w).unwrap();
+//! assert_eq!(cactus.cycles().count(), 1);
+//! assert_eq!(mincut::value(4, &u, &v, &[1, 1]), Err(mincut::Error::BadLength));
+//! ```
+
+use std::fmt;
+
+/// Why a call has no answer.
+#[derive(Clone, Copy, Debug, PartialEq, Eq)]
+pub enum Error {
+    /// n is 0 or 1.
+    NoCut,
+    /// Memory is wanting.
+    OutOfMemory,
+    /// The slices differ in length.
+    BadLength,
+    /// n is above 4,194,304.
+    TooManyVertices,
+    /// There are more than 16,777,216 edges.
+    TooManyEdges,
+    /// An end of an edge is n or more.
+    BadVertex,
+    /// The weights of all edges but loops add up to more than 2^61.
+    WeightSum,
+    /// The graph is not connected.
+    Disconnected,
+}
+
+impl fmt::Display for Error {
+    fn fmt(&self, f: &mut fmt::Formatter<'_>) -> fmt::Result {
+        f.write_str(match self {
+            Error::NoCut => "the graph has fewer than two vertices",
+            Error::OutOfMemory => "out of memory",
+            Error::BadLength => "the slices differ in length",
+            Error::TooManyVertices => "too many vertices",
+            Error::TooManyEdges => "too many edges",
+            Error::BadVertex => "an end of an edge is no vertex",
+            Error::WeightSum => "the weights add up to more than 2^61",
+            Error::Disconnected => "the graph is not connected",
+        })
+    }
+}
+
+impl std::error::Error for Error {}
+
+fn told(status: u32) -> Result<(), Error> {
+    Err(match status {
+        0 => return Ok(()),
+        1 => Error::NoCut,
+        2 => Error::OutOfMemory,
+        3 => Error::BadLength,
+        4 => Error::TooManyVertices,
+        5 => Error::TooManyEdges,
+        6 => Error::BadVertex,
+        7 => Error::WeightSum,
+        8 => Error::Disconnected,
+        _ => unreachable!("the room by n suffices"),
+    })
+}
+
+/// A bridge of a cactus between two nodes; the lower one is further from node 0.
+#[repr(C)]
+#[derive(Clone, Copy, Debug, Default, PartialEq, Eq)]
+pub struct Bridge {
+    pub upper: u64,
+    pub lower: u64,
+}
+
+#[repr(C)]
+#[derive(Default)]
+struct Sizes {
+    value: u64,
+    nodes: usize,
+    vertices: usize,
+    bridges: usize,
+    cycles: usize,
+    members: usize,
+}
+
+/// A cactus of all minimum cuts of a connected graph, in its normal form.
+///
+/// Taking away one bridge, or two edges of one cycle, leaves some nodes without a way to node 0, which has vertex 0: their
+/// vertices are one side of a minimum cut, and each minimum cut is one of these.
+#[derive(Clone, Debug)]
+pub struct Cactus {
+    value: u64,
+    node_starts: Vec<usize>,
+    vertices: Vec<u32>,
+    bridges: Vec<Bridge>,
+    cycle_starts: Vec<usize>,
+    members: Vec<u64>,
+}
+
+fn lists<'a, T>(starts: &'a [usize], items: &'a [T]) -> impl ExactSizeIterator<Item = &'a [T]> {
+    (0..starts.len()).map(move |i| &items[starts[i]..starts.get(i + 1).copied().unwrap_or(items.len())])
+}
+
+impl Cactus {
+    /// The value of the graph.
+    pub fn value(&self) -> u64 {
+        self.value
+    }
+
+    /// The vertices of each node; they ascend, and there may be none.
+    pub fn nodes(&self) -> impl ExactSizeIterator<Item = &[u32]> {
+        lists(&self.node_starts, &self.vertices)
+    }
+
+    pub fn bridges(&self) -> &[Bridge] {
+        &self.bridges
+    }
+
+    /// The nodes of each cycle in its order; the last is joined to the first.
+    pub fn cycles(&self) -> impl ExactSizeIterator<Item = &[u64]> {
+        lists(&self.cycle_starts, &self.members)
+    }
+
+    /// The node of each vertex.
+    pub fn node_of(&self) -> Vec<usize> {
+        let mut found = vec![0; self.vertices.len()];
+        for (i, node) in self.nodes().enumerate() {
+            for v in node {
+                found[*v as usize] = i;
+            }
+        }
+        found
+    }
+}
+
+extern "C" {
+    fn mincut_raw_value(
+        n: u32, u: *const u32, u_len: usize, v: *const u32, v_len: usize, w: *const u64, w_len: usize, value: *mut u64,
+    ) -> u32;
+    fn mincut_raw_value_below(
+        n: u32, u: *const u32, u_len: usize, v: *const u32, v_len: usize, w: *const u64, w_len: usize, bound: u64, value: *mut u64,
+    ) -> u32;
+    fn mincut_raw_count(
+        n: u32, u: *const u32, u_len: usize, v: *const u32, v_len: usize, w: *const u64, w_len: usize, count: *mut u64,
+    ) -> u32;
+    fn mincut_raw_cactus(
+        n: u32, u: *const u32, u_len: usize, v: *const u32, v_len: usize, w: *const u64, w_len: usize, sizes: *mut Sizes,
+        node_starts: *mut usize, node_starts_len: usize, vertices: *mut u32, vertices_len: usize,
+        bridges: *mut Bridge, bridges_len: usize, cycle_starts: *mut usize, cycle_starts_len: usize,
+        members: *mut u64, members_len: usize,
+    ) -> u32;
+}
+
+/// The least weight of a cut: 0 where the graph is not connected.
+pub fn value(n: u32, u: &[u32], v: &[u32], w: &[u64]) -> Result<u64, Error> {
+    let mut least = 0;
+    // SAFETY: the slices are lent for the call, and the export checks all that they say.
+    let status = unsafe { mincut_raw_value(n, u.as_ptr(), u.len(), v.as_ptr(), v.len(), w.as_ptr(), w.len(), &mut least) };
+    told(status).map(|()| least)
+}
+
+/// The lesser of the bound and the value: for separation, sooner than the value where that reaches the bound.
+///
+/// ```
+/// assert_eq!(mincut::value_below(3, &[0, 1, 2], &[1, 2, 0], &[1, 1, 1], 1), Ok(1));
+/// ```
+pub fn value_below(n: u32, u: &[u32], v: &[u32], w: &[u64], bound: u64) -> Result<u64, Error> {
+    let mut least = 0;
+    // SAFETY: as above.
+    let status =
+        unsafe { mincut_raw_value_below(n, u.as_ptr(), u.len(), v.as_ptr(), v.len(), w.as_ptr(), w.len(), bound, &mut least) };
+    told(status).map(|()| least)
+}
+
+/// The number of all minimum cuts of a connected graph.
+pub fn count(n: u32, u: &[u32], v: &[u32], w: &[u64]) -> Result<u64, Error> {
+    let mut number = 0;
+    // SAFETY: as above.
+    let status = unsafe { mincut_raw_count(n, u.as_ptr(), u.len(), v.as_ptr(), v.len(), w.as_ptr(), w.len(), &mut number) };
+    told(status).map(|()| number)
+}
+
+/// A cactus of all minimum cuts of a connected graph.
+pub fn cactus(n: u32, u: &[u32], v: &[u32], w: &[u64]) -> Result<Cactus, Error> {
+    // a graph above the limit is refused whatever the room
+    let room = if n > 4_194_304 { 0 } else { n as usize };
+    let mut sizes = Sizes::default();
+    let mut node_starts = vec![0; 2 * room];
+    let mut vertices = vec![0; room];
+    let mut bridges = vec![Bridge::default(); 2 * room];
+    let mut cycle_starts = vec![0; room];
+    let mut members = vec![0; 3 * room];
+    // SAFETY: as above; the outputs are different vectors, and their lengths are passed.
+    let status = unsafe {
+        mincut_raw_cactus(
+            n, u.as_ptr(), u.len(), v.as_ptr(), v.len(), w.as_ptr(), w.len(), &mut sizes,
+            node_starts.as_mut_ptr(), node_starts.len(), vertices.as_mut_ptr(), vertices.len(),
+            bridges.as_mut_ptr(), bridges.len(), cycle_starts.as_mut_ptr(), cycle_starts.len(),
+            members.as_mut_ptr(), members.len(),
+        )
+    };
+    told(status)?;
+    node_starts.truncate(sizes.nodes);
+    vertices.truncate(sizes.vertices);
+    bridges.truncate(sizes.bridges);
+    cycle_starts.truncate(sizes.cycles);
+    members.truncate(sizes.members);
+    Ok(Cactus { value: sizes.value, node_starts, vertices, bridges, cycle_starts, members })
+}

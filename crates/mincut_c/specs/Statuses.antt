@@ -1,0 +1,44 @@
+-- The status of each fault, and what it tells of the arrays of a graph.
+use Rattle.std.specs.Prelude.{ℕ, ◌≡◌, ◌<◌, ◌≤◌, ⊤, List}
+use Rattle.cut_definitions.specs.Cuts.{value}
+use Rattle.cut_definitions.specs.Graph.{Graph}
+use Rattle.edge_arrays.specs.declared.arrays.ArrayFault.TheVariants.{OutOfMemory, BadLength, TooManyVertices, TooManyEdges, BadVertex, WeightSum}
+use Rattle.edge_arrays.specs.Given.{IsGiven, given}
+use Rattle.edge_arrays.specs.Faults.{Explains}
+use Rattle.mincut_c.specs.declared.status.Fault.{Fault}
+use Rattle.mincut_c.specs.declared.status.Fault.TheVariants.{Arrays, NoCut, Disconnected, NoRoom}
+
+-- the number by which a call tells of a fault
+abbrev pub number_of : Fault → ℕ
+number_of NoCut = 1
+number_of (Arrays OutOfMemory) = 2
+number_of (Arrays BadLength) = 3
+number_of (Arrays TooManyVertices) = 4
+number_of (Arrays TooManyEdges) = 5
+number_of (Arrays BadVertex) = 6
+number_of (Arrays WeightSum) = 7
+number_of Disconnected = 8
+number_of NoRoom = 9
+
+-- the arrays give a graph that has cuts
+abbrev pub HasCuts : ℕ → List ℕ → List ℕ → List ℕ → Type 0
+HasCuts n us vs ws = IsGiven n us vs ws × (2 ≤ n)
+
+-- when a fault is told; want of memory may be anywhere
+abbrev pub IsReason : Fault → ℕ → List ℕ → List ℕ → List ℕ → Type 0
+IsReason (Arrays fault) n us vs ws = Explains fault n us vs ws
+IsReason NoCut n us vs ws = IsGiven n us vs ws × (n < 2)
+IsReason Disconnected n us vs ws = HasCuts n us vs ws × (value (given n us vs ws) ≡ 0)
+IsReason NoRoom n us vs ws = HasCuts n us vs ws × (1 ≤ value (given n us vs ws))
+
+-- a status is that of a fault that there is reason for
+pub record TellsFault (status n : ℕ) (us vs ws : List ℕ) : Type 0 where
+  pub fault : Fault
+  pub number : status ≡ number_of fault
+  pub reason : IsReason fault n us vs ws
+
+-- why a list of edges is not solved: memory is wanting, or its value is 0
+abbrev pub IsUnsolved : Fault → Graph → Type 0
+IsUnsolved (Arrays OutOfMemory) list = ⊤
+IsUnsolved Disconnected list = value list ≡ 0
+IsUnsolved _ list = ⊥

@@ -1,0 +1,81 @@
+//! The cactus of all minimum cuts, as a flat one.
+
+ghost use Rattle.std.specs.Prelude.{◌≡◌, ◌≤◌, IfOk, IfErr};
+ghost use Rattle.cut_definitions.specs.Cuts.{value};
+ghost use Rattle.edge_arrays.specs.Given.{given};
+ghost use Rattle.rooted_cactus.specs.Solving.{IsSolved};
+ghost use Rattle.mincut_c.specs.Shown.{ShowsCuts};
+ghost use Rattle.mincut_c.specs.Statuses.{HasCuts, IsReason, IsUnsolved, number_of};
+
+use crate::status::Fault;
+use cut_definitions::EdgeList;
+use edge_arrays::laws::{same_mincuts, same_value};
+use edge_arrays::list_of_arrays;
+use flat_cactus::laws::{flat_form, flat_sides};
+use flat_cactus::{FlatCactus, flatten};
+use least_cut::least_weight;
+use std::alloc::Global;
+use swept_cactus::{Solved, solve_alone};
+use weighted_graph::Graph;
+
+/// The value of a connected graph, and a cactus of its minimum cuts.
+pub(crate) fn solved_of_list(alloc: Global, list: EdgeList) -> Result<Solved, Fault>
+    requires { 2 ≤ list.vertices }
+    ensures solved { IfOk result (IsSolved list) }
+    ensures positive { IfOk result (λ s. 1 ≤ value list) }
+    ensures unsolved { IfErr result (λ fault. IsUnsolved fault list) }
+{
+    let graph = Graph::from_list(alloc, list)?;
+    // known by this call: the graph is an edge list
+    let _n = graph.n();
+    let least = least_weight(alloc, &graph)?;
+    if least == 0 {
+        return Err(Fault::Disconnected);
+    }
+    let solved = solve_alone(alloc, &graph, least)?;
+    Ok(solved)
+}
+
+/// The value of a connected graph, and a flat cactus of its minimum cuts.
+fn flat_of_list(alloc: Global, list: EdgeList) -> Result<(u64, FlatCactus), Fault>
+    requires { 2 ≤ list.vertices }
+    ensures value { IfOk result (λ r. r.0 ≡ value list) }
+    ensures cuts { IfOk result (λ r. ShowsCuts list r.1) }
+    ensures positive { IfOk result (λ r. 1 ≤ value list) }
+    ensures unsolved { IfErr result (λ fault. IsUnsolved fault list) }
+{
+    flat_form();
+    flat_sides();
+    let solved = solved_of_list(alloc, list)?;
+    let least = solved.value;
+    let cactus = solved.cactus;
+    // known by this call: that it is a cactus
+    let _n = cactus.n();
+    let flat = flatten(alloc, &cactus)?;
+    Ok((least, flat))
+}
+
+/// The same for the graph of the arrays.
+pub(crate) fn flat_of_arrays(
+    alloc: Global,
+    n: u32,
+    us: &[u32],
+    vs: &[u32],
+    ws: &[u64],
+) -> Result<(u64, FlatCactus), Fault>
+    ensures value { IfOk result (λ r. r.0 ≡ value (given n us.now vs.now ws.now)) }
+    ensures cuts { IfOk result (λ r. ShowsCuts (given n us.now vs.now ws.now) r.1) }
+    ensures given { IfOk result (λ r. HasCuts n us.now vs.now ws.now) }
+    ensures positive { IfOk result (λ r. 1 ≤ value (given n us.now vs.now ws.now)) }
+    ensures reason { IfErr result (λ fault. IsReason fault n us.now vs.now ws.now) }
+    ensures known { IfErr result (λ fault. number_of fault ≤ 8) }
+{
+    same_value();
+    same_mincuts();
+    let list = list_of_arrays(alloc, n, us, vs, ws)?;
+    if list.n() < 2 {
+        return Err(Fault::NoCut);
+    }
+    let found = flat_of_list(alloc, list)?;
+    Ok(found)
+}

@@ -1,0 +1,115 @@
+/* Minimum cuts of a weighted undirected graph: their value, their number, and a cactus of all of them.
+ *
+ * Graphs. A graph has n vertices, 0 to n - 1, and m edges in three arrays of m entries: edge i joins u[i] and v[i] and weighs
+ * w[i], a whole number. The edges stand in any order and each once, not once from each end. It is a multigraph: edges with the
+ * same ends are as one edge of the sum of their weights; loops and edges of weight 0 cross no cut and count for nothing. A cut
+ * is a set of vertices that is neither empty nor everything, with its complement; its weight is the sum of the weights of the
+ * edges with one end in it; the value is the least weight of a cut, and a minimum cut is one of that weight.
+ *
+ * Limits. n at most 4,194,304, m at most 16,777,216, and the weights of all edges but loops together at most 2^61.
+ *
+ * Checks. Lengths, limits, vertices, sums and rooms are checked inside, and what does not fit is answered by a status. Only the
+ * pointers are taken at their word: an array has the entries that its length tells, is aligned, and no output array overlaps with
+ * another array. An array of length 0 may be null.
+ *
+ * Threads and memory. A call touches only its arrays and the heap, keeps nothing, and starts no thread; calls from several threads
+ * may run side by side, on output arrays of their own. Memory comes from malloc, realloc and free of the program, is in proportion
+ * to n + m, and is given back before the call returns, also where it is wanting. The stack stays small. Do not call from a
+ * signal handler. */
+#ifndef MINCUT_H
+#define MINCUT_H
+
+#include <stddef.h>
+#include <stdint.h>
+
+#ifdef __cplusplus
+extern "C" {
+#endif
+
+/* 10000 * major + 100 * minor + patch, of this header */
+#define MINCUT_VERSION 100u
+
+/* Several faults may be there at once: lengths are tested first, then n, then m, then the edges in turn, then whether there are two
+ * vertices, whether the graph is connected, and what there is room for. MINCUT_OUT_OF_MEMORY may come in place of any of the last. */
+typedef enum mincut_status {
+    MINCUT_OK = 0,
+    MINCUT_NO_CUT = 1,            /* n is 0 or 1 */
+    MINCUT_OUT_OF_MEMORY = 2,
+    MINCUT_BAD_LENGTH = 3,        /* a pointer is null and its length is not 0, or arrays of one graph differ in length */
+    MINCUT_TOO_MANY_VERTICES = 4, /* n is above 4,194,304 */
+    MINCUT_TOO_MANY_EDGES = 5,    /* m is above 16,777,216 */
+    MINCUT_BAD_VERTEX = 6,        /* an end of an edge is n or more */
+    MINCUT_WEIGHT_SUM = 7,        /* the weights of all edges but loops add up to more than 2^61 */
+    MINCUT_DISCONNECTED = 8,      /* the graph is not connected: its value is 0, and it has no cactus */
+    MINCUT_NO_ROOM = 9            /* an output array is too short; the sizes say what is needed */
+} mincut_status;
+
+/* MINCUT_VERSION of the library that is linked */
+uint32_t mincut_version(void);
+
+/* The value: 0 where the graph is not connected. With another status than MINCUT_OK `value` is left as it was. The statuses are
+ * 0 to 7. Cost: O(m log m) to sort the edges, and one sweep of flows, which takes little more than that on most graphs. */
+mincut_status mincut_value(uint32_t n, size_t m, const uint32_t *u, const uint32_t *v, const uint64_t *w, uint64_t *value);
+
+/* The lesser of the bound and the value, for separation: the value where that is below the bound, and else the bound. Its statuses
+ * are those of mincut_value. Cost: as that; flows end at the bound, so a bound that the value reaches is told sooner than the value. */
+mincut_status mincut_value_below(uint32_t n, size_t m, const uint32_t *u, const uint32_t *v, const uint64_t *w, uint64_t bound,
+                                 uint64_t *value);
+
+/* The number of all minimum cuts of a connected graph, at most n (n - 1) / 2, without listing one. With another status than MINCUT_OK
+ * `count` is left as it was. The statuses are 0 to 8. Cost: that of the cactus. */
+mincut_status mincut_count(uint32_t n, size_t m, const uint32_t *u, const uint32_t *v, const uint64_t *w, uint64_t *count);
+
+/* A bridge of the cactus between two nodes; the lower one is further from node 0, and comes later. */
+typedef struct mincut_bridge {
+    uint64_t upper, lower;
+} mincut_bridge;
+
+/* The value, and how many entries of each array a cactus takes. */
+typedef struct mincut_sizes {
+    uint64_t value;
+    size_t nodes;    /* entries of node_starts: at most 2n - 2 */
+    size_t vertices; /* entries of vertices: n */
+    size_t bridges;  /* entries of bridges */
+    size_t cycles;   /* entries of cycle_starts */
+    size_t members;  /* entries of members */
+} mincut_sizes;
+
+/* A cactus of all minimum cuts of a connected graph, in its normal form.
+ *
+ * Node i has the vertices vertices[node_starts[i]] up to where node i + 1 begins, or to the end; they ascend, and there may be
+ * none. Each vertex is in one node; node 0 has vertex 0. Cycle i has the nodes members[cycle_starts[i]] up to where cycle i + 1
+ * begins, or to the end, in its order, three or more; the last is joined to the first. Taking away one bridge, or two edges of one
+ * cycle, leaves some nodes without a way to node 0: their vertices are one side of a minimum cut, and each minimum cut is one of
+ * these, none twice but for cuts at a node without vertices between two cycles.
+ *
+ * The arrays have room for so many entries, which suffices for every graph:
+ *   node_starts 2n, vertices n, bridges 2n, cycle_starts n, members 3n.
+ *
+ * The statuses are 0 to 8. With another than MINCUT_OK all outputs are left as they were. Cost: O(m log m), one sweep of flows for
+ * the value, and one over regions for the cactus. */
+mincut_status mincut_cactus(uint32_t n, size_t m, const uint32_t *u, const uint32_t *v, const uint64_t *w, mincut_sizes *sizes,
+                            size_t *node_starts, uint32_t *vertices, mincut_bridge *bridges, size_t *cycle_starts,
+                            uint64_t *members);
+
+/* The node of each vertex: node_of has n entries, the others are as mincut_cactus left them. Cost: O(n). */
+void mincut_node_of(const mincut_sizes *sizes, const size_t *node_starts, const uint32_t *vertices, uint64_t *node_of);
+
+/* The proved exports on which the calls above stand, for bindings: each array is a pointer that is not null, also where its length
+ * is 0, and its length. They answer the same statuses. mincut_raw_cactus takes any room: where an array is too short the status
+ * is MINCUT_NO_ROOM, the sizes are told, and the arrays are left as they were. */
+uint32_t mincut_raw_value(uint32_t n, const uint32_t *u, size_t u_len, const uint32_t *v, size_t v_len, const uint64_t *w,
+                          size_t w_len, uint64_t *value);
+uint32_t mincut_raw_value_below(uint32_t n, const uint32_t *u, size_t u_len, const uint32_t *v, size_t v_len, const uint64_t *w,
+                                size_t w_len, uint64_t bound, uint64_t *value);
+uint32_t mincut_raw_count(uint32_t n, const uint32_t *u, size_t u_len, const uint32_t *v, size_t v_len, const uint64_t *w,
+                          size_t w_len, uint64_t *count);
+uint32_t mincut_raw_cactus(uint32_t n, const uint32_t *u, size_t u_len, const uint32_t *v, size_t v_len, const uint64_t *w,
+                           size_t w_len, mincut_sizes *sizes, size_t *node_starts, size_t node_starts_len, uint32_t *vertices,
+                           size_t vertices_len, mincut_bridge *bridges, size_t bridges_len, size_t *cycle_starts,
+                           size_t cycle_starts_len, uint64_t *members, size_t members_len);
+
+#ifdef __cplusplus
+}
+#endif
+#endif

@@ -1,0 +1,222 @@
+#!/usr/bin/env python3
+"""Tests the C library that `./library PREFIX` built, against the program and against answers by trying all cuts.
+
+usage: check_library.py PREFIX [--program PROGRAM] [--graphs N] [--calls N] [--quick]
+
+It compiles the tests of bindings/c/tests against the library, and the shim anew under the address and undefined sanitizers; runs them,
+the small ones under valgrind and helgrind where these are there; makes each allocation of a call fail in turn; runs --calls random
+graphs with faults in them in-process; compares value, number and sides on --graphs random multigraphs with the program; compiles and runs the
+examples; and has cargo test the Rust crate. --quick leaves out valgrind and cargo.
+"""
+import argparse
+import ctypes
+import itertools
+import os
+import random
+import shutil
+import subprocess
+import sys
+import tempfile
+from ctypes import POINTER, byref, c_size_t, c_uint32, c_uint64
+
+ROOT = os.path.dirname(os.path.dirname(os.path.abspath(__file__)))
+TESTS = f'{ROOT}/bindings/c/tests'
+SANITIZERS = ('-fsanitize=address,undefined', '-fno-sanitize-recover=all')
+
+
+def run(*words, **more):
+    """Runs a command that has to end with status 0, and answers what it printed."""
+    done = subprocess.run(words, stdout=subprocess.PIPE, stderr=subprocess.STDOUT, text=True, **more)
+    if done.returncode != 0:
+        sys.exit(f'{" ".join(words)} ended with status {done.returncode}\n{done.stdout}')
+    return done.stdout
+
+
+def told(text):
+    print(text, flush=True)
+
+
+class Built:
+    """Programs that are linked with the library."""
+
+    def __init__(self, prefix, room):
+        self.prefix, self.room = prefix, room
+        self.archive = f'{prefix}/lib/libmincut.a'
+
+    def compile(self, source, name, *flags, compiler='cc'):
+        target = f'{self.room}/{name}'
+        run(compiler, '-g', '-O1', '-Wall', '-Wextra', '-Werror', f'-I{self.prefix}/include', source, self.archive, *flags, '-o', target)
+        return target
+
+    def test(self, name, *flags, suffix=''):
+        return self.compile(f'{TESTS}/{name}.c', name + suffix, *flags)
+
+
+def check_calls(built, calls, quick):
+    told(f'calls: {run(built.test("calls")).strip()}')
+    told(f'calls under sanitizers: {run(built.test("calls", *SANITIZERS, suffix="_san")).strip()}')
+    wrap = '-Wl,--wrap=malloc,--wrap=realloc,--wrap=free'
+    told(f'allocations: {run(built.test("memory", wrap)).strip()}')
+    told(f'threads: {run(built.test("threads", "-pthread")).strip()}')
+    told(f'faults: {run(built.test("mutate"), str(calls)).strip()}')
+    told(f'faults under sanitizers: {run(built.test("mutate", *SANITIZERS, suffix="_san"), str(calls // 10), "4711").strip()}')
+    if quick or not shutil.which('valgrind'):
+        return
+    strict = ('valgrind', '-q', '--error-exitcode=9', '--leak-check=full', '--errors-for-leak-kinds=all')
+    told(f'calls under valgrind: {run(*strict, built.test("calls")).strip()}')
+    told(f'faults under valgrind: {run(*strict, built.test("mutate"), str(max(calls // 1000, 300)), "815").strip()}')
+    told(f'threads under helgrind: {run("valgrind", "-q", "--tool=helgrind", "--error-exitcode=9", built.test("threads", "-pthread")).strip()}')
+
+
+def check_exports(prefix):
+    """The shared library shows the names of the version script and no other, and so does the archive."""
+    with open(f'{ROOT}/bindings/c/mincut.map', encoding='utf-8') as file:
+        wanted = set(file.read().replace(';', ' ').split()) - {'{', '}', 'global:', 'local:', '*'}
+    shown = {line.split()[-1] for line in run('nm', '-D', '--defined-only', f'{prefix}/lib/libmincut.so').splitlines()}
+    held = {line.split()[-1] for line in run('nm', '-g', '--defined-only', f'{prefix}/lib/libmincut.a').splitlines() if len(line.split()) == 3}
+    needed = {line.split()[-1].split('@')[0] for line in run('nm', '-D', '--undefined-only', f'{prefix}/lib/libmincut.so').splitlines() if ' w ' not in line}
+    if shown != wanted or held != wanted:
+        sys.exit(f'exports differ: {shown ^ wanted} {held ^ wanted}')
+    told(f'{len(shown)} exports; taken from elsewhere: {" ".join(sorted(needed))}')
+
+
+class Bridge(ctypes.Structure):
+    _fields_ = [('upper', c_uint64), ('lower', c_uint64)]
+
+
+class Sizes(ctypes.Structure):
+    _fields_ = [('value', c_uint64)] + [(name, c_size_t) for name in ('nodes', 'vertices', 'bridges', 'cycles', 'members')]
+
+
+def lists_of(items, starts, count, total):
+    ends = [*starts[1:count], total]
+    return [list(items[starts[i]:ends[i]]) for i in range(count)]
+
+
+def asked(library, n, u, v, w):
+    """The value, the number of minimum cuts, and the sides of the cactus; the latter two are None where the graph is not connected."""
+    m = len(u)
+    graph = (c_uint32(n), c_size_t(m), (c_uint32 * m)(*u), (c_uint32 * m)(*v), (c_uint64 * m)(*w))
+    value, count, sizes = c_uint64(), c_uint64(), Sizes()
+    assert library.mincut_value(*graph, byref(value)) == 0
+    starts, vertices, bridges = (c_size_t * (2 * n))(), (c_uint32 * n)(), (Bridge * (2 * n))()
+    cycles, members, node_of = (c_size_t * n)(), (c_uint64 * (3 * n))(), (c_uint64 * n)()
+    status = library.mincut_cactus(*graph, byref(sizes), starts, vertices, bridges, cycles, members)
+    assert library.mincut_count(*graph, byref(count)) == status
+    if status == 8:
+        assert value.value == 0
+        return 0, None, None
+    assert status == 0 and sizes.value == value.value and sizes.nodes <= 2 * n - 2
+    library.mincut_node_of(byref(sizes), starts, vertices, node_of)
+    nodes = lists_of(vertices, starts, sizes.nodes, sizes.vertices)
+    assert sorted(itertools.chain(*nodes)) == list(range(n))
+    assert all(v in nodes[node_of[v]] for v in range(n))
+    pairs = [(b.upper, b.lower) for b in bridges[:sizes.bridges]]
+    return value.value, count.value, sides_of(nodes, pairs, lists_of(members, cycles, sizes.cycles, sizes.members))
+
+
+def reached(edges):
+    seen, stack = {0}, [0]
+    while stack:
+        i = stack.pop()
+        for a, b in edges:
+            for x, y in ((a, b), (b, a)):
+                if x == i and y not in seen:
+                    seen.add(y)
+                    stack.append(y)
+    return seen
+
+
+def sides_of(nodes, bridges, cycles):
+    """The sides of all cuts of a flat cactus."""
+    rings = [[(c[i], c[(i + 1) % len(c)]) for i in range(len(c))] for c in cycles]
+    edges = [(('b', k), e) for k, e in enumerate(bridges)] + [((j, i), e) for j, ring in enumerate(rings) for i, e in enumerate(ring)]
+    cuts = [{('b', k)} for k in range(len(bridges))]
+    cuts += [{(j, a), (j, b)} for j, ring in enumerate(rings) for a, b in itertools.combinations(range(len(ring)), 2)]
+    found = set()
+    for cut in cuts:
+        seen = reached([e for name, e in edges if name not in cut])
+        found.add(tuple(sorted(v + 1 for i, node in enumerate(nodes) if i not in seen for v in node)))
+    return found
+
+
+def random_arrays(rng):
+    n = rng.randint(2, 14)
+    m = rng.randint(n - 1, 3 * n)
+    ends = [(rng.randrange(v), v) for v in range(1, n)] + [(rng.randrange(n), rng.randrange(n)) for _ in range(m - n + 1)]
+    if rng.random() < 0.1:
+        ends = ends[1:]
+    rng.shuffle(ends)
+    ends = [(v, u) if rng.random() < 0.5 else (u, v) for u, v in ends]
+    return n, [e[0] for e in ends], [e[1] for e in ends], [rng.choice([0, 1, 1, 1, 2, 3]) for _ in ends]
+
+
+def metis_text(n, u, v, w):
+    rows = [{} for _ in range(n)]
+    for a, b, x in zip(u, v, w):
+        if a != b and x:
+            rows[a][b] = rows[b][a] = rows[a].get(b, 0) + x
+    lines = [f'{n} {sum(map(len, rows)) // 2} 1']
+    return '\n'.join(lines + [' '.join(f'{b + 1} {x}' for b, x in row.items()) for row in rows]) + '\n'
+
+
+def check_program(prefix, program, graphs):
+    library, rng, apart = ctypes.CDLL(f'{prefix}/lib/libmincut.so'), random.Random(5), 0
+    for number in range(graphs):
+        graph = random_arrays(rng)
+        text = subprocess.run([program, 'cuts', '--workers', '1'], input=metis_text(*graph), capture_output=True, text=True, check=True).stdout
+        lines = text.split('\n')
+        value, sides = int(lines[0].split()[1]), {tuple(map(int, line.split())) for line in lines[2:] if line}
+        found, count, of_cactus = asked(library, *graph)
+        apart += count is None
+        if found != value or (count is not None and (count != len(sides) or of_cactus != sides)):
+            sys.exit(f'graph {number} differs: {graph}')
+    told(f'{graphs} multigraphs as the program answers, {apart} of them not connected')
+
+
+def check_examples(built, prefix):
+    folder = f'{ROOT}/examples/library'
+    told(f'weakest.c:\n{run(built.compile(f"{folder}/weakest.c", "weakest"))}'.rstrip())
+    told(f'subtours.cpp:\n{run(built.compile(f"{folder}/subtours.cpp", "subtours", "-std=c++17", compiler="c++"))}'.rstrip())
+    if shutil.which('pkg-config'):
+        env = {**os.environ, 'PKG_CONFIG_PATH': f'{prefix}/lib/pkgconfig'}
+        flags = run('pkg-config', '--cflags', '--libs', 'mincut', env=env).split()
+        run('cc', f'{folder}/weakest.c', *flags, '-o', f'{built.room}/shared')
+        run(f'{built.room}/shared', env={**os.environ, 'LD_LIBRARY_PATH': f'{prefix}/lib'})
+        told('weakest.c by pkg-config and the shared library')
+
+
+def check_rust(prefix, room):
+    env = {**os.environ, 'MINCUT_PREFIX': prefix, 'CARGO_TARGET_DIR': f'{room}/target'}
+    crate = f'{room}/rust'
+    shutil.copytree(f'{ROOT}/bindings/rust', crate, ignore=shutil.ignore_patterns('target'))
+    with open(f'{crate}/Cargo.toml', encoding='utf-8') as file:
+        text = file.read().replace('../../examples', f'{ROOT}/examples')
+    with open(f'{crate}/Cargo.toml', 'w', encoding='utf-8') as file:
+        file.write(text)
+    printed = run('cargo', 'test', '--offline', '-q', cwd=crate, env=env)
+    told(f'Rust: {sum(line.startswith("test result: ok") for line in printed.splitlines())} groups of tests passed')
+    run('cargo', 'run', '--offline', '-q', '--example', 'weakest', cwd=crate, env=env)
+
+
+def main():
+    words = argparse.ArgumentParser(description='Tests the C library.')
+    words.add_argument('prefix')
+    words.add_argument('--program', default=f'{ROOT}/crates/mincut/out/mincut')
+    words.add_argument('--graphs', type=int, default=20000)
+    words.add_argument('--calls', type=int, default=1000000)
+    words.add_argument('--quick', action='store_true')
+    given = words.parse_args()
+    prefix = os.path.abspath(given.prefix)
+    with tempfile.TemporaryDirectory(prefix='mincut-check-') as room:
+        built = Built(prefix, room)
+        check_exports(prefix)
+        check_calls(built, given.calls, given.quick)
+        check_examples(built, prefix)
+        if not given.quick and shutil.which('cargo'):
+            check_rust(prefix, room)
+    check_program(prefix, given.program, given.graphs)
+
+
+if __name__ == '__main__':
+    main()
