@@ -9,20 +9,13 @@ use Rattle.rooted_cactus.specs.declared.tree.border.Border.{Border}
 use Rattle.cactus_walk.specs.declared.walk.shown.Span.{Span}
 use Rattle.cactus_walk.proofs.Stepping.{place_within}
 use Rattle.cactus_walk.proofs.Chains.{no_less}
-use Rattle.balanced_cut.specs.Ends.{mass_to, range_between, span_mass}
+use Rattle.balanced_cut.specs.Ends.{mass_to, span_mass}
 use Rattle.balanced_cut.proofs.Moving.{behind_there, between_fits}
-use Rattle.canonical_cactus.specs.FirstBest.{AreLess, IsFound, IsRanked, IsWanted, count_of}
+use Rattle.canonical_cactus.specs.FirstBest.{AreLess, IsFound, IsRanked, IsWanted, count_of, last_of, mass_of}
 use Rattle.canonical_cactus.specs.declared.first_side.Ranked.{Ranked}
 
--- the last border of a block, and the mass of the range between two borders
-abbrev pub last_of : Ranked → ℕ → ℕ
-last_of k start = start + (border_at k.places.borders.items start).following
-
-abbrev pub mass_of : Ranked → ℕ → ℕ → ℕ
-mass_of k start end = span_mass k.scale (range_between k.places.borders.items start end)
-
 -- no more mass is before the earlier of two borders of a block
-mass_before : (k : Ranked) (start a b : ℕ) → IsRanked k → start ≤ a → a ≤ b → start < b → b ≤ last_of k start →
+pub mass_before : (k : Ranked) (start a b : ℕ) → IsRanked k → start ≤ a → a ≤ b → start < b → b ≤ last_of k start →
     mass_to k.scale (border_at k.places.borders.items a).place ≤ mass_to k.scale (border_at k.places.borders.items b).place
 mass_before k start a b ranked from ab behind within =
     let bs = k.places.borders.items in

@@ -16,7 +16,7 @@ use Rattle.canonical_cactus.specs.declared.first_side.Ranked.{Ranked}
 use Rattle.canonical_cactus.proofs.Firsts.{first_alone, first_end}
 use Rattle.canonical_cactus.proofs.FirstBest.{no_later_itself}
 
-abbrev range : ℕ → ℕ → Range
+abbrev pub range : ℕ → ℕ → Range
 range from to = record { from = from; to = to }
 
 -- ---- places
@@ -30,7 +30,7 @@ whether r p = elim (cases_lt p r.from) [
   ]
 ]
 
-inside_yes : (r : Range) (p : ℕ) → r.from ≤ p → p < r.to → is_inside r p ≡ true
+pub inside_yes : (r : Range) (p : ℕ) → r.from ≤ p → p < r.to → is_inside r p ≡ true
 inside_yes r p from to = ap (λ b. b && not (nat_le r.to p)) (le-leb r.from p from) ∙ ap not (lt-leb r.to p to)
 
 inside_not : (r : Range) (p : ℕ) → (p < r.from) ⊎ (r.to ≤ p) → is_inside r p ≡ false
@@ -53,7 +53,7 @@ elements_past (x ∷ xs) (suc p) (suc to) h = elements_past xs p to (omega (arit
 one_element : (xs : List ℕ) (p : ℕ) → p < length xs → elements_at xs (range p (p + 1)) ≡ get_or xs p 0 ∷ []
 one_element xs p l = elements_more xs p p (omega arith) l ∙ ap (λ k. k ++ get_or xs p 0 ∷ []) (elements_none xs p p (omega arith))
 
-one_inside : (p q : ℕ) → is_inside (range p (p + 1)) q ≡ true → p ≡ q
+pub one_inside : (p q : ℕ) → is_inside (range p (p + 1)) q ≡ true → p ≡ q
 one_inside p q h = elim (whether (range p (p + 1)) q) [
   | inl w ↦ omega (arith, w.0, w.1)
   | inr w ↦ absurd (false≢true (sym w.1 ∙ h))
@@ -64,7 +64,7 @@ has_itself : (x : ℕ) → has (x ∷ []) x ≡ true
 has_itself x = grind (arith, nat_tests)
 
 -- whether a range has the vertex at a place
-at_place : (k : Ranked) (p : ℕ) → IsRanked k → p < count_of k → (r : Range) → has (elements_at k.places.order.items r) (vertex_at k p) ≡ is_inside r p
+pub at_place : (k : Ranked) (p : ℕ) → IsRanked k → p < count_of k → (r : Range) → has (elements_at k.places.order.items r) (vertex_at k p) ≡ is_inside r p
 at_place k p ranked l r =
     let xs = k.places.order.items in
     let within : p < length xs = omega (arith, l, ranked.long) in

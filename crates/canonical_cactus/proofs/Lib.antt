@@ -21,5 +21,7 @@ pub mod MinTrees
 pub mod Firsts
 pub mod FirstBest
 pub mod Compared
+pub mod Around
 pub mod Bands
+pub mod Runs
 pub mod Searched

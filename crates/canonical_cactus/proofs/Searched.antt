@@ -1,66 +1,68 @@
 -- The search for the first of the best sides: what one border more adds, and what is known at the end.
-use Rattle.std.proofs.Common.{◌≡◌, ℕ, ◌+◌, ◌≤◌, ◌<◌, inl, inr, List, [], ◌++◌, length, map, drop, ap, ◌∙◌, sym, refl, subst, arith, append_assoc}
+use Rattle.std.proofs.Common.{◌≡◌, ℕ, suc, ◌+◌, ◌≤◌, ◌<◌, inl, inr, List, [], ◌∷◌, length, map, ap, ◌∙◌, sym, refl, subst, arith}
 use Rattle.std.specs.Prelude.{Option, None, Some}
 use Rattle.std.specs.List.{All, Contains}
-use Rattle.std.proofs.lemmas.List.{append-nil}
-use Rattle.std.proofs.lemmas.List.Elements.{All-nil, All-append, All-weaker, All-contains}
+use Rattle.std.proofs.lemmas.List.Elements.{All-nil, All-append, All-contains}
 use Rattle.cut_definitions.specs.Balance.{balance, IsBest}
 use Rattle.cut_definitions.proofs.Lists.{Contains-map, Contains-from_map}
-use Rattle.rooted_cactus.specs.Borders.{ranges_between}
+use Rattle.rooted_cactus.specs.Borders.{border_at, ranges_between}
 use Rattle.rooted_cactus.specs.CutRanges.{Range}
 use Rattle.rooted_cactus.specs.Places.{AreOnce, IsVertex, side_at}
 use Rattle.cactus_walk.specs.Walking.{AreBorders}
 use Rattle.cactus_walk.specs.declared.walk.shown.Span.{Span}
 use Rattle.balanced_cut.specs.Ends.{IsScale, range_between, range_of}
 use Rattle.balanced_cut.proofs.BestSide.{IsWeighed, same_balance, scale_of, scale_places}
-use Rattle.balanced_cut.proofs.Moving.{best_fits, from_here, none_past}
-use Rattle.canonical_cactus.specs.FirstBest.{AreLess, IsBeforeAt, IsFirstBefore, IsFirstBest, IsFound, IsNoLater, IsNotAfter, IsRanked, IsRankedOf, IsWanted, count_of, side_of}
+use Rattle.balanced_cut.proofs.Moving.{best_fits, from_here}
+use Rattle.canonical_cactus.specs.FirstBest.{IsFirstBefore, IsFirstBest, IsFound, IsNoLater, IsNotAfter, IsRanked, IsRankedOf, IsWanted, count_of, last_of, mass_of, side_of}
 use Rattle.canonical_cactus.specs.declared.first_side.Ranked.{Ranked}
 use Rattle.canonical_cactus.specs.declared.first_side.Search.{Search}
-use Rattle.canonical_cactus.proofs.Bands.{last_of, less_next, mass_by, mass_of, mass_whole}
+use Rattle.canonical_cactus.proofs.Bands.{mass_by, mass_whole}
+use Rattle.canonical_cactus.proofs.FirstBest.{last_there}
+use Rattle.std.proofs.lemmas.Bool.{cases_lt}
+use Rattle.rooted_cactus.specs.declared.tree.border.Border.{Border}
 
 -- ---- border after border
--- nothing is found before the first border
-pub search_begins : (k : Ranked) → IsFirstBefore k 0 record { found = None; light = 0; heavy = 0 }
-search_begins k = record {
-  found = tt;
-  passed = [];
-  split = refl;
-  before = All-nil (IsBeforeAt k None);
+-- before the first border there is only what was found before
+pub search_begins : (k : Ranked) (mass : ℕ) (found : Option Span) → IsFound k found → IsFirstBefore k mass 0 record { found = found; first = 0; light = 0; heavy = 0 }
+search_begins k mass found is = record {
+  found = is;
+  first = omega arith;
+  before = λ i e a b c d. absurd (omega (arith, a));
+  run = λ i a b. absurd (omega (arith, b));
   light = record { within = omega arith; less = λ e a b c. absurd (omega (arith, c)) };
-  heavy = λ rest e. record { within = omega arith; less = λ e a b c. absurd (omega (arith, c)) };
+  heavy = record { within = omega arith; less = λ e a b c. absurd (omega (arith, c)) };
 }
 
--- the ranges of both masses from a border were compared
-pub border_done : (k : Ranked) (start rest : ℕ) (mid : Option Span) (old new : Search) → IsRanked k → start < length k.places.borders.items → rest + k.high ≡ k.scale.total → IsFirstBefore k start old →
-    ((r : Range) → IsNotAfter k old.found r → IsNotAfter k mid r) → ((r : Range) → IsNotAfter k mid r → IsNotAfter k new.found r) →
-    ((e : ℕ) → start < e → e ≤ last_of k start → mass_of k start e ≡ k.high → IsNotAfter k mid (range_between k.places.borders.items start e)) →
-    ((e : ℕ) → start < e → e ≤ last_of k start → mass_of k start e ≡ rest → IsNotAfter k new.found (range_between k.places.borders.items start e)) →
-    IsFound k new.found → AreLess k k.high start new.light → AreLess k rest start new.heavy → IsFirstBefore k (start + 1) new
-border_done k start rest mid old new ranked there whole is first second of_high of_rest found light heavy =
-    let bs = k.places.borders.items in
-    let all_here : (e : ℕ) → start < e → e ≤ last_of k start → IsBeforeAt k new.found (range_between bs start e) = λ e from to wanted.
-    elim (mass_by k (range_between bs start e) wanted (mass_whole k start e ranked from to)) [
-      | inl m ↦ second (range_between bs start e) (of_high e from to m)
-      | inr m ↦ of_rest e from to (omega (arith, m, whole))
-    ] in
-    let here = from_here (IsBeforeAt k new.found) (count_of k) bs start (start + 1) ranked.borders there refl all_here in
-    record {
-      found = found;
-      passed = is.passed ++ here.here;
-      split = is.split ∙ ap (λ l. is.passed ++ l) here.split ∙ sym (append_assoc is.passed here.here (ranges_between (drop (start + 1) bs)));
-      before = All-append (IsBeforeAt k new.found) is.passed here.here
-          (All-weaker (IsBeforeAt k old.found) (IsBeforeAt k new.found) (λ r h wanted. second r (first r (h wanted))) is.passed is.before) here.all;
-      light = less_next k k.high start new.light ranked light;
-      heavy = λ other e. subst (λ m. AreLess k m (start + 1) new.heavy) (let q : rest ≡ other = omega (arith, whole, e) in q) (less_next k rest start new.heavy ranked heavy);
-    }
+-- behind the last border all ranges of the mass were compared
+pub search_ends : (k : Ranked) (mass start : ℕ) (s : Search) → IsRanked k → start ≡ length k.places.borders.items → IsFirstBefore k mass start s →
+    (i e : ℕ) → i < length k.places.borders.items → i < e → e ≤ last_of k i → mass_of k i e ≡ mass → IsNotAfter k s.found (range_between k.places.borders.items i e)
+search_ends k mass start s ranked all is i e there behind within mass_is = elim (cases_lt i s.first) [
+  | inl l ↦ is.before i e l behind within mass_is
+  | inr l ↦
+      let one : last_of k i < length k.places.borders.items = last_there (count_of k) k.places.borders.items i ranked.borders there in
+      absurd (omega (arith, one, (is.run i l (omega (arith, there, all))).0, all))
+]
 
--- behind the last border all ranges were compared
-pub search_ends : (k : Ranked) (start : ℕ) (s : Search) → length k.places.borders.items ≤ start → IsFirstBefore k start s → (r : Range) → Contains (ranges_between k.places.borders.items) r → IsWanted k r → IsNotAfter k s.found r
-search_ends k start s past is r member wanted =
+-- what holds of the range from each border to each later one of its block holds of all ranges
+each_range : (P : Range → Type 0) (n : ℕ) (bs : List Border) → AreBorders n bs → ((i e : ℕ) → i < length bs → i < e → e ≤ i + (border_at bs i).following → P (range_between bs i e)) → All P (ranges_between bs)
+each_range P n [] are all = All-nil P
+each_range P n (b ∷ bs) are all =
+    let here = from_here P n (b ∷ bs) 0 1 are (omega arith) refl (λ e from to. all 0 e (omega arith) from to) in
+    subst (All P) (sym here.split) (All-append P here.here (ranges_between bs) here.all (each_range P n bs are.2 (λ i e there from to. all (suc i) (suc e) (omega (arith, there)) (omega (arith, from)) (omega (arith, to)))))
+
+-- a range of the balance has one of two masses
+pub both_searched : (k : Ranked) (rest : ℕ) (found : Option Span) → IsRanked k → rest + k.high ≡ k.scale.total →
+    ((i e : ℕ) → i < length k.places.borders.items → i < e → e ≤ last_of k i → mass_of k i e ≡ k.high → IsNotAfter k found (range_between k.places.borders.items i e)) →
+    ((i e : ℕ) → i < length k.places.borders.items → i < e → e ≤ last_of k i → mass_of k i e ≡ rest → IsNotAfter k found (range_between k.places.borders.items i e)) →
+    (r : Range) → Contains (ranges_between k.places.borders.items) r → IsWanted k r → IsNotAfter k found r
+both_searched k rest found ranked whole of_high of_rest r member =
     let bs = k.places.borders.items in
-    let whole : ranges_between bs ≡ is.passed = is.split ∙ ap (λ l. is.passed ++ ranges_between l) (none_past bs start past) ∙ append-nil is.passed in
-    All-contains (IsBeforeAt k s.found) is.passed r is.before (subst (λ l. Contains l r) whole member) wanted
+    let all = each_range (λ r. IsWanted k r → IsNotAfter k found r) (count_of k) bs ranked.borders (λ i e there behind within wanted.
+    elim (mass_by k (range_between bs i e) wanted (mass_whole k i e ranked behind within)) [
+      | inl m ↦ of_high i e there behind within m
+      | inr m ↦ of_rest i e there behind within (omega (arith, m, whole))
+    ]) in
+    All-contains (λ r. IsWanted k r → IsNotAfter k found r) (ranges_between bs) r all member
 
 -- ---- what is known of a cactus
 pub known_count : (n : ℕ) (masses : List ℕ) (sides : List (List ℕ)) (k : Ranked) → IsRankedOf n masses sides k → count_of k ≡ n
@@ -118,6 +120,7 @@ known_ranked n masses sides k some known best high =
       borders = borders;
       chained = known.chained;
       few = omega (arith, count, known.few);
+      bounded = known.bounded;
       half = omega (arith, there.wanted, scale.no_less there.range.to (count_of k) fits.1 (omega arith), scale.whole);
       least = known.least;
       least_size = known.least_size ∙ long;

@@ -1,5 +1,5 @@
 -- The first of the best sides, in the order of lists.
-use Rattle.std.specs.Prelude.{ℕ, ◌≡◌, ◌≤◌, ◌<◌, ◌+◌, ◌*◌, ◌++◌, ◌⊎◌, ⊤, true, false, List, Option, None, Some, drop, length, map, slice_index}
+use Rattle.std.specs.Prelude.{ℕ, ◌≡◌, ◌≤◌, ◌<◌, ◌+◌, ◌*◌, ◌⊎◌, ⊤, true, false, List, Option, None, Some, length, map, slice_index}
 use Rattle.std.specs.List.{All, Contains}
 use Rattle.std.specs.Ordering.{is_gt, nat_cmp}
 use Rattle.std.specs.Cmp.Lexicographic.{slice_cmp}
@@ -13,6 +13,7 @@ use Rattle.cactus_walk.specs.declared.walk.shown.Span.{Span}
 use Rattle.balanced_cut.specs.Ends.{IsScale, IsScaleOf, places_of, range_balance, range_between, range_of, span_mass}
 use Rattle.canonical_cactus.specs.Minima.{IsMinTree, leaf_at}
 use Rattle.canonical_cactus.specs.declared.first_side.Ranked.{Ranked}
+use Rattle.canonical_cactus.specs.declared.first_side.Ends.{Ends}
 use Rattle.canonical_cactus.specs.declared.first_side.Search.{Search}
 
 -- a list does not come after another in the order of lists, in which one that another begins with comes first
@@ -54,6 +55,7 @@ pub record IsRanked (k : Ranked) : Type 0 where
   pub chained : AreChained k.places.borders.items
   pub few : count_of k ≤ 4194304
   pub half : 2 * k.high ≤ k.scale.total
+  pub bounded : k.scale.total < 340282366920938463463374607431768211455
   pub least : IsMinTree k.least
   pub least_size : k.least.size ≡ count_of k
   pub least_is : (p : ℕ) → p < count_of k → leaf_at k.least p ≡ vertex_at k p
@@ -72,6 +74,7 @@ pub record IsRankedOf (n : ℕ) (masses : List ℕ) (sides : List (List ℕ)) (k
   pub chained : AreChained k.places.borders.items
   pub scale : IsScaleOf masses k.places.order.items k.scale
   pub few : n ≤ 4194304
+  pub bounded : k.scale.total < 340282366920938463463374607431768211455
   pub least : IsMinTree k.least
   pub least_size : k.least.size ≡ length k.places.order.items
   pub least_is : (p : ℕ) → p < length k.places.order.items → leaf_at k.least p ≡ vertex_at k p
@@ -95,15 +98,78 @@ abbrev pub IsFound : Ranked → Option Span → Type 0
 IsFound k None = ⊤
 IsFound k (Some s) = Contains (ranges_between k.places.borders.items) (range_of s) × IsWanted k (range_of s)
 
--- where a range has the balance, what was found does not come after it
-abbrev pub IsBeforeAt : Ranked → Option Span → Range → Type 0
-IsBeforeAt k found r = IsWanted k r → IsNotAfter k found r
+-- ---- ranges between borders of one block
+-- the place of a border
+abbrev pub place_at : Ranked → ℕ → ℕ
+place_at k i = (border_at k.places.borders.items i).place
 
--- the first of the sides of the balance at the ranges that begin before a border, and the ends for the next one
-pub record IsFirstBefore (k : Ranked) (start : ℕ) (s : Search) : Type 0 where
+-- the last border of the block of a border
+abbrev pub last_of : Ranked → ℕ → ℕ
+last_of k i = i + (border_at k.places.borders.items i).following
+
+-- the mass of the range from one border to another
+abbrev pub mass_of : Ranked → ℕ → ℕ → ℕ
+mass_of k start end = span_mass k.scale (range_between k.places.borders.items start end)
+
+-- the side at the range from one border to another
+abbrev pub side_between : Ranked → ℕ → ℕ → List ℕ
+side_between k start end = side_of k (range_between k.places.borders.items start end)
+
+abbrev pub range_at : Ranked → Ends → Range
+range_at k e = range_between k.places.borders.items e.start e.end
+
+-- a range from a border to a later one of its block, which lies within another such range
+pub record IsWithin (k : Ranked) (bounds inner : Ends) : Type 0 where
+  pub start : bounds.start ≤ inner.start
+  pub some : inner.start < inner.end
+  pub end : inner.end ≤ bounds.end
+  pub block : bounds.end ≤ last_of k bounds.start
+
+-- a vertex stands at a place from one border on that is before another border, and is at most a number
+abbrev pub HasUpTo : Ranked → ℕ → ℕ → ℕ → Type 0
+HasUpTo k from to vertex = (p : ℕ) × (place_at k from ≤ p) × (p < place_at k to) × (vertex_at k p ≤ vertex)
+
+-- one end of a range was moved on, over borders of which the last one takes in a vertex that is at most a number
+abbrev pub IsTaken : Ranked → Ends → Ends → ℕ → Type 0
+IsTaken k old new vertex =
+    ((new.start < old.start) × HasUpTo k new.start (new.start + 1) vertex × (new.end ≡ old.end))
+    ⊎ ((new.start ≡ old.start) × (i : ℕ) × (new.end ≡ i + 1) × (old.end ≤ i) × HasUpTo k i (i + 1) vertex)
+
+-- no range between two borders is empty
+abbrev pub NoneEmpty : Ranked → Type 0
+NoneEmpty k = (i : ℕ) → 0 < (border_at k.places.borders.items i).following → place_at k i < place_at k (i + 1)
+
+-- the range of a cut that is empty, or none is
+abbrev pub IsEmptyOne : Ranked → Option Span → Type 0
+IsEmptyOne k None = NoneEmpty k
+IsEmptyOne k (Some s) = Contains (ranges_between k.places.borders.items) (range_of s) × (s.from ≡ s.to)
+
+-- a range between two borders of a block that has the balance
+abbrev pub IsFoundAt : Ranked → Option Ends → Type 0
+IsFoundAt k None = ⊤
+IsFoundAt k (Some f) = (f.start < f.end) × (f.end ≤ last_of k f.start) × IsWanted k (range_at k f)
+
+-- the side of what was found does not come after that at a range between two borders
+abbrev pub IsNotAfterAt : Ranked → Option Ends → Option Span → Type 0
+IsNotAfterAt k None found = ⊤
+IsNotAfterAt k (Some f) found = IsNotAfter k found (range_at k f)
+
+-- from each border of one block, from one on, up to another there is no mass
+abbrev pub IsRun : Ranked → ℕ → ℕ → Type 0
+IsRun k first start = (i : ℕ) → first ≤ i → i < start → (last_of k i ≡ last_of k start) × (mass_of k i start ≡ 0)
+
+-- of the ranges of a mass that begin at a border from one on up to another, one whose side comes first, if there are any
+abbrev pub IsFirstOfRun : Ranked → ℕ → ℕ → ℕ → Option Ends → Type 0
+IsFirstOfRun k mass first start None = (s e : ℕ) → first ≤ s → s ≤ start → s < e → e ≤ last_of k s → mass_of k s e ≡ mass → ⊥
+IsFirstOfRun k mass first start (Some f) =
+    (f.start < f.end) × (f.end ≤ last_of k f.start) × (mass_of k f.start f.end ≡ mass)
+    × ((s e : ℕ) → first ≤ s → s ≤ start → s < e → e ≤ last_of k s → mass_of k s e ≡ mass → IsNoLater (side_between k f.start f.end) (side_between k s e))
+
+-- the first of the sides at the ranges of a mass that begin before a border, but for a run up to it, and the ends for the next one
+pub record IsFirstBefore (k : Ranked) (mass start : ℕ) (s : Search) : Type 0 where
   pub found : IsFound k s.found
-  pub passed : List Range
-  pub split : ranges_between k.places.borders.items ≡ passed ++ ranges_between (drop start k.places.borders.items)
-  pub before : All (IsBeforeAt k s.found) passed
-  pub light : AreLess k k.high start s.light
-  pub heavy : (rest : ℕ) → rest + k.high ≡ k.scale.total → AreLess k rest start s.heavy
+  pub first : s.first ≤ start
+  pub before : (i e : ℕ) → i < s.first → i < e → e ≤ last_of k i → mass_of k i e ≡ mass → IsNotAfter k s.found (range_between k.places.borders.items i e)
+  pub run : IsRun k s.first start
+  pub light : AreLess k mass start s.light
+  pub heavy : AreLess k (mass + 1) start s.heavy

@@ -1,10 +1,16 @@
 //! The first of the sides of best balance.
 //!
-//! In the order of entering each side is a range. The ranges from one border on that have a mass end at borders that stand
-//! side by side, since masses do not fall as the end goes on; from the next border on a range has no more mass, so that the
-//! first of these ends does not go back. Of two sides that one comes first which has the least vertex that only one of
-//! them has, if the other one has a greater vertex; else the other one is the beginning of it, and comes first. What one
-//! range has and another has not is two ranges, so a few least vertices of ranges decide.
+//! In the order of entering each side is a range between two borders of a block. Of two sides that one comes first which has
+//! the least vertex that only one of them has, if the other one has a greater vertex; else the other one is the beginning of
+//! it, and comes first. What one range has and another has not is two ranges, so a few least vertices of ranges decide.
+//!
+//! A side has the best balance where its mass is one of two. The ranges of a mass from one border on end at borders that
+//! stand side by side, and neither the first nor the last of these goes back from one border to the next. Ranges of one mass
+//! can be many where vertices have no mass, so they are not gone through. Borders without mass between them are a run. The
+//! ranges of a mass above 0 that begin in one run end in one run, each at each, so all of them have the shortest one within
+//! them (`first_around`). The ranges without mass are all those between two borders of a run, and those with the least vertex
+//! come first (`first_within`). From such a range on the borders at both ends are taken in one after another, at most once
+//! each, until all that is around comes behind all that is in it. So of each run one range is compared.
 
 ghost use Rattle.std.specs.Prelude.{◌≡◌, ◌≢◌, ◌+◌, ◌*◌, ◌<◌, ◌≤◌, ◌⊎◌, [], ℕ, IfOk, IsFalse, IsTrue, Some, length, slice_index};
 ghost use Rattle.std.specs.List.{All, Contains};
@@ -14,7 +20,7 @@ ghost use Rattle.rooted_cactus.specs.CutRanges.{Range};
 ghost use Rattle.rooted_cactus.specs.Places.{IsVertex, side_at};
 ghost use Rattle.rooted_cactus.specs.Rooted.{sides_of};
 ghost use Rattle.rooted_cactus.specs.Trees.{blocks};
-ghost use Rattle.canonical_cactus.specs.FirstBest.{AreLess, IsBeyond, IsFirstBefore, IsFirstBest, IsFound, IsNoLater, IsNotAfter, IsRanked, IsRankedOf, IsWanted, count_of, side_of, vertex_at};
+ghost use Rattle.canonical_cactus.specs.FirstBest.{AreLess, HasUpTo, IsBeyond, IsEmptyOne, IsFirstBefore, IsFirstBest, IsFirstOfRun, IsFound, IsFoundAt, IsNoLater, IsNotAfter, IsNotAfterAt, IsRanked, IsRankedOf, IsRun, IsTaken, IsWanted, IsWithin, NoneEmpty, count_of, last_of, mass_of, range_at, side_between, side_of, vertex_at};
 
 use crate::minima::Minima;
 use balanced_cut::{Scale, balance_of, best};
@@ -36,11 +42,19 @@ struct Ranked {
     wanting: Minima,
 }
 
-/// The first of the sides so far, and the first ends up to which the ranges from a border have either of the two masses that
-/// give the balance.
+/// Two borders of one block, at which a range begins and ends.
+#[derive(Clone, Copy)]
+struct Ends {
+    start: usize,
+    end: usize,
+}
+
+/// The first of the sides so far, the first border of a run without mass between its borders, and the first ends up to which
+/// the ranges from the last one have a mass, and more than it.
 #[derive(Clone, Copy)]
 struct Search {
     found: Option<Span>,
+    first: usize,
     light: usize,
     heavy: usize,
 }
@@ -170,78 +184,266 @@ impl Ranked {
         }
     }
 
-    /// The first of the side that was found and the sides at the ranges of a mass from one border, of which none ends before
-    /// another one.
-    fn first_of_mass(
-        &self,
-        mass: u128,
-        start: usize,
-        from: usize,
-        found: Option<Span>,
-    ) -> Option<Span>
+    /// The range between two borders.
+    fn span(&self, ends: Ends) -> Span
+        requires start { ends.start < length self.now.places.borders.items }
+        requires end { ends.end < length self.now.places.borders.items }
+        ensures { range_of result ≡ range_at self.now ends }
+    {
+        self.between(ends.start, ends.end)
+    }
+
+    /// The first border from one on of which the range to the next one has a vertex up to a number.
+    fn first_with(&self, from: usize, end: usize, vertex: u32) -> usize
+        requires ranked { IsRanked self.now }
+        requires within { end ≤ last_of self.now from }
+        requires behind { from < end }
+        requires vertex { vertex < 4294967295 }
+        requires has { HasUpTo self.now from end vertex }
+        ensures from { from ≤ result }
+        ensures end { result < end }
+        ensures has { HasUpTo self.now result (result + 1) vertex }
+    {
+        let mut at = from;
+        'parts: while self.least.least(self.between(at, at + 1)) > vertex {
+            at += 1;
+        }
+        at
+    }
+
+    /// The last border before one of which the range to the next one has a vertex up to a number.
+    fn last_with(&self, from: usize, end: usize, vertex: u32) -> usize
+        requires ranked { IsRanked self.now }
+        requires within { end ≤ last_of self.now from }
+        requires behind { from < end }
+        requires vertex { vertex < 4294967295 }
+        requires has { HasUpTo self.now from end vertex }
+        ensures from { from ≤ result }
+        ensures end { result < end }
+        ensures has { HasUpTo self.now result (result + 1) vertex }
+    {
+        let mut at = end - 1;
+        'parts: while self.least.least(self.between(at, at + 1)) > vertex {
+            at -= 1;
+        }
+        at
+    }
+
+    /// A range with as many borders more, at one of its ends, as take in a vertex around it.
+    fn with_vertex(&self, bounds: Ends, inner: Ends, vertex: u32) -> Ends
+        requires ranked { IsRanked self.now }
+        requires within { IsWithin self.now bounds inner }
+        requires vertex { vertex < 4294967295 }
+        requires around { (p : ℕ) × IsBeyond (range_at self.now bounds) (range_at self.now inner) p × (vertex_at self.now p ≡ vertex) }
+        ensures within { IsWithin self.now bounds result }
+        ensures taken { IsTaken self.now inner result vertex }
+    {
+        if self.least.least(self.between(bounds.start, inner.start)) <= vertex {
+            Ends {
+                start: self.last_with(bounds.start, inner.start, vertex),
+                end: inner.end,
+            }
+        } else {
+            Ends {
+                start: inner.start,
+                end: self.first_with(inner.end, bounds.end, vertex) + 1,
+            }
+        }
+    }
+
+    /// The first of the sides at the ranges between two borders that have another range within them.
+    ///
+    /// As long as the range has a greater vertex than the least one around it, that one belongs to the first side. After
+    /// that all that is around comes behind all that is in it, so each longer side begins with this one.
+    fn first_around(&self, bounds: Ends, inner: Ends) -> Ends
+        requires ranked { IsRanked self.now }
+        requires within { IsWithin self.now bounds inner }
+        ensures within { IsWithin self.now bounds result }
+        ensures start { result.start ≤ inner.start }
+        ensures end { inner.end ≤ result.end }
+        ensures first { (s e : ℕ) → bounds.start ≤ s → s ≤ inner.start → inner.end ≤ e → e ≤ bounds.end → IsNoLater (side_between self.now result.start result.end) (side_between self.now s e) }
+    {
+        let all = self.span(bounds);
+        let mut ends = inner;
+        let mut vertex = self.least_beyond(all, self.span(ends));
+        'taken: while self.has_greater(self.span(ends), vertex, u32::MAX) {
+            ends = self.with_vertex(bounds, ends, vertex);
+            vertex = self.least_beyond(all, self.span(ends));
+        }
+        ends
+    }
+
+    /// The first of the sides at the ranges between two borders: it has the least of all these vertices.
+    fn first_within(&self, bounds: Ends) -> Ends
+        requires ranked { IsRanked self.now }
+        requires some { bounds.start < bounds.end }
+        requires block { bounds.end ≤ last_of self.now bounds.start }
+        requires none_empty { NoneEmpty self.now }
+        ensures within { IsWithin self.now bounds result }
+        ensures first { (s e : ℕ) → bounds.start ≤ s → s < e → e ≤ bounds.end → IsNoLater (side_between self.now result.start result.end) (side_between self.now s e) }
+    {
+        let vertex = self.least.least(self.span(bounds));
+        let start = self.first_with(bounds.start, bounds.end, vertex);
+        self.first_around(
+            bounds,
+            Ends {
+                start,
+                end: start + 1,
+            },
+        )
+    }
+
+    /// Of the ranges of a mass that begin in a run of borders without mass between them, the one whose side comes first. The
+    /// ranges from the last border of the run that have the mass end from one border on, and before another.
+    fn first_of_run(&self, mass: u128, run: Ends, ends: Ends) -> Option<Ends>
+        requires ranked { IsRanked self.now }
+        requires start { run.end < length self.now.places.borders.items }
+        requires first { run.start ≤ run.end }
+        requires run { IsRun self.now run.start run.end }
+        requires last { 0 < (border_at self.now.places.borders.items run.end).following → 0 < mass_of self.now run.end (run.end + 1) }
+        requires none_empty { mass ≡ 0 → NoneEmpty self.now }
+        requires light { AreLess self.now mass run.end ends.start }
+        requires behind { run.end < ends.start }
+        requires reached { ends.start ≤ last_of self.now run.end → mass ≤ mass_of self.now run.end ends.start }
+        requires heavy { AreLess self.now (mass + 1) run.end ends.end }
+        requires past { run.end < ends.end }
+        requires passed { ends.end ≤ last_of self.now run.end → mass + 1 ≤ mass_of self.now run.end ends.end }
+        ensures { IsFirstOfRun self.now mass run.start run.end result }
+    {
+        if mass == 0 {
+            if run.start == run.end {
+                return None;
+            }
+            return Some(self.first_within(run));
+        }
+        if ends.start >= ends.end {
+            return None;
+        }
+        let bounds = Ends {
+            start: run.start,
+            end: ends.end - 1,
+        };
+        let inner = Ends {
+            start: run.end,
+            end: ends.start,
+        };
+        Some(self.first_around(bounds, inner))
+    }
+
+    /// Whether the next border is of the same block, and there is no mass before it.
+    fn goes_on(&self, start: usize) -> bool
+        requires ranked { IsRanked self.now }
+        requires start { start < length self.now.places.borders.items }
+        ensures on { IsTrue result → (0 < (border_at self.now.places.borders.items start).following) × (mass_of self.now start (start + 1) ≡ 0) }
+        ensures last { IsFalse result → 0 < (border_at self.now.places.borders.items start).following → 0 < mass_of self.now start (start + 1) }
+    {
+        self.places.borders[start].following > 0 && self.mass_between(start, start + 1) == 0
+    }
+
+    /// Of the side that was found and that at a range, if there is one, the range of the earlier.
+    fn earlier_of(&self, found: Option<Span>, first: Option<Ends>) -> Option<Span>
+        requires ranked { IsRanked self.now }
+        requires found { IsFound self.now found }
+        requires first { IsFoundAt self.now first }
+        ensures found { IsFound self.now result }
+        ensures kept { (r : Range) → IsNotAfter self.now found r → IsNotAfter self.now result r }
+        ensures put { IsNotAfterAt self.now first result }
+    {
+        match first {
+            Some(ends) => Some(self.earlier(found, self.span(ends))),
+            None => found,
+        }
+    }
+
+    /// The first of the sides at the ranges of a mass that begin at a border, and before it. A run of borders without mass
+    /// between them is gone over at its last one.
+    fn first_from(&self, mass: u128, start: usize, search: Search) -> Search
         requires ranked { IsRanked self.now }
         requires start { start < length self.now.places.borders.items }
         requires mass { (mass ≡ self.now.high) ⊎ (mass + self.now.high ≡ self.now.scale.total) }
-        requires behind { start < from }
-        requires less { AreLess self.now mass start from }
-        requires reached { from ≤ start + (border_at self.now.places.borders.items start).following → mass ≤ span_mass self.now.scale (range_between self.now.places.borders.items start from) }
-        requires found { IsFound self.now found }
-        ensures found { IsFound self.now result }
-        ensures kept { (r : Range) → IsNotAfter self.now found r → IsNotAfter self.now result r }
-        ensures first { (e : ℕ) → start < e → e ≤ start + (border_at self.now.places.borders.items start).following → span_mass self.now.scale (range_between self.now.places.borders.items start e) ≡ mass → IsNotAfter self.now result (range_between self.now.places.borders.items start e) }
+        requires none_empty { mass ≡ 0 → NoneEmpty self.now }
+        requires search { IsFirstBefore self.now mass start search }
+        ensures kept { (r : Range) → IsNotAfter self.now search.found r → IsNotAfter self.now result.found r }
+        ensures first { IsFirstBefore self.now mass (start + 1) result }
     {
-        let last = self.last_of(start);
-        let mut end = from;
-        let mut found = found;
-        'ends: while end <= last && self.mass_between(start, end) == mass {
-            found = Some(self.earlier(found, self.between(start, end)));
-            end += 1;
+        let light = self.end_from(mass, start, search.light);
+        let heavy = self.end_from(mass + 1, start, search.heavy);
+        if self.goes_on(start) {
+            return Search {
+                found: search.found,
+                first: search.first,
+                light,
+                heavy,
+            };
         }
-        found
-    }
-
-    /// The same at the ranges of the mass that the other sides have, which are compared already where the two masses are one.
-    fn first_of_rest(
-        &self,
-        rest: u128,
-        start: usize,
-        from: usize,
-        found: Option<Span>,
-    ) -> Option<Span>
-        requires ranked { IsRanked self.now }
-        requires start { start < length self.now.places.borders.items }
-        requires rest { rest + self.now.high ≡ self.now.scale.total }
-        requires behind { start < from }
-        requires less { AreLess self.now rest start from }
-        requires reached { from ≤ start + (border_at self.now.places.borders.items start).following → rest ≤ span_mass self.now.scale (range_between self.now.places.borders.items start from) }
-        requires found { IsFound self.now found }
-        requires high { (e : ℕ) → start < e → e ≤ start + (border_at self.now.places.borders.items start).following → span_mass self.now.scale (range_between self.now.places.borders.items start e) ≡ self.now.high → IsNotAfter self.now found (range_between self.now.places.borders.items start e) }
-        ensures found { IsFound self.now result }
-        ensures kept { (r : Range) → IsNotAfter self.now found r → IsNotAfter self.now result r }
-        ensures first { (e : ℕ) → start < e → e ≤ start + (border_at self.now.places.borders.items start).following → span_mass self.now.scale (range_between self.now.places.borders.items start e) ≡ rest → IsNotAfter self.now result (range_between self.now.places.borders.items start e) }
-    {
-        if rest == self.high {
-            return found;
-        }
-        self.first_of_mass(rest, start, from, found)
-    }
-
-    /// The first of the sides of the balance at the ranges that begin at a border, and before it.
-    fn first_from(&self, start: usize, search: Search) -> Search
-        requires ranked { IsRanked self.now }
-        requires start { start < length self.now.places.borders.items }
-        requires search { IsFirstBefore self.now start search }
-        ensures { IsFirstBefore self.now (start + 1) result }
-    {
-        let rest = self.scale.total - self.high;
-        let light = self.end_from(self.high, start, search.light);
-        let heavy = self.end_from(rest, start, search.heavy);
-        let found = self.first_of_mass(self.high, start, light, search.found);
+        let run = Ends {
+            start: search.first,
+            end: start,
+        };
+        let ends = Ends {
+            start: light,
+            end: heavy,
+        };
         Search {
-            found: self.first_of_rest(rest, start, heavy, found),
+            found: self.earlier_of(search.found, self.first_of_run(mass, run, ends)),
+            first: start + 1,
             light,
             heavy,
         }
+    }
+
+    /// The first of the side that was found and the sides at all ranges of a mass.
+    fn first_of_mass(&self, mass: u128, found: Option<Span>) -> Option<Span>
+        requires ranked { IsRanked self.now }
+        requires mass { (mass ≡ self.now.high) ⊎ (mass + self.now.high ≡ self.now.scale.total) }
+        requires none_empty { mass ≡ 0 → NoneEmpty self.now }
+        requires found { IsFound self.now found }
+        ensures found { IsFound self.now result }
+        ensures kept { (r : Range) → IsNotAfter self.now found r → IsNotAfter self.now result r }
+        ensures first { (i e : ℕ) → i < length self.now.places.borders.items → i < e → e ≤ last_of self.now i → mass_of self.now i e ≡ mass → IsNotAfter self.now result (range_between self.now.places.borders.items i e) }
+    {
+        let mut search = Search {
+            found,
+            first: 0,
+            light: 0,
+            heavy: 0,
+        };
+        'starts: for start in 0..self.places.borders.len() {
+            search = self.first_from(mass, start, search);
+        }
+        search.found
+    }
+
+    /// The range of a cut that has no vertex, if there is one.
+    fn empty_range(&self) -> Option<Span>
+        requires ranked { IsRanked self.now }
+        ensures { IsEmptyOne self.now result }
+    {
+        'starts: for start in 0..self.places.borders.len() {
+            if self.places.borders[start].following > 0 {
+                let span = self.between(start, start + 1);
+                if span.from == span.to {
+                    return Some(span);
+                }
+            }
+        }
+        None
+    }
+
+    /// The first of the sides at the ranges of either mass that gives the balance, where none is empty or the balance is
+    /// above 0.
+    fn first_of_both(&self) -> Option<Span>
+        requires ranked { IsRanked self.now }
+        requires none_empty { self.now.high ≡ 0 → NoneEmpty self.now }
+        ensures found { IsFound self.now result }
+        ensures first { (r : Range) → Contains (ranges_between self.now.places.borders.items) r → IsWanted self.now r → IsNotAfter self.now result r }
+    {
+        let rest = self.scale.total - self.high;
+        let found = self.first_of_mass(self.high, None);
+        if rest == self.high {
+            return found;
+        }
+        self.first_of_mass(rest, found)
     }
 
     /// The range of the first of all sides of the balance.
@@ -250,15 +452,12 @@ impl Ranked {
         ensures found { IsFound self.now result }
         ensures first { (r : Range) → Contains (ranges_between self.now.places.borders.items) r → IsWanted self.now r → IsNotAfter self.now result r }
     {
-        let mut search = Search {
-            found: None,
-            light: 0,
-            heavy: 0,
-        };
-        'starts: for start in 0..self.places.borders.len() {
-            search = self.first_from(start, search);
+        if self.high == 0 {
+            if let Some(span) = self.empty_range() {
+                return Some(span);
+            }
         }
-        search.found
+        self.first_of_both()
     }
 }
 
@@ -317,10 +516,9 @@ fn side_at_span(alloc: Global, n: u32, order: &[u32], span: Span) -> Result<Side
 /// Of all sides of the cuts of the cactus that have the best balance by the masses of the vertices, the first in the order
 /// of lists, in which a list that another begins with comes first.
 ///
-/// It takes O((n + k) log n) steps for a cactus of n vertices with k cuts of best balance. Where all masses are 1 or more k
-/// is at most twice the number of the borders of its blocks, which is in proportion to the nodes; where many vertices have
-/// mass 0 it can be as great as the number of cuts. It takes memory in proportion to the nodes and to n, and is refused
-/// only where that is wanting.
+/// It takes O(n log n) steps for a cactus of n vertices whose nodes are at most in proportion to n, however many cuts have the
+/// best balance and whatever the masses are. It takes memory in proportion to the nodes and to n, and is refused only where
+/// that is wanting.
 pub fn first_best(alloc: Global, cactus: &Cactus, weights: &VertexWeights) -> Result<Side, NoMemory>
     requires some { blocks cactus.now.root ≢ [] }
     requires weights { length weights.now ≡ cactus.now.vertices }

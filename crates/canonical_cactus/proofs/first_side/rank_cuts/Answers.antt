@@ -1,5 +1,8 @@
 -- What is known of the places, the scale and the trees of minima.
-use Rattle.std.proofs.Common.{◌∙◌, length, slice_index, ap, subst, arith}
+use Rattle.std.proofs.Common.{◌∙◌, length, slice_index, ap, sym, subst, arith}
+use Rattle.std.specs.List.{All}
+use Rattle.rooted_cactus.specs.Places.{IsVertex}
+use Rattle.cactus_walk.proofs.RangeMasses.{before_bound}
 use Rattle.cut_definitions.specs.Cuts.{has}
 use Rattle.rooted_cactus.proofs.Once.{each_there}
 use Rattle.balanced_cut.specs.Ends.{IsScaleOf}
@@ -19,6 +22,9 @@ returns-clause-cuts c =
       chained = c.in_ok-places.ensures.chained;
       scale = subst (λ o. IsScaleOf masses o c.in_ok-scale.scale) c.deref.ensures.value c.in_ok-scale.ensures;
       shown = c.in_ok-places.ensures.sides;
+      bounded =
+          let order = c.deref.result.now in
+          omega (arith, c.in_ok-scale.ensures.whole, before_bound masses order (length order) c.len-known.ensures.masses (subst (All (IsVertex (length masses))) (sym c.deref.ensures.value) (subst (λ m. All (IsVertex m) c.in_ok-places.places.order.items) (sym c.requires.weights) c.in_ok-places.ensures.vertices)) (omega arith), ap length c.deref.ensures.value, c.in_ok-places.ensures.long, c.len-known.ensures.masses, c.requires.weights, c.len-known.type_inv);
       few = omega (arith, c.len-known.ensures.masses, c.requires.weights);
       least = c.in_ok-least.ensures.tree;
       least_size = c.in_ok-least.ensures.size ∙ ap length c.deref-2.ensures.value;

@@ -1,6 +1,7 @@
 -- The end moves on while the range has less mass, and stays within the block.
 use Rattle.std.proofs.Common.{◌≤◌, arith}
-use Rattle.canonical_cactus.proofs.Bands.{last_of, less_more, less_start}
+use Rattle.canonical_cactus.specs.FirstBest.{last_of}
+use Rattle.canonical_cactus.proofs.Bands.{less_more, less_start}
 use Rattle.canonical_cactus.proofs.first_side.Ranked.end_from.Goals as goal
 
 pub ends-init : goal.ends-init

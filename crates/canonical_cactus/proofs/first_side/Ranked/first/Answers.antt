@@ -1,13 +1,17 @@
--- From border to border, and all ranges were compared at the end.
-use Rattle.std.proofs.Common.{arith}
-use Rattle.canonical_cactus.proofs.Searched.{search_begins, search_ends}
+-- A side without vertices comes first.
+use Rattle.std.specs.Prelude.{Some}
+use Rattle.std.proofs.Common.{subst}
+use Rattle.balanced_cut.specs.Ends.{range_of}
+use Rattle.balanced_cut.proofs.Moving.{best_fits}
+use Rattle.canonical_cactus.specs.FirstBest.{IsEmptyOne, count_of}
+use Rattle.canonical_cactus.proofs.Around.{empty_first}
 use Rattle.canonical_cactus.proofs.first_side.Ranked.first.Goals as goal
 
-pub starts-init : goal.starts-init
-starts-init c = record {
-  last = omega (arith, c.len-start-end.ensures, c.args.self.now.places.borders.ok.0);
-  search = search_begins c.args.self.now;
-}
-
-pub returns-clause-first : goal.returns-clause-first
-returns-clause-first c = search_ends c.args.self.now c.starts.start c.starts.search (omega (arith, c.starts-test.false, c.starts.invariant.last)) c.starts.invariant.search
+pub returns-in-Some-clause-first : goal.returns-in-Some-clause-first
+returns-in-Some-clause-first c = λ r member wanted.
+    let k = c.args.self.now in
+    let bs = k.places.borders.items in
+    let is : IsEmptyOne k (Some c.in-Some.span) = subst (IsEmptyOne k) c.in-Some.is c.empty_range.ensures in
+    let fits = best_fits (count_of k) bs (range_of c.in-Some.span) c.requires.ranked.borders c.requires.ranked.chained is.0 in
+    let other = best_fits (count_of k) bs r c.requires.ranked.borders c.requires.ranked.chained member in
+    empty_first k (range_of c.in-Some.span) r c.requires.ranked fits.1 other.1 is.1

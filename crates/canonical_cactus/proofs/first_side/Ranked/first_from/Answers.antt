@@ -1,16 +1,13 @@
--- The ranges of both masses that begin at the border were compared.
-use Rattle.std.proofs.Common.{◌-◌, arith}
-use Rattle.canonical_cactus.proofs.Searched.{border_done}
+-- The run goes on, or what it has of the mass is compared.
+use Rattle.canonical_cactus.proofs.Runs.{run_done, run_next}
 use Rattle.canonical_cactus.proofs.first_side.Ranked.first_from.Goals as goal
 
-pub end_from-heavy-requires-clause-less : goal.end_from-heavy-requires-clause-less
-end_from-heavy-requires-clause-less c = c.requires.search.heavy _ (omega (arith, c.requires.ranked.half))
+pub returns-then-goes_on-clause-first : goal.returns-then-goes_on-clause-first
+returns-then-goes_on-clause-first c =
+    let on = c.goes_on.ensures.on c.if-goes_on.true in
+    run_next c.args.self.now c.args.mass c.args.start c.end_from-light.result c.end_from-heavy.result c.args.search c.requires.ranked c.requires.start c.requires.search on.0 on.1 c.end_from-light.ensures.less c.end_from-heavy.ensures.less
 
-pub returns : goal.returns
-returns c =
-    let k = c.args.self.now in
-    border_done k c.args.start (k.scale.total - k.high) c.first_of_mass-found.result c.args.search
-    record { found = c.first_of_rest.result; light = c.end_from-light.result; heavy = c.end_from-heavy.result }
-    c.requires.ranked c.requires.start (omega (arith, c.requires.ranked.half)) c.requires.search
-    c.first_of_mass-found.ensures.kept c.first_of_rest.ensures.kept c.first_of_mass-found.ensures.first c.first_of_rest.ensures.first
-    c.first_of_rest.ensures.found c.end_from-light.ensures.less c.end_from-heavy.ensures.less
+pub returns-clause-first : goal.returns-clause-first
+returns-clause-first c =
+    run_done c.args.self.now c.args.mass c.args.start c.end_from-light.result c.end_from-heavy.result c.args.search c.first_of_run.result c.earlier_of.result c.requires.ranked c.requires.search c.first_of_run.ensures
+    c.earlier_of.ensures.found c.earlier_of.ensures.kept c.earlier_of.ensures.put c.end_from-light.ensures.less c.end_from-heavy.ensures.less
