@@ -40,6 +40,34 @@ fn replayed(core: &mut Core, graph: &Graph, events: &[Event]) -> Result<u64, NoM
     Ok(allowed)
 }
 
+/// An event, whether it is allowed, and what a seat has seen after it; none where that is not live.
+#[derive(Drop)]
+struct Row {
+    event: Event,
+    allowed: bool,
+    seat: u32,
+    seen: Option<u64>,
+}
+
+fn row(event: Event, allowed: bool, seat: u32, seen: Option<u64>) -> Row {
+    Row {
+        event,
+        allowed,
+        seat,
+        seen,
+    }
+}
+
+/// Steps through events, and answers whether each was allowed or refused as its row says, and what is seen is that.
+fn goes_by(core: &mut Core, rows: &[Row]) -> Result<bool, NoMemory> {
+    for row in rows {
+        if core.step(&row.event)? != row.allowed || core.seen(row.seat) != row.seen {
+            return Ok(false);
+        }
+    }
+    Ok(true)
+}
+
 #[test]
 fn a_seat_that_was_not_made_is_refused(rt: HostRuntime) -> Result<(), Fail> {
     let graph = uneven_triangle(rt.alloc())?;
@@ -106,5 +134,46 @@ fn seats_join_and_take(rt: HostRuntime) -> Result<(), Fail> {
         allowed == 7 && core.bound() == 5 && core.seen(2) == Some(6) && core.seen(3) == None
     );
     assert!(rt; core.is_marked(0) && core.is_marked(1) && !core.is_marked(2) && core.is_taken(2));
+    Ok(())
+}
+
+#[test]
+fn a_stale_mark_is_refused_at_its_step(rt: HostRuntime) -> Result<(), Fail> {
+    let graph = uneven_triangle(rt.alloc())?;
+    let mut core = open_triangle(rt.alloc(), &graph)?;
+    let side = side_of(rt.alloc(), 3)?;
+    let rows = [
+        row(Event::Split { seat: 1 }, true, 2, Some(6)),
+        row(Event::Load { seat: 2 }, true, 2, Some(6)),
+        row(Event::Lower { seat: 1, side }, true, 1, Some(5)),
+        row(Event::Mark { seat: 2, edge: 0 }, true, 2, Some(6)),
+        row(Event::Mark { seat: 2, edge: 2 }, false, 2, Some(6)),
+        row(Event::Load { seat: 2 }, true, 2, Some(5)),
+        row(Event::Mark { seat: 2, edge: 2 }, true, 2, Some(5)),
+    ];
+    assert!(rt; goes_by(&mut core, &rows)?);
+    Ok(())
+}
+
+#[test]
+fn seats_join_and_take_step_by_step(rt: HostRuntime) -> Result<(), Fail> {
+    let graph = uneven_triangle(rt.alloc())?;
+    let mut core = open_triangle(rt.alloc(), &graph)?;
+    let mut side = side_of(rt.alloc(), 1)?;
+    side.insert(2);
+    let rows = [
+        row(Event::Split { seat: 1 }, true, 2, Some(6)),
+        row(Event::Split { seat: 1 }, true, 3, Some(6)),
+        row(Event::Lower { seat: 3, side }, true, 3, Some(5)),
+        row(Event::Mark { seat: 1, edge: 1 }, false, 1, Some(6)),
+        row(Event::Mark { seat: 1, edge: 0 }, true, 1, Some(6)),
+        row(Event::Join { seat: 1, other: 3 }, true, 1, Some(5)),
+        row(Event::Mark { seat: 3, edge: 0 }, false, 3, None),
+        row(Event::Mark { seat: 1, edge: 1 }, true, 1, Some(5)),
+        row(Event::Join { seat: 2, other: 2 }, false, 2, Some(6)),
+        row(Event::Take { seat: 2, vertex: 4 }, false, 2, Some(6)),
+        row(Event::Take { seat: 2, vertex: 2 }, true, 2, Some(6)),
+    ];
+    assert!(rt; goes_by(&mut core, &rows)?);
     Ok(())
 }

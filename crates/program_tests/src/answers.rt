@@ -120,6 +120,21 @@ const LISTS: &[(&[&str], &[u8], &str)] = &[
         "value 4\nbalance 3\nside 4 5 6\n",
     ),
     (&["balanced"], SQUARE, "value 2\nbalance 2\nside 2 3\n"),
+    (
+        &["balanced", "--workers", "1"],
+        SQUARE,
+        "value 2\nbalance 2\nside 2 3\n",
+    ),
+    (
+        &["balanced", "--workers", "4"],
+        SQUARE,
+        "value 2\nbalance 2\nside 2 3\n",
+    ),
+    (
+        &["balanced", "--workers", "8"],
+        SQUARE,
+        "value 2\nbalance 2\nside 2 3\n",
+    ),
     (&["balanced"], NO_VERTEX, "no cut\n"),
     (&["balanced"], HEAVY_END, "value 1\nbalance 3\nside 2 3 4\n"),
     (
@@ -256,6 +271,8 @@ const FOUR_THOUSAND: &str = "vertices 4000\nedges 5000\nvalue 4\ncount 501500\nb
 
 const TRIALS: &[(&[&str], &str)] = &[
     (&["trial", "12"], TWELVE),
+    (&["trial", "12", "--workers", "1"], TWELVE),
+    (&["trial", "12", "--workers", "8"], TWELVE),
     (&["trial", "15"], TWELVE),
     (&["--workers=64", "trial", "012"], TWELVE),
     (&["trial", "1000", "--workers", "1"], THOUSAND),
