@@ -49,7 +49,7 @@ struct Row {
     seen: Option<u64>,
 }
 
-fn row(event: Event, allowed: bool, seat: u32, seen: Option<u64>) -> Row {
+fn expecting(event: Event, allowed: bool, seat: u32, seen: Option<u64>) -> Row {
     Row {
         event,
         allowed,
@@ -143,13 +143,13 @@ fn a_stale_mark_is_refused_at_its_step(rt: HostRuntime) -> Result<(), Fail> {
     let mut core = open_triangle(rt.alloc(), &graph)?;
     let side = side_of(rt.alloc(), 3)?;
     let rows = [
-        row(Event::Split { seat: 1 }, true, 2, Some(6)),
-        row(Event::Load { seat: 2 }, true, 2, Some(6)),
-        row(Event::Lower { seat: 1, side }, true, 1, Some(5)),
-        row(Event::Mark { seat: 2, edge: 0 }, true, 2, Some(6)),
-        row(Event::Mark { seat: 2, edge: 2 }, false, 2, Some(6)),
-        row(Event::Load { seat: 2 }, true, 2, Some(5)),
-        row(Event::Mark { seat: 2, edge: 2 }, true, 2, Some(5)),
+        expecting(Event::Split { seat: 1 }, true, 2, Some(6)),
+        expecting(Event::Load { seat: 2 }, true, 2, Some(6)),
+        expecting(Event::Lower { seat: 1, side }, true, 1, Some(5)),
+        expecting(Event::Mark { seat: 2, edge: 0 }, true, 2, Some(6)),
+        expecting(Event::Mark { seat: 2, edge: 2 }, false, 2, Some(6)),
+        expecting(Event::Load { seat: 2 }, true, 2, Some(5)),
+        expecting(Event::Mark { seat: 2, edge: 2 }, true, 2, Some(5)),
     ];
     assert!(rt; goes_by(&mut core, &rows)?);
     Ok(())
@@ -162,17 +162,17 @@ fn seats_join_and_take_step_by_step(rt: HostRuntime) -> Result<(), Fail> {
     let mut side = side_of(rt.alloc(), 1)?;
     side.insert(2);
     let rows = [
-        row(Event::Split { seat: 1 }, true, 2, Some(6)),
-        row(Event::Split { seat: 1 }, true, 3, Some(6)),
-        row(Event::Lower { seat: 3, side }, true, 3, Some(5)),
-        row(Event::Mark { seat: 1, edge: 1 }, false, 1, Some(6)),
-        row(Event::Mark { seat: 1, edge: 0 }, true, 1, Some(6)),
-        row(Event::Join { seat: 1, other: 3 }, true, 1, Some(5)),
-        row(Event::Mark { seat: 3, edge: 0 }, false, 3, None),
-        row(Event::Mark { seat: 1, edge: 1 }, true, 1, Some(5)),
-        row(Event::Join { seat: 2, other: 2 }, false, 2, Some(6)),
-        row(Event::Take { seat: 2, vertex: 4 }, false, 2, Some(6)),
-        row(Event::Take { seat: 2, vertex: 2 }, true, 2, Some(6)),
+        expecting(Event::Split { seat: 1 }, true, 2, Some(6)),
+        expecting(Event::Split { seat: 1 }, true, 3, Some(6)),
+        expecting(Event::Lower { seat: 3, side }, true, 3, Some(5)),
+        expecting(Event::Mark { seat: 1, edge: 1 }, false, 1, Some(6)),
+        expecting(Event::Mark { seat: 1, edge: 0 }, true, 1, Some(6)),
+        expecting(Event::Join { seat: 1, other: 3 }, true, 1, Some(5)),
+        expecting(Event::Mark { seat: 3, edge: 0 }, false, 3, None),
+        expecting(Event::Mark { seat: 1, edge: 1 }, true, 1, Some(5)),
+        expecting(Event::Join { seat: 2, other: 2 }, false, 2, Some(6)),
+        expecting(Event::Take { seat: 2, vertex: 4 }, false, 2, Some(6)),
+        expecting(Event::Take { seat: 2, vertex: 2 }, true, 2, Some(6)),
     ];
     assert!(rt; goes_by(&mut core, &rows)?);
     Ok(())
