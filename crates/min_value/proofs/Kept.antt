@@ -156,6 +156,18 @@ fewer_classes labels h u v one lt le same =
     let r = le_length (k + 1) xs all in
     omega arith
 
+-- there are at most as many classes as vertices
+classes_le : (labels : List ℕ) → IsLabels labels → classes labels ≤ length labels
+classes_le labels h =
+    le_length (classes labels) labels (λ c c1 ck. let w = vertex_of labels h c c1 ck in at_place labels c (w.0 - 1) (omega (arith, w.1, w.2)) w.3)
+
+pub no_more_vertices : (g small : Graph) (labels : List ℕ) → IsLabelled g labels → small ≡ relabel g labels → small.vertices ≤ g.vertices
+unfolding relabel
+no_more_vertices g small labels labelled small_is =
+    let le = classes_le labels labelled.are_labels in
+    let r : classes labels ≤ g.vertices = omega (arith, le, labelled.long) in
+    subst (λ (s : Graph). s.vertices ≤ g.vertices) (sym small_is) r
+
 pub fewer_vertices : (g : Graph) → IsGraph g → (marks : MarkList) (labels : List ℕ) (small : Graph) → marks.edges ≡ length g.edges → SomeIsMarked marks →
     IsLabelled g labels → AreClassesOfMarks g (has marks.marked) labels → small ≡ relabel g labels → small.vertices < g.vertices
 unfolding relabel

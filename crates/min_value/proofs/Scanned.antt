@@ -1,6 +1,6 @@
 -- What a scan leaves to be known of a value, below any bound.
 use Rattle.std.proofs.Common.{◌≡◌, ℕ, ◌≤◌, Bool, true, false, List, min, refl, sym, subst, arith}
-use Rattle.std.specs.Prelude.{if◌then◌else◌}
+use Rattle.std.specs.Prelude.{if◌then◌else◌, Option, None, Some, MatchOption, nat_lt}
 use Rattle.cut_definitions.specs.Graph.{Graph, IsGraph}
 use Rattle.cut_definitions.specs.Cuts.{value}
 use Rattle.cut_definitions.specs.Safe.{IsFair}
@@ -17,7 +17,7 @@ use Rattle.least_cut.specs.declared.sweep.Swept.{Swept}
 use Rattle.least_cut.specs.declared.sweep.Swept.TheVariants.{Whole, Part}
 use Rattle.least_cut.specs.Sweep.{TellsLeast}
 use Rattle.round_workers.proofs.Marking.{fair_small}
-use Rattle.min_value.specs.Left.{TellsValue}
+use Rattle.min_value.specs.Left.{IsShrunk, TellsValue}
 
 -- a bound that is lowered by the weight of a cut is not below the lesser of the first bound and the value
 pub least_lowered : (g : Graph) (bound least weight : ℕ) (all : Bool) → min bound (value g) ≤ least → (all ≡ false → IsFair g weight) → min bound (value g) ≤ (if all then least else min least weight)
@@ -31,6 +31,28 @@ left_marks g ok marked labels bound best small two le ge safe labelled classes_a
     let classes_safe = law_of_marked_classes g labels marked best 0 safe (λ u v u1 un v1 vn same. (classes_are.joined u v u1 un v1 vn).0 same) in
     let same : min best (value g) ≡ min bound (value g) = omega arith in
     subst (λ (s : Graph). IsLesser (min bound (value g)) best s) (sym is) (subst (λ (w : ℕ). IsLesser w best (relabel g labels)) same (shrunk_left g ok labels best two labelled (parts_none g labels best classes_safe)))
+
+-- what a contraction leaves of the lesser of a weight and the value, where no more than a bound and no less than its lesser is known
+pub shrunk_from : (g : Graph) (bound best least : ℕ) (smaller : Option Graph) → best ≤ bound → min bound (value g) ≤ best → IsShrunk g best least smaller → IsShrunk g bound least smaller
+shrunk_from g bound best least smaller le ge h =
+    let same : min best (value g) ≡ min bound (value g) = omega arith in
+    record {
+      at_most = omega (arith, le, h.at_most);
+      left = subst (λ (w : ℕ). MatchOption smaller (w ≡ min least (value g)) (IsLesser w least)) same h.left;
+      less = h.less;
+    }
+
+lesser_known : (whole bound : ℕ) (g : Graph) → IsLesser whole bound g → whole ≤ bound
+lesser_known whole bound g is = subst (λ (w : ℕ). w ≤ bound) (sym is) (below (nat_lt g.vertices 2) (value g))
+  where
+    below : (few : Bool) (weight : ℕ) → (if few then bound else min bound weight) ≤ bound
+    below true weight = omega arith
+    below false weight = omega arith
+
+-- no less is known than the lesser of the bound and the value
+pub least_known : (g : Graph) (bound best : ℕ) (smaller : Option Graph) → IsShrunk g bound best smaller → min bound (value g) ≤ best
+least_known g bound best None h = omega (arith, h.left)
+least_known g bound best (Some small) h = lesser_known (min bound (value g)) best small h.left
 
 -- a sweep from a fair bound tells the value, or a bound on it
 pub tells_value : (g : Graph) → IsGraph g → (bound most : ℕ) (swept : Swept) → IsFair g bound → TellsLeast g bound most swept → TellsValue g swept

@@ -10,11 +10,12 @@ ghost use Rattle.min_value.specs.Kernels.{NoneIsCertified, IsKept, IsKeptOn, IsL
 
 use crate::bare::is_bare;
 use crate::kept_graph::{Kernel, contract_safely, is_tenth_less, keep_less, round_at_value};
+use crate::scanners::scanners;
 use capped_scan::Scan;
 use cut_definitions::NoMemory;
 use mark_board::Marks;
 use outside::Gate;
-use round_workers::mark_links;
+use round_workers::{mark_links, scan_round};
 use std::alloc::Global;
 use std::thread::Threads;
 use weighted_graph::Graph;
@@ -88,6 +89,58 @@ pub(crate) fn marks_of_scan(
     Ok(Some(marks))
 }
 
+/// The marks of workers who scan a graph side by side with slack 1, of edges that lie in no minimum cut; none where they mark
+/// nothing. A single scan can find marks then, for each of them passes over what others took.
+fn marks_of_workers<R: Threads + Sync, G: Gate>(
+    rt: &R,
+    alloc: Global,
+    graph: &Graph,
+    value: u64,
+    workers: u32,
+    gate: &G,
+) -> Result<Option<Marks>, NoMemory>
+    requires enough { 2 ≤ graph.now.vertices }
+    requires value { value ≡ least_value graph.now }
+    requires workers { (1 ≤ workers) × (workers ≤ 64) }
+    ensures edges { IfOk result (λ found. IfSome found (λ marks. marks.edges ≡ length graph.now.edges)) }
+    ensures safe { IfOk result (λ found. IfSome found (λ marks. MarksAreSafe graph.now (has marks.marked) value 1)) }
+    ensures some { IfOk result (λ found. IfSome found (λ marks. SomeIsMarked marks)) }
+{
+    let (_low, marks) = scan_round(rt, alloc, graph, value, 1, workers, gate)?;
+    if !is_some_marked(graph, &marks) {
+        return Ok(None);
+    }
+    Ok(Some(marks))
+}
+
+/// The marks of scans with slack 1 by so many workers, and those of a whole scan by one where there is one, or where several
+/// mark nothing. None where that marks nothing, and the graph is light then.
+fn marks_of_scans<R: Threads + Sync, G: Gate>(
+    rt: &R,
+    alloc: Global,
+    graph: &Graph,
+    value: u64,
+    workers: u32,
+    gate: &G,
+) -> Result<Option<Marks>, NoMemory>
+    requires enough { 2 ≤ graph.now.vertices }
+    requires value { value ≡ least_value graph.now }
+    requires workers { (1 ≤ workers) × (workers ≤ 64) }
+    ensures edges { IfOk result (λ found. IfSome found (λ marks. marks.edges ≡ length graph.now.edges)) }
+    ensures safe { IfOk result (λ found. IfSome found (λ marks. MarksAreSafe graph.now (has marks.marked) value 1)) }
+    ensures some { IfOk result (λ found. IfSome found (λ marks. SomeIsMarked marks)) }
+    ensures light { IfOk result (λ found. IfNone found (IsLight graph.now value)) }
+{
+    if workers == 1 {
+        return marks_of_scan(alloc, graph, value);
+    }
+    let found = marks_of_workers(rt, alloc, graph, value, workers, gate)?;
+    match found {
+        Some(marks) => Ok(Some(marks)),
+        None => marks_of_scan(alloc, graph, value),
+    }
+}
+
 /// Marks of edges that lie in no minimum cut: those of a round with slack 1 or, where it marks nothing, of a whole scan.
 /// None where that marks nothing either. The scan is of the very graph that the round marked nothing in.
 fn find_marks<R: Threads + Sync, G: Gate>(
@@ -138,58 +191,133 @@ pub(crate) fn close_once<R: Threads + Sync, G: Gate>(
     Ok(true)
 }
 
-/// A whole scan, and the contraction of the edges that it marks; none where it marks nothing.
-fn scan_once(alloc: Global, graph: &Graph, value: u64) -> Result<Option<Kernel>, NoMemory>
+/// Marks by a round or a whole scan, and the contraction of the edges that are marked; none where nothing is.
+pub(crate) fn close_first<R: Threads + Sync, G: Gate>(
+    rt: &R,
+    alloc: Global,
+    graph: &Graph,
+    value: u64,
+    workers: u32,
+    gate: &G,
+) -> Result<Option<Kernel>, NoMemory>
     requires enough { 2 ≤ graph.now.vertices }
     requires value { value ≡ least_value graph.now }
+    requires workers { (1 ≤ workers) × (workers ≤ 64) }
     ensures kept { IfOk result (λ found. IfSome found (λ k. IsKept graph.now k.value k.graph k.labels)) }
+    ensures fewer { IfOk result (λ found. IfSome found (λ k. k.graph.vertices < graph.now.vertices)) }
     ensures light { IfOk result (λ found. IfNone found (IsLight graph.now value)) }
 {
-    let Some(marks) = marks_of_scan(alloc, graph, value)? else {
+    let Some(marks) = find_marks(rt, alloc, graph, value, workers, gate)? else {
         return Ok(None);
     };
     let kept = contract_safely(alloc, graph, value, &marks)?;
     Ok(Some(kept))
 }
 
-/// One more whole scan and its contraction, and whether it took away a tenth of the vertices.
-fn scan_again(alloc: Global, kept: &mut Kernel) -> Result<bool, NoMemory>
+/// Scans by so many workers, and the contraction of the edges that they mark; none where they mark nothing.
+fn scan_once<R: Threads + Sync, G: Gate>(
+    rt: &R,
+    alloc: Global,
+    graph: &Graph,
+    value: u64,
+    workers: u32,
+    gate: &G,
+) -> Result<Option<Kernel>, NoMemory>
+    requires enough { 2 ≤ graph.now.vertices }
+    requires value { value ≡ least_value graph.now }
+    requires workers { (1 ≤ workers) × (workers ≤ 64) }
+    ensures kept { IfOk result (λ found. IfSome found (λ k. IsKept graph.now k.value k.graph k.labels)) }
+    ensures fewer { IfOk result (λ found. IfSome found (λ k. k.graph.vertices < graph.now.vertices)) }
+    ensures light { IfOk result (λ found. IfNone found (IsLight graph.now value)) }
+{
+    let Some(marks) = marks_of_scans(rt, alloc, graph, value, workers, gate)? else {
+        return Ok(None);
+    };
+    let kept = contract_safely(alloc, graph, value, &marks)?;
+    Ok(Some(kept))
+}
+
+/// Scans by so many workers and their contraction once more, and whether they took away a tenth of the vertices.
+fn scan_again<R: Threads + Sync, G: Gate>(
+    rt: &R,
+    alloc: Global,
+    kept: &mut Kernel,
+    workers: u32,
+    gate: &G,
+) -> Result<bool, NoMemory>
     requires enough { 2 ≤ kept.old.graph.vertices }
     requires value { kept.old.value ≡ least_value kept.old.graph }
     requires counted { classes kept.old.labels ≡ kept.old.graph.vertices }
+    requires workers { (1 ≤ workers) × (workers ≤ 64) }
     ensures kept { IfOk result (λ _. IsKeptOn kept.old kept.new) }
+    ensures at_most { IfOk result (λ _. kept.new.graph.vertices ≤ kept.old.graph.vertices) }
     ensures fewer { IfOk result (λ more. more ≡ true → kept.new.graph.vertices < kept.old.graph.vertices) }
 {
     let before = kept.graph.n();
-    let Some(marks) = marks_of_scan(alloc, &kept.graph, kept.value)? else {
+    let Some(marks) = marks_of_scans(rt, alloc, &kept.graph, kept.value, workers, gate)? else {
         return Ok(false);
     };
     keep_less(alloc, kept, &marks)?;
     Ok(is_tenth_less(kept.graph.n(), before))
 }
 
-/// Whole scans and their contractions, as long as each takes away a tenth of the vertices. It answers what is left and the
-/// labels that lead there, or none where the graph is bare or the first scan marks nothing, and the graph is light then. There
-/// are O(log n) scans, each of O((n + m) log n).
-pub(crate) fn contract_by_scans(
+/// What scans by so many workers leave of a graph, after the first ones, as long as each takes away a tenth of the vertices.
+fn scan_on<R: Threads + Sync, G: Gate>(
+    rt: &R,
+    alloc: Global,
+    graph: &Graph,
+    first: Kernel,
+    workers: u32,
+    gate: &G,
+) -> Result<Kernel, NoMemory>
+    requires kept { IsKept graph.now first.value first.graph first.labels }
+    requires workers { (1 ≤ workers) × (workers ≤ 64) }
+    ensures kept { IfOk result (λ k. IsKept graph.now k.value k.graph k.labels) }
+    ensures at_most { IfOk result (λ k. k.graph.vertices ≤ first.graph.vertices) }
+{
+    let mut kept = first;
+    let mut shrinks = true;
+    'scans: while shrinks {
+        let team = scanners(&kept.graph, kept.value, workers);
+        shrinks = scan_again(rt, alloc, &mut kept, team, gate)?;
+    }
+    Ok(kept)
+}
+
+/// Scans and their contractions, as long as each takes away a tenth of the vertices. It answers what is left and the labels
+/// that lead there, or none where the graph is bare or the first scan marks nothing, and the graph is light then. There are
+/// O(log n) scans, each of O((n + m) log n). Several workers scan side by side where the graph is large; where these take away
+/// less than a tenth, one goes on alone.
+pub(crate) fn contract_by_scans<R: Threads + Sync, G: Gate>(
+    rt: &R,
     alloc: Global,
     graph: &Graph,
     value: u64,
+    workers: u32,
+    gate: &G,
 ) -> Result<Option<Kernel>, NoMemory>
     requires enough { 2 ≤ graph.now.vertices }
     requires value { value ≡ least_value graph.now }
+    requires workers { (1 ≤ workers) × (workers ≤ 64) }
     ensures kept { IfOk result (λ found. IfSome found (λ k. IsKept graph.now k.value k.graph k.labels)) }
+    ensures fewer { IfOk result (λ found. IfSome found (λ k. k.graph.vertices < graph.now.vertices)) }
     ensures light { IfOk result (λ found. IfNone found (IsLight graph.now value)) }
 {
-    if is_bare(graph, value) {
+    let n = graph.n();
+    if is_bare(alloc, graph, value)? {
         return Ok(None);
     }
-    let Some(mut kept) = scan_once(alloc, graph, value)? else {
+    let team = scanners(graph, value, workers);
+    let Some(first) = scan_once(rt, alloc, graph, value, team, gate)? else {
         return Ok(None);
     };
-    let mut shrinks = is_tenth_less(kept.graph.n(), graph.n());
-    'scans: while shrinks {
-        shrinks = scan_again(alloc, &mut kept)?;
+    if is_tenth_less(first.graph.n(), n) {
+        let kept = scan_on(rt, alloc, graph, first, workers, gate)?;
+        return Ok(Some(kept));
     }
-    Ok(Some(kept))
+    if team > 1 {
+        let kept = scan_on(rt, alloc, graph, first, 1, gate)?;
+        return Ok(Some(kept));
+    }
+    Ok(Some(first))
 }

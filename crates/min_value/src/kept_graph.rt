@@ -44,6 +44,7 @@ pub(crate) fn contract_safely(
     requires marks { marks.now.edges ≡ length graph.now.edges }
     requires safe { MarksAreSafe graph.now (has marks.now.marked) value 1 }
     ensures kept { IfOk result (λ k. IsKept graph.now k.value k.graph k.labels) }
+    ensures at_most { IfOk result (λ k. k.graph.vertices ≤ graph.now.vertices) }
     ensures fewer { SomeIsMarked marks.now → IfOk result (λ k. k.graph.vertices < graph.now.vertices) }
 {
     // known by this call: the graph is an edge list
@@ -64,6 +65,7 @@ pub(crate) fn keep_less(alloc: Global, kept: &mut Kernel, marks: &Marks) -> Resu
     requires marks { marks.now.edges ≡ length kept.old.graph.edges }
     requires safe { MarksAreSafe kept.old.graph (has marks.now.marked) kept.old.value 1 }
     ensures kept { IfOk result (λ _. IsKeptOn kept.old kept.new) }
+    ensures at_most { IfOk result (λ _. kept.new.graph.vertices ≤ kept.old.graph.vertices) }
     ensures fewer { SomeIsMarked marks.now → IfOk result (λ _. kept.new.graph.vertices < kept.old.graph.vertices) }
 {
     let next = contract_safely(alloc, &kept.graph, kept.value, marks)?;
@@ -122,12 +124,34 @@ fn contract_again<R: Threads + Sync, G: Gate>(
     requires value { kept.old.value ≡ least_value kept.old.graph }
     requires counted { classes kept.old.labels ≡ kept.old.graph.vertices }
     ensures kept { IfOk result (λ _. IsKeptOn kept.old kept.new) }
+    ensures at_most { IfOk result (λ _. kept.new.graph.vertices ≤ kept.old.graph.vertices) }
     ensures fewer { IfOk result (λ more. more ≡ true → kept.new.graph.vertices < kept.old.graph.vertices) }
 {
     let before = kept.graph.n();
     let marks = round_at_value(rt, alloc, &kept.graph, kept.value, 1, gate)?;
     keep_less(alloc, kept, &marks)?;
     Ok(is_tenth_less(kept.graph.n(), before))
+}
+
+/// Further rounds by one worker, after the first one has left a smaller graph, as long as each takes away a tenth of the
+/// vertices.
+pub(crate) fn go_on_by_rounds<R: Threads + Sync, G: Gate>(
+    rt: &R,
+    alloc: Global,
+    graph: &Graph,
+    first: Kernel,
+    gate: &G,
+) -> Result<Kernel, NoMemory>
+    requires kept { IsKept graph.now first.value first.graph first.labels }
+    ensures kept { IfOk result (λ k. IsKept graph.now k.value k.graph k.labels) }
+    ensures at_most { IfOk result (λ k. k.graph.vertices ≤ first.graph.vertices) }
+{
+    let mut kept = first;
+    let mut shrinks = is_tenth_less(kept.graph.n(), graph.n());
+    'rounds: while shrinks {
+        shrinks = contract_again(rt, alloc, &mut kept, gate)?;
+    }
+    Ok(kept)
 }
 
 /// Rounds with slack 1 and their contractions, as long as each takes away a tenth of the vertices. It answers what is left
@@ -145,10 +169,6 @@ pub(crate) fn contract_by_rounds<R: Threads + Sync, G: Gate>(
     requires workers { (1 ≤ workers) × (workers ≤ 64) }
     ensures { IfOk result (λ k. IsKept graph.now k.value k.graph k.labels) }
 {
-    let mut kept = contract_once(rt, alloc, graph, value, workers, gate)?;
-    let mut shrinks = is_tenth_less(kept.graph.n(), graph.n());
-    'rounds: while shrinks {
-        shrinks = contract_again(rt, alloc, &mut kept, gate)?;
-    }
-    Ok(kept)
+    let first = contract_once(rt, alloc, graph, value, workers, gate)?;
+    go_on_by_rounds(rt, alloc, graph, first, gate)
 }

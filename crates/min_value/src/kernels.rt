@@ -1,13 +1,13 @@
 //! The kernel of a graph: what is left where no edge is shown to lie in no minimum cut.
 
-ghost use Rattle.std.specs.Prelude.{◌≡◌, ◌+◌, ◌≤◌, IfOk, IfSome, IfNone};
+ghost use Rattle.std.specs.Prelude.{◌≡◌, ◌+◌, ◌<◌, ◌≤◌, IfOk, IfSome, IfNone};
 ghost use Rattle.cut_definitions.specs.Cuts.{value as least_value};
 ghost use Rattle.cut_definitions.specs.Contraction.{classes};
 ghost use Rattle.weighted_graph.specs.ContractionLaws.{IsLabelled};
 ghost use Rattle.min_value.specs.Kernels.{IsKept, KeepsAllMinimumCuts, NoneIsCertified, IsLight};
 
-use crate::closing::{close_once, contract_by_scans};
-use crate::kept_graph::{Kernel, contract_by_rounds};
+use crate::closing::{close_first, close_once, contract_by_scans};
+use crate::kept_graph::{Kernel, contract_by_rounds, go_on_by_rounds};
 use crate::values::{FEW_EDGES, value};
 use cut_definitions::NoMemory;
 use outside::Gate;
@@ -46,15 +46,39 @@ pub fn kernel<R: Threads + Sync, G: Gate>(
     Ok(kept)
 }
 
+/// Rounds with slack 1 and their contractions, as long as each takes away a tenth of the vertices; none where the first and a
+/// whole scan mark nothing.
+fn reduce_by_rounds<R: Threads + Sync, G: Gate>(
+    rt: &R,
+    alloc: Global,
+    graph: &Graph,
+    value: u64,
+    workers: u32,
+    gate: &G,
+) -> Result<Option<Kernel>, NoMemory>
+    requires enough { 2 ≤ graph.now.vertices }
+    requires value { value ≡ least_value graph.now }
+    requires workers { (1 ≤ workers) × (workers ≤ 64) }
+    ensures kept { IfOk result (λ found. IfSome found (λ k. IsKept graph.now k.value k.graph k.labels)) }
+    ensures fewer { IfOk result (λ found. IfSome found (λ k. k.graph.vertices < graph.now.vertices)) }
+    ensures light { IfOk result (λ found. IfNone found (IsLight graph.now value)) }
+{
+    let Some(first) = close_first(rt, alloc, graph, value, workers, gate)? else {
+        return Ok(None);
+    };
+    let kept = go_on_by_rounds(rt, alloc, graph, first, gate)?;
+    Ok(Some(kept))
+}
+
 /// A smaller graph with the same value whose minimum cuts, lifted by the labels, are exactly those of the graph; none where
 /// no edge was found that may be contracted, and the weights of the edges add up to at most the value for each vertex but
-/// one then. No second graph is made in that case.
+/// one then. A smaller graph has fewer vertices; where there is none, no second graph is made.
 ///
-/// On a graph of at most 1,024 edges it goes by rounds with slack 1, on a larger one by whole scans with slack 1, as long
-/// as each takes away a tenth of the vertices. It is a kernel that is not closed: edges may be left that a certificate or a
-/// link shows to lie in no minimum cut. The graph has two or more vertices, and the value is its value. It costs
-/// O((n + m) log n), and on a small graph the certificates. The number of workers is 1 to 64. It is refused only where memory
-/// is wanting.
+/// On a graph of at most 1,024 edges it goes by rounds with slack 1, and a whole scan where the first of them marks nothing; on
+/// a larger one by scans with slack 1, as long as each takes away a tenth of the vertices. Several workers scan side by side
+/// where the graph is large. It is a kernel that is not closed: edges may be left that a certificate or a link shows to lie in
+/// no minimum cut. The graph has two or more vertices, and the value is its value. It costs O((n + m) log n), and on a small
+/// graph the certificates. The number of workers is 1 to 64. It is refused only where memory is wanting.
 pub fn reduce<R: Threads + Sync, G: Gate>(
     rt: &R,
     alloc: Global,
@@ -67,12 +91,12 @@ pub fn reduce<R: Threads + Sync, G: Gate>(
     requires value { value ≡ least_value graph.now }
     requires workers { (1 ≤ workers) × (workers ≤ 64) }
     ensures kept { IfOk result (λ found. IfSome found (λ k. IsKept graph.now k.value k.graph k.labels)) }
+    ensures fewer { IfOk result (λ found. IfSome found (λ k. k.graph.vertices < graph.now.vertices)) }
     ensures light { IfOk result (λ found. IfNone found (IsLight graph.now value)) }
 {
     if graph.edges() <= FEW_EDGES {
-        let kept = contract_by_rounds(rt, alloc, graph, value, workers, gate)?;
-        return Ok(Some(kept));
+        return reduce_by_rounds(rt, alloc, graph, value, workers, gate);
     }
-    let kept = contract_by_scans(alloc, graph, value)?;
+    let kept = contract_by_scans(rt, alloc, graph, value, workers, gate)?;
     Ok(kept)
 }

@@ -10,6 +10,7 @@ mod by_list;
 mod closing;
 mod kept_graph;
 mod kernels;
+mod scanners;
 mod scans;
 mod values;
 

@@ -6,13 +6,17 @@ ghost use Rattle.weighted_graph.specs.Marks.{MarksAreSafe};
 ghost use Rattle.capped_scan.specs.Scan.{StandsFor};
 ghost use Rattle.min_value.specs.Left.{IsScanned, IsShrunk, IsToTell};
 
+use crate::scanners::scanners;
+use crate::values::least_degree;
 use capped_scan::Scan;
 use cut_definitions::{EdgeList, NoMemory};
 use least_cut::least_weight_below;
 use mark_board::Marks;
+use outside::Gate;
 use round_contract::{classes_of_marks, contracted_list};
-use round_workers::{lowered, mark_links};
+use round_workers::{lowered, mark_links, scan_round};
 use std::alloc::Global;
+use std::thread::Threads;
 use weighted_graph::Graph;
 
 /// What a scan leaves: the least weight that is known, and the edges of the contracted graph, if it is a tenth smaller.
@@ -47,17 +51,22 @@ fn mark_by_links(graph: &Graph, scan: &mut Scan, bound: u64, marks: &mut Marks) 
     least
 }
 
-/// One scan, and the contraction of the edges that it marks, if that takes away a tenth of the vertices.
-fn scan_once(alloc: Global, graph: &Graph, bound: u64) -> Result<Shrunk, NoMemory>
+/// The contraction of marked edges, if that takes away a tenth of the vertices; the marks are safe for the least weight that
+/// is known.
+fn contract_marked(
+    alloc: Global,
+    graph: &Graph,
+    best: u64,
+    marks: &Marks,
+) -> Result<Shrunk, NoMemory>
     requires enough { 2 ≤ graph.now.vertices }
-    requires bound { bound ≤ 2 ^ 62 }
-    ensures { IfOk result (λ s. IsShrunk graph.now bound s.best s.smaller) }
+    requires marks { marks.now.edges ≡ length graph.now.edges }
+    requires safe { MarksAreSafe graph.now (has marks.now.marked) best 0 }
+    ensures best { IfOk result (λ s. s.best ≡ best) }
+    ensures shrunk { IfOk result (λ s. IsShrunk graph.now best s.best s.smaller) }
 {
     let n = graph.n();
-    let mut marks = Marks::none(alloc, graph.edges())?;
-    let mut scan = Scan::new(alloc, graph)?;
-    let best = mark_by_links(graph, &mut scan, bound, &mut marks);
-    let labels = classes_of_marks(alloc, graph, &marks)?;
+    let labels = classes_of_marks(alloc, graph, marks)?;
     if u64::from(labels.classes()) * 10 > u64::from(n) * 9 {
         return Ok(Shrunk {
             best,
@@ -71,14 +80,81 @@ fn scan_once(alloc: Global, graph: &Graph, bound: u64) -> Result<Shrunk, NoMemor
     })
 }
 
-/// One scan, or where that takes away less than a tenth of the vertices a sweep by flows, after which the weight that is known
-/// is the lesser of the bound and the value.
-pub(crate) fn scan_or_sweep(alloc: Global, graph: &Graph, bound: u64) -> Result<Shrunk, NoMemory>
+/// One scan, and the contraction of the edges that it marks, if that takes away a tenth of the vertices.
+fn scan_once(alloc: Global, graph: &Graph, bound: u64) -> Result<Shrunk, NoMemory>
     requires enough { 2 ≤ graph.now.vertices }
     requires bound { bound ≤ 2 ^ 62 }
+    ensures { IfOk result (λ s. IsShrunk graph.now bound s.best s.smaller) }
+{
+    let mut marks = Marks::none(alloc, graph.edges())?;
+    let mut scan = Scan::new(alloc, graph)?;
+    let best = mark_by_links(graph, &mut scan, bound, &mut marks);
+    let shrunk = contract_marked(alloc, graph, best, &marks)?;
+    Ok(shrunk)
+}
+
+/// The same by workers who scan side by side. They open with a weight of a cut, the least degree.
+fn scan_by_workers<R: Threads + Sync, G: Gate>(
+    rt: &R,
+    alloc: Global,
+    graph: &Graph,
+    bound: u64,
+    workers: u32,
+    gate: &G,
+) -> Result<Shrunk, NoMemory>
+    requires enough { 2 ≤ graph.now.vertices }
+    requires workers { (1 ≤ workers) × (workers ≤ 64) }
+    ensures { IfOk result (λ s. IsShrunk graph.now bound s.best s.smaller) }
+{
+    let opening = least_degree(graph);
+    let (low, marks) = scan_round(rt, alloc, graph, opening, 0, workers, gate)?;
+    let shrunk = contract_marked(alloc, graph, low.min(bound), &marks)?;
+    Ok(shrunk)
+}
+
+/// One scan: of workers side by side where the graph is large, and of one where it is not, or where theirs do not take away a
+/// tenth of the vertices.
+fn scan_shared<R: Threads + Sync, G: Gate>(
+    rt: &R,
+    alloc: Global,
+    graph: &Graph,
+    bound: u64,
+    workers: u32,
+    gate: &G,
+) -> Result<Shrunk, NoMemory>
+    requires enough { 2 ≤ graph.now.vertices }
+    requires bound { bound ≤ 2 ^ 62 }
+    requires workers { (1 ≤ workers) × (workers ≤ 64) }
+    ensures { IfOk result (λ s. IsShrunk graph.now bound s.best s.smaller) }
+{
+    let team = scanners(graph, bound, workers);
+    if team == 1 {
+        return scan_once(alloc, graph, bound);
+    }
+    let shrunk = scan_by_workers(rt, alloc, graph, bound, team, gate)?;
+    if shrunk.smaller.is_some() {
+        return Ok(shrunk);
+    }
+    let next = scan_once(alloc, graph, shrunk.best)?;
+    Ok(next)
+}
+
+/// One scan, or where that takes away less than a tenth of the vertices a sweep by flows, after which the weight that is known
+/// is the lesser of the bound and the value.
+pub(crate) fn scan_or_sweep<R: Threads + Sync, G: Gate>(
+    rt: &R,
+    alloc: Global,
+    graph: &Graph,
+    bound: u64,
+    workers: u32,
+    gate: &G,
+) -> Result<Shrunk, NoMemory>
+    requires enough { 2 ≤ graph.now.vertices }
+    requires bound { bound ≤ 2 ^ 62 }
+    requires workers { (1 ≤ workers) × (workers ≤ 64) }
     ensures { IfOk result (λ s. IsScanned graph.now bound s.best s.smaller) }
 {
-    let shrunk = scan_once(alloc, graph, bound)?;
+    let shrunk = scan_shared(rt, alloc, graph, bound, workers, gate)?;
     if shrunk.smaller.is_some() {
         return Ok(shrunk);
     }
@@ -90,21 +166,36 @@ pub(crate) fn scan_or_sweep(alloc: Global, graph: &Graph, bound: u64) -> Result<
 }
 
 /// The same for a graph that is given back before the contracted one gets its rows.
-pub(crate) fn scan_away(alloc: Global, graph: Graph, bound: u64) -> Result<Shrunk, NoMemory>
+pub(crate) fn scan_away<R: Threads + Sync, G: Gate>(
+    rt: &R,
+    alloc: Global,
+    graph: Graph,
+    bound: u64,
+    workers: u32,
+    gate: &G,
+) -> Result<Shrunk, NoMemory>
     requires enough { 2 ≤ graph.vertices }
     requires bound { bound ≤ 2 ^ 62 }
+    requires workers { (1 ≤ workers) × (workers ≤ 64) }
     ensures { IfOk result (λ s. IsScanned graph bound s.best s.smaller) }
 {
-    scan_or_sweep(alloc, &graph, bound)
+    scan_or_sweep(rt, alloc, &graph, bound, workers, gate)
 }
 
 /// The number that a scan left to be told.
 ///
 /// Scans contract what their links show safe, as long as each takes away a tenth of the vertices; what is left is swept by
-/// flows. There are O(log n) scans (Nagamochi, Ono and Ibaraki, 1994), each of O((n + m) log n). Only one graph has rows at a
+/// flows. Several workers scan side by side where a graph is large. There are O(log n) scans (Nagamochi, Ono and Ibaraki, 1994), each of O((n + m) log n). Only one graph has rows at a
 /// time. It is refused only where memory is wanting.
-pub(crate) fn value_of_shrunk(alloc: Global, shrunk: Shrunk) -> Result<u64, NoMemory>
-    requires { shrunk.best ≤ 2 ^ 62 }
+pub(crate) fn value_of_shrunk<R: Threads + Sync, G: Gate>(
+    rt: &R,
+    alloc: Global,
+    shrunk: Shrunk,
+    workers: u32,
+    gate: &G,
+) -> Result<u64, NoMemory>
+    requires small { shrunk.best ≤ 2 ^ 62 }
+    requires workers { (1 ≤ workers) × (workers ≤ 64) }
     ensures { (whole : ℕ) → IsToTell whole shrunk.best shrunk.smaller → IfOk result (λ weight. weight ≡ whole) }
 {
     let Shrunk {
@@ -116,7 +207,7 @@ pub(crate) fn value_of_shrunk(alloc: Global, shrunk: Shrunk) -> Result<u64, NoMe
             return Ok(best);
         }
         let graph = Graph::from_list(alloc, list)?;
-        let next = scan_away(alloc, graph, best)?;
+        let next = scan_away(rt, alloc, graph, best, workers, gate)?;
         best = next.best;
         smaller = next.smaller;
     }

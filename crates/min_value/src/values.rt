@@ -20,7 +20,7 @@ use weighted_graph::Graph;
 pub(crate) const FEW_EDGES: usize = 1024;
 
 /// The least degree of a vertex, which is the weight of a cut.
-fn least_degree(graph: &Graph) -> u64
+pub(crate) fn least_degree(graph: &Graph) -> u64
     requires { 2 ≤ graph.now.vertices }
     ensures { IsFair graph.now result }
 {
@@ -99,31 +99,45 @@ fn sweep(alloc: Global, graph: &Graph) -> Result<Swept, NoMemory>
 }
 
 /// The value by a sweep, and where that is cut short by scans, which contract the graph.
-fn value_by_sweep(alloc: Global, graph: &Graph) -> Result<u64, NoMemory>
-    requires { 2 ≤ graph.now.vertices }
+fn value_by_sweep<R: Threads + Sync, G: Gate>(
+    rt: &R,
+    alloc: Global,
+    graph: &Graph,
+    workers: u32,
+    gate: &G,
+) -> Result<u64, NoMemory>
+    requires workers { (1 ≤ workers) × (workers ≤ 64) }
+    requires enough { 2 ≤ graph.now.vertices }
     ensures { IfOk result (λ weight. weight ≡ value graph.now) }
 {
     let swept = sweep(alloc, graph)?;
     match swept {
         Swept::Whole(weight) => Ok(weight),
         Swept::Part(best) => {
-            let shrunk = scan_or_sweep(alloc, graph, best)?;
-            value_of_shrunk(alloc, shrunk)
+            let shrunk = scan_or_sweep(rt, alloc, graph, best, workers, gate)?;
+            value_of_shrunk(rt, alloc, shrunk, workers, gate)
         }
     }
 }
 
 /// The same for a graph that is given back before a smaller one gets its rows.
-fn value_by_sweep_away(alloc: Global, graph: Graph) -> Result<u64, NoMemory>
-    requires { 2 ≤ graph.vertices }
+fn value_by_sweep_away<R: Threads + Sync, G: Gate>(
+    rt: &R,
+    alloc: Global,
+    graph: Graph,
+    workers: u32,
+    gate: &G,
+) -> Result<u64, NoMemory>
+    requires workers { (1 ≤ workers) × (workers ≤ 64) }
+    requires enough { 2 ≤ graph.vertices }
     ensures { IfOk result (λ weight. weight ≡ value graph) }
 {
     let swept = sweep(alloc, &graph)?;
     match swept {
         Swept::Whole(weight) => Ok(weight),
         Swept::Part(best) => {
-            let shrunk = scan_away(alloc, graph, best)?;
-            value_of_shrunk(alloc, shrunk)
+            let shrunk = scan_away(rt, alloc, graph, best, workers, gate)?;
+            value_of_shrunk(rt, alloc, shrunk, workers, gate)
         }
     }
 }
@@ -143,13 +157,14 @@ pub(crate) fn value_away<R: Threads + Sync, G: Gate>(
     if graph.edges() <= FEW_EDGES {
         return value_by_rounds(rt, alloc, &graph, workers, gate);
     }
-    value_by_sweep_away(alloc, graph)
+    value_by_sweep_away(rt, alloc, graph, workers, gate)
 }
 
 /// The value of a graph of two or more vertices: the least weight of a cut.
 ///
 /// A small graph is contracted by rounds, whose certificates look at each edge (Padberg and Rinaldi, 1990); a large one is
-/// swept by flows (Hao and Orlin, 1994), and contracted by scans where these look far. The number of workers is 1 to 64. It
+/// swept by flows (Hao and Orlin, 1994), and contracted by scans where these look far, of several workers side by side where it
+/// is large. The number of workers is 1 to 64. It
 /// takes memory O(n + m), and is refused only where that is wanting. A sweep has no good bound in n and m; on most graphs
 /// it takes about as long as reading them.
 pub fn value<R: Threads + Sync, G: Gate>(
@@ -167,6 +182,6 @@ pub fn value<R: Threads + Sync, G: Gate>(
         let weight = value_by_rounds(rt, alloc, graph, workers, gate)?;
         return Ok(weight);
     }
-    let weight = value_by_sweep(alloc, graph)?;
+    let weight = value_by_sweep(rt, alloc, graph, workers, gate)?;
     Ok(weight)
 }

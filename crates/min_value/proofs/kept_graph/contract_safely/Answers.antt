@@ -1,5 +1,5 @@
 use Rattle.cut_definitions.specs.Cuts.{has}
-use Rattle.min_value.proofs.Kept.{kept_once, fewer_vertices}
+use Rattle.min_value.proofs.Kept.{kept_once, no_more_vertices, fewer_vertices}
 use Rattle.min_value.proofs.kept_graph.contract_safely.Goals as goal
 
 pub returns-clause-kept : goal.returns-clause-kept
@@ -14,3 +14,8 @@ returns-clause-fewer c some =
     let g = c.args.graph.now in
     let k = c.in_ok-small.ensures in
     fewer_vertices g c.n-n.ensures.edge_list.is_graph c.args.marks.now c.in_ok-small.labels c.in_ok-small.small c.requires.marks some k.labels k.classes k.graph
+
+pub returns-clause-at_most : goal.returns-clause-at_most
+returns-clause-at_most c =
+    let k = c.in_ok-small.ensures in
+    no_more_vertices c.args.graph.now c.in_ok-small.small c.in_ok-small.labels k.labels k.graph

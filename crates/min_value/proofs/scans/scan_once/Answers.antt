@@ -1,25 +1,7 @@
-use Rattle.std.proofs.Common.{◌≡◌, ◌∙◌, ap, arith}
-use Rattle.cut_definitions.specs.Graph.{Graph}
-use Rattle.cut_definitions.specs.Cuts.{has}
-use Rattle.cut_definitions.specs.Contraction.{classes}
-use Rattle.cut_definitions.proofs.ContractionLaws.{vertices-relabel}
-use Rattle.weighted_graph.specs.ContractionLaws.{IsLabelled}
-use Rattle.min_value.proofs.Scanned.{left_marks}
+use Rattle.min_value.proofs.Scanned.{shrunk_from}
 use Rattle.min_value.proofs.scans.scan_once.Goals as goal
 
 pub returns : goal.returns
 returns c =
-    let g = c.args.graph.now in
     let scan = c.mark_by_links-best.ensures in
-    let best = c.mark_by_links-best.result in
-    let labels = c.in_ok-labels.labels in
-    let small = c.in_ok-smaller.smaller in
-    let labelled : IsLabelled g labels = record { are_labels = c.classes.ensures.labels; long = c.in_ok-labels.ensures.vertices } in
-    let number : c.from.result ≡ classes labels = c.from.ensures ∙ c.classes.ensures.value in
-    let vertices : c.from-2.result ≡ g.vertices = c.from-2.ensures ∙ c.n-n.ensures.value in
-    let few : small.vertices ≡ classes labels = ap (λ (h : Graph). h.vertices) c.in_ok-smaller.ensures ∙ vertices-relabel g labels in
-    record {
-      at_most = scan.at_most;
-      left = left_marks g c.n-n.ensures.edge_list.is_graph (has c.mark_by_links-best.new.marks.marked) labels c.args.bound best small c.requires.enough scan.at_most scan.at_least scan.safe labelled c.in_ok-labels.ensures.classes c.in_ok-smaller.ensures;
-      less = omega (arith, c.if-from.false, number, vertices, few);
-    }
+    shrunk_from c.args.graph.now c.args.bound c.mark_by_links-best.result c.in_ok-shrunk.shrunk.best c.in_ok-shrunk.shrunk.smaller scan.at_most scan.at_least c.in_ok-shrunk.ensures.shrunk

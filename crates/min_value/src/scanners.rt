@@ -1,0 +1,50 @@
+//! How many workers scan a graph side by side.
+
+ghost use Rattle.std.specs.Prelude.{◌≡◌, ◌≤◌, ◌⊎◌};
+ghost use Rattle.std.specs.List.{sum_by};
+ghost use Rattle.cut_definitions.specs.declared.edge_list.Edge.{Edge};
+
+use weighted_graph::Graph;
+
+// A worker who scans beside others goes along at least so many edges, for threads cost up to some milliseconds to start.
+const EDGES_FOR_EACH: u64 = 32_768;
+
+// For each worker who scans there are at least so many times as many edges as vertices.
+const EDGES_FOR_EACH_VERTEX: u64 = 4;
+
+/// The sum of the weights of all edges.
+pub(crate) fn total_weight(graph: &Graph) -> u64
+    ensures { result ≡ sum_by (λ (e : Edge). e.w) graph.now.edges }
+{
+    let edges = graph.edge_list();
+    let mut total = 0;
+    for edge in edges {
+        total += edge.w;
+    }
+    total
+}
+
+/// How many workers can scan a graph side by side with a gain. Each has enough edges to go along, and some for each vertex, since
+/// it makes room for all vertices and passes over those that others take; and of the weight of a vertex, which the workers divide
+/// among them, twice a limit is left to each.
+fn most_scanners(graph: &Graph, limit: u64) -> u64 {
+    let vertices = u64::from(graph.n()).max(1);
+    let edges = graph.edges() as u64;
+    let half_degree = total_weight(graph) / vertices;
+    let by_edges = edges / EDGES_FOR_EACH;
+    let by_rows = edges / vertices / EDGES_FOR_EACH_VERTEX;
+    by_edges.min(by_rows).min(half_degree / limit.max(1))
+}
+
+/// How many of the workers scan a graph side by side, where links that reach a limit are looked for: 1 where threads would cost
+/// more than they save. So the scans of all take no more memory than in proportion to the edges.
+pub(crate) fn scanners(graph: &Graph, limit: u64, workers: u32) -> u32
+    requires { (1 ≤ workers) × (workers ≤ 64) }
+    ensures range { (1 ≤ result) × (result ≤ 64) }
+    ensures one { workers ≡ 1 → result ≡ 1 }
+{
+    if workers == 1 {
+        return 1;
+    }
+    u64::from(workers).min(most_scanners(graph, limit)).max(1) as u32
+}
