@@ -224,6 +224,39 @@ def narrow_torus(n, rng):
     return 4 * k, shuffled(4 * k, edges, rng), {'value': 4, 'count': 4 * k, 'shape': (4 * k + 1, 4 * k, 0), 'balance': 1}
 
 
+def all_alone(n, value):
+    """Where each vertex alone is a minimum cut, and there is no other."""
+    return {'value': value, 'count': n, 'shape': (n + 1, n, 0), 'balance': 1}
+
+
+def opposite_ring(n, rng):
+    """A ring of edges of weight 2 with an edge of weight 1 from each vertex to the opposite one, numbered along."""
+    k = max(n // 2, 4)
+    n = 2 * k
+    return n, ring_edges(range(1, n + 1), 2) + [(v, k + v, 1) for v in range(1, k + 1)], all_alone(n, 5)
+
+
+def ring_at_a_quarter(n, rng):
+    """A ring in which each vertex is joined to those a quarter further on either side, numbered along."""
+    n = max(n, 12)
+    edges = ring_edges(range(1, n + 1)) + [(v + 1, (v + n // 4) % n + 1, 1) for v in range(n)]
+    return n, edges, all_alone(n, 4)
+
+
+def torus_along(n, rng):
+    """A torus of three by many, numbered along."""
+    k = max(n // 3, 5)
+    return 3 * k, mesh(3, k, True), all_alone(3 * k, 4)
+
+
+def three_way_torus(n, rng):
+    """A torus of three by many with a diagonal in each square, numbered along."""
+    k = max(n // 3, 5)
+    at = lambda i, j: 1 + (i % 3) * k + j % k
+    edges = mesh(3, k, True) + [(at(i, j), at(i + 1, j + 1), 1) for i in range(3) for j in range(k)]
+    return 3 * k, edges, all_alone(3 * k, 6)
+
+
 # Each family with its number of vertices for a number of edges.
 FAMILIES = {
     'ring': (ring, lambda m: m),
@@ -235,6 +268,10 @@ FAMILIES = {
     'prism': (prism, lambda m: m * 2 // 3),
     'ring_lattice': (ring_lattice, lambda m: m // 2),
     'narrow_torus': (narrow_torus, lambda m: m // 2),
+    'opposite_ring': (opposite_ring, lambda m: m * 2 // 3),
+    'ring_at_a_quarter': (ring_at_a_quarter, lambda m: m // 2),
+    'torus_along': (torus_along, lambda m: m // 2),
+    'three_way_torus': (three_way_torus, lambda m: m // 3),
     'path': (path, lambda m: m + 1),
     'star': (star, lambda m: m + 1),
     'tree': (tree, lambda m: m + 1),

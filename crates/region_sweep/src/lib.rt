@@ -9,6 +9,7 @@
 //! side, and their trees are grafted on the tree. The source that grows is that of Hao and Orlin (1994).
 #![tactic(auto)]
 
+mod across;
 mod regroup;
 mod shares;
 mod sharing;

@@ -38,6 +38,13 @@ impl Supply {
         }
     }
 
+    /// Whether searches of the last splits went far.
+    pub fn went_far(self) -> bool
+        ensures { IsTrue result ↔ 64 < self.reach }
+    {
+        self.reach > NEAR
+    }
+
     /// Whether a vertex beside the next one is to be fed.
     pub fn is_far(self) -> bool
         ensures { IsTrue result ↔ ((64 < self.reach) × (self.tried ≡ false) × (self.pause ≡ 0)) }

@@ -12,6 +12,7 @@ ghost use Rattle.region_parts.specs.Split.{IsReady};
 ghost use Rattle.region_flow.specs.Parted.{AreLightParts};
 ghost use Rattle.region_sweep.specs.UnderWay.{IsLeastWeight, IsStarted, IsUnderWay};
 
+use crate::across::open_across;
 use crate::regroup::regroup;
 use crate::supply::Supply;
 use crate::surplus::Surplus;
@@ -272,6 +273,31 @@ impl Sweep {
         Ok(())
     }
 
+    /// Whether a vertex is to enter although searches go far: a vertex beside it may be fed first.
+    fn may_be_helped(&self, graph: &Graph, t: u32) -> bool
+        requires labels { length self.now.flow.labels ≡ graph.now.vertices + 1 }
+        requires to_n { t ≤ graph.now.vertices }
+    {
+        self.supply.is_far() && open_beside(graph, self.flow.labels(), t).is_some()
+    }
+
+    /// The vertex that is to enter in place of the newest open one, where the searches of late went far: one across, if nothing
+    /// beside the newest can be fed, or that did not help. So a sweep that goes along one side of a band comes back for what
+    /// it left behind. No answer rests on which open vertex it is.
+    fn choose(&self, graph: &Graph, newest: u32) -> u32
+        requires labels { length self.now.flow.labels ≡ graph.now.vertices + 1 }
+        requires open { IsOpenAt graph.now self.now.flow.labels newest }
+        ensures { IsOpenAt graph.now self.now.flow.labels result }
+    {
+        if !self.supply.went_far() || self.may_be_helped(graph, newest) {
+            return newest;
+        }
+        match open_across(graph, self.flow.labels(), newest) {
+            Some(v) => v,
+            None => newest,
+        }
+    }
+
     /// The next vertex that is to enter; none where all have.
     pub(crate) fn next(&mut self, graph: &Graph) -> Option<u32>
         requires under_way { IsUnderWay graph.now self.old }
@@ -281,7 +307,11 @@ impl Sweep {
         ensures some { IfSome result (IsOpenAt graph.now self.old.flow.labels) }
         ensures none { result ≡ None → (v : ℕ) → slice_index self.old.flow.labels v ≡ 0 }
     {
-        self.fronts.next(graph, self.flow.labels())
+        let _n = graph.n();
+        let Some(newest) = self.fronts.next(graph, self.flow.labels()) else {
+            return None;
+        };
+        Some(self.choose(graph, newest))
     }
 
     /// Lets `t` enter, and before that splits its region where a minimum cut inside it has `t`. It answers whether there was one.
