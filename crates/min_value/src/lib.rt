@@ -13,7 +13,7 @@ mod kernels;
 mod scans;
 mod values;
 
-pub use by_list::{value_by_list, value_of_list};
+pub use by_list::{ValueWithTies, value_by_list, value_of_list, value_with_ties};
 pub use kept_graph::Kernel;
 pub use kernels::{kernel, reduce};
 pub use values::value;
