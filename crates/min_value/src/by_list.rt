@@ -2,10 +2,12 @@
 
 ghost use Rattle.std.specs.Prelude.{◌≡◌, ◌≤◌, IfOk, IfSome, if◌then◌else◌, min, nat_lt};
 ghost use Rattle.cut_definitions.specs.Cuts.{value};
+ghost use Rattle.cut_definitions.specs.Graph.{Graph as EdgeGraph};
+ghost use Rattle.forest_contraction.specs.Left.{AreTies, Tells};
 
 use crate::values::value_away;
 use cut_definitions::{EdgeList, NoMemory};
-use forest_contraction::{Contracted, contract_list};
+use forest_contraction::{Contracted, Ties, WithTies, contract_list, contract_with_ties};
 use least_cut::value_of_dense;
 use outside::Gate;
 use std::alloc::Global;
@@ -32,6 +34,26 @@ fn value_below<R: Threads + Sync, G: Gate>(
     Ok(weight.min(bound))
 }
 
+/// The value of a graph by what contraction leaves of its list of edges, or none where that leaves the list as it is.
+fn value_of_contracted<R: Threads + Sync, G: Gate>(
+    rt: &R,
+    alloc: Global,
+    left: Contracted,
+    workers: u32,
+    gate: &G,
+) -> Result<Option<u64>, NoMemory>
+    requires workers { (1 ≤ workers) × (workers ≤ 64) }
+    ensures { (g : EdgeGraph) → Tells g left → IfOk result (λ found. IfSome found (λ weight. weight ≡ value g)) }
+{
+    let Contracted { bound, list: found } = left;
+    let Some(small) = found else {
+        // no cut weighs less than 0, as a vertex without edges does
+        return Ok(if bound == 0 { Some(0) } else { None });
+    };
+    let weight = value_below(rt, alloc, small, bound, workers, gate)?;
+    Ok(Some(weight))
+}
+
 /// The value of a graph of two or more vertices by its list of edges, if that can be told without rows for the whole graph:
 /// where the graph is dense, or a vertex has no edge, or the list can be made shorter. None where nothing comes of that; the
 /// value is `value` of the graph with rows then.
@@ -53,13 +75,39 @@ pub fn value_by_list<R: Threads + Sync, G: Gate>(
     if let Some(weight) = value_of_dense(alloc, list)? {
         return Ok(Some(weight));
     }
-    let Contracted { bound, list: found } = contract_list(alloc, list)?;
-    let Some(small) = found else {
-        // no cut weighs less than 0, as a vertex without edges does
-        return Ok(if bound == 0 { Some(0) } else { None });
+    let left = contract_list(alloc, list)?;
+    value_of_contracted(rt, alloc, left, workers, gate)
+}
+
+/// The value of a graph, and classes that no minimum cut parts, if the forests for the value came upon such.
+#[derive(Drop)]
+pub struct ValueWithTies {
+    pub value: u64,
+    pub ties: Option<Ties>,
+}
+
+/// What `value_by_list` answers, and with the value classes that no minimum cut parts, where the forests that tell it come
+/// upon such: the pass over the list that these want besides is saved. Whether there are such classes is free.
+pub fn value_with_ties<R: Threads + Sync, G: Gate>(
+    rt: &R,
+    alloc: Global,
+    list: &EdgeList,
+    workers: u32,
+    gate: &G,
+) -> Result<Option<ValueWithTies>, NoMemory>
+    requires enough { 2 ≤ list.now.vertices }
+    requires workers { (1 ≤ workers) × (workers ≤ 64) }
+    ensures value { IfOk result (λ found. IfSome found (λ v. v.value ≡ value list.now)) }
+    ensures ties { IfOk result (λ found. IfSome found (λ v. IfSome v.ties (AreTies list.now))) }
+{
+    if let Some(value) = value_of_dense(alloc, list)? {
+        return Ok(Some(ValueWithTies { value, ties: None }));
+    }
+    let WithTies { contracted, ties } = contract_with_ties(alloc, list)?;
+    let Some(value) = value_of_contracted(rt, alloc, contracted, workers, gate)? else {
+        return Ok(None);
     };
-    let weight = value_below(rt, alloc, small, bound, workers, gate)?;
-    Ok(Some(weight))
+    Ok(Some(ValueWithTies { value, ties }))
 }
 
 /// The value of a graph of two or more vertices, whose list of edges is taken over: that of `value_by_list`, and where that is

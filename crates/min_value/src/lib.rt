@@ -14,7 +14,7 @@ mod scanners;
 mod scans;
 mod values;
 
-pub use by_list::{value_by_list, value_of_list};
+pub use by_list::{ValueWithTies, value_by_list, value_of_list, value_with_ties};
 pub use kept_graph::Kernel;
 pub use kernels::{kernel, reduce};
 pub use values::value;
