@@ -1,6 +1,6 @@
 // Times calls in-process on 100 random connected graphs in turn, with weights 1 to 20: this library beside LEMON and igraph, which build
 // their graph in each call, as this library does. Least processor time of five runs of all calls.
-// ./library PREFIX; g++ -O2 -std=c++17 library.cpp -IPREFIX/include PREFIX/lib/libmincut.a -lemon -ligraph -o library
+// ./library PREFIX; g++ -O2 -std=c++17 library.cpp -IPREFIX/include PREFIX/lib/libmincut.a -ligraph -o library
 // usage: library VERTICES EDGES CALLS
 #include "mincut.h"
 #include <cstdio>
@@ -114,6 +114,6 @@ int main(int count, char **words) {
     time_calls("mincut_value_below", graphs, calls, by_value_below);
     time_calls("mincut_cactus", graphs, calls, by_cactus);
     time_calls("LEMON NagamochiIbaraki", graphs, calls, [](const Arrays &g) { return by_lemon(g, false); });
-    time_calls("LEMON HaoOrlin", graphs, calls / 20, [](const Arrays &g) { return by_lemon(g, true); });
-    time_calls("igraph_mincut_value", graphs, calls / 100, by_igraph);
+    time_calls("LEMON HaoOrlin", graphs, calls / 20 + 1, [](const Arrays &g) { return by_lemon(g, true); });
+    time_calls("igraph_mincut_value", graphs, calls / 100 + 1, by_igraph);
 }

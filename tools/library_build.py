@@ -9,6 +9,7 @@ crates one after another in this checkout, and leaves alone what it proved befor
 compiler, ld, ar and objcopy. The status is 0 where the library was built, 1 where it was not, 2 for wrong words, and 130 after an
 interrupt; what was proved is kept, and the next run goes on from there.
 """
+import hashlib
 import os
 import re
 import selectors
@@ -19,7 +20,7 @@ import sys
 import tempfile
 import time
 
-from first_build import COSTS, PAUSE, crates_below, lines_of_crates
+from first_build import COSTS, PAUSE, crates_below, lines_of_crates, sum_of
 from proving_time import Costs, loop_seconds, minutes
 
 ROOT = os.path.dirname(os.path.dirname(os.path.abspath(__file__)))
@@ -27,6 +28,8 @@ CRATE = 'mincut_c'
 BINDINGS = f'{ROOT}/bindings/c'
 HEADER = f'{ROOT}/include/mincut.h'
 OUT = f'{ROOT}/out'
+LIBRARIES = ('libmincut.a', 'libmincut.so')
+MADE_OF = f'{OUT}/libmincut.made_of'
 TOOLS = ('rt', 'ld', 'ar', 'objcopy')
 # Rattle compiles for these processors by default.
 FLAGS = ('-O2', '-fPIC', '-Wall', '-Wextra')
@@ -53,18 +56,17 @@ class Progress:
 
     def __init__(self, names):
         self.costs, self.left, self.at = Costs.read(COSTS), list(names), None
-        self.begun, self.told, self.proves = time.monotonic(), time.monotonic(), False
+        self.begun = self.told = time.monotonic()
         # the proof of one crate uses about two processors
         self.ratio = loop_seconds() / self.costs.loop / min(2, len(os.sched_getaffinity(0)))
 
     def read(self, line):
         found = re.match(r'rt: chose --jobs \d+ for (\w+)', line)
         if found and found[1] in self.left:
-            if not self.proves:
-                self.proves = True
-                say(f'the library is made of crates that have to be proved first, one after another; about {self.rest()} at most')
             while self.left[0] != found[1]:
                 self.left.pop(0)
+            if not self.at:
+                say(f'crates of the library have to be proved first, one after another; about {self.rest()} at most')
             self.at = found[1]
             self.tell(f'proving {self.at}')
 
@@ -80,9 +82,26 @@ class Progress:
             self.tell(f'still proving {self.at}')
 
 
-def prove():
+def made_of(names, lines):
+    """A checksum of all that the library is made of."""
+    total = hashlib.sha256(sum_of(names, lines).encode())
+    for path in (HEADER, f'{BINDINGS}/mincut.c', f'{BINDINGS}/mincut.map'):
+        with open(path, 'rb') as file:
+            total.update(file.read())
+    return total.hexdigest()
+
+
+def is_current(total):
+    """Whether both libraries were built of the files as they stand."""
+    try:
+        with open(MADE_OF, encoding='utf-8') as file:
+            return file.read().strip() == total and all(os.path.isfile(f'{OUT}/{name}') for name in LIBRARIES)
+    except FileNotFoundError:
+        return False
+
+
+def prove(names):
     """Has the toolchain prove the crates, and answers where the archive is."""
-    names = crates_below(CRATE, lines_of_crates(), [])
     archive = f'{ROOT}/crates/{CRATE}/out/lib{CRATE}.a'
     printed, progress = [], Progress(names)
     job = subprocess.Popen(['rt', 'lib'], cwd=f'{ROOT}/crates/{CRATE}', stdin=subprocess.DEVNULL, stdout=subprocess.PIPE,
@@ -106,7 +125,7 @@ def prove():
             job.wait()
     if job.returncode != 0 or not os.path.isfile(archive):
         raise BuildFault(f"'rt lib' did not build {CRATE}:\n{''.join(printed)}")
-    if progress.proves:
+    if progress.at:
         say(f'proved in {minutes(time.monotonic() - progress.begun)}')
     return archive
 
@@ -149,29 +168,36 @@ def put(source, folder):
     say(target)
 
 
-def install(room, prefix):
+def install(prefix):
     """Puts all into the folder."""
+    for name in LIBRARIES:
+        put(f'{OUT}/{name}', f'{prefix}/lib')
+    put(HEADER, f'{prefix}/include')
     with open(f'{BINDINGS}/mincut.pc.in', encoding='utf-8') as file:
         text = file.read().replace('@PREFIX@', prefix).replace('@VERSION@', version())
-    with open(f'{room}/mincut.pc', 'w', encoding='utf-8') as file:
+    os.makedirs(f'{prefix}/lib/pkgconfig', exist_ok=True)
+    with open(f'{prefix}/lib/pkgconfig/mincut.pc', 'w', encoding='utf-8') as file:
         file.write(text)
-    put(f'{room}/libmincut.a', f'{prefix}/lib')
-    put(f'{room}/libmincut.so', f'{prefix}/lib')
-    put(f'{room}/mincut.pc', f'{prefix}/lib/pkgconfig')
-    put(HEADER, f'{prefix}/include')
+    say(file.name)
 
 
 def build(prefix):
     missing = [name for name in (*TOOLS, os.environ.get('CC', 'cc')) if not shutil.which(name)]
     if missing:
         raise BuildFault(f'not on the path: {", ".join(missing)}')
-    archive = prove()
-    with tempfile.TemporaryDirectory(prefix='mincut-library-') as room:
-        link(archive, room)
-        put(f'{room}/libmincut.a', OUT)
-        put(f'{room}/libmincut.so', OUT)
-        if prefix:
-            install(room, os.path.abspath(prefix))
+    lines = lines_of_crates()
+    names = crates_below(CRATE, lines, [])
+    total = made_of(names, lines)
+    if not is_current(total):
+        archive = prove(names)
+        with tempfile.TemporaryDirectory(prefix='mincut-library-') as room:
+            link(archive, room)
+            for name in LIBRARIES:
+                put(f'{room}/{name}', OUT)
+        with open(MADE_OF, 'w', encoding='utf-8') as file:
+            file.write(f'{total}\n')
+    if prefix:
+        install(os.path.abspath(prefix))
 
 
 def main():
