@@ -41,7 +41,7 @@ class Library:
 
     def __init__(self, path: str):
         """Raises NoProgram where the file is no such library."""
-        graph = [c_uint32, c_size_t, POINTER(c_uint32), POINTER(c_uint32), POINTER(c_uint64)]
+        graph: list[Any] = [c_uint32, c_size_t, POINTER(c_uint32), POINTER(c_uint32), POINTER(c_uint64)]
         try:
             loaded = ctypes.CDLL(path)
             loaded.mincut_value.argtypes = loaded.mincut_count.argtypes = graph + [POINTER(c_uint64)]

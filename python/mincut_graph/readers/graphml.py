@@ -30,7 +30,8 @@ def read_graphml(text: str, options: ReadOptions) -> RawGraph:
 
 
 def attribute_graph(root: Any, graph: Any) -> AttributeGraph:
-    names, defaults = {}, {'node': {}, 'edge': {}}
+    names: dict[str, str] = {}
+    defaults: dict[str, dict[str, str]] = {'node': {}, 'edge': {}}
     for key in root.findall('key'):
         name = key.get('attr.name') or key.get('id')
         names[key.get('id')] = name
