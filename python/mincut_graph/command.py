@@ -10,7 +10,7 @@ from typing import Any, Optional
 
 from . import __version__, answers
 from .cuts import MinimumCuts
-from .errors import BadInput, MincutError, NoCut
+from .errors import BadInput, Failed, MincutError, NoCut
 from .graph import Graph, counted, finished
 from .program import Program
 from .readers import FORMATS, read_graph
@@ -32,7 +32,7 @@ def parser() -> argparse.ArgumentParser:
     jobs = top.add_subparsers(dest='job', metavar='JOB', required=True)
     for job, text in JOBS.items():
         one = jobs.add_parser(job, help=text, description=text.capitalize() + '.', epilog=EPILOG)
-        one.add_argument('file', metavar='FILE', help='METIS, CSV or edge list, GraphML, GML, Pajek, Matrix Market, .npz of scipy; - is standard input')
+        one.add_argument('file', metavar='FILE', help='METIS, CSV, edge list, GraphML, GML, Pajek, Matrix Market, .npz of scipy; - is standard input')
         if job == 'part':
             one.add_argument('pair', metavar='VERTEX', nargs=2, help='two vertices, by their names')
         if job == 'grow':
@@ -204,7 +204,7 @@ def main(words: Optional[list[str]] = None) -> int:
     try:
         return run(options)
     except MincutError as fault:
-        complain(str(fault))
+        complain(fault.line if isinstance(fault, Failed) else str(fault))
         return fault.status or 1
     except KeyboardInterrupt:
         complain('interrupted')

@@ -34,18 +34,18 @@ class Program:
         """The lines that the program prints for these words and this input, each as a list of words."""
         if unbuilt(self.path):
             self.build()
+        child = None
         try:
             child = subprocess.Popen([self.path, *map(str, words), *self.options], stdin=subprocess.PIPE, stdout=subprocess.PIPE,
                                      stderr=subprocess.PIPE, start_new_session=True)
-        except OSError as fault:
-            raise NoProgram(f'{self.path} cannot be run ({fault.strerror}); {HINT}') from None
-        try:
             out, err = child.communicate(text.encode(), time_limit)
-        except subprocess.TimeoutExpired:
-            end(child)
-            raise TimedOut(time_limit or 0) from None
-        except BaseException:
-            end(child)
+        except BaseException as fault:
+            if child is not None:
+                end(child)
+            if isinstance(fault, subprocess.TimeoutExpired):
+                raise TimedOut(time_limit or 0) from None
+            if isinstance(fault, OSError) and child is None:
+                raise NoProgram(f'{self.path} cannot be run ({fault.strerror}); {HINT}') from None
             raise
         if child.returncode != 0:
             raise failure(child.returncode, err.decode('utf-8', 'replace').strip())

@@ -117,10 +117,13 @@ def table_of(text: str, options: ReadOptions, wanted: list[Optional[str]]) -> Ta
     if not kept:
         raise BadInput('has no lines with edges')
     sign = delimiter_of(kept[0][1], options)
-    rows = []
-    for number, line in kept:
-        cells = line.split() if sign is None else next(csv.reader([line], delimiter=sign, skipinitialspace=True))
-        rows.append((number, [cell.strip() for cell in cells]))
+    if sign is None:
+        rows = [(number, line.split()) for number, line in kept]
+    else:
+        cells = list(csv.reader((line for _, line in kept), delimiter=sign, skipinitialspace=True))
+        if len(cells) < len(kept):
+            raise BadInput('a cell in quotes goes over several lines')
+        rows = [(number, [cell.strip() for cell in row]) for (number, _), row in zip(kept, cells)]
     by_name = any(name is not None and not name.isdigit() for name in wanted)
     header = options.header if options.header is not None else options.format == 'csv' or by_name
     return Table(rows[1:], rows[0][1]) if header else Table(rows, None)

@@ -86,7 +86,7 @@ def links(graph: Graph, places: list[Point], node_of: dict[int, int]) -> list[st
     parts, labels = [], []
     for k, (i, j, w) in enumerate(graph.edges):
         kind = 'link parted' if node_of[i] != node_of[j] else 'link'
-        width = 2.0 if least == most else 1.5 + 4.5 * math.sqrt((w - least) / (most - least))
+        width = 2.4 if least == most else 1.6 + 4.5 * math.sqrt((w - least) / (most - least))
         title = f'<title>{escape(f"{graph.names[i]} – {graph.names[j]}: {w}")}</title>'
         parts.append(line(kind, places[i], places[j], f' style="stroke-width:{width:.1f}" data-link="{k}"')[:-2] + f'>{title}</line>')
         (x, y), (a, b) = places[i], places[j]

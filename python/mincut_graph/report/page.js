@@ -189,7 +189,10 @@
 
   edges.forEach((element) => whenPicked(element, () => pick(Number(element.dataset.edge))));
   if (data.edges.length > 0) {
-    rows.forEach((row) => whenPicked(row, () => show(row.dataset.edges.split(' ').map(Number))));
+    rows.forEach((row) => whenPicked(row, () => {
+      show(row.dataset.edges.split(' ').map(Number));
+      told.scrollIntoView({ block: 'nearest' });
+    }));
   }
   document.addEventListener('keydown', (event) => {
     if (event.key === 'Escape') {

@@ -127,7 +127,8 @@ def pictures(found: Findings, drawn: bool, cactus_drawn: bool) -> str:
 def pane(name: str, drawing: str, dense: bool) -> str:
     buttons = ''.join(f'<button type="button" data-zoom="{word}" aria-label="{label}">{sign}</button>'
                       for word, sign, label in (('in', '+', 'larger'), ('out', '−', 'smaller'), ('whole', '⤢', 'whole picture')))
-    return (f'<figure class="pane{" dense" if dense else ""}"><figcaption>{name}<span class="zoom">{buttons}</span></figcaption>{drawing}</figure>')
+    kind = 'pane dense' if dense else 'pane'
+    return f'<figure class="{kind}"><figcaption>{name}<span class="zoom">{buttons}</span></figcaption>{drawing}</figure>'
 
 
 def places_told(found: Findings) -> str:
