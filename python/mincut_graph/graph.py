@@ -11,6 +11,7 @@ from .numbers import whole_numbers
 
 Position = tuple[float, float]
 MOST_WEIGHT = 1 << 61                  # of all edges together, as in the program
+MOST_VERTICES = 4_194_304              # as there
 
 
 @dataclass
