@@ -8,15 +8,14 @@ import sys
 import time
 
 import pytest
-from conftest import TOP, random_graphs
+from conftest import LIBRARY, needs_program, random_graphs
 
 import mincut_graph
 from mincut_graph import MinimumCuts
 from mincut_graph.library import EDGES_IN_PROCESS, Library
 
-BUILT = TOP / 'out' / 'libmincut.so'
 COMPILER = shutil.which('cc')
-needs_library = pytest.mark.skipif(not BUILT.is_file(), reason='out/libmincut.so is not built')
+needs_library = pytest.mark.skipif(not LIBRARY.is_file(), reason=f'{LIBRARY.name} is not built')
 
 
 @pytest.fixture(scope='module')
@@ -101,6 +100,7 @@ def test_which_library(stub, monkeypatch, tmp_path):
 # The library of the repository
 
 @needs_library
+@needs_program
 def test_library_and_program_agree():
     rng = random.Random(3)
     for _ in range(500):
@@ -108,7 +108,7 @@ def test_library_and_program_agree():
         edges = [(rng.randrange(v), v, rng.randint(1, 3)) for v in range(1, n)]
         edges += [(rng.randrange(n), rng.randrange(n), rng.randint(0, 3)) for _ in range(rng.randint(0, 2 * n))]
         rng.shuffle(edges)
-        by_library, by_program = MinimumCuts(edges, library=str(BUILT)), MinimumCuts(edges, library=False)
+        by_library, by_program = MinimumCuts(edges, library=str(LIBRARY)), MinimumCuts(edges, library=False)
         assert by_library.value() == by_program.value() and by_library.count() == by_program.count()
         assert by_library.cactus() == by_program.cactus()
 
@@ -116,5 +116,5 @@ def test_library_and_program_agree():
 @needs_library
 def test_large_graph_in_a_child():
     n = EDGES_IN_PROCESS + 1
-    cuts = MinimumCuts(ring(n), library=str(BUILT))
+    cuts = MinimumCuts(ring(n), library=str(LIBRARY))
     assert (cuts.value(), cuts.count()) == (2, n * (n - 1) // 2)

@@ -20,7 +20,8 @@ def read_matrix_market(text: str, options: ReadOptions) -> RawGraph:
     try:
         size = [int(word) for word in rows[0][1]]
         if size[0] != size[1] or not 0 <= size[0] <= MOST_VERTICES:
-            raise BadInput(f'a matrix of {size[0]} by {size[1]} is no graph; it has to be square, with a row for each of at most {MOST_VERTICES:,} vertices')
+            raise BadInput(f'a matrix of {size[0]} by {size[1]} is no graph; it has to be square, with a row for each vertex, '
+                           f'at most {MOST_VERTICES:,}')
         entries = coordinates(rows[1:], field) if form == 'coordinate' else table(rows[1:], size[0], symmetry)
     except (IndexError, ValueError) as fault:
         raise fault if isinstance(fault, BadInput) else BadInput('an entry has too few numbers, or a place that is none') from None

@@ -169,7 +169,7 @@ def plan_part(found: Findings, drawn: bool) -> str:
     many = len(found.plan) > 1
     text = (f'{counted(len(found.plan), "link", "links")} of weight 1{", all together, raise" if many else " raises"} the value from '
             f'{found.cactus.value:,} to {found.cactus.value + 1:,}. Fewer cannot: each of the {counted(len(found.sets), "set", "sets")} in the second '
-            'table is one side of a weakest place and needs the end of a new link, no two of them share a vertex, and a link has two ends.')
+            'table is one side of a weakest place and needs the end of a new link, no two share a vertex, and a link has two ends.')
     return (f'<p>{text} {switch}</p><div class="two"><table><thead><tr><th>#</th><th>From</th><th>To</th></tr></thead><tbody>{rows}</tbody>'
             f'</table><table><thead><tr><th>#</th><th>Set that needs an end</th></tr></thead><tbody>{sets}</tbody></table></div>')
 
