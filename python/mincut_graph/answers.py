@@ -66,7 +66,7 @@ def cactus_lines(cactus: Cactus) -> list[str]:
 
 
 def cactus_rows(cactus: Cactus) -> list[Sequence[Any]]:
-    parts = (('node', cactus.nodes), ('bridge', cactus.bridges), ('cycle', cactus.cycles))
+    parts: list[tuple[str, Sequence[Sequence[Any]]]] = [('node', cactus.nodes), ('bridge', cactus.bridges), ('cycle', cactus.cycles)]
     return [(kind, k, item) for kind, found in parts for k, items in enumerate(found) for item in items]
 
 

@@ -10,7 +10,7 @@ from typing import Any, Optional
 
 from . import __version__, answers
 from .cuts import MinimumCuts
-from .errors import BadInput, MincutError, NoCut
+from .errors import BadInput, Failed, MincutError, NoCut
 from .graph import Graph, counted, finished
 from .program import Program
 from .readers import FORMATS, read_graph
@@ -32,7 +32,7 @@ def parser() -> argparse.ArgumentParser:
     jobs = top.add_subparsers(dest='job', metavar='JOB', required=True)
     for job, text in JOBS.items():
         one = jobs.add_parser(job, help=text, description=text.capitalize() + '.', epilog=EPILOG)
-        one.add_argument('file', metavar='FILE', help='METIS, CSV or edge list, GraphML, GML, Pajek, Matrix Market, .npz of scipy; - is standard input')
+        one.add_argument('file', metavar='FILE', help='METIS, CSV, edge list, GraphML, GML, Pajek, Matrix Market, .npz of scipy; - is standard input')
         if job == 'part':
             one.add_argument('pair', metavar='VERTEX', nargs=2, help='two vertices, by their names')
         if job == 'grow':
@@ -80,7 +80,7 @@ def add_output(group: Any, job: str) -> None:
 
 
 def whole(word: str) -> int:
-    if not word.isdigit():
+    if not word.isdecimal():
         raise argparse.ArgumentTypeError(f'{word!r} is no whole number')
     return int(word)
 
@@ -126,7 +126,7 @@ def cuts_of(graph: Graph, options: argparse.Namespace) -> MinimumCuts:
 
 def vertex_of(cuts: MinimumCuts, word: str) -> Any:
     """The vertex with this name; a number where the names are numbers."""
-    return int(word) if word not in cuts.place and word.isdigit() and int(word) in cuts.place else word
+    return int(word) if word not in cuts.place and word.isdecimal() and int(word) in cuts.place else word
 
 
 def answer_of(cuts: MinimumCuts, options: argparse.Namespace) -> answers.Answer:
@@ -157,7 +157,7 @@ def answer_of(cuts: MinimumCuts, options: argparse.Namespace) -> answers.Answer:
 
 
 def triples_of(cuts: MinimumCuts, words: list[str]) -> list[tuple[Any, Any, int]]:
-    if len(words) % 3 or not all(word.isdigit() for word in words[2::3]):
+    if len(words) % 3 or not all(word.isdecimal() for word in words[2::3]):
         raise BadInput('an inserted edge is two names and a whole weight')
     return [(vertex_of(cuts, u), vertex_of(cuts, v), int(w)) for u, v, w in zip(words[::3], words[1::3], words[2::3])]
 
@@ -179,7 +179,7 @@ def write(text: str, path: Optional[str]) -> int:
 
 
 def complain(line: str) -> None:
-    print(f'mincut-graph: {line}', file=sys.stderr)
+    print(f'mincut-graph: {" ".join(line.split())}', file=sys.stderr)
 
 
 def run(options: argparse.Namespace) -> int:
@@ -204,7 +204,7 @@ def main(words: Optional[list[str]] = None) -> int:
     try:
         return run(options)
     except MincutError as fault:
-        complain(str(fault))
+        complain(fault.line if isinstance(fault, Failed) else str(fault))
         return fault.status or 1
     except KeyboardInterrupt:
         complain('interrupted')

@@ -1,6 +1,7 @@
 """A graph as the program takes it: names of vertices, each edge once with a whole weight, masses, and what was noticed on the way."""
 from __future__ import annotations
 
+from collections import Counter
 from collections.abc import Hashable, Sequence
 from dataclasses import dataclass, field, replace
 from typing import Any, Optional
@@ -10,6 +11,7 @@ from .numbers import whole_numbers
 
 Position = tuple[float, float]
 MOST_WEIGHT = 1 << 61                  # of all edges together, as in the program
+MOST_VERTICES = 4_194_304              # as there
 
 
 @dataclass
@@ -115,9 +117,7 @@ def finished(raw: RawGraph, scale: int = 1, undirected: bool = False) -> Graph:
         raise BadInput('the graph is directed, and minimum cuts are those of an undirected one; '
                        'to take each arrow as an edge: --undirected, or undirected=True')
     if len(set(raw.names)) < len(raw.names):
-        seen: set[Any] = set()
-        twice = next(name for name in raw.names if name in seen or seen.add(name))
-        raise BadInput(f'two vertices have the name {twice!r}')
+        raise BadInput(f'two vertices have the name {Counter(raw.names).most_common(1)[0][0]!r}')
     weights = whole_numbers([w for _, _, w in raw.edges],
                             lambda k: f'the weight of the edge {raw.names[raw.edges[k][0]]} - {raw.names[raw.edges[k][1]]}', scale)
     masses = None if raw.masses is None else whole_numbers(raw.masses, lambda k: f'the mass of the vertex {raw.names[k]}', kind='masses')

@@ -21,6 +21,7 @@ from .graph import Graph
 
 EDGES_IN_PROCESS = 20_000
 MOST_COMPONENTS = 127                  # as in the program, whose count has 127 bits
+INTERRUPTS = {signal.SIGINT, signal.SIGTERM}
 NO_CUT, OUT_OF_MEMORY, DISCONNECTED = 1, 2, 8
 FAULTS = {3: 'the arrays differ in length', 4: 'too many vertices', 5: 'too many edges', 6: 'an end of an edge is no vertex',
           7: 'the weights add up to more than 2^61', 9: 'an array is too short'}
@@ -41,7 +42,7 @@ class Library:
 
     def __init__(self, path: str):
         """Raises NoProgram where the file is no such library."""
-        graph = [c_uint32, c_size_t, POINTER(c_uint32), POINTER(c_uint32), POINTER(c_uint64)]
+        graph: list[Any] = [c_uint32, c_size_t, POINTER(c_uint32), POINTER(c_uint32), POINTER(c_uint64)]
         try:
             loaded = ctypes.CDLL(path)
             loaded.mincut_value.argtypes = loaded.mincut_count.argtypes = graph + [POINTER(c_uint64)]
@@ -118,11 +119,13 @@ def alone(call: Callable[[], Any], graph: Graph, time_limit: Optional[float]) ->
     if time_limit is None and len(graph.edges) <= EDGES_IN_PROCESS:
         return call()
     reading, writing = os.pipe()
+    held = signal.pthread_sigmask(signal.SIG_BLOCK, INTERRUPTS)       # until what ends the child stands ready
     child = os.fork()
     if child == 0:
         answer_and_exit(call, writing)
-    os.close(writing)
     try:
+        signal.pthread_sigmask(signal.SIG_SETMASK, held)
+        os.close(writing)
         with os.fdopen(reading, 'rb') as answers:
             if not select.select([answers], [], [], time_limit)[0]:
                 raise TimedOut(time_limit or 0)
@@ -144,7 +147,6 @@ def answer_and_exit(call: Callable[[], Any], writing: int) -> None:
     """In the child: writes the answer, or the exception, and ends without anything of its parent's being closed or flushed."""
     status = 1
     try:
-        signal.signal(signal.SIGINT, signal.SIG_IGN)
         try:
             answer = call()
         except MincutError as fault:

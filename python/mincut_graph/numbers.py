@@ -22,7 +22,8 @@ def fraction_of(raw: Any, what: str) -> Fraction:
     if isinstance(raw, str):
         word = raw.strip().strip('"').strip()
         if not DECIMAL.fullmatch(word):
-            raise BadInput(f'{what} is {raw!r}, which is no number')
+            hint = '; decimals stand behind a point, not a comma' if re.fullmatch(r'\d+,\d+', word) else ''
+            raise BadInput(f'{what} is {raw!r}, which is no number{hint}')
         raw = word
     try:
         return Fraction(raw)

@@ -37,9 +37,7 @@ def find_library(named: Optional[str] = None) -> Optional[str]:
     return str(built) if built and built.is_file() else None
 
 
-def unbuilt(program: str) -> bool:
-    """Whether this is the `mincut` of the repository, which has yet to prove and build the program."""
+def builds_itself(program: str) -> bool:
+    """Whether this is the `mincut` of the repository, which proves and builds the program where that was not done."""
     folder = checkout()
-    if folder is None or os.path.realpath(program) != os.path.realpath(folder / 'mincut'):
-        return False
-    return not (folder / 'crates' / 'mincut' / 'out' / 'mincut').exists()
+    return folder is not None and os.path.realpath(program) == os.path.realpath(folder / 'mincut')

@@ -10,9 +10,10 @@ from typing import Optional
 from .cactus import Cactus, read_cactus
 from .errors import Disconnected, MincutError, NoCut, NoProgram, TimedOut, failure
 from .graph import Graph
-from .places import find_program, unbuilt
+from .places import builds_itself, find_program
 
 GRACE = 2.0                            # seconds between the request to end and the order
+BUILT: set[str] = set()                # programs of the repository that were built, or found so, by this process
 HINT = 'name it by program=, --program or the variable MINCUT, or install this package from its repository'
 
 
@@ -32,28 +33,32 @@ class Program:
 
     def run(self, words: Sequence[object], text: str, time_limit: Optional[float] = None) -> list[list[str]]:
         """The lines that the program prints for these words and this input, each as a list of words."""
-        if unbuilt(self.path):
+        if self.path not in BUILT and builds_itself(self.path):
             self.build()
+        child = None
+        held = signal.pthread_sigmask(signal.SIG_BLOCK, {signal.SIGINT})      # until what ends the child stands ready
         try:
             child = subprocess.Popen([self.path, *map(str, words), *self.options], stdin=subprocess.PIPE, stdout=subprocess.PIPE,
                                      stderr=subprocess.PIPE, start_new_session=True)
-        except OSError as fault:
-            raise NoProgram(f'{self.path} cannot be run ({fault.strerror}); {HINT}') from None
-        try:
+            signal.pthread_sigmask(signal.SIG_SETMASK, held)
             out, err = child.communicate(text.encode(), time_limit)
-        except subprocess.TimeoutExpired:
-            end(child)
-            raise TimedOut(time_limit or 0) from None
-        except BaseException:
-            end(child)
+        except BaseException as fault:
+            signal.pthread_sigmask(signal.SIG_SETMASK, held)
+            if child is not None:
+                end(child)
+            if isinstance(fault, subprocess.TimeoutExpired):
+                raise TimedOut(time_limit or 0) from None
+            if isinstance(fault, OSError) and child is None:
+                raise NoProgram(f'{self.path} cannot be run ({fault.strerror}); {HINT}') from None
             raise
         if child.returncode != 0:
             raise failure(child.returncode, err.decode('utf-8', 'replace').strip())
         return [line.split() for line in out.decode().splitlines()]
 
     def build(self) -> None:
-        """Lets the repository's `mincut` prove and build the program, which it tells on standard error; no time limit is on that."""
-        child = subprocess.Popen([self.path, '--version'], stdin=subprocess.DEVNULL, stdout=subprocess.DEVNULL, start_new_session=True)
+        """Lets the repository's `mincut` prove and build the program where that was not done or the sources have changed, which it tells on
+        standard error; once in a process, and without a time limit."""
+        child = subprocess.Popen([self.path, '--build'], stdin=subprocess.DEVNULL, stdout=subprocess.DEVNULL, start_new_session=True)
         try:
             child.wait()
         except BaseException:
@@ -61,6 +66,7 @@ class Program:
             raise
         if child.returncode != 0:
             raise failure(child.returncode, 'the program could not be proved and built')
+        BUILT.add(self.path)
 
     def answer(self, graph: Graph, words: Sequence[object], time_limit: Optional[float]) -> list[list[str]]:
         """The lines for a graph; raises NoCut and Disconnected where these are the answer."""

@@ -103,8 +103,10 @@ def masses_of(graph: Any, raw: RawGraph, mass: Mass) -> list[Any]:
             if is_networkx(graph):
                 return [graph.nodes[name][mass] for name in raw.names]
             raise BadInput('masses by an attribute want a graph of networkx or igraph; give a table or a function')
-        find = mass if callable(mass) else mass.__getitem__      # type: ignore[union-attr]
-        return [find(name) for name in raw.names]
+        if callable(mass):
+            return [mass(name) for name in raw.names]
+        assert mass is not None
+        return [mass[name] for name in raw.names]
     except KeyError as missing:
         raise UnknownName(f'no mass for {missing.args[0]!r}') from None
 

@@ -1,5 +1,6 @@
-"""What the tests share. The program is ./mincut of the repository, or the one that the variable MINCUT names; where neither is built,
-tools/plain_mincut.py stands in, which has the same texts and takes graphs of up to 16 vertices."""
+"""What the tests share. The program is the one that the variable MINCUT names, or the one that the repository has built; where neither is
+there, tools/plain_mincut.py stands in, which has the same texts and takes graphs of up to 16 vertices. The library is likewise that of
+MINCUT_LIBRARY, or of the repository."""
 import importlib.util
 import os
 import random
@@ -14,9 +15,9 @@ if importlib.util.find_spec('mincut_graph') is None:
     sys.path.insert(0, str(TOP / 'python'))    # where the package is not installed
 sys.path.append(str(TOP / 'tools'))            # for the search through all cuts, `cuts_by_hand`; last, since an old file of the name is there
 
-BUILT = (TOP / 'crates' / 'mincut' / 'out' / 'mincut').exists()
-os.environ.setdefault('MINCUT', str(TOP / ('mincut' if BUILT else 'tools/plain_mincut.py')))
-os.environ.pop('MINCUT_LIBRARY', None)
+BUILT = TOP / 'crates' / 'mincut' / 'out' / 'mincut'
+os.environ.setdefault('MINCUT', str(BUILT if BUILT.exists() else TOP / 'tools' / 'plain_mincut.py'))
+LIBRARY = Path(os.environ.pop('MINCUT_LIBRARY', TOP / 'out' / 'libmincut.so'))
 FULL = 'plain_mincut' not in os.environ['MINCUT']
 needs_program = pytest.mark.skipif(not FULL, reason='the program is not built; tools/plain_mincut.py takes 16 vertices at most')
 

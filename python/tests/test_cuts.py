@@ -155,6 +155,20 @@ def test_no_program(monkeypatch, tmp_path):
         MinimumCuts(SQUARE).value()
 
 
+def test_the_repository_builds_its_program_first(monkeypatch, tmp_path):
+    program = tmp_path / 'mincut'
+    program.write_text('#!/bin/sh\necho "$@" >> "$0.words"\n[ "$1" = --build ] && exit $(cat "$0.status")\necho value 7\n')
+    program.chmod(0o755)
+    (tmp_path / 'mincut.status').write_text('11')
+    monkeypatch.setattr('mincut_graph.places.checkout', lambda: tmp_path)
+    with pytest.raises(mincut_graph.Failed, match='could not be proved and built'):
+        MinimumCuts(SQUARE, program=str(program)).value()
+    (tmp_path / 'mincut.status').write_text('0')
+    cuts = MinimumCuts(SQUARE, program=str(program))
+    assert (cuts.value(), cuts.value()) == (7, 7)
+    assert (tmp_path / 'mincut.words').read_text().split() == ['--build', '--build', 'value', 'value']
+
+
 # Other libraries
 
 def test_networkx_values():

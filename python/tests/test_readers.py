@@ -97,7 +97,7 @@ def test_examples():
 BROKEN = [
     ('x.txt', '', 'is empty'), ('x.txt', '# nothing\n', 'no lines'), ('x.csv', 'from,to\n', 'no edge'), ('x.txt', 'a\nb\n', 'one column'),
     ('x.csv', 'from,to,weight\na,b\n', 'line 2: an end or a weight is missing'), ('x.csv', 'from,to,weight\na,b,much\n', 'no number'),
-    ('x.csv', 'from,to,weight\na,b,-2\n', '0 or more'), ('x.csv', 'from,to,weight\na,b,0.5\nb,c,0.25\n', 'multiply all by 4 '),
+    ('x.csv', 'from,to,weight\na,b,-2\n', '0 or more'), ('x.csv', 'from;to;weight\na;b;2,5\n', 'not a comma'), ('x.csv', 'from,to,weight\na,b,0.5\nb,c,0.25\n', 'multiply all by 4 '),
     ('x.graphml', '<graphml>', 'line 1: is no XML'), ('x.graphml', '<html></html>', 'not GraphML'),
     ('x.graphml', '<graphml><graph edgedefault="directed"><node id="a"/><node id="b"/><edge source="a" target="b"/></graph></graphml>', 'directed'),
     ('x.graphml', '<graphml><graph><node id="a"/><edge source="a" target="b"/></graph></graphml>', "'b', which is no vertex"),

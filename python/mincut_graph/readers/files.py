@@ -17,6 +17,7 @@ from .options import ReadOptions
 from .pajek import read_pajek
 from .table import read_table
 
+LONGEST_LINE = 300
 Reader = Callable[[str, ReadOptions], RawGraph]
 FORMATS: dict[str, Reader] = {'metis': read_metis, 'csv': read_table, 'edges': read_table, 'graphml': read_graphml, 'gml': read_gml,
                               'pajek': read_pajek, 'mtx': read_matrix_market}
@@ -41,7 +42,13 @@ def read_graph(path: Union[str, Path], **options: Any) -> RawGraph:
         text = read_text(str(path), asked.encoding)
         return reader_of(str(path), text, asked)(text, asked)
     except BadInput as fault:
-        raise BadInput(f'{shown}: {fault}') from None
+        raise BadInput(f'{shown}: {one_line(str(fault))}') from None
+
+
+def one_line(text: str) -> str:
+    """The text in one line of some 300 signs at most."""
+    line = ' '.join(text.split())
+    return line if len(line) <= LONGEST_LINE else f'{line[:LONGEST_LINE - 60]} … {line[-50:]}'
 
 
 def read_text(path: str, encoding: str) -> str:

@@ -39,7 +39,7 @@ def plain(body: Pairs) -> dict[str, str]:
 
 def places_of(body: Pairs) -> dict[str, str]:
     """The coordinates in a list `graphics`."""
-    graphics = next((plain(entry) for key, entry in body if key == 'graphics' and isinstance(entry, list)), {})
+    graphics: dict[str, str] = next((plain(entry) for key, entry in body if key == 'graphics' and isinstance(entry, list)), {})
     return {key: graphics[key] for key in ('x', 'y') if key in graphics}
 
 

@@ -30,9 +30,10 @@ def read_graphml(text: str, options: ReadOptions) -> RawGraph:
 
 
 def attribute_graph(root: Any, graph: Any) -> AttributeGraph:
-    names, defaults = {}, {'node': {}, 'edge': {}}
+    names: dict[str, str] = {}
+    defaults: dict[str, dict[str, str]] = {'node': {}, 'edge': {}}
     for key in root.findall('key'):
-        name = key.get('attr.name') or key.get('id')
+        name = key.get('attr.name') or key.get('id') or ''
         names[key.get('id')] = name
         default = key.find('default')
         if default is not None and default.text:
@@ -40,8 +41,8 @@ def attribute_graph(root: Any, graph: Any) -> AttributeGraph:
                 defaults.setdefault(kind, {})[name] = default.text
     found = AttributeGraph(directed=graph.get('edgedefault') == 'directed')
     for node in graph.findall('node'):
-        if node.get('id') in found.vertices:
-            raise BadInput(f'two nodes have the id {node.get("id")!r}')
+        if node.get('id') is None or node.get('id') in found.vertices:
+            raise BadInput(f'two nodes have the id {node.get("id")!r}' if node.get('id') is not None else 'a node has no id')
         found.vertices[node.get('id')] = {**defaults['node'], **data_of(node, names)}
     for edge in graph.findall('edge'):
         found.directed = edge.get('directed', 'true' if found.directed else 'false') == 'true' or found.directed
@@ -51,4 +52,5 @@ def attribute_graph(root: Any, graph: Any) -> AttributeGraph:
 
 def data_of(element: Any, names: dict[str, str]) -> dict[str, str]:
     """The attributes of a node or an edge, by the names that the keys give them."""
-    return {names.get(data.get('key'), data.get('key')): (data.text or '').strip() for data in element.findall('data') if len(data) == 0}
+    return {names.get(data.get('key'), data.get('key')): (data.text or '').strip() for data in element.findall('data')
+            if data.get('key') is not None and len(data) == 0}

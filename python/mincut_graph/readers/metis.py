@@ -44,7 +44,7 @@ def header(line: Line) -> tuple[int, int, int, int, bool]:
     """(vertices, edges, sizes of a vertex, weights of a vertex, whether edges have weights)."""
     number, words = line
     form = words[2].rjust(3, '0') if len(words) > 2 else '000'
-    if not 2 <= len(words) <= 4 or not all(word.isdigit() for word in words) or len(form) != 3 or set(form) - set('01'):
+    if not 2 <= len(words) <= 4 or not all(word.isdecimal() and len(word) < 20 for word in words) or len(form) != 3 or set(form) - set('01'):
         raise BadInput(f'line {number}: is no header of METIS: n m [fmt [ncon]]')
     weights = (int(words[3]) if len(words) > 3 else 1) if form[1] == '1' else 0
     return int(words[0]), int(words[1]), int(form[0]), weights, form[2] == '1'

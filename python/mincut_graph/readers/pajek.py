@@ -5,7 +5,7 @@ import re
 from typing import Any
 
 from ..errors import BadInput
-from ..graph import RawGraph
+from ..graph import MOST_VERTICES, RawGraph
 from .attributes import AttributeGraph
 from .options import ReadOptions
 
@@ -26,6 +26,8 @@ class Pajek:
                 if self.graph.vertices:
                     raise BadInput('has a second network; leave one')
                 self.count = int(words[1])
+                if self.count > MOST_VERTICES:
+                    raise BadInput(f'has more than {MOST_VERTICES:,} vertices')
                 self.graph.vertices = {str(i): {} for i in range(1, self.count + 1)}
             elif self.section not in ('*network', '*edges', '*arcs', '*edgeslist', '*arcslist', '*matrix'):
                 raise BadInput(f'has a section {words[0]}, which is not read')

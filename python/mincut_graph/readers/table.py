@@ -27,7 +27,7 @@ class Table:
         """The place of a column, by its name or its number from 1."""
         if self.columns is not None and wanted in self.columns:
             return self.columns.index(wanted)
-        if wanted.isdigit() and 1 <= int(wanted) <= self.width:
+        if wanted.isdecimal() and 1 <= int(wanted) <= self.width:
             return int(wanted) - 1
         known = ', '.join(self.columns) if self.columns is not None else f'1 to {self.width}, without names'
         raise UnknownName(f'no column {wanted!r}; there are: {known}')
@@ -63,7 +63,7 @@ def read_table(text: str, options: ReadOptions) -> RawGraph:
     if masses is not None and len(place) > listed:
         raise BadInput(f'the vertex {list(place)[listed]} has no line in {options.vertices}')
     weights: list[Any] = [1] * len(table.rows) if weight is None else table.cells(weight)
-    edges = [(place[cells[source]], place[cells[target]], int(w) if isinstance(w, str) and w.isdigit() and w.isascii() else w)
+    edges = [(place[cells[source]], place[cells[target]], int(w) if isinstance(w, str) and w.isdecimal() and len(w) < 40 else w)
              for (_, cells), w in zip(table.rows, weights)]
     return RawGraph(list(place), edges, masses, notes=[told(table, source, target, weight)])
 
@@ -117,11 +117,14 @@ def table_of(text: str, options: ReadOptions, wanted: list[Optional[str]]) -> Ta
     if not kept:
         raise BadInput('has no lines with edges')
     sign = delimiter_of(kept[0][1], options)
-    rows = []
-    for number, line in kept:
-        cells = line.split() if sign is None else next(csv.reader([line], delimiter=sign, skipinitialspace=True))
-        rows.append((number, [cell.strip() for cell in cells]))
-    by_name = any(name is not None and not name.isdigit() for name in wanted)
+    if sign is None:
+        rows = [(number, line.split()) for number, line in kept]
+    else:
+        cells = list(csv.reader((line for _, line in kept), delimiter=sign, skipinitialspace=True))
+        if len(cells) < len(kept):
+            raise BadInput('a cell in quotes goes over several lines')
+        rows = [(number, [cell.strip() for cell in row]) for (number, _), row in zip(kept, cells)]
+    by_name = any(name is not None and not name.isdecimal() for name in wanted)
     header = options.header if options.header is not None else options.format == 'csv' or by_name
     return Table(rows[1:], rows[0][1]) if header else Table(rows, None)
 

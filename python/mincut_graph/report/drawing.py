@@ -14,6 +14,8 @@ from .layout import Point, graph_places, large_cactus_places, small_cactus_place
 SMALL_CACTUS, SMALL_GRAPH = 40, 40     # nodes with boxes, vertices with all their labels
 LEAF_ROOM = 22                         # pixels for a leaf along the circle of a large cactus
 BOX_STEP, GRAPH_STEP = 116, 92         # pixels of one step
+WIDEST, LEAST_STEP = 1100, 13          # pixels of a graph, whose steps are shorter then, and of such a step
+BOX_GAP = 34                           # pixels between two boxes side by side
 MAP_SIZE = (600.0, 480.0)              # pixels of a map
 LEAST_SIZE = (460.0, 400.0)            # of a picture
 LONGEST_LABEL = 22
@@ -60,9 +62,17 @@ def on_map(graph: Graph) -> list[Point]:
     return [(unit * x, unit * y) for x, y in zip(xs, ys)]
 
 
+def laid_out(graph: Graph) -> list[Point]:
+    """The places of a graph without a map, in pixels."""
+    places = graph_places(graph.neighbours())
+    extent = max(max(line) - min(line) for line in zip(*places))
+    step = max(LEAST_STEP, min(GRAPH_STEP, WIDEST / max(extent, 1.0)))
+    return [(step * x, step * y) for x, y in places]
+
+
 def graph_picture(graph: Graph, cactus: Cactus, plan: Sequence[Sequence[int]]) -> str:
     """The graph: each vertex has the colour of its node, links in some minimum cut are told apart, the plan's links are dashed."""
-    places = on_map(graph) if graph.positions is not None else [(GRAPH_STEP * x, GRAPH_STEP * y) for x, y in graph_places(graph.neighbours())]
+    places = on_map(graph) if graph.positions is not None else laid_out(graph)
     node_of = cactus.node_of()
     parts = links(graph, places, node_of)
     parts.append('<g class="plan">' + ''.join(line('new', places[i], places[j]) for i, j in plan) + '</g>')
@@ -76,7 +86,7 @@ def links(graph: Graph, places: list[Point], node_of: dict[int, int]) -> list[st
     parts, labels = [], []
     for k, (i, j, w) in enumerate(graph.edges):
         kind = 'link parted' if node_of[i] != node_of[j] else 'link'
-        width = 2.0 if least == most else 1.5 + 4.5 * math.sqrt((w - least) / (most - least))
+        width = 2.4 if least == most else 1.6 + 4.5 * math.sqrt((w - least) / (most - least))
         title = f'<title>{escape(f"{graph.names[i]} – {graph.names[j]}: {w}")}</title>'
         parts.append(line(kind, places[i], places[j], f' style="stroke-width:{width:.1f}" data-link="{k}"')[:-2] + f'>{title}</line>')
         (x, y), (a, b) = places[i], places[j]
@@ -89,7 +99,7 @@ def vertices(graph: Graph, places: list[Point], node_of: dict[int, int]) -> tupl
     names = [str(name) for name in graph.names]
     small = len(names) <= SMALL_GRAPH
     inside = small and max(map(len, names)) <= 3
-    radius = 15 if inside else 8 if small else 6
+    radius = 15 if inside else 8 if small else 5
     texts = [short(name) for name in names]
     if inside:
         spots = [(x, y + 5, 'middle') for x, y in places]
@@ -115,9 +125,10 @@ def cactus_picture(graph: Graph, cactus: Cactus) -> str:
     for cycles."""
     count = len(cactus.nodes)
     if count <= SMALL_CACTUS:
-        places = [(BOX_STEP * x, BOX_STEP * y) for x, y in small_cactus_places(count, cactus.bridges, cactus.cycles)]
+        sizes = [box_size(node, graph) for node in cactus.nodes]
+        places = stretched(small_cactus_places(count, cactus.bridges, cactus.cycles), sizes)
         nodes = [box(i, node, graph, places[i]) for i, node in enumerate(cactus.nodes)]
-        margin = (max(len(text) for node in cactus.nodes for text in label_lines(node, graph)) * 4.5 + 40, 40.0)
+        margin = (max(wide for wide, _ in sizes) / 2 + 30, 40.0)
     else:
         units, angles = large_cactus_places(count, cactus.bridges, cactus.cycles)
         places = [(LEAF_ROOM * x, LEAF_ROOM * y) for x, y in units]
@@ -152,6 +163,26 @@ def label_lines(node: Sequence[int], graph: Graph) -> list[str]:
     return lines if len(lines) <= 3 else [*lines[:2], f'… {len(node)} in all']
 
 
+def box_size(node: Sequence[int], graph: Graph) -> tuple[float, float]:
+    """Width and height of the box of a node with these vertices, or of its dot."""
+    if not node:
+        return 14.0, 14.0
+    lines = label_lines(node, graph)
+    return max(36.0, 8.2 * max(map(len, lines)) + 16), 18.0 * len(lines) + 12
+
+
+def stretched(places: list[Point], sizes: list[tuple[float, float]]) -> list[Point]:
+    """The places in pixels, sideways as far apart as boxes of these sizes need that stand at one height."""
+    factor = 1.0
+    for i, (x, y) in enumerate(places):
+        for j in range(i):
+            right, down = BOX_STEP * abs(x - places[j][0]), BOX_STEP * abs(y - places[j][1])
+            need = (sizes[i][0] + sizes[j][0]) / 2 + BOX_GAP
+            if down < (sizes[i][1] + sizes[j][1]) / 2 + 6 and right > 12:
+                factor = max(factor, min(need / right, 3.0))
+    return [(factor * BOX_STEP * x, BOX_STEP * y) for x, y in places]
+
+
 def node_group(i: int, node: Sequence[int], graph: Graph, shape: str) -> str:
     names = ', '.join(str(graph.names[v]) for v in node[:60]) + (', …' if len(node) > 60 else '')
     title = f'node {i}: {names}' if node else f'node {i}, without vertices'
@@ -163,7 +194,7 @@ def box(i: int, node: Sequence[int], graph: Graph, place: Point) -> str:
     if not node:
         return node_group(i, node, graph, f'<circle cx="{x:.1f}" cy="{y:.1f}" r="7"/>' + words('number', x + 11, y - 8, str(i)))
     lines = label_lines(node, graph)
-    wide, high = max(36.0, 8.2 * max(map(len, lines)) + 16), 18 * len(lines) + 12
+    wide, high = box_size(node, graph)
     shape = (f'<rect x="{x - wide / 2:.1f}" y="{y - high / 2:.1f}" width="{wide:.1f}" height="{high}" rx="9" style="fill:{colour(i)}"/>')
     shape += ''.join(words('inside', x, y - 9 * len(lines) + 14 + 18 * k, text) for k, text in enumerate(lines))
     return node_group(i, node, graph, shape + words('number', x + wide / 2 + 3, y - high / 2 + 3, str(i)))

@@ -9,6 +9,7 @@ Point = tuple[float, float]
 Lengths = list[dict[int, float]]
 
 STEPS = 5_000_000                      # pairs that are looked at, a few seconds' work
+LEAST_GAP = 0.4                        # steps between two vertices
 
 
 # A graph
@@ -25,7 +26,23 @@ def graph_places(near: Sequence[Sequence[int]]) -> list[Point]:
     for _ in range(max(8, min(200, STEPS // (count * count)))):
         for i in range(count):
             xs[i], ys[i] = pulled(xs[i], ys[i], xs, ys, distances[i], weights[i])
+    pushed_apart(xs, ys, LEAST_GAP)
     return list(zip(xs, ys))
+
+
+def pushed_apart(xs: list[float], ys: list[float], gap: float) -> None:
+    """Moves vertices that are nearer to each other than this away from each other."""
+    for _ in range(10):
+        order = sorted(range(len(xs)), key=xs.__getitem__)
+        for k, i in enumerate(order):
+            for j in order[k + 1:]:
+                if xs[j] - xs[i] >= gap:
+                    break
+                away_x, away_y = xs[j] - xs[i], ys[j] - ys[i]
+                length = math.hypot(away_x, away_y) or 1e-9
+                if length < gap:
+                    push = (gap - length) / 2 / length
+                    xs[i], ys[i], xs[j], ys[j] = xs[i] - push * away_x, ys[i] - push * away_y, xs[j] + push * away_x, ys[j] + push * away_y
 
 
 def pulled(x: float, y: float, xs: list[float], ys: list[float], lengths: Sequence[float], weights: Sequence[float]) -> Point:
@@ -73,9 +90,10 @@ def pivot_places(distances: list[list[int]]) -> tuple[list[float], list[float]]:
     for turn in range(2):
         axes.append(main_axis(table, axes, turn))
     found = [[sum(a * b for a, b in zip(row, axis)) for row in table] for axis in axes]
-    spread = max(max(map(abs, found[0])), 1e-9)
-    scale = max(map(max, distances)) / 2 / spread
-    return [[scale * x + 0.01 * math.sin(7.0 * i + k) for i, x in enumerate(line)] for k, line in enumerate(found)][:2] # type: ignore[return-value]
+    spread = max([1e-9, *(abs(x) for x in found[0])])
+    scale = max(max(row) for row in distances) / 2 / spread
+    shaken = [[scale * x + 0.01 * math.sin(7.0 * i + k) for i, x in enumerate(line)] for k, line in enumerate(found)]
+    return shaken[0], shaken[1]
 
 
 def main_axis(table: list[list[float]], others: list[list[float]], turn: int) -> list[float]:
@@ -127,24 +145,26 @@ def blocks_at(count: int, bridges: Sequence[Sequence[int]], cycles: Sequence[Seq
     return at
 
 
-def tree_below(root: int, at: list[list[list[int]]]) -> tuple[list[int], dict[int, list[int]]]:
-    """(the nodes from the root downwards, the children of each), children of one block side by side and in its order."""
+def tree_below(root: int, at: list[list[list[int]]]) -> tuple[list[int], dict[int, list[list[int]]]]:
+    """(the nodes from the root downwards, the blocks below each as lists of their other nodes, in the order of the block)."""
     seen, order = {root}, [root]
-    below: dict[int, list[int]] = {}
+    below: dict[int, list[list[int]]] = {}
     for i in order:
         below[i] = []
         for block in at[i]:
             place = block.index(i)
             fresh = [j for j in block[place + 1:] + block[:place] if j not in seen]
-            seen.update(fresh)
-            order += fresh
-            below[i] += fresh
+            if fresh:
+                seen.update(fresh)
+                order += fresh
+                below[i].append(fresh)
     return order, below
 
 
 def circles_around(root: int, at: list[list[list[int]]]) -> list[Point]:
     """Nodes on circles around the root by their depth, each in the sector of its branch: no two lines cross."""
-    order, below = tree_below(root, at)
+    order, blocks = tree_below(root, at)
+    below = {i: [j for block in found for j in block] for i, found in blocks.items()}
     leaves: dict[int, int] = {}
     for i in reversed(order):
         leaves[i] = sum(leaves[j] for j in below[i]) or 1
@@ -188,7 +208,7 @@ def spread(places: dict[int, Point], near: Lengths, lines: list[tuple[int, int]]
     lengths = [[wanted[i][j] for j in names] for i in names]
     weights = [[0.0 if i == j else (8.0 if j in near[i] else 1.0) / wanted[i][j] ** 2 for j in names] for i in names]
     work = len(names) ** 2 + 10 * len(lines) * len(names)
-    for _ in range(max(5, min(300, STEPS // work))):
+    for _ in range(max(5, min(150, STEPS // work))):
         xs, ys = [places[i][0] for i in names], [places[i][1] for i in names]
         for i in names:
             x, y = places[i]
@@ -251,35 +271,48 @@ def large_cactus_places(count: int, bridges: Sequence[Sequence[int]], cycles: Se
     need. One unit is the room of a leaf along its circle; an angle says in which direction a node lies from the middle."""
     at = blocks_at(count, bridges, cycles)
     middle, ring = middle_of(at, cycles)
-    order, below = tree_below(middle, at)
+    order, blocks = tree_below(middle, at)
     if ring:
-        below[middle] = [j for j in below[middle] if j not in ring]
-    depth = {middle: 1 if ring else 0}
-    depth.update({i: 1 for i in ring})
-    for i in order:
-        for j in below[i]:
-            depth[j] = depth[i] + 1
+        blocks[middle] = [block for block in blocks[middle] if not set(block) <= set(ring)]
+        order = [*ring, *(i for i in order if i not in set(ring))]
+    tops = ring or [middle]
+    depth = depths(order, blocks, dict.fromkeys(tops, 1.0 if ring else 0.0))
+    below = {i: [j for block in found for j in block] for i, found in blocks.items()}
     need: dict[int, float] = {}
     for i in reversed(order):
-        need[i] = max(sum(need[j] for j in below[i]), 1 / max(depth[i], 1))
-    tops = ring or [middle]
+        need[i] = max(sum(need[j] for j in below[i]), 1 / max(depth[i], 1.0))
     whole = sum(need[i] for i in tops)
-    step = max(3.0, whole / (2 * math.pi))
-    angles = [0.0] * count
+    angles = sector_angles(order, below, need, tops)
+    step = max(3.0 if max(depth.values()) < 6 else 2.0, whole / (2 * math.pi))
+    places = [(step * depth[i] * math.cos(angles[i]), step * depth[i] * math.sin(angles[i])) for i in range(count)]
+    return places, [angles[i] for i in range(count)]
+
+
+def depths(order: list[int], blocks: dict[int, list[list[int]]], depth: dict[int, float]) -> dict[int, float]:
+    """How far out each node lies: one step for a bridge; the nodes of a cycle make a bow."""
+    for i in order:
+        for block in blocks[i]:
+            for k, j in enumerate(block):
+                depth[j] = depth[i] + (1.0 if len(block) == 1 else 0.4 + 0.7 * math.sin(math.pi * (k + 0.5) / len(block)))
+    return depth
+
+
+def sector_angles(order: list[int], below: dict[int, list[int]], need: dict[int, float], tops: Sequence[int]) -> dict[int, float]:
+    """The middle of the sector of each node: as wide as its branch needs, within that of the node above."""
+    whole = sum(need[i] for i in tops)
+    sectors: dict[int, Point] = {}
     low = -math.pi / 2
-    sectors = {}
     for i in tops:
         sectors[i] = (low, low + 2 * math.pi * need[i] / whole)
         low = sectors[i][1]
-    for i in ([*ring, *(k for k in order if k not in set(ring))] if ring else order):
+    for i in order:
         low, high = sectors[i]
-        angles[i] = (low + high) / 2
-        inner = sum(need[j] for j in below[i])
-        low = angles[i] - (high - low) / 2 * min(1.0, inner / need[i])
+        wide, inner = high - low, sum(need[j] for j in below[i]) / need[i]
+        low = (low + high) / 2 - wide / 2 * min(1.0, inner)
         for j in below[i]:
-            sectors[j] = (low, low + (high - sectors[i][0]) * need[j] / need[i])
+            sectors[j] = (low, low + wide * need[j] / need[i])
             low = sectors[j][1]
-    return [(step * depth[i] * math.cos(angles[i]), step * depth[i] * math.sin(angles[i])) for i in range(count)], angles
+    return {i: (low + high) / 2 for i, (low, high) in sectors.items()}
 
 
 def middle_of(at: list[list[list[int]]], cycles: Sequence[Sequence[int]]) -> tuple[int, list[int]]:
@@ -288,10 +321,10 @@ def middle_of(at: list[list[list[int]]], cycles: Sequence[Sequence[int]]) -> tup
     order, below = tree_below(0, at)
     size: dict[int, int] = {}
     for i in reversed(order):
-        size[i] = 1 + sum(size[j] for j in below[i])
+        size[i] = 1 + sum(size[j] for block in below[i] for j in block)
     middle = 0
     while True:
-        heavy = [j for j in below[middle] if 2 * size[j] > len(at)]
+        heavy = [j for block in below[middle] for j in block if 2 * size[j] > len(at)]
         if not heavy:
             break
         middle = heavy[0]

@@ -102,9 +102,13 @@
     all('[data-vertex]').forEach((element) => {
       const inside = cut.vertices.has(Number(element.dataset.vertex));
       element.classList.add(inside ? 'side' : 'rest');
-      element.classList.toggle('named', inside && cut.vertices.size <= 25);
+      element.classList.toggle('named', inside && cut.vertices.size <= 8);
     });
-    all('[data-node]').forEach((element) => element.classList.add(cut.nodes[Number(element.dataset.node)] ? 'side' : 'rest'));
+    all('[data-node]').forEach((element) => {
+      const inside = cut.nodes[Number(element.dataset.node)];
+      element.classList.add(inside ? 'side' : 'rest');
+      element.classList.toggle('named', inside && cut.vertices.size <= 8);
+    });
     cut.links.forEach((k) => document.querySelector(`[data-link="${k}"]`)?.classList.add('cut'));
     removed.forEach((k) => edges[k]?.classList.add('cut'));
     const key = removed.join(' ');
@@ -145,7 +149,7 @@
     let from = null;
     const set = () => {
       svg.setAttribute('viewBox', view.join(' '));
-      pane.classList.toggle('near', view[2] < 0.45 * whole[2]);
+      pane.classList.toggle('near', view[2] < 700 || view[2] < 0.45 * whole[2]);
     };
     const scale = (factor, x, y) => {
       const next = Math.min(Math.max(view[2] * factor, whole[2] / 60), whole[2] * 2) / view[2];
@@ -185,7 +189,10 @@
 
   edges.forEach((element) => whenPicked(element, () => pick(Number(element.dataset.edge))));
   if (data.edges.length > 0) {
-    rows.forEach((row) => whenPicked(row, () => show(row.dataset.edges.split(' ').map(Number))));
+    rows.forEach((row) => whenPicked(row, () => {
+      show(row.dataset.edges.split(' ').map(Number));
+      told.scrollIntoView({ block: 'nearest' });
+    }));
   }
   document.addEventListener('keydown', (event) => {
     if (event.key === 'Escape') {

@@ -14,7 +14,7 @@ from ..cactus import Cactus
 from ..cuts import MinimumCuts
 from ..graph import Graph, counted
 from ..program import Program
-from .drawing import cactus_picture, graph_picture
+from .drawing import SMALL_CACTUS, cactus_picture, graph_picture
 from .places import Place, Places
 
 HERE = Path(__file__).resolve().parent
@@ -96,10 +96,11 @@ def facts(found: Findings) -> str:
     graph = found.graph
     unit = 'vertices' if graph.masses is None else 'mass'
     links = counted(len(found.plan), 'new link', 'new links')
+    raises = 'raises' if len(found.plan) == 1 else 'raise'
     return ''.join([fact('Value', f'{found.cactus.value:,}', 'the least weight of links that must fail to cut the graph in two'),
                     fact('Weakest places', f'{found.count:,}', 'different minimum cuts of that weight'),
                     fact('Most balanced', f'{found.balance:,}', f'{unit} on the lighter side of one of them: {shown(graph, found.side)}'),
-                    fact('Fewest new links', f'{len(found.plan):,}', f'{links} of weight 1 raise the value to {found.cactus.value + 1:,}')])
+                    fact('Fewest new links', f'{len(found.plan):,}', f'{links} of weight 1 {raises} the value to {found.cactus.value + 1:,}')])
 
 
 def fact(name: str, number: str, text: str) -> str:
@@ -117,7 +118,7 @@ def pictures(found: Findings, drawn: bool, cactus_drawn: bool) -> str:
     if drawn:
         parts.append(pane('Graph', graph_picture(found.graph, found.cactus, found.plan), len(found.graph.names) > 60))
     if cactus_drawn:
-        parts.append(pane('Cactus', cactus_picture(found.graph, found.cactus), False))
+        parts.append(pane('Cactus', cactus_picture(found.graph, found.cactus), len(found.cactus.nodes) > SMALL_CACTUS))
     if not parts:
         return '<p class="note">The graph and its cactus are too large to be drawn; the lists below have what can be shown.</p>'
     return f'<div class="panes{"" if len(parts) == 2 else " one"}">{"".join(parts)}</div>'
@@ -126,7 +127,8 @@ def pictures(found: Findings, drawn: bool, cactus_drawn: bool) -> str:
 def pane(name: str, drawing: str, dense: bool) -> str:
     buttons = ''.join(f'<button type="button" data-zoom="{word}" aria-label="{label}">{sign}</button>'
                       for word, sign, label in (('in', '+', 'larger'), ('out', '−', 'smaller'), ('whole', '⤢', 'whole picture')))
-    return (f'<figure class="pane{" dense" if dense else ""}"><figcaption>{name}<span class="zoom">{buttons}</span></figcaption>{drawing}</figure>')
+    kind = 'pane dense' if dense else 'pane'
+    return f'<figure class="{kind}"><figcaption>{name}<span class="zoom">{buttons}</span></figcaption>{drawing}</figure>'
 
 
 def places_told(found: Findings) -> str:
@@ -164,9 +166,10 @@ def plan_part(found: Findings, drawn: bool) -> str:
     rows = ''.join(row([k, graph.names[i], graph.names[j]]) for k, (i, j) in enumerate(found.plan[:MOST_LISTED], 1))
     sets = ''.join(row([k, shown(graph, members, 20)]) for k, members in enumerate(found.sets[:MOST_LISTED], 1))
     switch = '<label class="switch"><input type="checkbox" id="plan"> draw them in the graph</label>' if drawn else ''
-    text = (f'{counted(len(found.plan), "link", "links")} of weight 1, all together, raise the value from {found.cactus.value:,} to '
-            f'{found.cactus.value + 1:,}. Fewer cannot: each of the {counted(len(found.sets), "set", "sets")} beside them is one side of a weakest '
-            'place and needs the end of a new link, no two of them share a vertex, and a link has two ends.')
+    many = len(found.plan) > 1
+    text = (f'{counted(len(found.plan), "link", "links")} of weight 1{", all together, raise" if many else " raises"} the value from '
+            f'{found.cactus.value:,} to {found.cactus.value + 1:,}. Fewer cannot: each of the {counted(len(found.sets), "set", "sets")} in the second '
+            'table is one side of a weakest place and needs the end of a new link, no two share a vertex, and a link has two ends.')
     return (f'<p>{text} {switch}</p><div class="two"><table><thead><tr><th>#</th><th>From</th><th>To</th></tr></thead><tbody>{rows}</tbody>'
             f'</table><table><thead><tr><th>#</th><th>Set that needs an end</th></tr></thead><tbody>{sets}</tbody></table></div>')
 

@@ -1,0 +1,53 @@
+/* Stands in for the shared library in tests, with the calls of mincut.h: the value and the count by trying all sides of up to 16 vertices,
+ * and the cactus of a ring whose edges stand in order, written down from another node than the canonical cactus begins with. A first weight
+ * of 999 makes a call that does not end, one of 998 one that ends its process, one of 997 one without memory. */
+#include <stddef.h>
+#include <stdint.h>
+#include <unistd.h>
+
+struct bridge { uint64_t upper, lower; };
+struct sizes { uint64_t value; size_t nodes, vertices, bridges, cycles, members; };
+
+static int best(uint32_t n, size_t m, const uint32_t *u, const uint32_t *v, const uint64_t *w, uint64_t *value, uint64_t *count) {
+    if (n < 2) return 1;
+    if (m && w[0] == 999) sleep(60);
+    if (m && w[0] == 998) _exit(3);
+    if (m && w[0] == 997) return 2;
+    *value = UINT64_MAX;
+    for (uint32_t side = 2; side < 1u << n; side += 2) {
+        uint64_t weight = 0;
+        for (size_t k = 0; k < m; ++k) weight += (side >> u[k] & 1) != (side >> v[k] & 1) ? w[k] : 0;
+        if (weight < *value) { *value = weight; *count = 0; }
+        *count += weight == *value;
+    }
+    return 0;
+}
+
+int mincut_value(uint32_t n, size_t m, const uint32_t *u, const uint32_t *v, const uint64_t *w, uint64_t *value) {
+    uint64_t count;
+    return best(n, m, u, v, w, value, &count);
+}
+
+int mincut_count(uint32_t n, size_t m, const uint32_t *u, const uint32_t *v, const uint64_t *w, uint64_t *count) {
+    uint64_t value;
+    const int status = best(n, m, u, v, w, &value, count);
+    return status == 0 && value == 0 ? 8 : status;
+}
+
+int mincut_cactus(uint32_t n, size_t m, const uint32_t *u, const uint32_t *v, const uint64_t *w, struct sizes *sizes, size_t *node_starts,
+                  uint32_t *vertices, struct bridge *bridges, size_t *cycle_starts, uint64_t *members) {
+    uint64_t count;
+    const int status = best(n, m, u, v, w, &sizes->value, &count);
+    if (status || sizes->value == 0) return status ? status : 8;
+    const int ring = n > 2;
+    for (uint32_t i = 0; i < n; ++i) {
+        node_starts[i] = i;
+        vertices[i] = ring ? (n - i) % n : i;
+        members[i] = (i + 1) % n;
+    }
+    cycle_starts[0] = 0;
+    bridges[0].upper = 0;
+    bridges[0].lower = 1;
+    *sizes = (struct sizes){sizes->value, n, n, !ring, ring, ring ? n : 0};
+    return 0;
+}

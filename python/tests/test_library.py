@@ -1,0 +1,120 @@
+"""The shared library as a back end: a stand-in in C by the same calls, and the library itself where the repository has built it."""
+import os
+import random
+import shutil
+import signal
+import subprocess
+import sys
+import time
+
+import pytest
+from conftest import LIBRARY, needs_program, random_graphs
+
+import mincut_graph
+from mincut_graph import MinimumCuts
+from mincut_graph.library import EDGES_IN_PROCESS, Library
+
+COMPILER = shutil.which('cc')
+needs_library = pytest.mark.skipif(not LIBRARY.is_file(), reason=f'{LIBRARY.name} is not built')
+
+
+@pytest.fixture(scope='module')
+def stub(tmp_path_factory):
+    if COMPILER is None:
+        pytest.skip('there is no C compiler for the stand-in')
+    path = str(tmp_path_factory.mktemp('library') / 'stub.so')
+    subprocess.run([COMPILER, '-std=gnu11', '-O1', '-shared', '-fPIC', '-o', path, os.path.join(os.path.dirname(__file__), 'stub.c')], check=True)
+    return path
+
+
+def ring(n, weight=1):
+    return [(i, (i + 1) % n, weight) for i in range(n)]
+
+
+def test_same_as_the_program(stub):
+    for n, edges, value, sides in random_graphs(40):
+        cuts = MinimumCuts(edges, library=stub)
+        assert isinstance(cuts.library, Library) and (cuts.value(), cuts.count()) == (value, len(sides))
+
+
+def test_cactus_is_canonical(stub):
+    for n in (2, 3, 4, 7):
+        edges = ring(n) if n > 2 else [(0, 1)]
+        assert MinimumCuts(edges, library=stub).cactus() == MinimumCuts(edges, library=False).cactus()
+
+
+def test_no_answer(stub):
+    assert MinimumCuts([(1, 2), (3, 4), (5, 6)], library=stub).count() == 3
+    with pytest.raises(mincut_graph.Disconnected) as caught:
+        MinimumCuts([(1, 2), (3, 4), (5, 6)], library=stub).cactus()
+    assert caught.value.components == 3
+    with pytest.raises(mincut_graph.NoCut):
+        MinimumCuts([], library=stub).value()
+    with pytest.raises(mincut_graph.OutOfMemory):
+        MinimumCuts([(1, 2, 997)], library=stub).value(time_limit=10)
+    with pytest.raises(mincut_graph.MincutError, match='without an answer'):
+        MinimumCuts([(1, 2, 998)], library=stub, time_limit=10).count()
+
+
+def test_what_is_raised_comes_back_from_a_child(stub):
+    """A call with a time limit runs in another process."""
+    assert MinimumCuts(ring(4), library=stub, time_limit=20).cactus().count() == 6
+    with pytest.raises(mincut_graph.Disconnected) as caught:
+        MinimumCuts([(1, 2), (3, 4)], library=stub, time_limit=20).cactus()
+    assert caught.value.components == 2
+
+
+def test_time_limit(stub):
+    start = time.monotonic()
+    with pytest.raises(mincut_graph.TimedOut):
+        MinimumCuts([(1, 2, 999)], library=stub).value(time_limit=0.3)
+    assert time.monotonic() - start < 20
+
+
+def test_interrupt_leaves_nothing_behind(stub):
+    code = ('from mincut_graph import MinimumCuts\nimport os, mincut_graph.library\nfork = os.fork\n'
+            'def told():\n    child = fork()\n    if child: print(child, flush=True)\n    return child\n'
+            f'os.fork = told\nMinimumCuts([(1, 2, 999)], library={stub!r}, time_limit=60).value()')
+    child = subprocess.Popen([sys.executable, '-c', code], stdout=subprocess.PIPE, stderr=subprocess.PIPE,
+                             env={**os.environ, 'PYTHONPATH': os.pathsep.join(sys.path)})
+    grandchild = int(child.stdout.readline())
+    child.send_signal(signal.SIGINT)
+    _, err = child.communicate(timeout=30)
+    assert b'KeyboardInterrupt' in err
+    with pytest.raises(ProcessLookupError):
+        os.kill(grandchild, 0)
+
+
+def test_which_library(stub, monkeypatch, tmp_path):
+    monkeypatch.setenv('MINCUT_LIBRARY', stub)
+    assert MinimumCuts(ring(4)).library.path == stub and MinimumCuts(ring(4), library=False).library is None
+    assert MinimumCuts(ring(4)).largest().library.path == stub
+    wrong = tmp_path / 'wrong.so'
+    wrong.write_text('no library')
+    with pytest.raises(mincut_graph.NoProgram, match='is no library of mincut'):
+        MinimumCuts(ring(4), library=str(wrong))
+    monkeypatch.delenv('MINCUT_LIBRARY')
+    assert MinimumCuts(ring(4)).library is None, 'a program is named by MINCUT, so a library that is only found is not taken'
+
+
+# The library of the repository
+
+@needs_library
+@needs_program
+def test_library_and_program_agree():
+    rng = random.Random(3)
+    for _ in range(500):
+        n = rng.randint(2, 14)
+        edges = [(rng.randrange(v), v, rng.randint(1, 3)) for v in range(1, n)]
+        edges += [(rng.randrange(n), rng.randrange(n), rng.randint(0, 3)) for _ in range(rng.randint(0, 2 * n))]
+        rng.shuffle(edges)
+        by_library, by_program = MinimumCuts(edges, library=str(LIBRARY)), MinimumCuts(edges, library=False)
+        assert by_library.value() == by_program.value() and by_library.count() == by_program.count()
+        assert by_library.cactus() == by_program.cactus()
+
+
+@needs_library
+def test_large_graph_in_a_child():
+    n = EDGES_IN_PROCESS + 1
+    cuts = MinimumCuts(ring(n), library=str(LIBRARY))
+    assert (cuts.value(), cuts.count()) == (2, n * (n - 1) // 2)
