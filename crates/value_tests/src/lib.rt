@@ -25,3 +25,5 @@ mod rounds;
 mod scans;
 #[cfg(test)]
 mod values;
+#[cfg(test)]
+mod workers;

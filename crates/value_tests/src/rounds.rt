@@ -16,7 +16,7 @@ use std::thread::Threads;
 use weighted_graph::{Graph, Labels};
 
 /// The degree of a vertex, which is the weight of a cut.
-fn degree_of(graph: &Graph, v: u32) -> u64
+pub(crate) fn degree_of(graph: &Graph, v: u32) -> u64
     requires enough { 2 ≤ graph.now.vertices }
     requires from_one { 1 ≤ v }
     requires to_n { v ≤ graph.now.vertices }

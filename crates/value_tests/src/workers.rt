@@ -1,0 +1,174 @@
+//! Workers who scan a large graph side by side.
+
+ghost use Rattle.std.specs.Prelude.{◌≡◌, ◌≤◌, length};
+
+use crate::graphs::edges_of;
+use crate::rounds::degree_of;
+use cut_definitions::{EdgeList, NoMemory};
+use mark_board::Marks;
+use min_value::{Kernel, reduce, value};
+use outside::{Gate, OpenGate};
+use round_workers::scan_round;
+use std::alloc::Global;
+use std::sync::atomic::{AtomicU64, Ordering};
+use std::test::Fail;
+use std::thread::Threads;
+use weighted_graph::Graph;
+
+// For so many turns worker 0 waits for worker 1.
+const TURNS: u32 = 1_000_000_000;
+
+// A gate that holds worker 0 until worker 1 has passed, and keeps whether it came.
+#[derive(Drop)]
+struct MeetingGate {
+    second: AtomicU64,
+    met: AtomicU64,
+}
+
+impl Gate for MeetingGate {
+    fn pass(&self, worker: u32) {
+        if worker == 1 {
+            self.second.store(1, Ordering::SeqCst);
+        }
+        if worker != 0 {
+            return;
+        }
+        for _ in 0..TURNS {
+            if self.second.load(Ordering::SeqCst) == 1 {
+                self.met.store(1, Ordering::SeqCst);
+                return;
+            }
+        }
+    }
+}
+
+fn meeting_gate() -> MeetingGate {
+    MeetingGate {
+        second: AtomicU64::new(0),
+        met: AtomicU64::new(0),
+    }
+}
+
+/// Puts the row of a vertex, counted from 0, which is joined to all others of its block; the last vertex of a block is joined to
+/// the first of the next one.
+fn put_row(
+    alloc: Global,
+    text: &mut String,
+    vertex: u32,
+    blocks: u32,
+    size: u32,
+) -> Result<(), NoMemory>
+    requires vertex { vertex ≤ 100000 }
+    requires blocks { blocks ≤ 1000 }
+    requires size { (1 ≤ size) × (size ≤ 1000) }
+{
+    let first = vertex / size * size;
+    if vertex == first && vertex > 0 {
+        text.push_str(&format!(in alloc; "{vertex} ")?)?;
+    }
+    for other in first..first + size {
+        let name = other + 1;
+        if other != vertex {
+            text.push_str(&format!(in alloc; "{name} ")?)?;
+        }
+    }
+    let next = vertex + 2;
+    if vertex - first + 1 == size && next <= blocks * size {
+        text.push_str(&format!(in alloc; "{next} ")?)?;
+    }
+    text.push_str("\n")
+}
+
+/// A file with a chain of complete blocks, of which one edge leads to the next: its value is 1.
+fn chain_of_blocks(alloc: Global, blocks: u32, size: u32) -> Result<String, NoMemory>
+    requires blocks { (1 ≤ blocks) × (blocks ≤ 100) }
+    requires size { (2 ≤ size) × (size ≤ 400) }
+{
+    let vertices = blocks * size;
+    let edges = blocks * (size * (size - 1) / 2) + blocks - 1;
+    let mut text = format!(in alloc; "{vertices} {edges}\n")?;
+    for vertex in 0..vertices {
+        put_row(alloc, &mut text, vertex, blocks, size)?;
+    }
+    Ok(text)
+}
+
+/// In how many blocks of eight vertices an edge is marked.
+fn marked_blocks(graph: &Graph, marks: &Marks) -> u32
+    requires { marks.now.edges ≡ length graph.now.edges }
+{
+    let mut count = 0u32;
+    let mut next = 0u32;
+    for i in 0..graph.edges() {
+        let edge = graph.edge(i);
+        let block = edge.u.saturating_sub(1) / 8;
+        if block >= next && edge.v.saturating_sub(1) / 8 == block && marks.has(i) {
+            count = count.saturating_add(1);
+            next = block.saturating_add(1);
+        }
+    }
+    count
+}
+
+/// Whether two workers run at the same time, lower the bound to 2 at most, and mark an edge in each of the 64 blocks. A block is
+/// scanned by one of them, or half of it at least by one of them once the bound has fallen.
+fn marks_each_block<R: Threads + Sync>(
+    rt: &R,
+    alloc: Global,
+    list: &EdgeList,
+) -> Result<bool, NoMemory> {
+    if list.n() < 2 {
+        return Ok(false);
+    }
+    let graph = Graph::build(alloc, list)?;
+    let opening = degree_of(&graph, 1);
+    let gate = meeting_gate();
+    let (bound, marks) = scan_round(rt, alloc, &graph, opening, 0, 2, &gate)?;
+    let met = gate.met.load(Ordering::SeqCst) == 1;
+    Ok(met && opening == 7 && bound <= 2 && marked_blocks(&graph, &marks) == 64)
+}
+
+#[test]
+fn two_workers_scan_a_large_graph(rt: HostRuntime) -> Result<(), Fail> {
+    let text = chain_of_blocks(rt.alloc(), 64, 8)?;
+    let Some(list) = edges_of(rt.alloc(), &text) else {
+        return Err(Fail::from("no graph"));
+    };
+    assert!(rt; list.len() == 1855 && marks_each_block(&rt, rt.alloc(), &list)?);
+    Ok(())
+}
+
+/// Whether there is a smaller graph, and it has two vertices.
+fn has_two_left(reduced: &Option<Kernel>) -> bool {
+    match reduced {
+        Some(kernel) => kernel.graph.n() == 2,
+        None => false,
+    }
+}
+
+/// Whether two workers reduce the graph to two vertices, and run at the same time.
+fn is_reduced_by_two<R: Threads + Sync>(
+    rt: &R,
+    alloc: Global,
+    list: &EdgeList,
+) -> Result<bool, NoMemory> {
+    if list.n() < 2 {
+        return Ok(false);
+    }
+    let graph = Graph::build(alloc, list)?;
+    let weight = value(rt, alloc, &graph, 2, &OpenGate)?;
+    let gate = meeting_gate();
+    let reduced = reduce(rt, alloc, &graph, weight, 2, &gate)?;
+    let met = gate.met.load(Ordering::SeqCst) == 1;
+    Ok(weight == 1 && met && has_two_left(&reduced))
+}
+
+#[test]
+fn two_workers_reduce_a_large_graph(rt: HostRuntime) -> Result<(), Fail> {
+    let text = chain_of_blocks(rt.alloc(), 2, 300)?;
+    let Some(list) = edges_of(rt.alloc(), &text) else {
+        return Err(Fail::from("no graph"));
+    };
+    assert!(rt; is_reduced_by_two(&rt, rt.alloc(), &list)?);
+    Ok(())
+}
