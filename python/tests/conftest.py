@@ -19,6 +19,8 @@ BUILT = TOP / 'crates' / 'mincut' / 'out' / 'mincut'
 os.environ.setdefault('MINCUT', str(BUILT if BUILT.exists() else TOP / 'tools' / 'plain_mincut.py'))
 LIBRARY = Path(os.environ.pop('MINCUT_LIBRARY', TOP / 'out' / 'libmincut.so'))
 FULL = 'plain_mincut' not in os.environ['MINCUT']
+# A process that was started in the background may ignore interrupts, and hands that on.
+TAKES_INTERRUPTS = 'import signal\nsignal.signal(signal.SIGINT, signal.default_int_handler)\n'
 needs_program = pytest.mark.skipif(not FULL, reason='the program is not built; tools/plain_mincut.py takes 16 vertices at most')
 
 

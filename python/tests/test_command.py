@@ -7,7 +7,7 @@ import subprocess
 import sys
 
 import pytest
-from conftest import EXAMPLES
+from conftest import EXAMPLES, TOP
 
 from mincut_graph.command import main
 
@@ -114,3 +114,10 @@ def test_as_a_module():
     closed = subprocess.run(f'{sys.executable} -m mincut_graph value - --read edges -q > /dev/full', shell=True, input='a b 3\n', text=True,
                             capture_output=True, env={**os.environ, 'PYTHONPATH': os.pathsep.join(sys.path)})
     assert closed.returncode == 4 and 'cannot be written' in closed.stderr
+
+
+def test_the_old_place_still_imports():
+    """tools/mincut_graph.py hands over to the package, for one release."""
+    code = "import mincut_graph\nfrom mincut_graph import MinimumCuts, read_graph\nprint(MinimumCuts([('a', 'b', 3)]).value(), mincut_graph.__file__)"
+    done = subprocess.run([sys.executable, '-c', code], cwd=TOP / 'tools', text=True, capture_output=True)
+    assert done.stdout.startswith('3 ') and done.stdout.strip().endswith('mincut_graph/__init__.py'), done.stderr

@@ -6,7 +6,7 @@ import sys
 import time
 
 import pytest
-from conftest import random_graphs
+from conftest import TAKES_INTERRUPTS, random_graphs
 
 import mincut_graph
 from mincut_graph import MinimumCuts
@@ -119,7 +119,7 @@ def test_time_limit(write):
 
 def test_interrupt_leaves_nothing_behind(write):
     program = slow_program(write)
-    code = f'from mincut_graph import MinimumCuts\nMinimumCuts([(1, 2)], program={program!r}).value()'
+    code = f'{TAKES_INTERRUPTS}from mincut_graph import MinimumCuts\nMinimumCuts([(1, 2)], program={program!r}).value()'
     child = subprocess.Popen([sys.executable, '-c', code], stderr=subprocess.PIPE, env={**os.environ, 'PYTHONPATH': os.pathsep.join(sys.path)})
     while not os.path.exists(program + '.pid') or not open(program + '.pid').read():
         time.sleep(0.05)

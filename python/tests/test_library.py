@@ -8,7 +8,7 @@ import sys
 import time
 
 import pytest
-from conftest import LIBRARY, needs_program, random_graphs
+from conftest import LIBRARY, TAKES_INTERRUPTS, needs_program, random_graphs
 
 import mincut_graph
 from mincut_graph import MinimumCuts
@@ -72,7 +72,7 @@ def test_time_limit(stub):
 
 
 def test_interrupt_leaves_nothing_behind(stub):
-    code = ('from mincut_graph import MinimumCuts\nimport os, mincut_graph.library\nfork = os.fork\n'
+    code = (f'{TAKES_INTERRUPTS}from mincut_graph import MinimumCuts\nimport os, mincut_graph.library\nfork = os.fork\n'
             'def told():\n    child = fork()\n    if child: print(child, flush=True)\n    return child\n'
             f'os.fork = told\nMinimumCuts([(1, 2, 999)], library={stub!r}, time_limit=60).value()')
     child = subprocess.Popen([sys.executable, '-c', code], stdout=subprocess.PIPE, stderr=subprocess.PIPE,
