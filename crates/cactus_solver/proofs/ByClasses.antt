@@ -8,6 +8,7 @@ use Rattle.cut_definitions.proofs.Running.{weight-le_total}
 use Rattle.cut_definitions.proofs.Values.{value_is_weight}
 use Rattle.weighted_graph.specs.ContractionLaws.{IsLabelled}
 use Rattle.weighted_graph.proofs.Contraction.{law_of_contracted_minimum_cuts}
+use Rattle.forest_contraction.specs.Left.{AreLabelsTied}
 use Rattle.forest_contraction.proofs.Lessening.{tied_none}
 use Rattle.min_value.specs.Kernels.{KeepsAllMinimumCuts, IsKept}
 use Rattle.min_value.proofs.Kept.{two_left}
@@ -31,3 +32,7 @@ kept_by_ties g ok labels least small two is labelled tied small_is =
       minimum_cuts = all;
       enough = two_left g (relabel g labels) labels two all;
     })
+
+-- classes that are tied for a bound above the value are tied for the value and one more
+pub tied_at_value : (g : Graph) (least bound : ℕ) (labels : List ℕ) → least ≡ value g → value g < bound → AreLabelsTied g bound labels → AreLabelsTied g (least + 1) labels
+tied_at_value g least bound labels is above tied = record { long = tied.long; tied = λ s light. tied.tied s (omega (arith, is)) }

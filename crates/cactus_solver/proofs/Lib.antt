@@ -1,3 +1,4 @@
 pub mod Lifting
 pub mod Finishing
 mod ByClasses
+mod Connected

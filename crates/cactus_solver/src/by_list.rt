@@ -1,79 +1,44 @@
-//! The cactus of the minimum cuts by the list of edges, where that can be made shorter before a graph has rows.
+//! The minimum cuts of a graph by its list of edges, and by rows where that does not tell them.
 
-ghost use Rattle.std.specs.Prelude.{◌≡◌, ◌≤◌, IfOk, IfSome, true};
+ghost use Rattle.std.specs.Prelude.{◌≡◌, ◌≤◌, IfOk, IfSome};
 ghost use Rattle.cut_definitions.specs.Components.{IsConnected};
-ghost use Rattle.cut_definitions.specs.Cuts.{value as least_value, mincuts};
-ghost use Rattle.rooted_cactus.specs.Normal.{is_normal};
-ghost use Rattle.rooted_cactus.specs.Rooted.{sides_of};
+ghost use Rattle.cut_definitions.specs.Cuts.{value as least_value};
+ghost use Rattle.forest_contraction.specs.Left.{AreTies};
 ghost use Rattle.min_value.specs.Kernels.{IsKept};
 ghost use Rattle.node_tree.specs.Finished.{IsFinished};
-ghost use Rattle.cut_definitions.specs.Members.{SameMembers};
+ghost use Rattle.rooted_cactus.specs.Solving.{IsSolved};
+ghost use Rattle.cactus_solver.specs.SolvedLists.{graph_in, AreCutsOf};
 
-use crate::solver::tree_at_value;
+use crate::list_classes::{ListClasses, classes_of};
+use crate::solved_list::{Cuts, GraphForm, SolvedList};
+use crate::solver::{solve, solve_at, tree_at_value};
+use component_cuts::count_components;
 use cut_definitions::{EdgeList, NoMemory};
-use forest_contraction::tied_classes;
+use min_value::{ValueWithTies, value_with_ties};
 use node_tree::{HomedTree, cactus_of_tree, normal_form};
 use outside::Gate;
 use rooted_cactus::Solved;
 use std::alloc::Global;
 use std::thread::Threads;
-use weighted_graph::{Graph, Labels, relabel_list};
-
-/// The edges between the classes that labels make.
-#[derive(Drop)]
-struct Classes {
-    list: EdgeList,
-    labels: Labels,
-}
-
-/// Whether the edges weigh at most the value for each vertex but one, so that as many forests can hold them all.
-fn is_light(list: &EdgeList, value: u64) -> bool {
-    let mut total = 0u64;
-    for edge in list.edges() {
-        total = total.saturating_add(edge.w);
-    }
-    total <= value.saturating_mul(u64::from(list.n().saturating_sub(1)))
-}
-
-/// Classes that no minimum cut parts, and the edges between them; none where the edges are light, or the classes not a tenth
-/// fewer than the vertices.
-fn classes_of(alloc: Global, list: &EdgeList, value: u64) -> Result<Option<Classes>, NoMemory>
-    requires enough { 2 ≤ list.now.vertices }
-    requires value { value ≡ least_value list.now }
-    ensures { IfOk result (λ found. IfSome found (λ c. IsKept list.now value c.list c.labels)) }
-{
-    let n = list.n();
-    if is_light(list, value) {
-        return Ok(None);
-    }
-    let labels = tied_classes(alloc, list, value + 1)?;
-    if u64::from(labels.classes()) * 10 > u64::from(n) * 9 {
-        return Ok(None);
-    }
-    let between = relabel_list(alloc, list, &labels)?;
-    Ok(Some(Classes {
-        list: between,
-        labels,
-    }))
-}
+use weighted_graph::Graph;
 
 /// The tree of the minimum cuts by that of the graph on the classes, which is given back.
 fn tree_by_classes<R: Threads + Sync, G: Gate>(
     rt: &R,
     alloc: Global,
     list: &EdgeList,
-    classes: Classes,
-    value: u64,
+    classes: ListClasses,
     workers: u32,
     gate: &G,
 ) -> Result<HomedTree, NoMemory>
     requires connected { IsConnected list.now }
     requires enough { 2 ≤ list.now.vertices }
-    requires kept { IsKept list.now value classes.list classes.labels }
+    requires kept { IsKept list.now classes.value classes.list classes.labels }
     requires workers { (1 ≤ workers) × (workers ≤ 64) }
     ensures { IfOk result (IsFinished list.now) }
 {
-    let Classes {
+    let ListClasses {
+        value,
         list: between,
         labels,
     } = classes;
@@ -85,35 +50,117 @@ fn tree_by_classes<R: Threads + Sync, G: Gate>(
     tree.spread(alloc, labels.as_slice())
 }
 
-/// The cactus of the minimum cuts of a connected graph of two or more vertices, in its normal form, by its list of edges and
-/// its value, if forests show classes that no minimum cut parts and that are a tenth fewer than the vertices. None where they
-/// do not; it is `solve_at` of the graph with rows then.
-///
-/// Only the graph on the classes has rows. The cost is that of `solve_at` for it, and of the forests for the list. It is
-/// refused only where memory is wanting.
-pub fn solve_by_list<R: Threads + Sync, G: Gate>(
+/// The cactus by that of the graph on the classes, which alone has rows.
+fn solved_by_classes<R: Threads + Sync, G: Gate>(
     rt: &R,
     alloc: Global,
     list: &EdgeList,
-    value: u64,
+    classes: ListClasses,
     workers: u32,
     gate: &G,
-) -> Result<Option<Solved>, NoMemory>
+) -> Result<Solved, NoMemory>
     requires connected { IsConnected list.now }
     requires enough { 2 ≤ list.now.vertices }
-    requires value { value ≡ least_value list.now }
+    requires kept { IsKept list.now classes.value classes.list classes.labels }
     requires workers { (1 ≤ workers) × (workers ≤ 64) }
-    ensures value { IfOk result (λ found. IfSome found (λ s. s.value ≡ least_value list.now)) }
-    ensures n { IfOk result (λ found. IfSome found (λ s. s.cactus.vertices ≡ list.now.vertices)) }
-    ensures sides { IfOk result (λ found. IfSome found (λ s. SameMembers (sides_of s.cactus) (mincuts list.now))) }
-    ensures normal { IfOk result (λ found. IfSome found (λ s. is_normal s.cactus.root ≡ true)) }
+    ensures { IfOk result (IsSolved list.now) }
 {
     let n = list.n();
-    let Some(classes) = classes_of(alloc, list, value)? else {
-        return Ok(None);
-    };
-    let tree = tree_by_classes(rt, alloc, list, classes, value, workers, gate)?;
+    let value = classes.value;
+    let tree = tree_by_classes(rt, alloc, list, classes, workers, gate)?;
     let made = cactus_of_tree(alloc, tree, n)?;
     let cactus = normal_form(alloc, made)?;
-    Ok(Some(Solved { value, cactus }))
+    Ok(Solved { value, cactus })
+}
+
+/// The minimum cuts of a connected graph whose value is known.
+fn solve_connected<R: Threads + Sync, G: Gate>(
+    rt: &R,
+    alloc: Global,
+    list: EdgeList,
+    found: ValueWithTies,
+    workers: u32,
+    gate: &G,
+) -> Result<SolvedList, NoMemory>
+    requires connected { IsConnected list }
+    requires enough { 2 ≤ list.vertices }
+    requires value { found.value ≡ least_value list }
+    requires ties { IfSome found.ties (AreTies list) }
+    requires workers { (1 ≤ workers) × (workers ≤ 64) }
+    ensures graph { IfOk result (λ r. graph_in r.graph ≡ list) }
+    ensures cuts { IfOk result (λ r. AreCutsOf list r.cuts) }
+{
+    let ValueWithTies { value, ties } = found;
+    if let Some(classes) = classes_of(alloc, &list, value, ties)? {
+        let solved = solved_by_classes(rt, alloc, &list, classes, workers, gate)?;
+        return Ok(SolvedList {
+            graph: GraphForm::Edges(list),
+            cuts: Cuts::Joined(solved),
+        });
+    }
+    let graph = Graph::from_list(alloc, list)?;
+    let solved = solve_at(rt, alloc, &graph, value, workers, gate)?;
+    Ok(SolvedList {
+        graph: GraphForm::Rows(graph),
+        cuts: Cuts::Joined(solved),
+    })
+}
+
+/// The minimum cuts of a graph whose list does not tell a value above 0: the number of components, or the cuts by rows.
+fn solve_by_rows<R: Threads + Sync, G: Gate>(
+    rt: &R,
+    alloc: Global,
+    list: EdgeList,
+    workers: u32,
+    gate: &G,
+) -> Result<SolvedList, NoMemory>
+    requires enough { 2 ≤ list.vertices }
+    requires workers { (1 ≤ workers) × (workers ≤ 64) }
+    ensures graph { IfOk result (λ r. graph_in r.graph ≡ list) }
+    ensures cuts { IfOk result (λ r. AreCutsOf list r.cuts) }
+{
+    let components = count_components(alloc, &list)?;
+    if components >= 2 {
+        return Ok(SolvedList {
+            graph: GraphForm::Edges(list),
+            cuts: Cuts::Apart(components),
+        });
+    }
+    let graph = Graph::from_list(alloc, list)?;
+    let solved = solve(rt, alloc, &graph, workers, gate)?;
+    Ok(SolvedList {
+        graph: GraphForm::Rows(graph),
+        cuts: Cuts::Joined(solved),
+    })
+}
+
+/// The minimum cuts of a graph of two or more vertices, whose list of edges is taken over and given back with the answer: how
+/// many components there are, where it has several, or the value and the cactus of the minimum cuts, in its normal form.
+///
+/// The value is told by the list where forests make that shorter, and the same forests show classes that no minimum cut
+/// parts. Where these are a tenth fewer than the vertices only the graph on the classes has rows, and the answer keeps the
+/// list alone. Else the graph has rows, and is solved as `solve_at` or `solve` solve it. Components are counted by the list,
+/// in O(m log(n) + n) steps. The number of workers is 1 to 64; they and the gate are handed to the rounds and the sweep.
+/// Memory is in proportion to n + m. It is refused only where memory is wanting; the list is gone then.
+pub fn solve_list<R: Threads + Sync, G: Gate>(
+    rt: &R,
+    alloc: Global,
+    list: EdgeList,
+    workers: u32,
+    gate: &G,
+) -> Result<SolvedList, NoMemory>
+    requires enough { 2 ≤ list.vertices }
+    requires workers { (1 ≤ workers) × (workers ≤ 64) }
+    ensures graph { IfOk result (λ r. graph_in r.graph ≡ list) }
+    ensures cuts { IfOk result (λ r. AreCutsOf list r.cuts) }
+{
+    // known by this call: it is an edge list
+    let _n = list.n();
+    let Some(found) = value_with_ties(rt, alloc, &list, workers, gate)? else {
+        return solve_by_rows(rt, alloc, list, workers, gate);
+    };
+    if found.value == 0 {
+        return solve_by_rows(rt, alloc, list, workers, gate);
+    }
+    solve_connected(rt, alloc, list, found, workers, gate)
 }

@@ -3,13 +3,16 @@
 //! `solve` finds the value, contracts what lies in no minimum cut, and has the tree of the minimum cuts of what is left made:
 //! read off the graph where that is a tree whose edges all have the value, and else by a sweep over the regions of a flow.
 //! Each vertex is put into the node of its class, and the cactus is made of that and brought to its normal form. `solve_at`
-//! does so for a value that is known, and `solve_by_list` by the list of edges, where forests make that shorter before a
-//! graph has rows.
+//! does so for a value that is known, and `solve_list` takes a list of edges: it goes by the list where forests make that
+//! shorter before a graph has rows, and tells of several components.
 #![tactic(auto)]
 
 mod by_list;
+mod list_classes;
+mod solved_list;
 mod solver;
 
-pub use by_list::solve_by_list;
+pub use by_list::solve_list;
 pub use rooted_cactus::Solved;
+pub use solved_list::{Cuts, GraphForm, SolvedList};
 pub use solver::{solve, solve_at};

@@ -9,14 +9,15 @@ ghost use Rattle.cut_definitions.specs.Balance.{mass, IsBest};
 ghost use Rattle.vertex_set.specs.Side.{VertexList};
 
 use crate::best_refusal::BestRefusal;
+use crate::edge_classes::component_classes;
 use crate::numbers::numbers_of;
 use crate::sums::{best_sum, choose, fill_rows, mass_by_number, total_mass};
 use crate::unions::{chosen_side, double, sort_sides};
-use cut_definitions::{NoMemory, VertexWeights};
+use cut_definitions::{EdgeList, NoMemory, VertexWeights};
 use std::alloc::Global;
 use std::marker::Model;
 use vertex_set::Side;
-use weighted_graph::{Graph, Labels};
+use weighted_graph::Labels;
 
 // the most components whose number of unions is told
 const MOST_COUNTED: u32 = 127;
@@ -44,13 +45,14 @@ impl Model for Components {
 }
 
 impl Components {
-    /// The components of a graph: the ends of one edge after another are made one (Galler and Fischer, 1964), in
-    /// O(m log(n) + n) steps. It takes 12 bytes a vertex, of which 4 are kept, and is refused only where memory is wanting.
-    pub fn of(alloc: Global, graph: &Graph) -> Result<Components, NoMemory>
-        ensures { IfOk result (AreComponents graph.now) }
+    /// The components of a graph by its list of edges: the ends of one edge after another are made one (Galler and Fischer,
+    /// 1964), in O(m log(n) + n) steps. It takes 12 bytes a vertex, of which 4 are kept, and is refused only where memory is
+    /// wanting.
+    pub fn of(alloc: Global, list: &EdgeList) -> Result<Components, NoMemory>
+        ensures { IfOk result (AreComponents list.now) }
     {
-        let n = graph.n();
-        let classes = graph.component_classes(alloc)?;
+        let n = list.n();
+        let classes = component_classes(alloc, list)?;
         let labels = Labels::of_classes(alloc, &classes)?;
         let part_of = numbers_of(alloc, &labels)?;
         let count = labels.classes();

@@ -7,6 +7,7 @@
 
 mod best_refusal;
 mod components;
+mod edge_classes;
 pub mod laws;
 mod numbers;
 mod sums;
@@ -14,3 +15,4 @@ mod unions;
 
 pub use best_refusal::BestRefusal;
 pub use components::Components;
+pub use edge_classes::count_components;

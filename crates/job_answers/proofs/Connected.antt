@@ -1,4 +1,4 @@
--- Connected graphs, by the value, and as graphs of one component.
+-- Connected graphs as graphs of one component.
 use Rattle.std.proofs.Common.{◌≡◌, ℕ, ◌<◌, ◌≤◌, ⊎_elim, true, false, not, [], ◌∷◌, eqb, refl, sym, ◌∙◌, ap, arith}
 use Rattle.std.specs.Prelude.{◌≢◌, Option, None, Some, IfSome}
 use Rattle.std.specs.Option.{unwrap_or}
@@ -19,10 +19,6 @@ not_one v h one =
     (λ ne. omega arith)
     (cases_eq v 1)
 
--- a graph whose value is above 0 is connected
-pub connected_by_value : (g : Graph) → IsGraph g → 2 ≤ g.vertices → 1 ≤ value g → IsConnected g
-connected_by_value g ok two some = record { some_vertex = omega arith; each_cut = λ s cut. omega (arith, some, value-le_cut g ok s cut) }
-
 apart : (g : Graph) → IsConnected g → (s : VertexSet) (u v : ℕ) → 1 ≤ u → u ≤ g.vertices → 1 ≤ v → v ≤ g.vertices → weight g s ≡ 0 → s u ≡ true → s v ≡ false → ⊥
 apart g connected s u v u1 un v1 vn zero here there =
     let cut : IsCut g.vertices s = record {
@@ -32,7 +28,7 @@ apart g connected s u v u1 un v1 vn zero here there =
     let far = connected.each_cut s cut in
     omega arith
 
--- and a connected graph has one component
+-- a connected graph has one component
 pub one_of_connected : (g : Graph) → IsConnected g → HasComponents g 1
 one_of_connected g connected = record {
   firsts = 1 ∷ [];
@@ -55,8 +51,3 @@ one_of_connected g connected = record {
         (cases_Bool (s 1)),
   );
 }
-
--- a value that was found and is not 0
-pub found_value : (found : Option ℕ) (x : ℕ) → IfSome found (λ w. w ≡ x) → unwrap_or found 0 ≢ 0 → unwrap_or found 0 ≡ x
-found_value None x h some = absurd (some refl)
-found_value (Some w) x h some = h

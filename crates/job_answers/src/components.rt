@@ -5,9 +5,8 @@ ghost use Rattle.cut_definitions.specs.Components.{HasComponents};
 ghost use Rattle.job_answers.specs.Apart.{AreUnionsFew, IsApartGraph};
 
 use component_cuts::{Components, laws};
-use cut_definitions::NoMemory;
+use cut_definitions::{EdgeList, NoMemory};
 use std::alloc::Global;
-use weighted_graph::Graph;
 
 // the most numbers of a list: as many for each side as there are vertices
 const LARGEST: u128 = 1_073_741_824;
@@ -25,8 +24,8 @@ pub fn are_unions_few(parts: &Components, n: u32) -> bool
     }
 }
 
-/// The components of a graph, of which there are so many.
-pub fn components_of(alloc: Global, graph: &Graph, count: u32) -> Result<Components, NoMemory>
+/// The components of a graph by its list of edges, of which there are so many.
+pub fn components_of(alloc: Global, graph: &EdgeList, count: u32) -> Result<Components, NoMemory>
     requires enough { 2 ≤ graph.now.vertices }
     requires components { HasComponents graph.now count }
     requires several { 2 ≤ count }

@@ -11,13 +11,12 @@ ghost use Rattle.program_words.specs.Texts.{disconnected_line};
 use crate::reply::Reply;
 use balanced_cut::balance_of;
 use component_cuts::{BestRefusal, Components, laws};
-use cut_definitions::{NoMemory, VertexWeights};
+use cut_definitions::{EdgeList, NoMemory, VertexWeights};
 use cut_listing::Ask;
 use job_answers::{are_unions_few, ask_of, components_of, select_asked};
 use program_words::{Command, Job};
 use std::alloc::Global;
 use stop_lines::Stop;
-use weighted_graph::Graph;
 
 /// The text that tells how many components there are.
 pub fn disconnected(alloc: Global, components: u32) -> Result<Reply, NoMemory>
@@ -29,7 +28,12 @@ pub fn disconnected(alloc: Global, components: u32) -> Result<Reply, NoMemory>
 }
 
 /// The list of the unions that are asked for.
-fn union_listing(alloc: Global, ask: Ask, graph: &Graph, parts: &Components) -> Result<Reply, Stop>
+fn union_listing(
+    alloc: Global,
+    ask: Ask,
+    graph: &EdgeList,
+    parts: &Components,
+) -> Result<Reply, Stop>
     requires apart { IsApartGraph graph.now parts.now }
     requires within { IsAskWithin graph.now.vertices ask }
     ensures text { IfOk result (λ reply. IsUnionList ask.entry graph.now (length parts.now.parts) (text_of reply)) }
@@ -48,7 +52,7 @@ fn union_listing(alloc: Global, ask: Ask, graph: &Graph, parts: &Components) -> 
 }
 
 /// The number of the unions.
-fn union_count(alloc: Global, graph: &Graph, parts: &Components) -> Result<Reply, Stop>
+fn union_count(alloc: Global, graph: &EdgeList, parts: &Components) -> Result<Reply, Stop>
     requires apart { IsApartGraph graph.now parts.now }
     ensures text { IfOk result (λ reply. IsUnionCount graph.now (length parts.now.parts) (text_of reply)) }
     ensures printable { IfOk result IsPrintable }
@@ -68,7 +72,7 @@ fn union_count(alloc: Global, graph: &Graph, parts: &Components) -> Result<Reply
 /// A union of best balance.
 fn balanced_union(
     alloc: Global,
-    graph: &Graph,
+    graph: &EdgeList,
     weights: &VertexWeights,
     parts: &Components,
 ) -> Result<Reply, Stop>
@@ -100,7 +104,7 @@ fn balanced_union(
 pub fn apart_reply(
     alloc: Global,
     command: Command,
-    graph: &Graph,
+    graph: &EdgeList,
     count: u32,
     weights: &VertexWeights,
 ) -> Result<Reply, Stop>

@@ -15,6 +15,7 @@ use crate::apart::disconnected;
 use crate::cuts::canonical_of;
 use crate::reply::Reply;
 use answer_pages::Step;
+use component_cuts::count_components;
 use cut_definitions::{EdgeList, NoMemory};
 use cut_listing::laws::number_of_minimum_cuts;
 use flat_cactus::laws;
@@ -23,7 +24,6 @@ use program_words::Insertions;
 use rooted_cactus::Solved;
 use std::alloc::Global;
 use stop_lines::Stop;
-use weighted_graph::Graph;
 
 /// A graph, and its value and all its minimum cuts.
 #[derive(Drop)]
@@ -82,8 +82,7 @@ pub fn apart_growth(
     ensures within { IfOk result (λ found. StaysWithin list.now insertions.now) }
     ensures stop { IfErr result (IsGrowStop list.now insertions.now) }
 {
-    let graph = Graph::build(alloc, list)?;
-    let components = graph.components(alloc)?;
+    let components = count_components(alloc, list)?;
     match check_limits(alloc, insertions, list) {
         Ok(()) => {}
         Err(stop) => return Err(stop),

@@ -58,4 +58,14 @@ impl ReadGraph {
             Form::Rows(graph) => graph.n(),
         }
     }
+
+    /// The list of edges.
+    pub fn list(&self) -> &EdgeList
+        ensures { result.now ≡ self.now }
+    {
+        match &self.form {
+            Form::Edges(list) => list,
+            Form::Rows(graph) => graph.list(),
+        }
+    }
 }

@@ -1,35 +1,25 @@
 //! From the graph to what is written.
 
 ghost use Rattle.std.specs.Prelude.{◌≡◌, ◌≤◌, IfOk, IfErr, length};
-ghost use Rattle.cut_definitions.specs.Components.{IsConnected};
-ghost use Rattle.cut_definitions.specs.Cuts.{value, value as least_value};
+ghost use Rattle.cactus_solver.specs.SolvedLists.{graph_in};
+ghost use Rattle.cut_definitions.specs.Cuts.{value};
 ghost use Rattle.job_answers.specs.Jobs.{AsksCuts, IsAnswerOf, IsInRange, IsStopFor};
-ghost use Rattle.rooted_cactus.specs.Solving.{IsSolved};
 ghost use Rattle.job_replies.specs.Replies.{text_of, IsPrintable};
 ghost use Rattle.program_words.specs.Texts.{value_line};
 ghost use Rattle.program_words.specs.Words.{IsMakeable, IsReading};
 
 use crate::growth::grow_reply;
-use cactus_solver::{Solved, solve, solve_at, solve_by_list};
+use cactus_solver::{Cuts, GraphForm, SolvedList, solve_list};
 use cut_definitions::{EdgeList, VertexWeights};
 use job_answers::first_outside;
 use job_replies::{ReadGraph, Reply, apart_reply, cuts_reply, no_cut, value_text};
 use metis_reader::MetisGraph;
-use min_value::{value_by_list, value_of_list};
+use min_value::value_of_list;
 use outside::{Gate, NoMemory};
 use program_words::{Command, Job};
 use std::alloc::Global;
 use std::thread::Threads;
 use stop_lines::Stop;
-use weighted_graph::Graph;
-
-/// The graph with rows, which takes the list over.
-fn with_rows(alloc: Global, list: EdgeList) -> Result<Graph, NoMemory>
-    ensures { IfOk result (λ graph. graph ≡ list) }
-{
-    let graph = Graph::from_list(alloc, list)?;
-    Ok(graph)
-}
 
 /// The line of the job `value`.
 fn value_reply<R: Threads + Sync, G: Gate>(
@@ -48,60 +38,17 @@ fn value_reply<R: Threads + Sync, G: Gate>(
     value_text(alloc, value)
 }
 
-/// The answer of a job on the cuts themselves, by the graph with rows.
-fn reply_by_rows<R: Threads + Sync, G: Gate>(
-    rt: &R,
-    alloc: Global,
-    command: Command,
-    list: EdgeList,
-    weights: &VertexWeights,
-    gate: &G,
-) -> Result<Reply, Stop>
-    requires enough { 2 ≤ list.vertices }
-    requires weighed { length weights.now ≡ list.vertices }
-    requires in_range { IsInRange command.job list.vertices }
-    requires job { AsksCuts command.job }
-    requires workers { (1 ≤ command.workers) × (command.workers ≤ 64) }
-    ensures text { IfOk result (λ reply. IsAnswerOf command weights.now list (text_of reply)) }
-    ensures printable { IfOk result IsPrintable }
-    ensures stop { IfErr result (IsStopFor command weights.now list) }
+/// The graph as the replies take it.
+fn read_graph(form: GraphForm) -> ReadGraph
+    ensures { result ≡ graph_in form }
 {
-    let graph = with_rows(alloc, list)?;
-    let components = graph.components(alloc)?;
-    if components >= 2 {
-        return apart_reply(alloc, command, &graph, components, weights);
+    match form {
+        GraphForm::Edges(list) => ReadGraph::of_list(list),
+        GraphForm::Rows(graph) => ReadGraph::with_rows(graph),
     }
-    let solved = solve(rt, alloc, &graph, command.workers, gate)?;
-    let graph = ReadGraph::with_rows(graph);
-    cuts_reply(alloc, command, &graph, weights, solved)
 }
 
-/// The minimum cuts of a connected graph whose value is given, and the graph as it is kept.
-fn solved_at<R: Threads + Sync, G: Gate>(
-    rt: &R,
-    alloc: Global,
-    list: EdgeList,
-    value: u64,
-    workers: u32,
-    gate: &G,
-) -> Result<(ReadGraph, Solved), NoMemory>
-    requires enough { 2 ≤ list.vertices }
-    requires connected { IsConnected list }
-    requires value { value ≡ least_value list }
-    requires workers { (1 ≤ workers) × (workers ≤ 64) }
-    ensures graph { IfOk result (λ r. r.0 ≡ list) }
-    ensures solved { IfOk result (λ r. IsSolved list r.1) }
-{
-    if let Some(found) = solve_by_list(rt, alloc, &list, value, workers, gate)? {
-        return Ok((ReadGraph::of_list(list), found));
-    }
-    let graph = with_rows(alloc, list)?;
-    let solved = solve_at(rt, alloc, &graph, value, workers, gate)?;
-    Ok((ReadGraph::with_rows(graph), solved))
-}
-
-/// The answer of a job on the cuts themselves. A graph whose value is above 0 is connected, and where its list of edges tells
-/// the value, the whole graph gets rows only where the list does not tell the cuts.
+/// The answer of a job on the cuts themselves.
 fn reply_on_cuts<R: Threads + Sync, G: Gate>(
     rt: &R,
     alloc: Global,
@@ -119,15 +66,12 @@ fn reply_on_cuts<R: Threads + Sync, G: Gate>(
     ensures printable { IfOk result IsPrintable }
     ensures stop { IfErr result (IsStopFor command weights.now list) }
 {
-    // known by this call: it is an edge list
-    let _n = list.n();
-    let found = value_by_list(rt, alloc, &list, command.workers, gate)?;
-    let value = found.unwrap_or(0);
-    if value == 0 {
-        return reply_by_rows(rt, alloc, command, list, weights, gate);
+    let SolvedList { graph: form, cuts } = solve_list(rt, alloc, list, command.workers, gate)?;
+    let graph = read_graph(form);
+    match cuts {
+        Cuts::Apart(components) => apart_reply(alloc, command, graph.list(), components, weights),
+        Cuts::Joined(solved) => cuts_reply(alloc, command, &graph, weights, solved),
     }
-    let (graph, solved) = solved_at(rt, alloc, list, value, command.workers, gate)?;
-    cuts_reply(alloc, command, &graph, weights, solved)
 }
 
 /// What a command that reads a graph answers for it, or why it has no answer.

@@ -6,7 +6,7 @@ ghost use Rattle.cut_definitions.specs.Cuts.{value as least_value};
 
 use crate::graphs::{GRAPHS, Known, edges_of};
 use crate::sides::{all_sides, are_same};
-use cactus_solver::{Solved, solve, solve_at, solve_by_list};
+use cactus_solver::{Cuts, GraphForm, Solved, solve, solve_at, solve_list};
 use cut_definitions::{EdgeList, NoMemory};
 use outside::OpenGate;
 use std::alloc::Global;
@@ -36,21 +36,24 @@ fn is_solved_at<R: Threads + Sync>(
     agrees(alloc, &solved, known)
 }
 
-/// Whether the list of edges alone is solved where forests show what can be contracted, and only there.
+/// Whether the list is solved, and by itself alone where forests show what can be contracted, and only there.
 fn is_solved_by_list<R: Threads + Sync>(
     rt: &R,
     alloc: Global,
-    list: &EdgeList,
-    value: u64,
+    graph: &Graph,
     known: &Known,
 ) -> Result<bool, NoMemory>
-    requires connected { IsConnected list.now }
-    requires enough { 2 ≤ list.now.vertices }
-    requires value { value ≡ least_value list.now }
+    requires enough { 2 ≤ graph.now.vertices }
 {
-    match solve_by_list(rt, alloc, list, value, 1, &OpenGate)? {
-        Some(solved) => Ok(known.is_solved_by_list && agrees(alloc, &solved, known)?),
-        None => Ok(!known.is_solved_by_list),
+    let edges = Vec::from_slice(alloc, graph.edge_list())?;
+    let list = EdgeList::from_edges(graph.n(), edges);
+    let found = solve_list(rt, alloc, list, 1, &OpenGate)?;
+    let by_list = matches!(found.graph, GraphForm::Edges(_));
+    match found.cuts {
+        Cuts::Joined(solved) => Ok(
+            by_list == known.is_solved_by_list && agrees(alloc, &solved, known)?,
+        ),
+        Cuts::Apart(_) => Ok(false),
     }
 }
 
@@ -73,7 +76,7 @@ fn is_solved<R: Threads + Sync>(
     Ok(
         agrees(alloc, &solved, known)?
             && is_solved_at(rt, alloc, &graph, solved.value, known)?
-            && is_solved_by_list(rt, alloc, list, solved.value, known)?,
+            && is_solved_by_list(rt, alloc, &graph, known)?,
     )
 }
 

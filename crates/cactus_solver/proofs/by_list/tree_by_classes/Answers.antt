@@ -10,7 +10,7 @@ use Rattle.cactus_solver.proofs.by_list.tree_by_classes.Goals as goal
 
 pub tree_at_value-requires-clause-connected : goal.tree_at_value-requires-clause-connected
 tree_at_value-requires-clause-connected g c = λ κs lives.
-    let kept : IsKept c.args.list.now c.args.value c.in_ok-graph.graph c.args.classes.labels = subst (λ (s : Graph). IsKept c.args.list.now c.args.value s c.args.classes.labels) (sym c.in_ok-graph.ensures) c.requires.kept in
+    let kept : IsKept c.args.list.now c.args.classes.value c.in_ok-graph.graph c.args.classes.labels = subst (λ (s : Graph). IsKept c.args.list.now c.args.classes.value s c.args.classes.labels) (sym c.in_ok-graph.ensures) c.requires.kept in
     still_connected c.args.list.now c.in_ok-graph.graph c.n-n.ensures.edge_list.is_graph c.n-small.ensures.edge_list.is_graph c.requires.enough c.requires.connected kept.same_value
 
 pub tree_at_value-requires-clause-enough : goal.tree_at_value-requires-clause-enough
@@ -21,14 +21,14 @@ tree_at_value-requires-clause-value g c = λ κs lives. rw c.in_ok-graph.ensures
 
 pub spread-requires : goal.spread-requires
 spread-requires g c =
-    let kept : IsKept c.args.list.now c.args.value c.in_ok-graph.graph c.args.classes.labels = subst (λ (s : Graph). IsKept c.args.list.now c.args.value s c.args.classes.labels) (sym c.in_ok-graph.ensures) c.requires.kept in
-    rw c.as_slice.ensures.value (classes_within c.args.list.now c.in_ok-graph.graph c.args.value c.args.classes.labels c.in_ok-tree.tree kept c.in_ok-tree.ensures)
+    let kept : IsKept c.args.list.now c.args.classes.value c.in_ok-graph.graph c.args.classes.labels = subst (λ (s : Graph). IsKept c.args.list.now c.args.classes.value s c.args.classes.labels) (sym c.in_ok-graph.ensures) c.requires.kept in
+    rw c.as_slice.ensures.value (classes_within c.args.list.now c.in_ok-graph.graph c.args.classes.value c.args.classes.labels c.in_ok-tree.tree kept c.in_ok-tree.ensures)
 
 pub returns : goal.returns
 returns g c =
     let whole = c.args.list.now in
     let labels = c.args.classes.labels in
-    let kept : IsKept whole c.args.value c.in_ok-graph.graph labels = subst (λ (s : Graph). IsKept whole c.args.value s labels) (sym c.in_ok-graph.ensures) c.requires.kept in
+    let kept : IsKept whole c.args.classes.value c.in_ok-graph.graph labels = subst (λ (s : Graph). IsKept whole c.args.classes.value s labels) (sym c.in_ok-graph.ensures) c.requires.kept in
     if_both c.spread.result _ _ (IsFinished whole)
-    (λ u tree homes. lifted_finished whole c.in_ok-graph.graph c.args.value labels c.in_ok-tree.tree u c.n-n.ensures.edge_list.is_graph c.n-small.ensures.edge_list.is_graph (omega (arith, c.requires.enough)) kept c.in_ok-tree.ensures tree homes)
+    (λ u tree homes. lifted_finished whole c.in_ok-graph.graph c.args.classes.value labels c.in_ok-tree.tree u c.n-n.ensures.edge_list.is_graph c.n-small.ensures.edge_list.is_graph (omega (arith, c.requires.enough)) kept c.in_ok-tree.ensures tree homes)
     c.spread.ensures.tree (rw c.as_slice.ensures.value at c.spread.ensures.homes)

@@ -6,7 +6,7 @@ use Rattle.component_cuts.proofs.components.Components.of.Goals as goal
 
 pub invariant_of-result : goal.invariant_of-result
 invariant_of-result c =
-    let g = c.args.graph.now in
+    let g = c.args.list.now in
     let items = c.in_ok-part_of.part_of.items in
     let long : length c.in_ok-classes.classes ≡ g.vertices + 1 = c.in_ok-classes.ensures.long in
     let h = numbering_of g c.in_ok-classes.classes c.in_ok-labels.labels items c.n-n.ensures.edge_list.few_vertices long c.in_ok-labels.ensures c.in_ok-part_of.ensures in
@@ -14,7 +14,7 @@ invariant_of-result c =
 
 pub returns : goal.returns
 returns c =
-    let g = c.args.graph.now in
+    let g = c.args.list.now in
     let items = c.in_ok-part_of.part_of.items in
     let long : length c.in_ok-classes.classes ≡ g.vertices + 1 = c.in_ok-classes.ensures.long in
     let h = components_of g c.in_ok-classes.classes c.in_ok-labels.labels items c.n-n.ensures.edge_list.few_vertices long c.in_ok-classes.ensures.joined c.in_ok-labels.ensures c.in_ok-part_of.ensures in

@@ -3,15 +3,20 @@ use Rattle.std.proofs.Common.{◌∙◌, arith}
 use Rattle.rooted_cactus.specs.Rooted.{sides_of}
 use Rattle.cactus_solver.proofs.Finishing.{finished, no_empty_side, same_through}
 use Rattle.node_tree.specs.Finished.{arrays_of}
-use Rattle.cactus_solver.proofs.by_list.solve_by_list.Goals as goal
+use Rattle.cactus_solver.proofs.by_list.solved_by_classes.Goals as goal
 
 pub normal_form-requires-clause-sides : goal.normal_form-requires-clause-sides
 normal_form-requires-clause-sides g c =
     let e = c.in_ok-made.ensures in
     no_empty_side c.args.list.now (sides_of c.in_ok-made.made.cactus) (finished c.args.list.now (arrays_of c.in_ok-tree.tree) c.in_ok-made.made.cactus c.n-n.ensures.edge_list.is_graph (omega (arith, c.requires.enough)) c.in_ok-tree.ensures.all (e.n ∙ c.n-n.ensures.value) (rw c.n-n.ensures.value at e.sides))
 
-pub returns-clause-sides : goal.returns-clause-sides
-returns-clause-sides g c =
+pub returns : goal.returns
+returns g c =
     let e = c.in_ok-made.ensures in
-    same_through (sides_of c.in_ok-cactus.cactus) (sides_of c.in_ok-made.made.cactus) _ c.in_ok-cactus.ensures.sides
-    (finished c.args.list.now (arrays_of c.in_ok-tree.tree) c.in_ok-made.made.cactus c.n-n.ensures.edge_list.is_graph (omega (arith, c.requires.enough)) c.in_ok-tree.ensures.all (e.n ∙ c.n-n.ensures.value) (rw c.n-n.ensures.value at e.sides))
+    record {
+      value = c.requires.kept.is_value;
+      over = c.in_ok-cactus.ensures.n ∙ (e.n ∙ c.n-n.ensures.value);
+      sides = same_through (sides_of c.in_ok-cactus.cactus) (sides_of c.in_ok-made.made.cactus) _ c.in_ok-cactus.ensures.sides
+          (finished c.args.list.now (arrays_of c.in_ok-tree.tree) c.in_ok-made.made.cactus c.n-n.ensures.edge_list.is_graph (omega (arith, c.requires.enough)) c.in_ok-tree.ensures.all (e.n ∙ c.n-n.ensures.value) (rw c.n-n.ensures.value at e.sides));
+      normal = c.in_ok-cactus.ensures.normal;
+    }
