@@ -17,7 +17,7 @@ use cut_definitions::{EdgeList, NoMemory, VertexWeights};
 use std::alloc::Global;
 use std::marker::Model;
 use vertex_set::Side;
-use weighted_graph::Labels;
+use weighted_graph::{Graph, Labels};
 
 // the most components whose number of unions is told
 const MOST_COUNTED: u32 = 127;
@@ -45,10 +45,16 @@ impl Model for Components {
 }
 
 impl Components {
-    /// The components of a graph by its list of edges: the ends of one edge after another are made one (Galler and Fischer,
-    /// 1964), in O(m log(n) + n) steps. It takes 12 bytes a vertex, of which 4 are kept, and is refused only where memory is
-    /// wanting.
-    pub fn of(alloc: Global, list: &EdgeList) -> Result<Components, NoMemory>
+    /// The components of a graph, by its list of edges, as `of_list`.
+    pub fn of(alloc: Global, graph: &Graph) -> Result<Components, NoMemory>
+        ensures { IfOk result (AreComponents graph.now) }
+    {
+        Components::of_list(alloc, graph.list())
+    }
+
+    /// The components of a list of edges: the ends of one edge after another are made one (Galler and Fischer, 1964), in
+    /// O(m log(n) + n) steps. It takes 12 bytes a vertex, of which 4 are kept, and is refused only where memory is wanting.
+    pub fn of_list(alloc: Global, list: &EdgeList) -> Result<Components, NoMemory>
         ensures { IfOk result (AreComponents list.now) }
     {
         let n = list.n();

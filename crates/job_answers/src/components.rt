@@ -35,5 +35,5 @@ pub fn components_of(alloc: Global, graph: &EdgeList, count: u32) -> Result<Comp
     laws::one_number();
     // known by this call: that the edges are an edge list
     let _n = graph.n();
-    Components::of(alloc, graph)
+    Components::of_list(alloc, graph)
 }

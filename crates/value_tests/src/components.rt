@@ -7,6 +7,7 @@ use cut_definitions::{Edge, EdgeList, NoMemory, VertexWeights};
 use std::alloc::Global;
 use std::test::Fail;
 use vertex_set::Side;
+use weighted_graph::Graph;
 
 /// Whether these are the members.
 fn has_members(side: &Side, members: &[u32]) -> bool {
@@ -54,7 +55,8 @@ fn has_best(alloc: Global, parts: &Components, weights: &VertexWeights, members:
 fn two_pairs(rt: HostRuntime) -> Result<(), Fail> {
     let edges = [Edge { u: 1, v: 2, w: 1 }, Edge { u: 3, v: 4, w: 1 }];
     let list = EdgeList::from_edges(4, Vec::from_slice(rt.alloc(), &edges)?);
-    let parts = Components::of(rt.alloc(), &list)?;
+    let graph = Graph::build(rt.alloc(), &list)?;
+    let parts = Components::of(rt.alloc(), &graph)?;
     assert!(rt; parts.len() == 2 && parts.part(2) == 1 && parts.part(4) == 2);
     assert!(rt; has_sides(rt.alloc(), &parts, &[&[3, 4]])?);
     let weights = VertexWeights::from_list(vec![in rt.alloc(); 1u64; 4]?);
@@ -64,8 +66,7 @@ fn two_pairs(rt: HostRuntime) -> Result<(), Fail> {
 
 #[test]
 fn three_vertices_without_edges(rt: HostRuntime) -> Result<(), Fail> {
-    let list = EdgeList::new(rt.alloc(), 3);
-    let parts = Components::of(rt.alloc(), &list)?;
+    let parts = Components::of_list(rt.alloc(), &EdgeList::new(rt.alloc(), 3))?;
     assert!(rt; has_sides(rt.alloc(), &parts, &[&[2], &[2, 3], &[3]])?);
     Ok(())
 }

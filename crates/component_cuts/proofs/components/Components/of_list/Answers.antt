@@ -2,7 +2,7 @@
 use Rattle.std.proofs.Common.{◌≡◌, ◌+◌, ℕ, length, sym, subst}
 use Rattle.component_cuts.specs.Parts.{AreComponents, IsNumbering, divided}
 use Rattle.component_cuts.proofs.Numbered.{numbering_of, components_of}
-use Rattle.component_cuts.proofs.components.Components.of.Goals as goal
+use Rattle.component_cuts.proofs.components.Components.of_list.Goals as goal
 
 pub invariant_of-result : goal.invariant_of-result
 invariant_of-result c =
