@@ -23,8 +23,6 @@ pub struct Known {
     pub text: &'static str,
     pub value: u64,
     pub sides: &'static [&'static [u32]],
-    /// Whether forests over the list of edges show what can be contracted, so that the list alone is solved.
-    pub is_solved_by_list: bool,
 }
 
 /// The graphs that the solver is tried on.
@@ -34,42 +32,36 @@ pub const GRAPHS: [Known; 11] = [
         text: "3 3\n2 3\n1 3\n1 2\n",
         value: 2,
         sides: &[&[2], &[2, 3], &[3]],
-        is_solved_by_list: false,
     },
     Known {
         name: "a ring of four",
         text: "4 4\n2 4\n1 3\n2 4\n1 3\n",
         value: 2,
         sides: &[&[2], &[2, 3], &[2, 3, 4], &[3], &[3, 4], &[4]],
-        is_solved_by_list: false,
     },
     Known {
         name: "a complete graph of four",
         text: "4 6\n2 3 4\n1 3 4\n1 2 4\n1 2 3\n",
         value: 3,
         sides: &[&[2], &[2, 3, 4], &[3], &[4]],
-        is_solved_by_list: false,
     },
     Known {
         name: "a path",
         text: "5 4\n2\n1 3\n2 4\n3 5\n4\n",
         value: 1,
         sides: &[&[2, 3, 4, 5], &[3, 4, 5], &[4, 5], &[5]],
-        is_solved_by_list: false,
     },
     Known {
         name: "a star around vertex 3",
         text: "5 4\n3\n3\n1 2 4 5\n3\n3\n",
         value: 1,
         sides: &[&[2], &[2, 3, 4, 5], &[4], &[5]],
-        is_solved_by_list: false,
     },
     Known {
         name: "a tree with an edge that is no minimum cut",
         text: "5 4 1\n2 3\n1 3 3 5 5 3\n2 5 4 3\n3 3\n2 3\n",
         value: 3,
         sides: &[&[2, 3, 4, 5], &[4], &[5]],
-        is_solved_by_list: true,
     },
     Known {
         name: "two cycles that meet in a node without vertices",
@@ -88,7 +80,6 @@ pub const GRAPHS: [Known; 11] = [
             &[5, 6],
             &[6],
         ],
-        is_solved_by_list: false,
     },
     Known {
         name: "a ladder of two rows of four",
@@ -103,7 +94,6 @@ pub const GRAPHS: [Known; 11] = [
             &[5],
             &[8],
         ],
-        is_solved_by_list: false,
     },
     Known {
         name: "a ring with a ring at each vertex",
@@ -123,7 +113,6 @@ pub const GRAPHS: [Known; 11] = [
             &[8, 9],
             &[9],
         ],
-        is_solved_by_list: false,
     },
     Known {
         name: "four rings, each at the end of the one before",
@@ -143,13 +132,11 @@ pub const GRAPHS: [Known; 11] = [
             &[8, 9],
             &[9],
         ],
-        is_solved_by_list: false,
     },
     Known {
         name: "two complete graphs of four with an edge between them",
         text: "8 13\n2 3 4 5\n1 3 4\n1 2 4\n1 2 3\n1 6 7 8\n5 7 8\n5 6 8\n5 6 7\n",
         value: 1,
         sides: &[&[5, 6, 7, 8]],
-        is_solved_by_list: true,
     },
 ];

@@ -8,6 +8,8 @@ mod chains;
 #[cfg(test)]
 mod graphs;
 #[cfg(test)]
+mod lists;
+#[cfg(test)]
 mod shares;
 #[cfg(test)]
 mod sides;

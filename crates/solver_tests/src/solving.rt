@@ -6,7 +6,7 @@ ghost use Rattle.cut_definitions.specs.Cuts.{value as least_value};
 
 use crate::graphs::{GRAPHS, Known, edges_of};
 use crate::sides::{all_sides, are_same};
-use cactus_solver::{Cuts, GraphForm, Solved, solve, solve_at, solve_list};
+use cactus_solver::{Cuts, Solved, solve, solve_at, solve_list};
 use cut_definitions::{EdgeList, NoMemory};
 use outside::OpenGate;
 use std::alloc::Global;
@@ -36,28 +36,24 @@ fn is_solved_at<R: Threads + Sync>(
     agrees(alloc, &solved, known)
 }
 
-/// Whether the list is solved, and by itself alone where forests show what can be contracted, and only there.
+/// Whether the solver finds what is known by the list of edges.
 fn is_solved_by_list<R: Threads + Sync>(
     rt: &R,
     alloc: Global,
-    graph: &Graph,
+    list: EdgeList,
     known: &Known,
-) -> Result<bool, NoMemory>
-    requires enough { 2 ≤ graph.now.vertices }
-{
-    let edges = Vec::from_slice(alloc, graph.edge_list())?;
-    let list = EdgeList::from_edges(graph.n(), edges);
+) -> Result<bool, NoMemory> {
+    if list.n() < 2 {
+        return Ok(false);
+    }
     let found = solve_list(rt, alloc, list, 1, &OpenGate)?;
-    let by_list = matches!(found.graph, GraphForm::Edges(_));
     match found.cuts {
-        Cuts::Joined(solved) => Ok(
-            by_list == known.is_solved_by_list && agrees(alloc, &solved, known)?,
-        ),
+        Cuts::Joined(solved) => agrees(alloc, &solved, known),
         Cuts::Apart(_) => Ok(false),
     }
 }
 
-/// Whether the solver finds the value and just the sides, by rows, for a value that is told, and by the list of edges.
+/// Whether the solver finds the value and just the sides, by rows and for a value that is told.
 fn is_solved<R: Threads + Sync>(
     rt: &R,
     alloc: Global,
@@ -73,11 +69,7 @@ fn is_solved<R: Threads + Sync>(
         return Ok(false);
     }
     let solved = solve(rt, alloc, &graph, 4, &OpenGate)?;
-    Ok(
-        agrees(alloc, &solved, known)?
-            && is_solved_at(rt, alloc, &graph, solved.value, known)?
-            && is_solved_by_list(rt, alloc, &graph, known)?,
-    )
+    Ok(agrees(alloc, &solved, known)? && is_solved_at(rt, alloc, &graph, solved.value, known)?)
 }
 
 #[test]
@@ -89,6 +81,8 @@ fn graphs_are_solved(rt: HostRuntime) -> Result<(), Fail> {
         };
         let holds = is_solved(&rt, rt.alloc(), &list, known)?;
         assert!(rt; holds, "{}", known.name);
+        let holds_by_list = is_solved_by_list(&rt, rt.alloc(), list, known)?;
+        assert!(rt; holds_by_list, "{}", known.name);
     }
     Ok(())
 }
