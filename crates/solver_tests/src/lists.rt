@@ -53,8 +53,9 @@ fn a_long_path_is_solved_without_rows(rt: HostRuntime) -> Result<(), Fail> {
     let Some(found) = solved_path(&rt, rt.alloc(), None)? else {
         return Err(Fail::from("no graph"));
     };
-    assert!(rt; matches!(found.graph, GraphForm::Edges(_)));
-    match found.cuts {
+    let SolvedList { graph, cuts } = found;
+    assert!(rt; matches!(graph, GraphForm::Edges(_)));
+    match cuts {
         Cuts::Joined(solved) => assert!(rt; solved.value == 3 && solved.cactus.nodes() == 3),
         Cuts::Apart(_) => return Err(Fail::from("several components")),
     }

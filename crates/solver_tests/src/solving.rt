@@ -6,7 +6,7 @@ ghost use Rattle.cut_definitions.specs.Cuts.{value as least_value};
 
 use crate::graphs::{GRAPHS, Known, edges_of};
 use crate::sides::{all_sides, are_same};
-use cactus_solver::{Cuts, Solved, solve, solve_at, solve_list};
+use cactus_solver::{Cuts, Solved, SolvedList, solve, solve_at, solve_list};
 use cut_definitions::{EdgeList, NoMemory};
 use outside::OpenGate;
 use std::alloc::Global;
@@ -46,8 +46,8 @@ fn is_solved_by_list<R: Threads + Sync>(
     if list.n() < 2 {
         return Ok(false);
     }
-    let found = solve_list(rt, alloc, list, 1, &OpenGate)?;
-    match found.cuts {
+    let SolvedList { cuts, .. } = solve_list(rt, alloc, list, 1, &OpenGate)?;
+    match cuts {
         Cuts::Joined(solved) => agrees(alloc, &solved, known),
         Cuts::Apart(_) => Ok(false),
     }
