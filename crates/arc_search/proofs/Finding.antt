@@ -143,6 +143,26 @@ put_search n goes halts turns starts s x parent h quiet one to_n new free led =
 
 -- ---- going on
 
+-- a search goes on from itself
+pub goes_on_same : (s : SearchState) → GoesOn s s
+goes_on_same s = record {
+  more = omega arith;
+  further = omega arith;
+  order_kept = λ j l. refl;
+  parents_kept = λ j l. refl;
+  seen_kept = λ v is. is;
+}
+
+-- so does one with a vertex more
+pub goes_on_put : (s : SearchState) (x parent : ℕ) → x < length s.seen → GoesOn s (with_vertex s x parent)
+goes_on_put s x parent x_in = record {
+  more = omega arith;
+  further = omega arith;
+  order_kept = λ j l. get_or-set_other s.order s.count j x 0 (λ e. omega arith);
+  parents_kept = λ j l. get_or-set_other s.parents s.count j parent 0 (λ e. omega arith);
+  seen_kept = λ v is. seen-more s.seen x v x_in is;
+}
+
 pub goes_on_more : (s s' s'' : SearchState) → GoesOn s s' → GoesOn s' s'' → GoesOn s s''
 goes_on_more s s' s'' h k = record {
   more = omega (arith, h.more, k.more);

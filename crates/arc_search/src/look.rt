@@ -9,7 +9,7 @@ use crate::step_arcs::StepArcs;
 use weighted_graph::Arc;
 
 /// A place in a row, and how many sets the path has when the arcs before it have been looked at.
-#[derive(Clone, Copy, Debug, PartialEq, Eq)]
+#[derive(Clone, Copy)]
 pub struct Seen {
     pub place: usize,
     pub depth: usize,

@@ -1,5 +1,5 @@
 use Rattle.std.proofs.Common.{sym, ◌∙◌}
-use Rattle.component_cuts.proofs.Rows.{adding_in, adding_out}
+use Rattle.component_cuts.proofs.Rows.{adding_start, adding_in, adding_out}
 use Rattle.component_cuts.proofs.sums.add_row.Goals as goal
 use Rattle.component_cuts.proofs.sums.add_row.Goals.{then-makes_next, else-makes_next}
 
@@ -12,3 +12,6 @@ loop-sum-preserved c =
           (sym c.makes_next.ensures ∙ w.if-makes_next.true) (w.table-is ∙ w.insert.ensures)
       | else-makes_next w ↦ rw w.table-is (adding_out old table c.args.width c.args.row c.args.weight c.loop-sum.sum c.loop-sum.invariant c.loop-sum-test.true c.requires.row (sym c.makes_next.ensures ∙ w.if-makes_next.false))
     ]
+
+pub loop-sum-init : goal.loop-sum-init
+loop-sum-init c = adding_start c.args.table.now c.args.width c.args.row c.args.weight c.requires.empty

@@ -5,7 +5,7 @@ use Rattle.weighted_graph.specs.declared.graph.Arc.{Arc}
 use Rattle.weighted_graph.specs.Searches.{is_seen}
 use Rattle.weighted_graph.specs.Rows.{arc_at}
 use Rattle.arc_search.specs.Found.{SearchState, Leads}
-use Rattle.arc_search.proofs.Finding.{put_search, quiet_put, halted_put, seen_there, leads_by_arc, not_must, room}
+use Rattle.arc_search.proofs.Finding.{goes_on_same, put_search, quiet_put, halted_put, seen_there, leads_by_arc, not_must, room}
 use Rattle.arc_search.proofs.search.Search.follow_arc.Goals.{then-index-via-then-index, then-index-via-else-index+then-turns-to-ne0, then-index-via-else-index+else-turns-to-ne0+then-not-is_open}
 use Rattle.arc_search.proofs.search.Search.follow_arc.Goals as goal
 
@@ -66,3 +66,12 @@ returns-clause-halted g c = λ yes.
     let x_in : c.args.arc.to < length s.seen = search rules in
     let fits : s.count < length s.order = omega (arith, h.order_length, room s.seen c.args.arc.to s.count (g.A.StepArcs.vertices c.args.arcs.now + 1) h.rest x_in new) in
     rw c.put-2.ensures (halted_put (g.H.Halts.halts c.args.halts.now) s c.args.arc.to c.put.inside.place fits (sym c.halts.ensures ∙ yes))
+
+pub returns-then-index-clause-search : goal.returns-then-index-clause-search
+returns-then-index-clause-search g c = λ starts h. h
+
+pub returns-then-index-clause-goes_on : goal.returns-then-index-clause-goes_on
+returns-then-index-clause-goes_on g c = goes_on_same c.args.self.now
+
+pub returns-then-index-clause-quiet : goal.returns-then-index-clause-quiet
+returns-then-index-clause-quiet g c = λ is. c.requires.quiet

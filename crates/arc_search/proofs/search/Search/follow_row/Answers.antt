@@ -50,3 +50,21 @@ returns-clause-search g c = λ starts h.
     (pass_search (g.A.StepArcs.vertices arcs) (g.A.StepArcs.goes arcs) (g.H.Halts.must c.args.halts.now) c.args.turns.now starts s (inv.search starts h)
     (omega (arith, inv.same_place, inv.goes_on.more, c.requires.left))
     (λ w step. known w (subst (λ (x : ℕ). g.A.StepArcs.goes arcs x w ≡ true) same step)))
+
+pub follow_arc-requires-clause-can : goal.follow_arc-requires-clause-can
+follow_arc-requires-clause-can g c = c.requires.can
+
+pub follow_arc-requires-clause-ask : goal.follow_arc-requires-clause-ask
+follow_arc-requires-clause-ask g c = c.requires.ask
+
+pub follow_arc-requires-clause-turns : goal.follow_arc-requires-clause-turns
+follow_arc-requires-clause-turns g c = c.requires.turns
+
+pub follow_arc-requires-clause-quiet : goal.follow_arc-requires-clause-quiet
+follow_arc-requires-clause-quiet g c = c.loop-k.invariant.quiet
+
+pub returns-then-follow_arc-clause-goes_on : goal.returns-then-follow_arc-clause-goes_on
+returns-then-follow_arc-clause-goes_on g c = goes_on_more c.args.self.now c.loop-k.self c.follow_arc.new.self c.loop-k.invariant.goes_on c.follow_arc.ensures.goes_on
+
+pub returns-then-follow_arc-clause-halted : goal.returns-then-follow_arc-clause-halted
+returns-then-follow_arc-clause-halted g c = λ is. c.follow_arc.ensures.halted c.if-follow_arc.true

@@ -74,3 +74,31 @@ invariant_of-self-2 g c =
     let long = ap (λ (xs : List ℕ). length xs) c.as_mut_slice-turns.ensures.value in
     let long_marks = ap (λ (xs : List ℕ). length xs) c.as_mut_slice-marks.ensures.value in
     rw (turns, marks) (record { as_long = omega (arith, made.auto.turns, made.auto.marks, long, long_marks, c.self.invariant.as_long); marked = made.ensures.marked })
+
+-- what is asked of the parts is asked of the list that was lent
+pub take_parts-self-inside-requires-clause-can : goal.take_parts-self-inside-requires-clause-can
+take_parts-self-inside-requires-clause-can g c = c.requires.can
+
+pub take_parts-self-inside-requires-clause-some : goal.take_parts-self-inside-requires-clause-some
+take_parts-self-inside-requires-clause-some g c = c.requires.some
+
+pub take_parts-self-inside-requires-clause-leads : goal.take_parts-self-inside-requires-clause-leads
+take_parts-self-inside-requires-clause-leads g c = c.requires.leads
+
+pub take_parts-self-inside-requires-clause-within : goal.take_parts-self-inside-requires-clause-within
+take_parts-self-inside-requires-clause-within g c = rw c.requires.vertices c.requires.within
+
+pub take_parts-self-inside-requires-clause-new : goal.take_parts-self-inside-requires-clause-new
+take_parts-self-inside-requires-clause-new g c =
+    let turns_was = c.as_mut_slice-turns.ensures.value ∙ ap (λ (l : ListingState). l.turns) c.self.view_is in
+    rw turns_was c.requires.new
+
+pub take_parts-self-inside-requires-clause-closed : goal.take_parts-self-inside-requires-clause-closed
+take_parts-self-inside-requires-clause-closed g c =
+    let turns_was = c.as_mut_slice-turns.ensures.value ∙ ap (λ (l : ListingState). l.turns) c.self.view_is in
+    rw turns_was c.requires.closed
+
+pub take_parts-self-inside-requires-clause-followed : goal.take_parts-self-inside-requires-clause-followed
+take_parts-self-inside-requires-clause-followed g c =
+    let turns_was = c.as_mut_slice-turns.ensures.value ∙ ap (λ (l : ListingState). l.turns) c.self.view_is in
+    rw turns_was c.requires.followed
