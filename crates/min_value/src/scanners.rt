@@ -4,13 +4,11 @@ ghost use Rattle.std.specs.Prelude.{◌≡◌, ◌≤◌, ◌⊎◌};
 ghost use Rattle.std.specs.List.{sum_by};
 ghost use Rattle.cut_definitions.specs.declared.edge_list.Edge.{Edge};
 
+use round_workers::is_dense;
 use weighted_graph::Graph;
 
 // A worker who scans beside others goes along at least so many edges, for threads cost up to some milliseconds to start.
 const EDGES_FOR_EACH: u64 = 32_768;
-
-// For each worker who scans there are at least so many times as many edges as vertices.
-const EDGES_FOR_EACH_VERTEX: u64 = 4;
 
 /// The sum of the weights of all edges.
 pub(crate) fn total_weight(graph: &Graph) -> u64
@@ -24,16 +22,18 @@ pub(crate) fn total_weight(graph: &Graph) -> u64
     total
 }
 
-/// How many workers can scan a graph side by side with a gain. Each has enough edges to go along, and some for each vertex, since
-/// it makes room for all vertices and passes over those that others take; and of the weight of a vertex, which the workers divide
-/// among them, twice a limit is left to each.
+/// How many workers can scan a graph side by side with a gain. Each has enough edges to go along, and one for each vertex, since
+/// it makes room for all vertices. Where their vertices are neighbours, workers divide the weight of a vertex among them, so a
+/// limit is left to each of them; but in a dense graph they begin where they are not, and else do not scan.
 fn most_scanners(graph: &Graph, limit: u64) -> u64 {
     let vertices = u64::from(graph.n()).max(1);
     let edges = graph.edges() as u64;
-    let half_degree = total_weight(graph) / vertices;
-    let by_edges = edges / EDGES_FOR_EACH;
-    let by_rows = edges / vertices / EDGES_FOR_EACH_VERTEX;
-    by_edges.min(by_rows).min(half_degree / limit.max(1))
+    let most = (edges / EDGES_FOR_EACH).min(edges / vertices);
+    if is_dense(graph) {
+        return most;
+    }
+    let mean_degree = (total_weight(graph) / vertices).saturating_mul(2);
+    most.min(mean_degree / limit.max(1))
 }
 
 /// How many of the workers scan a graph side by side, where links that reach a limit are looked for: 1 where threads would cost

@@ -133,6 +133,16 @@ worked_later g slack share shares s t same later h = record {
       (tested_later g (s.board.opening + slack) share shares (length g.edges) s t later (h.tested below));
 }
 
+-- what was tested at the bound that was seen first is a share's work, where no lower one was seen since
+pub worked_after : (b : BoardView) (g : Graph) (slack bound share shares : ℕ) (s t : SeatView) → HasSeen b g slack bound s → HasSeen b g slack t.seen t → IsLater s t →
+    HasTested g (bound + slack) share shares (length g.edges) s → HasWorked g slack share shares t
+worked_after b g slack bound share shares s t h k later tested = record {
+  tested = λ low.
+      let opening : t.board.opening ≡ b.opening = ap (λ (v : BoardView). v.opening) k.board in
+      let same : bound ≡ t.board.opening = omega (arith, low, later.seen, h.seen, h.at_most, opening) in
+      subst (λ (n : ℕ). HasTested g (n + slack) share shares (length g.edges) t) same (tested_later g (bound + slack) share shares (length g.edges) s t later tested);
+}
+
 -- each edge is of a share
 pub all_shares : (g : Graph) (slack shares : ℕ) (s : SeatView) → 0 < shares → ((i : ℕ) → i < shares → HasWorked g slack i shares s) → HasAll g slack s
 all_shares g slack shares s some h = record {

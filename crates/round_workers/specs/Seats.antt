@@ -1,10 +1,10 @@
 -- What workers do with the seats of a board.
-use Rattle.std.specs.Prelude.{ℕ, Bool, true, ◌≡◌, ◌+◌, ◌%◌, ◌^◌, ◌<◌, ◌≤◌, List, length, slice_index_or, Contains}
+use Rattle.std.specs.Prelude.{ℕ, Bool, true, ◌≡◌, ◌+◌, ◌%◌, ◌^◌, ◌<◌, ◌≤◌, List, length, slice_index_or, Contains, IfSome, IfOk}
 use Rattle.cut_definitions.specs.Graph.{Graph}
 use Rattle.cut_definitions.specs.Safe.{IsFair}
 use Rattle.cut_definitions.specs.Cuts.{has}
 use Rattle.weighted_graph.specs.RowLaws.{edge_at}
-use Rattle.capped_scan.specs.Scan.{ScanState, StandsFor}
+use Rattle.capped_scan.specs.Scan.{ScanState}
 use Rattle.mark_board.specs.Seen.{BoardView, SeatView}
 use Rattle.round_workers.specs.Round.{IsCertified}
 use Rattle.round_workers.specs.declared.working.Worker.{Worker}
@@ -41,15 +41,14 @@ pub record HasWorked (g : Graph) (slack share shares : ℕ) (s : SeatView) : Typ
 pub record HasAll (g : Graph) (slack : ℕ) (s : SeatView) : Type 0 where
   pub each : s.board.opening ≤ s.seen → (e : ℕ) → e < length g.edges → IsCertified g (edge_at g e) (s.board.opening + slack) → Contains s.own e
 
--- a worker with a seat of the board and a scan of the graph
+-- a worker with a seat of the board
 pub record IsReady (b : BoardView) (g : Graph) (slack : ℕ) (w : Worker) : Type 0 where
   pub seated : HasSeen b g slack w.seat.seen w.seat
-  pub stands : StandsFor w.scan g
 
 -- a worker that has scanned nothing but what it took, and has done its share where it was to certify
 pub record IsDone (b : BoardView) (g : Graph) (slack : ℕ) (certifies : Bool) (share shares : ℕ) (w : Worker) : Type 0 where
   pub seated : HasSeen b g slack w.seat.seen w.seat
-  pub won : AreWon w.scan w.seat
+  pub won : IfSome w.scan (λ made. IfOk made (λ scan. AreWon scan w.seat))
   pub worked : certifies ≡ true → HasWorked g slack share shares w.seat
 
 -- each worker of a list has done the share of its place

@@ -46,8 +46,8 @@ fn run_workers<R: Threads + Sync, G: Gate>(
     let _n = graph.n();
     let (board, mut seat) = Board::open(alloc, graph, bound, task.slack)?;
     let mut seated = workers_for(alloc, graph, &board, &mut seat, task.shares)?;
-    race(rt, &board, graph, seated.as_mut_slice(), task, gate);
-    join_workers(&board, graph, &mut seat, seated, task);
+    race(rt, alloc, &board, graph, seated.as_mut_slice(), task, gate);
+    join_workers(&board, graph, &mut seat, seated, task)?;
     Ok((board, seat))
 }
 
@@ -81,7 +81,7 @@ fn close_round(board: Board, seat: BoardSeat, graph: &Graph, bound: u64, slack: 
 /// edges no thread is started. Each worker passes the gate with its number, tests its share of the edges, and scans from a
 /// vertex of its own what no other worker takes; they share the bound, the marks and the taken vertices, and none waits for
 /// another. A round costs O(m log n) and the certificates of all edges, and O(n log n) for each worker, takes O(m) memory and
-/// O(n) for each worker before the first of them runs, and is refused only where that is wanting.
+/// O(n) for each worker, which that takes in its own thread, and is refused only where that is wanting.
 pub fn round<R: Threads + Sync, G: Gate>(
     rt: &R,
     alloc: Global,
@@ -115,10 +115,12 @@ pub fn round<R: Threads + Sync, G: Gate>(
 ///
 /// The bound is the weight of some cut; the slack is 0 where only the value is to be kept, and 1 where all minimum cuts are.
 /// The answered bound is the weight of some cut, and each mark is safe for it and the slack. There are 1 to 64 workers, each of
-/// which runs, so the caller sees that the graph is worth them. Each passes the gate with its number, and scans from a vertex
-/// of its own what no other worker takes; they share the bound, the marks and the taken vertices, and none waits for another.
-/// All together go along each row about once: O(m log n), and O(n log n) for each worker. It takes O(m) memory, and O(n) for
-/// each worker before the first of them runs, and is refused only where that is wanting.
+/// which runs, so the caller sees that the graph is worth them. Each passes the gate with its number, and scans from a vertex of
+/// its own what no other worker takes, until no vertex that waits touches what it scanned; they share the bound, the marks and
+/// the taken vertices, and none waits for another. In a dense graph each looks first for a vertex far from where the others
+/// begin, and does not scan where there is none. All together go along each row about once: O(m log n), and O(n) for each
+/// worker, in a dense graph O(n log n) for each worker before it. It takes O(m) memory, and O(n) for each worker, which that
+/// takes in its own thread, and is refused only where that is wanting.
 pub fn scan_round<R: Threads + Sync, G: Gate>(
     rt: &R,
     alloc: Global,

@@ -153,7 +153,9 @@ fn scan_or_drop(
 }
 
 /// Scans what no other worker takes, from a root on, lowers the board's bound by each set that was scanned, and marks by links.
-/// Vertices that others have are dropped, so the workers' scans together cost about as much as one scan of the whole graph.
+/// Vertices that others have are dropped where they come next. It ends where no vertex that waits touches the scanned set: a
+/// worker passes over no vertex but its own and those beside them, so the scans of all together cost about as much as one scan
+/// of the whole graph. Each vertex beside a scanned one is taken by one of them in the end.
 pub(crate) fn scan_on_board(
     board: &Board,
     seat: &mut BoardSeat,
@@ -174,10 +176,13 @@ pub(crate) fn scan_on_board(
 {
     scan.start(root, bound + slack);
     let mut seen = bound;
-    for _ in 0..graph.n() {
+    for turn in 0..graph.n() {
         let Some(vertex) = scan.peek(graph) else {
             return;
         };
+        if turn > 0 && scan.link(graph, vertex) == 0 {
+            return;
+        }
         seen = scan_or_drop(board, seat, graph, scan, vertex, seen, slack);
     }
 }

@@ -1,8 +1,9 @@
 //! Workers of a round, which run side by side, each with its own seat of the board.
 
-ghost use Rattle.std.specs.Prelude.{◌≡◌, ◌+◌, ◌<◌, ◌≤◌, All, IfOk, length, true, vec_len};
-ghost use Rattle.round_workers.specs.Seats.{HasSeen, HasAll, HasTested, IsLater, IsReady, IsDone, AreDone};
+ghost use Rattle.std.specs.Prelude.{◌≡◌, ◌+◌, ◌<◌, ◌≤◌, All, IfOk, OnOk, length, true, vec_len};
+ghost use Rattle.round_workers.specs.Seats.{HasSeen, HasAll, HasTested, IsLater, AreWon, IsReady, IsDone, AreDone};
 
+use crate::roots::root_of;
 use crate::scanning::scan_on_board;
 use crate::shares::mark_share;
 use capped_scan::Scan;
@@ -14,11 +15,11 @@ use std::thread;
 use std::thread::Threads;
 use weighted_graph::Graph;
 
-/// A worker: its seat of the board, and its scan of the graph.
+/// A worker: its seat of the board, and once it has run its scan of the graph, or that memory was wanting for it.
 #[derive(Drop)]
 pub(crate) struct Worker {
     pub(crate) seat: BoardSeat,
-    pub(crate) scan: Scan,
+    pub(crate) scan: Option<Result<Scan, NoMemory>>,
 }
 
 /// What the workers of a round do: into how many shares the edges are divided, one for each worker, the slack of all marks, and
@@ -30,7 +31,7 @@ pub(crate) struct Task {
     pub(crate) certifies: bool,
 }
 
-/// A worker for each share, with a seat that is split off. A worker takes memory O(n) for its scan.
+/// A worker for each share, with a seat that is split off. It has no scan yet, and makes it in its own thread.
 pub(crate) fn workers_for(
     alloc: Global,
     graph: &Graph,
@@ -45,9 +46,11 @@ pub(crate) fn workers_for(
 {
     let mut workers = Vec::new(alloc);
     for _ in 0..shares {
-        let scan = Scan::new(alloc, graph)?;
         let own = board.split(seat);
-        workers.push(Worker { seat: own, scan })?;
+        workers.push(Worker {
+            seat: own,
+            scan: None,
+        })?;
     }
     Ok(workers)
 }
@@ -67,22 +70,39 @@ fn certify(board: &Board, seat: &mut BoardSeat, graph: &Graph, share: usize, tas
     }
 }
 
-/// The vertex from which a worker scans: the vertices are divided into as many runs as there are shares, and it is the first
-/// of the worker's run.
-fn first_of_run(graph: &Graph, share: usize, shares: usize) -> u32
+/// Makes a scan of the graph for a worker, and scans what no other worker takes from a root of its own, if it has one. Memory
+/// O(n) is all that it takes, and want of it is its only refusal.
+fn scan_own(
+    alloc: Global,
+    board: &Board,
+    seat: &mut BoardSeat,
+    graph: &Graph,
+    share: usize,
+    task: Task,
+    bound: u64,
+) -> Result<Scan, NoMemory>
+    requires seen { HasSeen board.now graph.now task.slack bound seat.old }
     requires enough { 1 ≤ graph.now.vertices }
-    requires share { share < shares }
-    requires shares { shares ≤ 64 }
-    ensures from_one { 1 ≤ result }
-    ensures to_n { result ≤ graph.now.vertices }
+    requires slack { task.slack ≤ 1 }
+    requires share { share < task.shares }
+    requires shares { task.shares ≤ 64 }
+    ensures seen { HasSeen board.now graph.now task.slack seat.new.seen seat.new }
+    ensures later { IsLater seat.old seat.new }
+    ensures won { IfOk result (λ scan. AreWon scan seat.new) }
 {
-    let before = graph.n() as usize * share / shares;
-    before as u32 + 1
+    let mut scan = Scan::new(alloc, graph)?;
+    let Some(root) = root_of(alloc, graph, &mut scan, share, task.shares)? else {
+        scan.start(1, 0);
+        return Ok(scan);
+    };
+    scan_on_board(board, seat, graph, &mut scan, root, bound, task.slack);
+    Ok(scan)
 }
 
 /// The work of one worker: it passes the gate, looks at the bound, tests the edges of its share, where that is asked for, and
 /// scans the graph from a vertex of its own.
 fn work<G: Gate>(
+    alloc: Global,
     board: &Board,
     graph: &Graph,
     worker: &mut Worker,
@@ -100,21 +120,14 @@ fn work<G: Gate>(
     gate.pass(share as u32);
     let bound = board.bound(&mut worker.seat);
     certify(board, &mut worker.seat, graph, share, task, bound);
-    let root = first_of_run(graph, share, task.shares);
-    scan_on_board(
-        board,
-        &mut worker.seat,
-        graph,
-        &mut worker.scan,
-        root,
-        bound,
-        task.slack,
-    );
+    let scan = scan_own(alloc, board, &mut worker.seat, graph, share, task, bound);
+    worker.scan = Some(scan);
 }
 
-/// Runs the workers side by side, each on the share of its place.
+/// Runs the workers side by side, each on the share of its place and with memory of its own.
 pub(crate) fn race<R: Threads + Sync, G: Gate>(
     rt: &R,
+    alloc: Global,
     board: &Board,
     graph: &Graph,
     workers: &mut [Worker],
@@ -135,26 +148,31 @@ pub(crate) fn race<R: Threads + Sync, G: Gate>(
         task.shares,
         &|share: usize, worker: &mut Worker|
             requires { IsReady board.now graph.now task.slack worker.now × (1 ≤ graph.now.vertices) × (task.slack ≤ 1) × (share < task.shares) × (task.shares ≤ 64) }
-        { work(board, graph, worker, share, task, gate) },
+        { work(alloc, board, graph, worker, share, task, gate) },
     );
 }
 
-/// Joins the seats of all workers to one, which then has all of their marks.
+/// Joins the seats of all workers to one, which then has all of their marks. It is refused where memory was wanting for the scan
+/// of one of them.
 pub(crate) fn join_workers(
     board: &Board,
     graph: &Graph,
     seat: &mut BoardSeat,
     mut workers: Vec<Worker>,
     task: Task,
-)
+) -> Result<(), NoMemory>
     requires seated { HasSeen board.now graph.now board.now.slack seat.old.seen seat.old }
     requires some { 1 ≤ vec_len workers }
     requires done { AreDone board.now graph.now board.now.slack task.certifies (vec_len workers) workers.items }
     ensures seated { HasSeen board.now graph.now board.now.slack seat.new.seen seat.new }
-    ensures all { task.certifies ≡ true → HasAll graph.now board.now.slack seat.new }
+    ensures all { task.certifies ≡ true → OnOk result (HasAll graph.now board.now.slack seat.new) }
 {
     'seats: while let Some(worker) = workers.pop() {
-        let Worker { seat: other, .. } = worker;
+        let Worker { seat: other, scan } = worker;
         board.join(seat, other);
+        if let Some(Err(wanting)) = scan {
+            return Err(wanting);
+        }
     }
+    Ok(())
 }

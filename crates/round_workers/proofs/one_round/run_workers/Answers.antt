@@ -1,6 +1,8 @@
-use Rattle.std.proofs.Common.{◌≡◌, length, drop, sym, subst, arith}
+use Rattle.std.proofs.Common.{◌≡◌, ℕ, List, length, drop, sym, subst, arith}
+use Rattle.std.specs.Prelude.{All}
 use Rattle.mark_board.specs.Seen.{SeatView}
-use Rattle.round_workers.specs.Seats.{HasSeen}
+use Rattle.round_workers.specs.declared.working.Worker.{Worker}
+use Rattle.round_workers.specs.Seats.{HasSeen, IsReady}
 use Rattle.round_workers.proofs.Seats.{seen_opened, done_written}
 use Rattle.round_workers.proofs.one_round.run_workers.Goals as goal
 
@@ -12,6 +14,13 @@ workers_for-requires g c =
     record {
       seated = subst (λ (t : SeatView). HasSeen b graph b.slack t.seen t) (sym e.seat) (seen_opened b graph c.args.bound c.n-n.ensures.edge_list.is_graph e.board.0 e.board.2 c.requires.fair);
     }
+
+pub race-requires-clause-ready : goal.race-requires-clause-ready
+race-requires-clause-ready g c κs within =
+    let b = c.in_ok-board.board in
+    let graph = c.args.graph.now in
+    subst (λ (xs : List Worker). All (IsReady b graph c.args.task.slack) xs) (sym c.as_mut_slice.ensures.value)
+    (subst (λ (slack : ℕ). All (IsReady b graph slack) c.in_ok-seated.seated.items) c.in_ok-board.ensures.board.1 c.in_ok-seated.ensures.ready)
 
 pub join_workers-requires-clause-done : goal.join_workers-requires-clause-done
 join_workers-requires-clause-done g c =

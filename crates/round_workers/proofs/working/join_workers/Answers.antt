@@ -14,6 +14,27 @@ seats-init c = record {
   };
 }
 
+pub seats-preserved-after-scan : goal.seats-preserved-after-scan
+seats-preserved-after-scan c =
+    let b = c.args.board.now in
+    let g = c.args.graph.now in
+    let s = c.seats.seat in
+    let w = c.in-Some.worker in
+    let n = c.join.new.seat.seen in
+    let inv = c.seats.invariant in
+    let xs = c.seats.workers.items in
+    let some = c.in-Some.ensures.cases in
+    record {
+      seated = subst (λ (t : SeatView). HasSeen b g b.slack n t) (sym c.join.ensures.seat) (seen_joined b g b.slack s.seen n s w.seat inv.seated c.join.ensures.fair c.join.ensures.at_most.0);
+      joined = subst (λ (t : SeatView). AreJoinedFrom b g b.slack c.args.task.certifies (vec_len c.args.workers) c.pop.new.self.items t) (sym c.join.ensures.seat)
+          (join_step b g b.slack c.args.task.certifies (vec_len c.args.workers) n (vec_len c.seats.workers - 1) xs c.pop.new.self.items w s inv.seated inv.joined
+          (omega arith)
+          (λ d. let is = c.in-Some.ensures.value d (omega arith) in cc)
+          c.in-Some.ensures.rest
+          c.join.ensures.at_most.0
+          c.join.ensures.at_most.1);
+    }
+
 pub seats-preserved : goal.seats-preserved
 seats-preserved c =
     let b = c.args.board.now in

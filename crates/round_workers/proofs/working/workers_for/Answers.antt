@@ -1,5 +1,5 @@
 use Rattle.std.proofs.Common.{List, sym, subst, arith}
-use Rattle.std.specs.Prelude.{All}
+use Rattle.std.specs.Prelude.{All, None}
 use Rattle.std.proofs.lemmas.List.Elements.{All-push}
 use Rattle.mark_board.specs.Seen.{SeatView}
 use Rattle.round_workers.specs.declared.working.Worker.{Worker}
@@ -14,11 +14,10 @@ loop-preserved c =
     let s = c.loop.seat in
     let n = c.split-own.new.seat.seen in
     let e = c.split-own.ensures in
-    let w : Worker = record { seat = c.split-own.result; scan = c.in_ok-scan.scan } in
+    let w : Worker = record { seat = c.split-own.result; scan = None } in
     let seen : HasSeen b g b.slack n (seeing s n) = seen_seeing b g b.slack s.seen n s c.loop.invariant.seated e.fair e.at_most in
     let ready : IsReady b g b.slack w = record {
       seated = subst (λ (t : SeatView). HasSeen b g b.slack t.seen t) (sym e.new) (seen_fresh b g b.slack n (seeing s n) seen);
-      stands = c.in_ok-scan.ensures.stands;
     } in
     record {
       seated = subst (λ (t : SeatView). HasSeen b g b.slack n t) (sym e.seat) seen;
