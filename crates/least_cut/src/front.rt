@@ -11,7 +11,7 @@ use weighted_graph::Graph;
 
 /// Vertices that are joined to the source, and how far all vertices were looked through. Busy ones, with rows more than
 /// four times as long as on the average, come first, since a search that comes to one has a long row to go along; among
-/// the others, and among the busy ones, the latest comes first.
+/// the others, and among the busy ones, the latest comes first; of those that were put at once, those with heavy edges.
 ///
 /// No answer rests on which vertices it has: where it has none that is outside, it looks for one.
 #[derive(Drop)]
@@ -80,14 +80,51 @@ impl Front {
         }
     }
 
-    /// Puts the neighbours of a vertex on top of their stacks, unless they were put before.
-    pub fn put_neighbours(&mut self, graph: &Graph, v: u32)
+    /// Puts the neighbours of a vertex to which an edge of at most this weight leads on top of their stacks, unless they were put
+    /// before. Answers whether no edge of the vertex weighs more.
+    fn put_light(&mut self, graph: &Graph, v: u32, most: u64) -> bool
+        requires vertices { self.old.vertices ≡ graph.now.vertices }
+        requires to_n { v ≤ graph.now.vertices }
+        ensures { self.new ≡ self.old }
+    {
+        let mut all = true;
+        for arc in graph.row(v) {
+            if arc.weight <= most {
+                self.put(graph, arc.to);
+            } else {
+                all = false;
+            }
+        }
+        all
+    }
+
+    /// The same for those to which an edge of more than this weight leads.
+    fn put_heavy(&mut self, graph: &Graph, v: u32, most: u64)
         requires vertices { self.old.vertices ≡ graph.now.vertices }
         requires to_n { v ≤ graph.now.vertices }
         ensures { self.new ≡ self.old }
     {
         for arc in graph.row(v) {
-            self.put(graph, arc.to);
+            if arc.weight > most {
+                self.put(graph, arc.to);
+            }
+        }
+    }
+
+    /// Puts the neighbours of a vertex on top of their stacks, unless they were put before. Those to which an edge leads that is
+    /// heavier than its edges on the average come last, and so on top: once the vertex has entered, they need least from afar.
+    pub fn put_neighbours(&mut self, graph: &Graph, v: u32)
+        requires vertices { self.old.vertices ≡ graph.now.vertices }
+        requires to_n { v ≤ graph.now.vertices }
+        ensures { self.new ≡ self.old }
+    {
+        let count = graph.row(v).len() as u64;
+        if count == 0 {
+            return;
+        }
+        let average = graph.degree(v) / count;
+        if !self.put_light(graph, v, average) {
+            self.put_heavy(graph, v, average);
         }
     }
 

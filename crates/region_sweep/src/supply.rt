@@ -5,6 +5,10 @@ ghost use Rattle.std.specs.Prelude.{◌≡◌, ◌↔◌, ◌<◌, ◌≤◌, �
 /// How many vertices a search from what is fed may find before that is called far.
 const NEAR: usize = 64;
 
+/// How many it may find before the sweep leaves the order of the newest. A search that meets near by may still find some two hundred,
+/// most of them fed vertices of a long front that it only began from, as on a torus.
+const FAR: usize = 256;
+
 /// How many splits are passed over once it was in vain to feed a vertex beside.
 const PAUSE: u32 = 3;
 
@@ -38,11 +42,11 @@ impl Supply {
         }
     }
 
-    /// Whether searches of the last splits went far.
+    /// Whether searches of the last splits went so far that another vertex is to enter than the newest.
     pub fn went_far(self) -> bool
-        ensures { IsTrue result ↔ 64 < self.reach }
+        ensures { IsTrue result ↔ 256 < self.reach }
     {
-        self.reach > NEAR
+        self.reach > FAR
     }
 
     /// Whether a vertex beside the next one is to be fed.
