@@ -219,9 +219,10 @@ pub fn cactus_of_tree(alloc: Global, tree: HomedTree, n: u32) -> Result<MadeCact
     Ok(MadeCactus { cactus, is_filled })
 }
 
-/// The normal form of a cactus that was made of a tree: where each node has a vertex, the cactus as it is.
+/// The normal form of a cactus that was made of a tree: where each node has a vertex, and else where it is normal, the cactus as
+/// it is.
 ///
-/// Else it costs one step for each node and block, and memory in proportion to the nodes.
+/// It costs one step for each node and block where a node has no vertex, and memory in proportion to the nodes.
 pub fn normal_form(alloc: Global, made: MadeCactus) -> Result<Cactus, NoMemory>
     requires filled { IsTrue made.is_filled → is_normal made.cactus.root ≡ true }
     requires sides { HasNoEmptySide made.cactus }
@@ -231,6 +232,10 @@ pub fn normal_form(alloc: Global, made: MadeCactus) -> Result<Cactus, NoMemory>
 {
     let MadeCactus { cactus, is_filled } = made;
     if is_filled {
+        return Ok(cactus);
+    }
+    let is_normal = cactus.is_normal_within(alloc)?;
+    if is_normal {
         return Ok(cactus);
     }
     cactus.normal(alloc)
