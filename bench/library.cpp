@@ -89,6 +89,14 @@ static uint64_t by_cactus(const Arrays &g) {
     return sizes.value;
 }
 
+static uint64_t by_balanced(const Arrays &g) {
+    static std::vector<uint8_t> inside;
+    inside.resize(g.n);
+    mincut_balance balance;
+    if (mincut_balanced(g.n, g.u.size(), g.u.data(), g.v.data(), g.w.data(), nullptr, &balance, inside.data())) exit(5);
+    return balance.value;
+}
+
 template <class F> static void time_calls(const char *name, const std::vector<Arrays> &graphs, int calls, F call) {
     uint64_t sum = 0;
     double least = 1e9;
@@ -113,6 +121,7 @@ int main(int count, char **words) {
     time_calls("mincut_value", graphs, calls, by_value);
     time_calls("mincut_value_below", graphs, calls, by_value_below);
     time_calls("mincut_cactus", graphs, calls, by_cactus);
+    time_calls("mincut_balanced", graphs, calls, by_balanced);
     time_calls("LEMON NagamochiIbaraki", graphs, calls, [](const Arrays &g) { return by_lemon(g, false); });
     time_calls("LEMON HaoOrlin", graphs, calls / 20 + 1, [](const Arrays &g) { return by_lemon(g, true); });
     time_calls("igraph_mincut_value", graphs, calls / 100 + 1, by_igraph);

@@ -1,4 +1,4 @@
-/* Minimum cuts of a weighted undirected graph: their value, their number, and a cactus of all of them.
+/* Minimum cuts of a weighted undirected graph: their value, their number, a cactus of all of them, and a most balanced one.
  *
  * Graphs. A graph has n vertices, 0 to n - 1, and m edges in three arrays of m entries: edge i joins u[i] and v[i] and weighs
  * w[i], a whole number. The edges stand in any order and each once, not once from each end. It is a multigraph: edges with the
@@ -27,10 +27,11 @@ extern "C" {
 #endif
 
 /* 10000 * major + 100 * minor + patch, of this header */
-#define MINCUT_VERSION 100u
+#define MINCUT_VERSION 200u
 
-/* Several faults may be there at once: lengths are tested first, then n, then m, then the edges in turn, then whether there are two
- * vertices, whether the graph is connected, and what there is room for. MINCUT_OUT_OF_MEMORY may come in place of any of the last. */
+/* Several faults may be there at once: masses are looked at first, then the lengths of the arrays, then n, then m, then the edges in turn,
+ * then whether there are two vertices, whether the graph is connected, and what there is room for. MINCUT_OUT_OF_MEMORY may come in
+ * place of any of the last. */
 typedef enum mincut_status {
     MINCUT_OK = 0,
     MINCUT_NO_CUT = 1,            /* n is 0 or 1 */
@@ -41,7 +42,8 @@ typedef enum mincut_status {
     MINCUT_BAD_VERTEX = 6,        /* an end of an edge is n or more */
     MINCUT_WEIGHT_SUM = 7,        /* the weights of all edges but loops add up to more than 2^61 */
     MINCUT_DISCONNECTED = 8,      /* the graph is not connected: its value is 0, and it has no cactus */
-    MINCUT_NO_ROOM = 9            /* an output array is too short; the sizes say what is needed */
+    MINCUT_NO_ROOM = 9,           /* an output array is too short; the sizes say what is needed */
+    MINCUT_MASS_SUM = 10          /* the masses of all vertices add up to 2^64 or more */
 } mincut_status;
 
 /* MINCUT_VERSION of the library that is linked */
@@ -95,9 +97,22 @@ mincut_status mincut_cactus(uint32_t n, size_t m, const uint32_t *u, const uint3
 /* The node of each vertex: node_of has n entries, the others are as mincut_cactus left them. Cost: O(n). */
 void mincut_node_of(const mincut_sizes *sizes, const size_t *node_starts, const uint32_t *vertices, uint64_t *node_of);
 
+/* The value, and the balance of a cut: the lesser of the masses of its two sides. */
+typedef struct mincut_balance {
+    uint64_t value, balance;
+} mincut_balance;
+
+/* A minimum cut of a connected graph than which none has a greater balance; which of several such cuts is free. `mass` has n entries, the
+ * mass of each vertex, 0 or more, or is null, for a mass of 1 each. in_side has n entries: 0 for vertex 0 and all on its side, 1 for the
+ * others.
+ *
+ * The statuses are 0 to 8 and 10. With another than MINCUT_OK the outputs are left as they were. Cost: that of the cactus. */
+mincut_status mincut_balanced(uint32_t n, size_t m, const uint32_t *u, const uint32_t *v, const uint64_t *w, const uint64_t *mass,
+                              mincut_balance *balance, uint8_t *in_side);
+
 /* The proved exports on which the calls above stand, for bindings: each array is a pointer that is not null, also where its length
- * is 0, and its length. They answer the same statuses. mincut_raw_cactus takes any room: where an array is too short the status
- * is MINCUT_NO_ROOM, the sizes are told, and the arrays are left as they were. */
+ * is 0, and its length. They answer the same statuses. mincut_raw_cactus and mincut_raw_balanced take any room: where an array is
+ * too short the status is MINCUT_NO_ROOM, the arrays are left as they were, and the former tells the sizes. Masses are n, or none. */
 uint32_t mincut_raw_value(uint32_t n, const uint32_t *u, size_t u_len, const uint32_t *v, size_t v_len, const uint64_t *w,
                           size_t w_len, uint64_t *value);
 uint32_t mincut_raw_value_below(uint32_t n, const uint32_t *u, size_t u_len, const uint32_t *v, size_t v_len, const uint64_t *w,
@@ -108,6 +123,9 @@ uint32_t mincut_raw_cactus(uint32_t n, const uint32_t *u, size_t u_len, const ui
                            size_t w_len, mincut_sizes *sizes, size_t *node_starts, size_t node_starts_len, uint32_t *vertices,
                            size_t vertices_len, mincut_bridge *bridges, size_t bridges_len, size_t *cycle_starts,
                            size_t cycle_starts_len, uint64_t *members, size_t members_len);
+uint32_t mincut_raw_balanced(uint32_t n, const uint32_t *u, size_t u_len, const uint32_t *v, size_t v_len, const uint64_t *w,
+                             size_t w_len, const uint64_t *mass, size_t mass_len, mincut_balance *balance, uint8_t *in_side,
+                             size_t in_side_len);
 
 #ifdef __cplusplus
 }

@@ -5,7 +5,7 @@ usage: check_library.py PREFIX [--program PROGRAM] [--graphs N] [--calls N] [--q
 
 It compiles the tests of bindings/c/tests against the library, and the shim anew under the address and undefined sanitizers; runs them,
 the small ones under valgrind and helgrind where these are there; makes each allocation of a call fail in turn; runs --calls random
-graphs with faults in them in-process; compares value, number and sides on --graphs random multigraphs with the program; compiles and runs the
+graphs with faults in them in-process; compares value, number, sides and a most balanced cut on --graphs random multigraphs with the program; compiles and runs the
 examples; and has cargo test the Rust crate. --quick leaves out valgrind and cargo.
 """
 import argparse
@@ -84,6 +84,10 @@ class Bridge(ctypes.Structure):
     _fields_ = [('upper', c_uint64), ('lower', c_uint64)]
 
 
+class Balance(ctypes.Structure):
+    _fields_ = [('value', c_uint64), ('balance', c_uint64)]
+
+
 class Sizes(ctypes.Structure):
     _fields_ = [('value', c_uint64)] + [(name, c_size_t) for name in ('nodes', 'vertices', 'bridges', 'cycles', 'members')]
 
@@ -113,6 +117,26 @@ def asked(library, n, u, v, w):
     assert all(v in nodes[node_of[v]] for v in range(n))
     pairs = [(b.upper, b.lower) for b in bridges[:sizes.bridges]]
     return value.value, count.value, sides_of(nodes, pairs, lists_of(members, cycles, sizes.cycles, sizes.members))
+
+
+def balanced(library, n, u, v, w, masses):
+    """The value, the balance, and the side of a most balanced cut; nothing where the graph is not connected."""
+    m, balance, inside = len(u), Balance(), (ctypes.c_uint8 * n)()
+    given = (c_uint64 * n)(*masses) if masses else None
+    status = library.mincut_balanced(c_uint32(n), c_size_t(m), (c_uint32 * m)(*u), (c_uint32 * m)(*v), (c_uint64 * m)(*w), given,
+                                     byref(balance), inside)
+    if status == 8:
+        return None
+    assert status == 0 and set(inside) <= {0, 1}
+    return balance.value, balance.balance, tuple(i + 1 for i in range(n) if inside[i])
+
+
+def balanced_differs(found, value, sides, masses, n):
+    """Whether that is not a best of these sides."""
+    def balance_of(side):
+        inside = sum(masses[i - 1] for i in side) if masses else len(side)
+        return min(inside, (sum(masses) if masses else n) - inside)
+    return found != (value, max(map(balance_of, sides)), found[2]) or found[2] not in sides or balance_of(found[2]) != found[1]
 
 
 def reached(edges):
@@ -169,6 +193,10 @@ def check_program(prefix, program, graphs):
         value, sides = int(lines[0].split()[1]), {tuple(map(int, line.split())) for line in lines[2:] if line}
         found, count, of_cactus = asked(library, *graph)
         apart += count is None
+        masses = [rng.choice([0, 1, 1, 2, 1 << 40]) for _ in range(graph[0])] if rng.random() < 0.7 else None
+        best = balanced(library, *graph, masses)
+        if (best is None) != (count is None) or (best and balanced_differs(best, value, sides, masses, graph[0])):
+            sys.exit(f'graph {number} differs in its most balanced cut: {graph} {masses}')
         if found != value or (count is not None and (count != len(sides) or of_cactus != sides)):
             sys.exit(f'graph {number} differs: {graph}')
     told(f'{graphs} multigraphs as the program answers, {apart} of them not connected')

@@ -35,6 +35,12 @@ mincut_status mincut_cactus(uint32_t n, size_t m, const uint32_t *u, const uint3
                                             bridges, 2 * size, cycle_starts, size, members, 3 * size);
 }
 
+mincut_status mincut_balanced(uint32_t n, size_t m, const uint32_t *u, const uint32_t *v, const uint64_t *w, const uint64_t *mass,
+                              mincut_balance *balance, uint8_t *in_side) {
+    if (is_bad(m, u, v, w) || !balance || !in_side) return MINCUT_BAD_LENGTH;
+    return (mincut_status)mincut_raw_balanced(n, some(u), m, some(v), m, some(w), m, some(mass), mass ? n : 0, balance, in_side, n);
+}
+
 void mincut_node_of(const mincut_sizes *sizes, const size_t *node_starts, const uint32_t *vertices, uint64_t *node_of) {
     for (size_t i = 0; i < sizes->nodes; ++i) {
         const size_t end = i + 1 < sizes->nodes ? node_starts[i + 1] : sizes->vertices;

@@ -1,4 +1,4 @@
-/* The weakest places of a small network: its value, and all its minimum cuts as a cactus.
+/* The weakest places of a small network: its value, all its minimum cuts as a cactus, and a most balanced one.
  * cc weakest.c $(pkg-config --cflags --libs --static mincut) -o weakest */
 #include <mincut.h>
 #include <stdio.h>
@@ -14,13 +14,20 @@ int main(void) {
     uint32_t vertices[N];
     mincut_bridge bridges[2 * N];
     uint64_t members[3 * N], count;
+    mincut_balance balance;
+    uint8_t in_side[N];
     mincut_status status = mincut_cactus(N, M, u, v, w, &sizes, node_starts, vertices, bridges, cycle_starts, members);
     if (status == MINCUT_OK) status = mincut_count(N, M, u, v, w, &count);
+    if (status == MINCUT_OK) status = mincut_balanced(N, M, u, v, w, NULL, &balance, in_side);
     if (status != MINCUT_OK) {
         fprintf(stderr, "no answer: status %d\n", status);
         return 1;
     }
     printf("value %llu, %llu minimum cuts\n", (unsigned long long)sizes.value, (unsigned long long)count);
+    printf("most balanced, with %llu on the lighter side:", (unsigned long long)balance.balance);
+    for (uint32_t i = 0; i < N; ++i)
+        if (in_side[i]) printf(" %u", i);
+    puts("");
     for (size_t i = 0; i < sizes.nodes; ++i) {
         const size_t end = i + 1 < sizes.nodes ? node_starts[i + 1] : sizes.vertices;
         printf("node %zu:", i);

@@ -1,4 +1,4 @@
-//! The weakest places of a small network: its value, and the nodes of the cactus of all its minimum cuts.
+//! The weakest places of a small network: its value, a most balanced minimum cut, and the nodes of the cactus of all of them.
 //! In bindings/rust: `cargo run --example weakest`.
 fn main() -> Result<(), mincut::Error> {
     // two triangles, joined by two edges
@@ -7,6 +7,9 @@ fn main() -> Result<(), mincut::Error> {
     let w = [3, 3, 3, 3, 3, 3, 1, 1];
     let cactus = mincut::cactus(6, &u, &v, &w)?;
     println!("value {}, {} minimum cuts", cactus.value(), mincut::count(6, &u, &v, &w)?);
+    let best = mincut::balanced(6, &u, &v, &w, &[])?;
+    let inside: Vec<usize> = (0..6).filter(|i| best.in_side[*i]).collect();
+    println!("most balanced, with {} on the lighter side: {inside:?}", best.balance);
     for (i, node) in cactus.nodes().enumerate() {
         println!("node {i}: {node:?}");
     }

@@ -6,7 +6,7 @@ from collections.abc import Hashable, Iterable, Sequence
 from typing import Any, Optional, Union
 
 from .cactus import Cactus
-from .errors import NoProgram, UnknownName
+from .errors import Disconnected, NoProgram, Refused, UnknownName
 from .graph import Graph, finished
 from .library import Library
 from .numbers import whole_numbers
@@ -26,8 +26,8 @@ class MinimumCuts:
     function of a vertex; each is 1 without it. `names`: those of the rows of a matrix. `scale`: all weights are multiplied by it.
     `undirected`: takes a directed graph as an undirected one, each arrow an edge.
 
-    `program`, `workers` (1 to 64): the program that answers. `library`: the shared library that answers `value`, `count` and `cactus`;
-    None looks for one, False goes by the program alone. `time_limit`: seconds for each call that names no other, None for no limit.
+    `program`, `workers` (1 to 64): the program that answers. `library`: the shared library that answers `value`, `count`, `cactus` and
+    `balanced`; None looks for one, False goes by the program alone. `time_limit`: seconds for each call that names no other, None for no limit.
 
     Raises BadInput for what is no graph, UnknownName for a mass that is missing. Calls raise NoCut below two vertices, Disconnected
     where a job wants a connected graph, TimedOut, NoProgram, and Failed with the status of the program for all else. A call that is
@@ -78,7 +78,14 @@ class MinimumCuts:
 
     def balanced(self, *, time_limit: Optional[float] = None) -> tuple[int, list[Any]]:
         """(balance, side) of a minimum cut that is as balanced as any."""
-        _, balance, side = Program(self.program, self.workers).balanced(self.graph, self.limit(time_limit))
+        limit = self.limit(time_limit)
+        try:
+            _, balance, side = self.fastest().balanced(self.graph, limit)
+        except (Disconnected, Refused):
+            if not self.library:
+                raise
+            # the program also answers graphs in several components, and masses that add up to 2^64 or more
+            _, balance, side = Program(self.program, self.workers).balanced(self.graph, limit)
         return balance, self.named(side)
 
     def augment(self, *, time_limit: Optional[float] = None) -> tuple[list[tuple[Any, Any]], list[list[Any]]]:
@@ -112,7 +119,7 @@ class MinimumCuts:
         return self.time_limit if time_limit is None else time_limit
 
     def fastest(self) -> Union[Library, Program]:
-        """The back end for the value, the count and the cactus."""
+        """The back end for the value, the count, the cactus and a most balanced cut."""
         return self.library or Program(self.program, self.workers)
 
 

@@ -1,4 +1,4 @@
-"""The shared library as a back end: the calls of mincut.h by ctypes, for the value, the count and the cactus.
+"""The shared library as a back end: the calls of mincut.h by ctypes, for the value, the count, the cactus, and a most balanced cut.
 
 A call on a small graph without a time limit runs in this process, and an interrupt waits for its end, some milliseconds. All others run
 in a process of their own, which is ended where the call is interrupted or its time is over.
@@ -12,7 +12,7 @@ import select
 import signal
 from array import array
 from collections.abc import Callable
-from ctypes import POINTER, byref, c_size_t, c_uint32, c_uint64
+from ctypes import POINTER, byref, c_size_t, c_uint8, c_uint32, c_uint64
 from typing import Any, Optional
 
 from .cactus import Cactus, canonical
@@ -22,9 +22,9 @@ from .graph import Graph
 EDGES_IN_PROCESS = 20_000
 MOST_COMPONENTS = 127                  # as in the program, whose count has 127 bits
 INTERRUPTS = {signal.SIGINT, signal.SIGTERM}
-NO_CUT, OUT_OF_MEMORY, DISCONNECTED = 1, 2, 8
+NO_CUT, OUT_OF_MEMORY, DISCONNECTED, MASS_SUM = 1, 2, 8, 10
 FAULTS = {3: 'the arrays differ in length', 4: 'too many vertices', 5: 'too many edges', 6: 'an end of an edge is no vertex',
-          7: 'the weights add up to more than 2^61', 9: 'an array is too short'}
+          7: 'the weights add up to more than 2^61', 9: 'an array is too short', 10: 'the masses add up to 2^64 or more'}
 
 
 class Bridge(ctypes.Structure):
@@ -34,6 +34,10 @@ class Bridge(ctypes.Structure):
 class Sizes(ctypes.Structure):
     _fields_ = [('value', c_uint64), ('nodes', c_size_t), ('vertices', c_size_t), ('bridges', c_size_t), ('cycles', c_size_t),
                 ('members', c_size_t)]
+
+
+class Balance(ctypes.Structure):
+    _fields_ = [('value', c_uint64), ('balance', c_uint64)]
 
 
 class Library:
@@ -48,6 +52,7 @@ class Library:
             loaded.mincut_value.argtypes = loaded.mincut_count.argtypes = graph + [POINTER(c_uint64)]
             loaded.mincut_cactus.argtypes = graph + [POINTER(Sizes), POINTER(c_size_t), POINTER(c_uint32), POINTER(Bridge),
                                                      POINTER(c_size_t), POINTER(c_uint64)]
+            loaded.mincut_balanced.argtypes = graph + [POINTER(c_uint64), POINTER(Balance), POINTER(c_uint8)]
         except (OSError, AttributeError) as fault:
             raise NoProgram(f'{path} is no library of mincut ({fault})') from None
         self.path, self.loaded = path, loaded
@@ -68,6 +73,17 @@ class Library:
 
     def cactus(self, graph: Graph, time_limit: Optional[float] = None) -> Cactus:
         return alone(lambda: self.whole_cactus(graph), graph, time_limit)
+
+    def balanced(self, graph: Graph, time_limit: Optional[float] = None) -> tuple[int, int, list[int]]:
+        """(value, balance, side) of a most balanced minimum cut.
+
+        Raises Disconnected, and Refused where the masses add up to 2^64 or more: the program answers these graphs."""
+        return alone(lambda: self.best(graph), graph, time_limit)
+
+    def best(self, graph: Graph) -> tuple[int, int, list[int]]:
+        balance, inside = Balance(), (c_uint8 * len(graph.names))()
+        checked(self.loaded.mincut_balanced(*arrays(graph), masses(graph), byref(balance), inside), graph)
+        return balance.value, balance.balance, [v for v, byte in enumerate(inside) if byte]
 
     def number(self, call: Callable[..., int], graph: Graph) -> int:
         result = c_uint64()
@@ -94,6 +110,16 @@ def arrays(graph: Graph) -> tuple[Any, ...]:
     count = len(graph.edges)
     return (len(graph.names), count, (c_uint32 * count).from_buffer(heads), (c_uint32 * count).from_buffer(tails),
             (c_uint64 * count).from_buffer(weights))
+
+
+def masses(graph: Graph) -> Any:
+    """The masses as an array, or nothing where each is 1."""
+    if graph.masses is None:
+        return None
+    try:
+        return (c_uint64 * len(graph.masses)).from_buffer(array('Q', graph.masses))
+    except OverflowError:
+        raise Refused(1, FAULTS[MASS_SUM]) from None
 
 
 def lists_of(items: Any, starts: Any, count: int, total: int) -> list[list[int]]:

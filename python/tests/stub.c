@@ -1,5 +1,5 @@
-/* Stands in for the shared library in tests, with the calls of mincut.h: the value and the count by trying all sides of up to 16 vertices,
- * and the cactus of a ring whose edges stand in order, written down from another node than the canonical cactus begins with. A first weight
+/* Stands in for the shared library in tests, with the calls of mincut.h: the value, the count and a most balanced cut by trying all sides of up to 16
+ * vertices, and the cactus of a ring whose edges stand in order, written down from another node than the canonical cactus begins with. A first weight
  * of 999 makes a call that does not end, one of 998 one that ends its process, one of 997 one without memory. */
 #include <stddef.h>
 #include <stdint.h>
@@ -49,5 +49,29 @@ int mincut_cactus(uint32_t n, size_t m, const uint32_t *u, const uint32_t *v, co
     bridges[0].upper = 0;
     bridges[0].lower = 1;
     *sizes = (struct sizes){sizes->value, n, n, !ring, ring, ring ? n : 0};
+    return 0;
+}
+
+struct balance { uint64_t value, balance; };
+
+/* by trying all sides: the first that is as balanced as any */
+int mincut_balanced(uint32_t n, size_t m, const uint32_t *u, const uint32_t *v, const uint64_t *w, const uint64_t *mass, struct balance *found,
+                    uint8_t *in_side) {
+    uint64_t count, value;
+    const int status = best(n, m, u, v, w, &value, &count);
+    uint64_t total = 0;
+    for (uint32_t i = 0; mass && i < n; total += mass[i++])
+        if (mass[i] > UINT64_MAX - total) return 10;
+    if (status || value == 0) return status ? status : 8;
+    *found = (struct balance){value, 0};
+    for (uint32_t side = 2; side < 1u << n; side += 2) {
+        uint64_t weight = 0, inside = 0, outside = 0;
+        for (size_t k = 0; k < m; ++k) weight += (side >> u[k] & 1) != (side >> v[k] & 1) ? w[k] : 0;
+        for (uint32_t i = 0; i < n; ++i) *(side >> i & 1 ? &inside : &outside) += mass ? mass[i] : 1;
+        const uint64_t balance = inside < outside ? inside : outside;
+        if (weight != value || (balance <= found->balance && found->balance)) continue;
+        found->balance = balance;
+        for (uint32_t i = 0; i < n; ++i) in_side[i] = side >> i & 1;
+    }
     return 0;
 }

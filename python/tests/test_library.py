@@ -43,6 +43,15 @@ def test_cactus_is_canonical(stub):
         assert MinimumCuts(edges, library=stub).cactus() == MinimumCuts(edges, library=False).cactus()
 
 
+def test_most_balanced(stub):
+    for n, edges, value, sides in random_graphs(40):
+        masses = {v: v % 3 for edge in edges for v in edge[:2]}
+        by_library, by_program = (MinimumCuts(edges, mass=masses, library=library).balanced() for library in (stub, False))
+        assert by_library[0] == by_program[0]
+    assert MinimumCuts([(1, 2), (3, 4), (4, 5)], library=stub).balanced()[0] == 2, 'the program answers a graph in several components'
+    assert MinimumCuts(ring(4), mass=lambda v: 2 ** 63, library=stub).balanced()[0] == 2 ** 64
+
+
 def test_no_answer(stub):
     assert MinimumCuts([(1, 2), (3, 4), (5, 6)], library=stub).count() == 3
     with pytest.raises(mincut_graph.Disconnected) as caught:

@@ -1,4 +1,4 @@
-//! Minimum cuts of a weighted undirected graph: their value, their number, and a cactus of all of them.
+//! Minimum cuts of a weighted undirected graph: their value, their number, a cactus of all of them, and a most balanced one.
 //!
 //! A graph has `n` vertices, 0 to n - 1; edge i joins `u[i]` and `v[i]` and weighs `w[i]`. Edges with the same ends are as one of
 //! the sum of their weights; loops and edges of weight 0 count for nothing. All limits are checked, and told by an [`Error`].
@@ -23,7 +23,7 @@ pub enum Error {
     NoCut,
     /// Memory is wanting.
     OutOfMemory,
-    /// The slices differ in length.
+    /// The slices of the edges differ in length, or there are masses and not as many as vertices.
     BadLength,
     /// n is above 4,194,304.
     TooManyVertices,
@@ -35,11 +35,14 @@ pub enum Error {
     WeightSum,
     /// The graph is not connected.
     Disconnected,
+    /// The masses add up to 2^64 or more.
+    MassSum,
 }
 
 impl fmt::Display for Error {
     fn fmt(&self, f: &mut fmt::Formatter<'_>) -> fmt::Result {
         f.write_str(match self {
+            Error::MassSum => "the masses add up to 2^64 or more",
             Error::NoCut => "the graph has fewer than two vertices",
             Error::OutOfMemory => "out of memory",
             Error::BadLength => "the slices differ in length",
@@ -65,6 +68,7 @@ fn told(status: u32) -> Result<(), Error> {
         6 => Error::BadVertex,
         7 => Error::WeightSum,
         8 => Error::Disconnected,
+        10 => Error::MassSum,
         _ => unreachable!("the room by n suffices"),
     })
 }
@@ -138,7 +142,29 @@ impl Cactus {
     }
 }
 
+#[repr(C)]
+#[derive(Default)]
+struct Balance {
+    value: u64,
+    balance: u64,
+}
+
+/// A minimum cut, and how evenly it parts the vertices.
+#[derive(Clone, Debug, PartialEq, Eq)]
+pub struct Balanced {
+    /// The value of the graph.
+    pub value: u64,
+    /// The lesser of the masses of the two sides.
+    pub balance: u64,
+    /// For each vertex whether it is on the side without vertex 0.
+    pub in_side: Vec<bool>,
+}
+
 extern "C" {
+    fn mincut_raw_balanced(
+        n: u32, u: *const u32, u_len: usize, v: *const u32, v_len: usize, w: *const u64, w_len: usize,
+        mass: *const u64, mass_len: usize, balance: *mut Balance, in_side: *mut u8, in_side_len: usize,
+    ) -> u32;
     fn mincut_raw_value(
         n: u32, u: *const u32, u_len: usize, v: *const u32, v_len: usize, w: *const u64, w_len: usize, value: *mut u64,
     ) -> u32;
@@ -211,4 +237,29 @@ pub fn cactus(n: u32, u: &[u32], v: &[u32], w: &[u64]) -> Result<Cactus, Error> 
     cycle_starts.truncate(sizes.cycles);
     members.truncate(sizes.members);
     Ok(Cactus { value: sizes.value, node_starts, vertices, bridges, cycle_starts, members })
+}
+
+/// A minimum cut of a connected graph than which none has a greater balance; which of several such cuts is free. `masses` has n
+/// entries, or none, for a mass of 1 each.
+///
+/// ```
+/// // a path of four vertices with weights 1, 1, 1
+/// let found = mincut::balanced(4, &[0, 1, 2], &[1, 2, 3], &[1, 1, 1], &[]).unwrap();
+/// assert_eq!((found.value, found.balance), (1, 2));
+/// assert_eq!(found.in_side, [false, false, true, true]);
+/// assert_eq!(mincut::balanced(4, &[0, 1, 2], &[1, 2, 3], &[1, 1, 1], &[5, 1, 1, 1]).unwrap().balance, 3);
+/// ```
+pub fn balanced(n: u32, u: &[u32], v: &[u32], w: &[u64], masses: &[u64]) -> Result<Balanced, Error> {
+    // a graph above the limit is refused whatever the room
+    let mut bytes = vec![0u8; if n > 4_194_304 { 0 } else { n as usize }];
+    let mut told = Balance::default();
+    // SAFETY: as above.
+    let status = unsafe {
+        mincut_raw_balanced(
+            n, u.as_ptr(), u.len(), v.as_ptr(), v.len(), w.as_ptr(), w.len(), masses.as_ptr(), masses.len(), &mut told,
+            bytes.as_mut_ptr(), bytes.len(),
+        )
+    };
+    self::told(status)?;
+    Ok(Balanced { value: told.value, balance: told.balance, in_side: bytes.iter().map(|byte| *byte == 1).collect() })
 }

@@ -1,4 +1,4 @@
-use mincut::{cactus, count, value, Error};
+use mincut::{balanced, cactus, count, value, Error};
 
 #[test]
 fn each_fault_is_told() {
@@ -10,6 +10,10 @@ fn each_fault_is_told() {
     assert_eq!(value(2, &[0], &[2], &[1]), Err(Error::BadVertex));
     assert_eq!(value(2, &[0, 0], &[1, 1], &[1 << 61, 1]), Err(Error::WeightSum));
     assert_eq!(count(2, &[], &[], &[]), Err(Error::Disconnected));
+    assert_eq!(balanced(2, &[0], &[1], &[1], &[1]), Err(Error::BadLength));
+    assert_eq!(balanced(2, &[0], &[1], &[1], &[u64::MAX, 1]), Err(Error::MassSum));
+    assert_eq!(balanced(u32::MAX, &[], &[], &[], &[]), Err(Error::TooManyVertices));
+    assert_eq!(balanced(2, &[], &[], &[], &[]), Err(Error::Disconnected));
 }
 
 #[test]
@@ -20,4 +24,13 @@ fn a_star_has_bridges() {
     let nodes = found.node_of();
     assert_eq!(nodes[0], nodes[3]);
     assert_ne!(nodes[1], nodes[2]);
+}
+
+#[test]
+fn a_ring_is_halved() {
+    let n = 130;
+    let (u, v, w): (Vec<u32>, Vec<u32>, Vec<u64>) = ((0..n).collect(), (1..n).chain([0]).collect(), vec![1; n as usize]);
+    let found = balanced(n, &u, &v, &w, &[]).unwrap();
+    assert_eq!((found.value, found.balance, found.in_side[0]), (2, 65, false));
+    assert_eq!(found.in_side.iter().filter(|inside| **inside).count(), 65);
 }

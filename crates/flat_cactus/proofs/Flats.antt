@@ -1,10 +1,11 @@
 -- A list cut at places: what it is after one more place or one more item, and what each part of it is.
-use Rattle.std.proofs.Common.{◌≡◌, ℕ, zero, suc, ◌+◌, ◌-◌, ◌≤◌, ◌<◌, inl, inr, ⊎_elim, List, [], ◌∷◌, ◌++◌, length, take, drop, ap, ◌∙◌, sym, refl, arith, add-one, length-append, length-drop}
+use Rattle.std.proofs.Common.{◌≡◌, ℕ, zero, suc, ◌+◌, ◌-◌, ◌≤◌, ◌<◌, inl, inr, ⊎_elim, List, [], ◌∷◌, ◌++◌, length, take, drop, ap, ◌∙◌, subst, sym, refl, arith, add-one, length-append, length-drop}
 use Rattle.std.specs.Prelude.{◌≢◌, Some, slice_range, slice_get}
-use Rattle.std.proofs.lemmas.List.{take_all, drop_all, take-append-le, drop-append-le, get_or_append_left, get_or_past, get_or_default}
+use Rattle.std.proofs.lemmas.List.{take_all, drop_all, take-append-le, drop-append-le, get_or_append_left, get_or_past, get_or_default, length-take-le}
+use Rattle.std.proofs.lemmas.List.Sums.{sum_by-cons}
 use Rattle.std.proofs.Math.Seq.{get_or-append_seam}
 use Rattle.std.proofs.lemmas.Bool.{cases_eq, cases_lt}
-use Rattle.flat_cactus.specs.Flat.{appended_from, appended_to_last, cut_from, cut_at, start_of, AreStarts}
+use Rattle.flat_cactus.specs.Flat.{appended_from, appended_to_last, cut_from, cut_at, items_in, start_of, AreStarts, BeginsFirst}
 
 cut_from_length : (start : ℕ) (more items : List ℕ) → length (cut_from start more items) ≡ suc (length more)
 cut_from_length start [] items = refl
@@ -100,6 +101,30 @@ starts_place starts more count h is =
       ascend = λ i. omega (arith, start_more starts count i, start_more starts count (i + 1), h.ascend i);
       within = λ i. omega (arith, start_more starts count i, h.within i);
     })
+
+-- the first list begins first, with one item more and with one place more
+pub first_item : (starts : List ℕ) (count : ℕ) → 0 < length starts → BeginsFirst starts count → BeginsFirst starts (count + 1)
+first_item starts count some h = start_within starts count 0 some ∙ h
+
+pub first_place : (starts more : List ℕ) (count : ℕ) → BeginsFirst starts count → more ≡ starts ++ count ∷ [] → BeginsFirst more count
+first_place starts more count h is = rw is (start_more starts count 0 ∙ h)
+
+cut_from_total : (start : ℕ) (more items : List ℕ) → ((i : ℕ) → start_of (start ∷ more) (length items) i ≤ start_of (start ∷ more) (length items) (suc i))
+    → ((i : ℕ) → start_of (start ∷ more) (length items) i ≤ length items) → items_in (cut_from start more items) + start ≡ length items
+cut_from_total start [] items ascend within = omega (arith, sum_by-cons (λ (l : List ℕ). length l) (drop start items) [], length-drop start items, within 0)
+cut_from_total start (next ∷ more) items ascend within =
+    let rest = cut_from_total next more items (λ i. ascend (suc i)) (λ i. within (suc i)) in
+    let long : length (slice_range items start next) ≡ next - start = length-take-le (next - start) (drop start items) (omega (arith, length-drop start items, within 1)) in
+    omega (arith, rest, long, ascend 0, sum_by-cons (λ (l : List ℕ). length l) (slice_range items start next) (cut_from next more items))
+
+-- the lists have all items together
+pub cut_items : (starts items : List ℕ) → AreStarts starts (length items) → BeginsFirst starts (length items) → items_in (cut_at starts items) ≡ length items
+cut_items [] items h first = sym first
+cut_items (start ∷ more) items h first =
+    let begins : start ≡ 0 = first in
+    let ascend : (i : ℕ) → start_of (start ∷ more) (length items) i ≤ start_of (start ∷ more) (length items) (suc i) = λ i.
+    subst (λ (j : ℕ). start_of (start ∷ more) (length items) i ≤ start_of (start ∷ more) (length items) j) (add-one i) (h.ascend i) in
+    omega (arith, cut_from_total start more items ascend h.within, begins)
 
 appended_from_last : (first : List ℕ) (front : List (List ℕ)) (last : List ℕ) (x : ℕ)
     → appended_from first (front ++ last ∷ []) x ≡ first ∷ (front ++ (last ++ x ∷ []) ∷ [])

@@ -9,3 +9,4 @@ pub mod FlatShapes
 pub mod Flats
 pub mod Tasked
 pub mod Members
+pub mod SomeBlock

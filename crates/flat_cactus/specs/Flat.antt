@@ -1,5 +1,6 @@
 -- Flat cactuses, and how one is held: lists one after another in one, with the places where each begins.
-use Rattle.std.specs.Prelude.{ℕ, ◌≤◌, ◌+◌, List, [], ◌∷◌, ◌++◌, drop, slice_range, slice_index_or}
+use Rattle.std.specs.Prelude.{ℕ, ◌≡◌, ◌≤◌, ◌+◌, List, [], ◌∷◌, ◌++◌, drop, length, slice_range, slice_index_or}
+use Rattle.std.specs.List.{sum_by}
 
 -- a flat cactus: the vertices of each node, the bridges as pairs of node numbers from 0, and the cycles as lists of node numbers
 pub record Flat : Type 0 where
@@ -32,7 +33,15 @@ cut_at (start ∷ more) items = cut_from start more items
 abbrev pub start_of : List ℕ → ℕ → ℕ → ℕ
 start_of starts count i = slice_index_or starts i count
 
+-- how many items several lists have together
+abbrev pub items_in : List (List ℕ) → ℕ
+items_in = sum_by (λ (l : List ℕ). length l)
+
 -- the places ascend, and none is past the end
 pub record AreStarts (starts : List ℕ) (count : ℕ) : Type 0 where
   pub ascend : (i : ℕ) → start_of starts count i ≤ start_of starts count (i + 1)
   pub within : (i : ℕ) → start_of starts count i ≤ count
+
+-- the first list begins with the first item, and where there is no list there is no item
+abbrev pub BeginsFirst : List ℕ → ℕ → Type 0
+BeginsFirst starts count = start_of starts count 0 ≡ 0

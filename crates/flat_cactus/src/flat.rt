@@ -1,7 +1,7 @@
 //! The flat cactus: nodes, bridges and cycles by the numbers of the nodes.
 
 ghost use Rattle.std.specs.Prelude.{◌≡◌, ◌<◌, ◌+◌, [], ◌∷◌, ◌++◌, slice_range, IfOk, OnOk, OnErr, Some, length, slice_get};
-ghost use Rattle.flat_cactus.specs.Flat.{AreStarts, appended_to_last, cut_at, start_of};
+ghost use Rattle.flat_cactus.specs.Flat.{AreStarts, appended_to_last, cut_at, items_in, start_of};
 
 use cut_definitions::NoMemory;
 use std::alloc::Global;
@@ -24,7 +24,7 @@ pub struct FlatCactus {
 
 impl Model for FlatCactus {
     ghost use Rattle.std.specs.Prelude.{length};
-    ghost use Rattle.flat_cactus.specs.Flat.{Flat, AreStarts, cut_at};
+    ghost use Rattle.flat_cactus.specs.Flat.{Flat, AreStarts, BeginsFirst, cut_at};
 
     ghost Value = { Flat };
 
@@ -35,7 +35,7 @@ impl Model for FlatCactus {
       cycles = cut_at c.cycle_starts.items c.members.items;
     } };
 
-    ghost invariant = { λ c. AreStarts c.node_starts.items (length c.vertices.items) × AreStarts c.cycle_starts.items (length c.members.items) };
+    ghost invariant = { λ c. AreStarts c.node_starts.items (length c.vertices.items) × AreStarts c.cycle_starts.items (length c.members.items) × BeginsFirst c.node_starts.items (length c.vertices.items) × BeginsFirst c.cycle_starts.items (length c.members.items) };
 }
 
 /// The list of this number among the lists that begin at the places.
@@ -154,14 +154,16 @@ impl FlatCactus {
 
     /// Where the vertices of each node begin in one list of them all, and that list, lent without a copy.
     pub fn node_lists(&self) -> (&[usize], &[u32])
-        ensures { cut_at result.0.now result.1.now ≡ self.now.nodes }
+        ensures cut { cut_at result.0.now result.1.now ≡ self.now.nodes }
+        ensures total { length result.1.now ≡ items_in self.now.nodes }
     {
         (&self.node_starts, &self.vertices)
     }
 
     /// Where the members of each cycle begin in one list of them all, and that list, lent without a copy.
     pub fn cycle_lists(&self) -> (&[usize], &[u64])
-        ensures { cut_at result.0.now result.1.now ≡ self.now.cycles }
+        ensures cut { cut_at result.0.now result.1.now ≡ self.now.cycles }
+        ensures total { length result.1.now ≡ items_in self.now.cycles }
     {
         (&self.cycle_starts, &self.members)
     }

@@ -1,15 +1,40 @@
 -- The sizes count what the lists of a flat cactus have.
-use Rattle.std.proofs.Common.{◌≡◌, ℕ, List, length, sym, ◌∙◌, ap}
-use Rattle.flat_cactus.specs.Flat.{Flat, cut_at}
+use Rattle.std.proofs.Common.{◌≡◌, ℕ, List, length, sym, ◌∙◌, ap, arith}
+use Rattle.flat_cactus.specs.Flat.{Flat, cut_at, items_in}
 use Rattle.flat_cactus.proofs.Flats.{cut_length}
-use Rattle.mincut_c.specs.Filled.{Counts}
+use Rattle.mincut_c.specs.Filled.{AreSmall, Counts, HasRoomBy, IsShort}
+use Rattle.mincut_c.specs.Shown.{HasFewParts}
+use Rattle.mincut_c.specs.declared.filling.CactusSizes.{CactusSizes}
 
 -- as many lists as places
 many : (places items : List ℕ) (lists : List (List ℕ)) → cut_at places items ≡ lists → length places ≡ length lists
 many places items lists cut = sym (cut_length places items) ∙ ap (λ (ls : List (List ℕ)). length ls) cut
 
 pub counted : (flat : Flat) (least : ℕ) (node_places node_items cycle_places cycle_items : List ℕ) (pairs : List (ℕ × ℕ)) →
-    cut_at node_places node_items ≡ flat.nodes → pairs ≡ flat.bridges → cut_at cycle_places cycle_items ≡ flat.cycles →
+    cut_at node_places node_items ≡ flat.nodes → length node_items ≡ items_in flat.nodes → pairs ≡ flat.bridges →
+    cut_at cycle_places cycle_items ≡ flat.cycles → length cycle_items ≡ items_in flat.cycles →
     Counts flat (record { value = least; nodes = length node_places; vertices = length node_items; bridges = length pairs; cycles = length cycle_places; members = length cycle_items })
-counted flat least node_places node_items cycle_places cycle_items pairs nodes bridges cycles =
-    record { nodes = many node_places node_items flat.nodes nodes; bridges = ap (λ (bs : List (ℕ × ℕ)). length bs) bridges; cycles = many cycle_places cycle_items flat.cycles cycles }
+counted flat least node_places node_items cycle_places cycle_items pairs nodes vertices bridges cycles members =
+    record {
+      nodes = many node_places node_items flat.nodes nodes;
+      vertices = vertices;
+      members = members;
+      bridges = ap (λ (bs : List (ℕ × ℕ)). length bs) bridges;
+      cycles = many cycle_places cycle_items flat.cycles cycles;
+    }
+
+-- few parts have small sizes
+pub small : (n : ℕ) (flat : Flat) (sizes : CactusSizes) → Counts flat sizes → HasFewParts n flat → AreSmall n sizes
+small n flat sizes c few = record {
+  nodes = omega (arith, c.nodes, few.nodes);
+  vertices = c.vertices ∙ few.vertices;
+  bridges = omega (arith, c.bridges, few.bridges);
+  cycles = omega (arith, c.cycles, few.cycles);
+  members = omega (arith, c.members, few.members);
+}
+
+-- and no array that is as long as n asks for is too short for them
+pub not_short : (n : ℕ) (sizes : CactusSizes) (node_starts vertices pairs cycle_starts members : ℕ) → AreSmall n sizes → HasRoomBy n node_starts vertices pairs cycle_starts members →
+    IsShort sizes node_starts vertices pairs cycle_starts members → ⊥
+not_short n sizes node_starts vertices pairs cycle_starts members s room short =
+    omega (arith, short, s.nodes, s.vertices, s.bridges, s.cycles, s.members, room.for_nodes, room.for_vertices, room.for_bridges, room.for_cycles, room.for_members)

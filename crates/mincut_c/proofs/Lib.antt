@@ -1,2 +1,4 @@
 pub mod Counting
 pub mod Showing
+pub mod Room
+pub mod MassSums

@@ -1,8 +1,8 @@
 -- When arrays hold a flat cactus.
-use Rattle.std.specs.Prelude.{ℕ, ◌≡◌, ◌<◌, ◌≤◌, ◌-◌, ◌⊎◌, List, length, slice_index, slice_index_or}
+use Rattle.std.specs.Prelude.{ℕ, ◌≡◌, ◌<◌, ◌≤◌, ◌*◌, ◌-◌, ◌⊎◌, List, length, slice_index, slice_index_or}
 use Rattle.cut_definitions.specs.Cuts.{value}
 use Rattle.cut_definitions.specs.Graph.{Graph}
-use Rattle.flat_cactus.specs.Flat.{Flat, cut_at}
+use Rattle.flat_cactus.specs.Flat.{Flat, cut_at, items_in}
 use Rattle.mincut_c.specs.declared.filling.Bridge.{Bridge}
 use Rattle.mincut_c.specs.declared.filling.CactusSizes.{CactusSizes}
 use Rattle.mincut_c.specs.Shown.{ShowsCuts}
@@ -40,9 +40,11 @@ pub record HoldsCycles (cycles : List (List ℕ)) (total : ℕ) (begins held : L
   pub starts : Begins places begins
   pub items_held : Begins items held
 
--- the sizes count the nodes, bridges and cycles
+-- the sizes count the nodes, bridges and cycles, and the vertices and members in them
 pub record Counts (flat : Flat) (sizes : CactusSizes) : Type 0 where
   pub nodes : sizes.nodes ≡ length flat.nodes
+  pub vertices : sizes.vertices ≡ items_in flat.nodes
+  pub members : sizes.members ≡ items_in flat.cycles
   pub bridges : sizes.bridges ≡ length flat.bridges
   pub cycles : sizes.cycles ≡ length flat.cycles
 
@@ -59,6 +61,22 @@ pub record HasRoom (sizes : CactusSizes) (node_starts vertices pairs cycle_start
   pub for_cycles : sizes.cycles ≤ cycle_starts
   pub for_members : sizes.members ≤ members
 
+-- the sizes are no larger than those of a normal cactus over n vertices can be
+pub record AreSmall (n : ℕ) (sizes : CactusSizes) : Type 0 where
+  pub nodes : sizes.nodes ≤ 2 * n - 2
+  pub vertices : sizes.vertices ≡ n
+  pub bridges : sizes.bridges ≤ 2 * n - 3
+  pub cycles : sizes.cycles ≤ n - 2
+  pub members : sizes.members ≤ 3 * n - 5
+
+-- the arrays are as long as n vertices ask for, whatever the cactus
+pub record HasRoomBy (n node_starts vertices pairs cycle_starts members : ℕ) : Type 0 where
+  pub for_nodes : 2 * n ≤ node_starts
+  pub for_vertices : n ≤ vertices
+  pub for_bridges : 2 * n ≤ pairs
+  pub for_cycles : n ≤ cycle_starts
+  pub for_members : 3 * n ≤ members
+
 -- the arrays hold the nodes, bridges and cycles of a flat cactus
 pub record HoldsFlat (flat : Flat) (sizes : CactusSizes) (node_starts vertices : List ℕ) (pairs : List Bridge) (cycle_starts members : List ℕ) : Type 0 where
   pub counts : Counts flat sizes
@@ -71,6 +89,7 @@ pub record CountsCactus (g : Graph) (sizes : CactusSizes) : Type 0 where
   pub flat : Flat
   pub shows : ShowsCuts g flat
   pub counts : Counts flat sizes
+  pub small : AreSmall g.vertices sizes
   pub same_value : sizes.value ≡ value g
 
 -- the arrays hold a cactus of all minimum cuts of a graph

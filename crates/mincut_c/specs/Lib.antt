@@ -1,3 +1,4 @@
 pub mod Shown
 pub mod Filled
 pub mod Statuses
+pub mod Balanced

@@ -1,12 +1,12 @@
 -- The status of each fault, and what it tells of the arrays of a graph.
-use Rattle.std.specs.Prelude.{ℕ, ◌≡◌, ◌<◌, ◌≤◌, ⊤, List}
+use Rattle.std.specs.Prelude.{ℕ, ◌≡◌, ◌≢◌, ◌<◌, ◌≤◌, ◌^◌, ◌⊎◌, ⊤, List, [], ◌∷◌, length, replicate, sum}
 use Rattle.cut_definitions.specs.Cuts.{value}
 use Rattle.cut_definitions.specs.Graph.{Graph}
 use Rattle.edge_arrays.specs.declared.arrays.ArrayFault.TheVariants.{OutOfMemory, BadLength, TooManyVertices, TooManyEdges, BadVertex, WeightSum}
 use Rattle.edge_arrays.specs.Given.{IsGiven, given}
 use Rattle.edge_arrays.specs.Faults.{Explains}
 use Rattle.mincut_c.specs.declared.status.Fault.{Fault}
-use Rattle.mincut_c.specs.declared.status.Fault.TheVariants.{Arrays, NoCut, Disconnected, NoRoom}
+use Rattle.mincut_c.specs.declared.status.Fault.TheVariants.{Arrays, NoCut, Disconnected, NoRoom, MassCount, MassSum}
 
 -- the number by which a call tells of a fault
 abbrev pub number_of : Fault → ℕ
@@ -19,23 +19,44 @@ number_of (Arrays BadVertex) = 6
 number_of (Arrays WeightSum) = 7
 number_of Disconnected = 8
 number_of NoRoom = 9
+number_of MassCount = 3
+number_of MassSum = 10
 
 -- the arrays give a graph that has cuts
 abbrev pub HasCuts : ℕ → List ℕ → List ℕ → List ℕ → Type 0
 HasCuts n us vs ws = IsGiven n us vs ws × (2 ≤ n)
 
--- when a fault is told; want of memory may be anywhere
+-- when a fault of the graph is told; want of memory may be anywhere
 abbrev pub IsReason : Fault → ℕ → List ℕ → List ℕ → List ℕ → Type 0
 IsReason (Arrays fault) n us vs ws = Explains fault n us vs ws
 IsReason NoCut n us vs ws = IsGiven n us vs ws × (n < 2)
 IsReason Disconnected n us vs ws = HasCuts n us vs ws × (value (given n us vs ws) ≡ 0)
 IsReason NoRoom n us vs ws = HasCuts n us vs ws × (1 ≤ value (given n us vs ws))
+IsReason MassCount n us vs ws = ⊥
+IsReason MassSum n us vs ws = ⊥
+
+-- the masses of n vertices by an array: 1 for each vertex where the array has no entry
+abbrev pub masses_for : ℕ → List ℕ → List ℕ
+masses_for n [] = replicate n 1
+masses_for n (m ∷ ms) = m ∷ ms
+
+-- when a fault of masses is told
+abbrev pub IsMassReason : Fault → ℕ → List ℕ → Type 0
+IsMassReason MassCount n masses = length (masses_for n masses) ≢ n
+IsMassReason MassSum n masses = 2 ^ 64 ≤ sum (masses_for n masses)
+IsMassReason _ n masses = ⊥
 
 -- a status is that of a fault that there is reason for
 pub record TellsFault (status n : ℕ) (us vs ws : List ℕ) : Type 0 where
   pub fault : Fault
   pub number : status ≡ number_of fault
   pub reason : IsReason fault n us vs ws
+
+-- the same of a call that takes masses
+pub record TellsWeighedFault (status n : ℕ) (us vs ws masses : List ℕ) : Type 0 where
+  pub fault : Fault
+  pub number : status ≡ number_of fault
+  pub reason : IsReason fault n us vs ws ⊎ IsMassReason fault n masses
 
 -- why a list of edges is not solved: memory is wanting, or its value is 0
 abbrev pub IsUnsolved : Fault → Graph → Type 0

@@ -2,7 +2,7 @@
 
 ghost use Rattle.std.specs.Prelude.{◌≡◌, ◌≢◌, ◌≤◌, OnOk, OnErr, IfErr, length};
 ghost use Rattle.edge_arrays.specs.Given.{given};
-ghost use Rattle.mincut_c.specs.Filled.{CountsCactus, HoldsCactus, IsShort};
+ghost use Rattle.mincut_c.specs.Filled.{CountsCactus, HasRoomBy, HoldsCactus, IsShort};
 ghost use Rattle.mincut_c.specs.Statuses.{HasCuts, IsReason, TellsFault, number_of};
 
 use crate::filling::{Bridge, CactusSizes, put_flat};
@@ -13,7 +13,8 @@ use std::alloc::Global;
 /// A cactus of all minimum cuts of the connected graph with `n` vertices, counted from 0, whose edges the arrays give, in its
 /// normal form. The sizes tell the value, and how many entries of each array the cactus takes.
 ///
-/// The status is 0 where there is an answer. It is 9 where an array is shorter than its size tells, which is told all the same;
+/// The status is 0 where there is an answer. It is 9 where an array is shorter than its size tells, which is told all the same:
+/// never where the arrays have 2n, n, 2n, n and 3n entries;
 /// 8 where the graph is not connected; and else as that of `mincut_raw_value`. With another status than 0 the arrays are left as
 /// they were, and with another than 0 and 9 the sizes too. Time O(m log m), that of one sweep of flows for the value, and that of
 /// one over regions for the cactus.
@@ -36,6 +37,7 @@ pub extern "C" fn mincut_raw_cactus(
     ensures counts { result ≡ 0 → CountsCactus (given n us.now vs.now ws.now) sizes.new }
     ensures needed { result ≡ 9 → CountsCactus (given n us.now vs.now ws.now) sizes.new }
     ensures short { result ≡ 9 → IsShort sizes.new (length node_starts.old) (length vertices.old) (length bridges.old) (length cycle_starts.old) (length members.old) }
+    ensures room { HasRoomBy n (length node_starts.old) (length vertices.old) (length bridges.old) (length cycle_starts.old) (length members.old) → result ≢ 9 }
     ensures sizes_left { result ≢ 0 → result ≢ 9 → sizes.new ≡ sizes.old }
     ensures left { result ≢ 0 → (node_starts.new ≡ node_starts.old) × (vertices.new ≡ vertices.old) × (bridges.new ≡ bridges.old) × (cycle_starts.new ≡ cycle_starts.old) × (members.new ≡ members.old) }
     ensures fault { result ≢ 0 → TellsFault result n us.now vs.now ws.now }

@@ -6,10 +6,8 @@ ghost use Rattle.edge_arrays.specs.Given.{given};
 ghost use Rattle.rooted_cactus.specs.Different.{HasDifferent};
 ghost use Rattle.mincut_c.specs.Statuses.{HasCuts, IsReason, TellsFault, number_of};
 
-use crate::solving::solved_of_list;
+use crate::solving::solved_of_arrays;
 use crate::status::{Fault, OK, status_of};
-use edge_arrays::laws::{same_mincuts, same_value};
-use edge_arrays::list_of_arrays;
 use std::alloc::Global;
 
 /// The number of the minimum cuts of the graph of the arrays.
@@ -19,13 +17,7 @@ fn count_of_arrays(alloc: Global, n: u32, us: &[u32], vs: &[u32], ws: &[u64]) ->
     ensures reason { IfErr result (λ fault. IsReason fault n us.now vs.now ws.now) }
     ensures known { IfErr result (λ fault. number_of fault ≤ 8) }
 {
-    same_value();
-    same_mincuts();
-    let list = list_of_arrays(alloc, n, us, vs, ws)?;
-    if list.n() < 2 {
-        return Err(Fault::NoCut);
-    }
-    let solved = solved_of_list(alloc, list)?;
+    let solved = solved_of_arrays(alloc, n, us, vs, ws)?;
     let cactus = solved.cactus;
     let count = cactus.count_within(alloc)?;
     Ok(count)

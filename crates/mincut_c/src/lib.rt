@@ -3,10 +3,12 @@
 //! Nothing is asked of the arrays but that they are there: what is no graph is answered by a status.
 #![tactic(auto)]
 
+mod balances;
 mod below;
 mod cactuses;
 mod counts;
 mod filling;
+mod masses;
 mod solving;
 mod status;
 mod values;

@@ -1,10 +1,10 @@
-//! The cactus of all minimum cuts, as a flat one.
+//! From arrays to the value and a cactus of all minimum cuts, and to a flat one.
 
 ghost use Rattle.std.specs.Prelude.{◌≡◌, ◌≤◌, IfOk, IfErr};
 ghost use Rattle.cut_definitions.specs.Cuts.{value};
-ghost use Rattle.edge_arrays.specs.Given.{given};
+ghost use Rattle.edge_arrays.specs.Given.{WeighsAs, given};
 ghost use Rattle.rooted_cactus.specs.Solving.{IsSolved};
-ghost use Rattle.mincut_c.specs.Shown.{ShowsCuts};
+ghost use Rattle.mincut_c.specs.Shown.{HasFewParts, ShowsCuts};
 ghost use Rattle.mincut_c.specs.Statuses.{HasCuts, IsReason, IsUnsolved, number_of};
 
 use crate::status::Fault;
@@ -14,12 +14,13 @@ use edge_arrays::list_of_arrays;
 use flat_cactus::laws::{flat_form, flat_sides};
 use flat_cactus::{FlatCactus, flatten};
 use least_cut::least_weight;
+use rooted_cactus::laws::few_nodes;
 use std::alloc::Global;
 use swept_cactus::{Solved, solve_alone};
 use weighted_graph::Graph;
 
 /// The value of a connected graph, and a cactus of its minimum cuts.
-pub(crate) fn solved_of_list(alloc: Global, list: EdgeList) -> Result<Solved, Fault>
+fn solved_of_list(alloc: Global, list: EdgeList) -> Result<Solved, Fault>
     requires { 2 ≤ list.vertices }
     ensures solved { IfOk result (IsSolved list) }
     ensures positive { IfOk result (λ s. 1 ≤ value list) }
@@ -36,26 +37,48 @@ pub(crate) fn solved_of_list(alloc: Global, list: EdgeList) -> Result<Solved, Fa
     Ok(solved)
 }
 
-/// The value of a connected graph, and a flat cactus of its minimum cuts.
-fn flat_of_list(alloc: Global, list: EdgeList) -> Result<(u64, FlatCactus), Fault>
-    requires { 2 ≤ list.vertices }
-    ensures value { IfOk result (λ r. r.0 ≡ value list) }
-    ensures cuts { IfOk result (λ r. ShowsCuts list r.1) }
-    ensures positive { IfOk result (λ r. 1 ≤ value list) }
-    ensures unsolved { IfErr result (λ fault. IsUnsolved fault list) }
+/// The graph of the arrays, where it has a cut.
+fn list_with_cuts(
+    alloc: Global,
+    n: u32,
+    us: &[u32],
+    vs: &[u32],
+    ws: &[u64],
+) -> Result<EdgeList, Fault>
+    ensures graph { IfOk result (λ list. WeighsAs list (given n us.now vs.now ws.now)) }
+    ensures given { IfOk result (λ list. HasCuts n us.now vs.now ws.now) }
+    ensures reason { IfErr result (λ fault. IsReason fault n us.now vs.now ws.now) }
+    ensures known { IfErr result (λ fault. number_of fault ≤ 7) }
 {
-    flat_form();
-    flat_sides();
-    let solved = solved_of_list(alloc, list)?;
-    let least = solved.value;
-    let cactus = solved.cactus;
-    // known by this call: that it is a cactus
-    let _n = cactus.n();
-    let flat = flatten(alloc, &cactus)?;
-    Ok((least, flat))
+    let list = list_of_arrays(alloc, n, us, vs, ws)?;
+    if list.n() < 2 {
+        return Err(Fault::NoCut);
+    }
+    Ok(list)
 }
 
-/// The same for the graph of the arrays.
+/// The value of the graph of the arrays, and a cactus of its minimum cuts.
+pub(crate) fn solved_of_arrays(
+    alloc: Global,
+    n: u32,
+    us: &[u32],
+    vs: &[u32],
+    ws: &[u64],
+) -> Result<Solved, Fault>
+    ensures solved { IfOk result (λ s. IsSolved (given n us.now vs.now ws.now) s) }
+    ensures given { IfOk result (λ s. HasCuts n us.now vs.now ws.now) }
+    ensures positive { IfOk result (λ s. 1 ≤ value (given n us.now vs.now ws.now)) }
+    ensures reason { IfErr result (λ fault. IsReason fault n us.now vs.now ws.now) }
+    ensures known { IfErr result (λ fault. number_of fault ≤ 8) }
+{
+    same_value();
+    same_mincuts();
+    let list = list_with_cuts(alloc, n, us, vs, ws)?;
+    let solved = solved_of_list(alloc, list)?;
+    Ok(solved)
+}
+
+/// The value of the graph of the arrays, and a flat cactus of its minimum cuts.
 pub(crate) fn flat_of_arrays(
     alloc: Global,
     n: u32,
@@ -65,17 +88,20 @@ pub(crate) fn flat_of_arrays(
 ) -> Result<(u64, FlatCactus), Fault>
     ensures value { IfOk result (λ r. r.0 ≡ value (given n us.now vs.now ws.now)) }
     ensures cuts { IfOk result (λ r. ShowsCuts (given n us.now vs.now ws.now) r.1) }
+    ensures few { IfOk result (λ r. HasFewParts n r.1) }
     ensures given { IfOk result (λ r. HasCuts n us.now vs.now ws.now) }
     ensures positive { IfOk result (λ r. 1 ≤ value (given n us.now vs.now ws.now)) }
     ensures reason { IfErr result (λ fault. IsReason fault n us.now vs.now ws.now) }
     ensures known { IfErr result (λ fault. number_of fault ≤ 8) }
 {
-    same_value();
-    same_mincuts();
-    let list = list_of_arrays(alloc, n, us, vs, ws)?;
-    if list.n() < 2 {
-        return Err(Fault::NoCut);
-    }
-    let found = flat_of_list(alloc, list)?;
-    Ok(found)
+    flat_form();
+    flat_sides();
+    few_nodes();
+    let solved = solved_of_arrays(alloc, n, us, vs, ws)?;
+    let least = solved.value;
+    let cactus = solved.cactus;
+    // known by this call: that it is a cactus
+    let _n = cactus.n();
+    let flat = flatten(alloc, &cactus)?;
+    Ok((least, flat))
 }

@@ -17,6 +17,10 @@ pub(crate) enum Fault {
     Disconnected,
     /// An output array is too short.
     NoRoom,
+    /// There are masses, and not as many as vertices.
+    MassCount,
+    /// The masses add up to 2^64 or more.
+    MassSum,
 }
 
 impl From<ArrayFault> for Fault {
@@ -48,19 +52,20 @@ pub(crate) const OK: u32 = 0;
 /// The status that tells that an output array is too short.
 pub(crate) const NO_ROOM: u32 = 9;
 
-/// The status that tells of a fault, of 1 to 9.
+/// The status that tells of a fault, of 1 to 10.
 pub(crate) fn status_of(fault: Fault) -> u32
     ensures { result ≡ number_of fault }
 {
     match fault {
         Fault::NoCut => 1,
         Fault::Arrays(ArrayFault::OutOfMemory) => 2,
-        Fault::Arrays(ArrayFault::BadLength) => 3,
+        Fault::Arrays(ArrayFault::BadLength) | Fault::MassCount => 3,
         Fault::Arrays(ArrayFault::TooManyVertices) => 4,
         Fault::Arrays(ArrayFault::TooManyEdges) => 5,
         Fault::Arrays(ArrayFault::BadVertex) => 6,
         Fault::Arrays(ArrayFault::WeightSum) => 7,
         Fault::Disconnected => 8,
         Fault::NoRoom => 9,
+        Fault::MassSum => 10,
     }
 }

@@ -1,8 +1,15 @@
 use Rattle.edge_arrays.specs.Given.{given}
-use Rattle.mincut_c.proofs.Showing.{shows_as}
+use Rattle.mincut_c.proofs.Showing.{shows}
+use Rattle.mincut_c.proofs.Room.{few_parts}
 use Rattle.mincut_c.proofs.solving.flat_of_arrays.Goals as goal
 
 pub returns-clause-cuts : goal.returns-clause-cuts
 returns-clause-cuts c =
     let g = given c.args.n c.args.us.now c.args.vs.now c.args.ws.now in
-    shows_as c.in_ok-list.list g c.in_ok-found.found.1 c.in_ok-list.ensures.graph (c.same_mincuts.ensures c.in_ok-list.list g c.in_ok-list.ensures.graph) c.in_ok-found.ensures.cuts
+    let s = c.in_ok-solved.ensures.solved in
+    shows g c.in_ok-solved.solved.cactus c.in_ok-flat.flat c.flat_form.ensures c.flat_sides.ensures c.n-n.ensures.cactus c.in_ok-flat.ensures s.over s.sides
+
+pub returns-clause-few : goal.returns-clause-few
+returns-clause-few c =
+    let g = given c.args.n c.args.us.now c.args.vs.now c.args.ws.now in
+    few_parts g c.in_ok-solved.solved c.in_ok-flat.flat c.flat_form.ensures c.few_nodes.ensures c.in_ok-solved.ensures.given.1 c.n-n.ensures.cactus c.in_ok-flat.ensures c.in_ok-solved.ensures.solved

@@ -1,6 +1,6 @@
 use Rattle.std.proofs.Common.{◌∙◌, ◌≡◌, ◌++◌, ◌∷◌, [], ℕ, List, ap, length, rules}
 use Rattle.flat_cactus.specs.Flat.{Flat, cut_at}
-use Rattle.flat_cactus.proofs.Flats.{cut_list, starts_place}
+use Rattle.flat_cactus.proofs.Flats.{cut_list, first_place, starts_place}
 use Rattle.flat_cactus.proofs.flat.FlatCactus.push_cycle.Goals as goal
 
 pub returns-clause-ok : goal.returns-clause-ok
@@ -18,4 +18,4 @@ invariant_of-self-2 c =
     let starts = c.self.inside.cycle_starts.items in
     let items = c.self.inside.members.items in
     let grown : c.push.new.self.items ≡ starts ++ length items ∷ [] = search rules in
-    (c.self.invariant.0, starts_place starts c.push.new.self.items (length items) c.self.invariant.1 grown)
+    (c.self.invariant.0, starts_place starts c.push.new.self.items (length items) c.self.invariant.1 grown, c.self.invariant.2, first_place starts c.push.new.self.items (length items) c.self.invariant.3 grown)
