@@ -1,4 +1,4 @@
 pub mod Lifting
-pub mod Finishing
+pub mod Smaller
 mod ByClasses
 mod Connected

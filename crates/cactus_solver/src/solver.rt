@@ -11,12 +11,13 @@ ghost use Rattle.cut_definitions.specs.Members.{SameMembers};
 
 use cut_definitions::NoMemory;
 use min_value::{Kernel, reduce, value as least_weight};
-use node_tree::{HomedTree, cactus_of_tree, normal_form, tree_of_branches};
+use node_tree::{HomedTree, tree_of_branches};
 use outside::Gate;
 use region_sweep::tree_by_workers;
 use rooted_cactus::Solved;
 use std::alloc::Global;
 use std::thread::Threads;
+use swept_cactus::cactus_by_tree;
 use weighted_graph::Graph;
 
 /// The tree of the minimum cuts of a graph whose value is given: read off the graph where it is a tree whose edges all have
@@ -112,11 +113,9 @@ pub fn solve_at<R: Threads + Sync, G: Gate>(
     ensures sides { IfOk result (λ s. SameMembers (sides_of s.cactus) (mincuts graph.now)) }
     ensures normal { IfOk result (λ s. is_normal s.cactus.root ≡ true) }
 {
-    let n = graph.n();
     let tree = tree_at_value(rt, alloc, graph, value, workers, gate)?;
-    let made = cactus_of_tree(alloc, tree, n)?;
-    let cactus = normal_form(alloc, made)?;
-    Ok(Solved { value, cactus })
+    let solved = cactus_by_tree(alloc, graph, value, tree)?;
+    Ok(solved)
 }
 
 /// The value of a connected graph of two or more vertices, and the cactus of its minimum cuts, in its normal form.

@@ -1,18 +1,21 @@
 -- Gathering the sides of a walk, and how many are allowed.
-use Rattle.std.proofs.Common.{◌≡◌, ℕ, length, ◌==◌, ◌||◌, ◌&&◌, inl, inr, true≢false, ◌+◌, ◌*◌, ◌/◌, ◌<◌, ◌≤◌, Bool, true, false, List, [], ◌∷◌, ◌++◌, get_or, refl, sym, ◌∙◌, ap, subst, arith}
+use Rattle.std.proofs.Common.{◌≡◌, ℕ, length, ◌==◌, ◌||◌, ◌&&◌, inl, inr, true≢false, ◌+◌, ◌*◌, ◌/◌, ◌^◌, ◌<◌, ◌≤◌, Bool, true, false, List, [], ◌∷◌, ◌++◌, get_or, refl, sym, ◌∙◌, ap, subst, arith}
 use Rattle.std.specs.Prelude.{◌↔◌, Result, Ok, Err, IfOk}
+use Rattle.std.specs.Bool.{MatchBool}
 use Rattle.std.specs.List.{All, Contains, filter, flat_map, range_with_len}
 use Rattle.std.proofs.Math.Nat.{div-mul-le_self}
 use Rattle.std.proofs.lemmas.Nat.{mul-le, le-div}
 use Rattle.std.proofs.lemmas.Bool.{cases_Bool, eq-eqb, eqb-true}
-use Rattle.std.proofs.lemmas.List.{append_assoc, map-append, nil_from_length}
+use Rattle.std.proofs.lemmas.List.{append_assoc, length-map, map-append, nil_from_length}
 use Rattle.std.proofs.lemmas.List.Elements.{All-nil, All-contains, All-head, All-map, All-tail, filter-append}
 use Rattle.cut_definitions.proofs.Lists.{Contains-filter, Contains-from_filter}
 use Rattle.rooted_cactus.specs.Different.{AreDifferent}
 use Rattle.vertex_set.specs.Side.{VertexList}
 use Rattle.cut_listing.specs.declared.ask.Ask.{Ask}
-use Rattle.cut_listing.specs.Listings.{IsList, IsListing, asked_sides, different, members_of}
-use Rattle.cut_listing.proofs.Listed.{all_from, same_different, different_is_listing}
+use Rattle.cut_listing.specs.declared.list_refusal.ListRefusal.{ListRefusal}
+use Rattle.cut_listing.specs.declared.list_refusal.ListRefusal.TheVariants.{TooLarge, NoMemory}
+use Rattle.cut_listing.specs.Listings.{IsList, IsListing, IsRefusal, asked_sides, different, members_of}
+use Rattle.cut_listing.proofs.Listed.{all_from, is_different, same_different, different_is_listing}
 use Rattle.cut_definitions.specs.Weight.{VertexSet}
 use Rattle.cut_definitions.specs.Cuts.{IsAscendingWithin}
 use Rattle.cut_definitions.proofs.Bridge.{IsAscendingWithin-filter}
@@ -70,19 +73,16 @@ whatever (Ok x) p = p
 whatever (Err e) p = tt
 
 -- ---- how many are allowed
-pub few_fit : (count largest n size : ℕ) → count ≤ largest / n → size ≡ n → count * size ≤ largest
-few_fit count largest n size h f =
+pub few_fit : (count largest n : ℕ) → count ≤ largest / n → count * n ≤ largest
+few_fit count largest n h =
     let grown : count * n ≤ (largest / n) * n = mul-le count n (largest / n) n h (omega arith) in
-    let same : count * size ≡ count * n = ap (λ k. count * k) f in
-    omega (arith, grown, same, div-mul-le_self largest n)
+    omega (arith, grown, div-mul-le_self largest n)
 
-pub many_do_not : (count largest n size : ℕ) → 0 < n → largest / n < count → size ≡ n → largest < count * size
-many_do_not count largest n size p h f =
-    let same : count * size ≡ count * n = ap (λ k. count * k) f in
-    elim (cases_le (count * n) largest) [
-      | inl l ↦ absurd (let m = le-div count largest n p l in omega (arith, m, h))
-      | inr m ↦ omega (arith, m, same)
-    ]
+pub many_do_not : (count largest n : ℕ) → 0 < n → largest / n < count → largest < count * n
+many_do_not count largest n p h = elim (cases_le (count * n) largest) [
+  | inl l ↦ absurd (let m = le-div count largest n p l in omega (arith, m, h))
+  | inr m ↦ m
+]
 
 -- ---- a cactus has a vertex
 pub ascends_to : (low high v : ℕ) (l : List ℕ) → IsAscendingWithin low high l → has l v ≡ true → v ≤ high
@@ -97,16 +97,35 @@ has_a_vertex n root is =
     let lists : All (IsAscendingWithin 1 n) (vertices root ∷ flat_map entered_block (blocks root)) = subst (All (IsAscendingWithin 1 n)) (entered_out root) is.ascending in
     ascends_to 1 n 1 (vertices root) (All-head (IsAscendingWithin 1 n) (vertices root) (flat_map entered_block (blocks root)) lists) (contains_has (vertices root) 1 is.root_has_one)
 
--- where none is asked for, the empty list is the listing
-pub none_listed : (largest n : ℕ) (ask : Ask) (c : Rooted) (list : List VertexList) → 0 ≡ length (different (asked_sides ask c)) → list ≡ [] → IsList largest n ask c list
-none_listed largest n ask c list none empty =
+-- a test that says which of two facts holds
+pub decided : (b : Bool) (P Q : Type 0) → (b ≡ true → P) → (b ≡ false → Q) → MatchBool b P Q
+decided b P Q holds fails = elim (cases_Bool b) [ inl is ↦ rw is (holds is) | inr out ↦ rw out (fails out) ]
+
+-- all that are asked for, in order, where they are not too many
+pub listed : (n : ℕ) (ask : Ask) (c : Rooted) (cuts : ℕ) (list : List VertexList) → cuts ≡ length (different (asked_sides ask c)) → cuts * n ≤ 2 ^ 30 →
+    All (λ (s : VertexList). s.vertices ≡ n) list → members_of list ≡ different (asked_sides ask c) → IsList (2 ^ 30) n ask c list
+listed n ask c cuts list counted few over is =
     let sides = asked_sides ask c in
-    subst (IsList largest n ask c) (sym empty)
-    (record {
-      over_n = All-nil (λ (s : VertexList). s.vertices ≡ n);
-      listing = subst (IsListing sides) (nil_from_length (different sides) (sym none)) (different_is_listing sides);
-      not_too_large = omega arith;
-    })
+    let many : cuts ≡ length list = counted ∙ ap (λ (l : List (List ℕ)). length l) (sym is) ∙ length-map list (λ (s : VertexList). s.members) in
+    record {
+      over_n = over;
+      listing = subst (IsListing sides) (sym is) (different_is_listing sides);
+      not_too_large = subst (λ k. k * n ≤ 2 ^ 30) many few;
+    }
+
+-- their number, where they are too many
+pub too_many : (n size : ℕ) (ask : Ask) (c : Rooted) (cuts : ℕ) → cuts ≡ length (different (asked_sides ask c)) → size ≡ n → 2 ^ 30 < cuts * size → IsRefusal (2 ^ 30) n ask c (TooLarge cuts size)
+too_many n size ask c cuts counted same large = (
+  record { listing = different (asked_sides ask c); is_listing = different_is_listing (asked_sides ask c); counted = counted },
+  same,
+  subst (λ k. 2 ^ 30 < cuts * k) same large,
+)
+
+-- where none is asked for, the empty list is the listing
+pub none_listed : (n : ℕ) (ask : Ask) (c : Rooted) (list : List VertexList) → 0 ≡ length (different (asked_sides ask c)) → list ≡ [] → IsList (2 ^ 30) n ask c list
+none_listed n ask c list none empty =
+    subst (IsList (2 ^ 30) n ask c) (sym empty)
+    (listed n ask c 0 [] none (omega arith) (All-nil (λ (s : VertexList). s.vertices ≡ n)) (sym (nil_from_length (different (asked_sides ask c)) (sym none))))
 
 -- ---- the sides over n that are selected
 pub selected : (n : ℕ) (q : List ℕ → Bool) (xs : List VertexList) → All (λ (s : VertexList). s.vertices ≡ n) xs → members_of (filter (λ (s : VertexList). (s.vertices == n) && q s.members) xs) ≡ filter q (members_of xs)
@@ -124,3 +143,18 @@ selected n q (x ∷ xs) over =
 
     left_head : q x.members ≡ false → filter q (x.members ∷ members_of xs) ≡ filter q (members_of xs)
     left_head out = rw out refl
+
+-- ---- asks that let the same sides through
+module _ (n : ℕ) (ask other : Ask) (c : Rooted) (same : different (asked_sides ask c) ≡ different (asked_sides other c)) where
+  same_listing : (listing : List (List ℕ)) → IsListing (asked_sides ask c) listing → IsListing (asked_sides other c) listing
+  same_listing listing is =
+      let sides = asked_sides ask c in
+      let all = is_different sides listing is.ascending (λ s. (is.same s).0) (λ s. (is.same s).1) in
+      subst (IsListing (asked_sides other c)) (sym (all ∙ same)) (different_is_listing (asked_sides other c))
+
+  pub same_list : (list : List VertexList) → IsList (2 ^ 30) n ask c list → IsList (2 ^ 30) n other c list
+  same_list list is = record { over_n = is.over_n; listing = same_listing (members_of list) is.listing; not_too_large = is.not_too_large }
+
+  pub same_refusal : (refusal : ListRefusal) → IsRefusal (2 ^ 30) n ask c refusal → IsRefusal (2 ^ 30) n other c refusal
+  same_refusal (TooLarge cuts size) is = (record { listing = is.0.listing; is_listing = same_listing is.0.listing is.0.is_listing; counted = is.0.counted }, is.1, is.2)
+  same_refusal NoMemory is = tt

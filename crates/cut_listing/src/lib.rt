@@ -7,8 +7,9 @@
 //! All sides are counted from the tree of the cactus, which is normal, and gathered by a walk that asks the test of each.
 //! Those of a least balance are bands of the borders of the blocks, which are counted and gathered by two moving ends, in
 //! steps for each node and vertex and for what is found. Those that part two vertices are the sides of a balance of at least
-//! 1, where these two alone have the mass 1. The number comes first: where it times n is above 2^30 the listing is refused
-//! with it, before any side is gathered.
+//! 1, where these two alone have the mass 1. So no test is asked for these two, and `list_balanced` and `list_parting` are
+//! called without one. The number comes first: where it times n is above 2^30 the listing is refused with it, before any side
+//! is gathered.
 //!
 //! The module `laws` says that there is one listing of some sides, and that it is the list of the minimum cuts that are
 //! asked for, where the sides of the cactus are the minimum cuts of a graph.
@@ -16,6 +17,7 @@
 
 mod ask;
 pub mod laws;
+mod limit;
 mod list_refusal;
 mod lister;
 mod pair;
@@ -25,3 +27,5 @@ mod weighed;
 pub use ask::Ask;
 pub use list_refusal::ListRefusal;
 pub use lister::{Lister, SideTest};
+pub use pair::list_parting;
+pub use weighed::list_balanced;

@@ -1,6 +1,6 @@
 //! A test of sides, kept beside the fact that it answers what is asked.
 
-ghost use Rattle.std.specs.Prelude.{◌≡◌, ◌*◌, ◌<◌, ◌≤◌, ◌^◌, ◌++◌, ◌&&◌, ◌==◌, [], ◌∷◌, true, IfOk, IfErr, map, length};
+ghost use Rattle.std.specs.Prelude.{◌≡◌, ◌≤◌, ◌^◌, ◌++◌, ◌&&◌, ◌==◌, [], ◌∷◌, true, IfOk, IfErr};
 ghost use Rattle.std.specs.List.{All, filter};
 ghost use Rattle.cut_definitions.specs.Cuts.{IsAscendingWithin};
 ghost use Rattle.rooted_cactus.specs.Different.{AreDifferent};
@@ -9,18 +9,16 @@ ghost use Rattle.cut_listing.specs.Asks.{AnswersAsk, HasMasses, IsOver, TakesSid
 ghost use Rattle.cut_listing.specs.Listings.{IsList, IsRefusal, asked_sides, different, members_of};
 
 use crate::ask::Ask;
+use crate::limit::is_too_large;
 use crate::list_refusal::ListRefusal;
-use crate::pair::{number_of_parting, parting_sides};
+use crate::pair::list_parting;
 use crate::sorting::sort_sides;
-use crate::weighed::{balanced_sides, number_of_balanced};
+use crate::weighed::list_balanced;
 use cactus_walk::Walk;
 use cut_definitions::NoMemory;
 use rooted_cactus::Cactus;
 use std::alloc::Global;
 use vertex_set::Side;
-
-/// A listing may have so many sides that their number times n is no larger than this.
-const LARGEST: u64 = 1 << 30;
 
 /// A test of sides, as a closure in a box. A struct can keep a fact about such a test, and none yet about a closure
 /// whose type is a parameter.
@@ -62,20 +60,6 @@ impl<'a> Lister<'a> {
         ensures { result ≡ (side.now.vertices == self.now.n && lets self.now.ask side.now.members) }
     {
         side.n() == self.n && self.lets_through(side)
-    }
-
-    /// The number of the different sides that are asked for, from the tree.
-    fn number_of_sides(&self, alloc: Global, cactus: &Cactus) -> Result<u64, NoMemory>
-        requires n { cactus.now.vertices ≡ self.now.n }
-        requires normal { is_normal cactus.now.root ≡ true }
-        requires few { cactus.now.vertices ≤ 4194304 }
-        ensures { IfOk result (λ k. k ≡ length (different (asked_sides self.now.ask cactus.now))) }
-    {
-        match self.ask {
-            Ask::All => cactus.count_within(alloc),
-            Ask::Parting(first, second) => number_of_parting(alloc, cactus, first, second),
-            Ask::Least(least, weights) => number_of_balanced(alloc, cactus, weights, least),
-        }
     }
 
     /// Keeps a side where it is asked for, and hands back a room for the next one.
@@ -120,57 +104,22 @@ impl<'a> Lister<'a> {
         self.asked_of(alloc, &mut walk)
     }
 
-    /// The different sides that are asked for, in the order of the tree.
-    fn found_sides(&self, alloc: Global, cactus: &Cactus) -> Result<Vec<Side>, NoMemory>
+    /// All different sides, in the order of lists, or their number where they are too many.
+    fn list_all(&self, alloc: Global, cactus: &Cactus) -> Result<Vec<Side>, ListRefusal>
+        requires all { self.now.ask ≡ Ask.All }
         requires n { cactus.now.vertices ≡ self.now.n }
         requires normal { is_normal cactus.now.root ≡ true }
         requires few { cactus.now.vertices ≤ 4194304 }
-        ensures over_n { IfOk result (λ v. All (λ s. s.vertices ≡ self.now.n) v.items) }
-        ensures differ { IfOk result (λ v. AreDifferent (members_of v.items)) }
-        ensures same { IfOk result (λ v. different (members_of v.items) ≡ different (asked_sides self.now.ask cactus.now)) }
+        ensures list { IfOk result (λ v. IsList (2 ^ 30) self.now.n self.now.ask cactus.now v.items) }
+        ensures refusal { IfErr result (IsRefusal (2 ^ 30) self.now.n self.now.ask cactus.now) }
     {
-        match self.ask {
-            Ask::All => self.walked_sides(alloc, cactus),
-            Ask::Parting(first, second) => parting_sides(alloc, cactus, first, second),
-            Ask::Least(least, weights) => balanced_sides(alloc, cactus, weights, least),
+        let n = cactus.n();
+        let cuts = cactus.count_within(alloc)?;
+        if is_too_large(cuts, n) {
+            return Err(ListRefusal::TooLarge { cuts, n });
         }
-    }
-
-    /// The different sides that are asked for, in the order of lists.
-    fn sorted_sides(&self, alloc: Global, cactus: &Cactus) -> Result<Vec<Side>, NoMemory>
-        requires n { cactus.now.vertices ≡ self.now.n }
-        requires normal { is_normal cactus.now.root ≡ true }
-        requires few { cactus.now.vertices ≤ 4194304 }
-        ensures over_n { IfOk result (λ v. All (λ s. s.vertices ≡ self.now.n) v.items) }
-        ensures sides { IfOk result (λ v. members_of v.items ≡ different (asked_sides self.now.ask cactus.now)) }
-    {
-        let mut found = self.found_sides(alloc, cactus)?;
-        sort_sides(&mut found, self.n);
-        Ok(found)
-    }
-
-    /// A listing that is refused where the number of its sides times n is larger than allowed.
-    pub(crate) fn list_within(
-        &self,
-        alloc: Global,
-        cactus: &Cactus,
-        largest: u64,
-    ) -> Result<Vec<Side>, ListRefusal>
-        requires n { cactus.now.vertices ≡ self.now.n }
-        requires normal { is_normal cactus.now.root ≡ true }
-        requires few { cactus.now.vertices ≤ 4194304 }
-        ensures list { IfOk result (λ v. IsList largest self.now.n self.now.ask cactus.now v.items) }
-        ensures refusal { IfErr result (IsRefusal largest self.now.n self.now.ask cactus.now) }
-    {
-        let most = largest / cactus.n() as u64;
-        let cuts = self.number_of_sides(alloc, cactus)?;
-        if cuts > most {
-            return Err(ListRefusal::TooLarge { cuts, n: self.n });
-        }
-        if cuts == 0 {
-            return Ok(Vec::new(alloc));
-        }
-        let sides = self.sorted_sides(alloc, cactus)?;
+        let mut sides = self.walked_sides(alloc, cactus)?;
+        sort_sides(&mut sides, self.n);
         Ok(sides)
     }
 
@@ -179,10 +128,10 @@ impl<'a> Lister<'a> {
     ///
     /// The cactus is normal and has at most 4,194,304 vertices. The listing is refused as too large exactly where the
     /// number of these sides times n is above 2^30, with the two factors, and for want of memory. The number is found
-    /// first, from the tree, with one step for each node and vertex; so where it is too large, or none is asked for, no
-    /// side is gathered. Else time: where all are asked for a walk over the cactus, and otherwise the same steps again, and
-    /// for each of the c sides found n/64 steps and one for each of its vertices; and O(c log c) comparisons of n/64 steps.
-    /// Memory: in proportion to the nodes and vertices, and n/8 bytes and a constant for each of these sides.
+    /// first, from the tree, with one step for each node and vertex; so where it is too large no side is gathered. Where all
+    /// are asked for a walk over the cactus gathers them, by the test; else they are listed as `list_parting` and
+    /// `list_balanced` list them, which ask no test. Then O(c log c) comparisons of n/64 steps, for c sides. Memory: in
+    /// proportion to the nodes and vertices, and n/8 bytes and a constant for each of these sides.
     pub fn list(&self, alloc: Global, cactus: &Cactus) -> Result<Vec<Side>, ListRefusal>
         requires n { cactus.now.vertices ≡ self.now.n }
         requires normal { is_normal cactus.now.root ≡ true }
@@ -190,7 +139,11 @@ impl<'a> Lister<'a> {
         ensures list { IfOk result (λ v. IsList (2 ^ 30) self.now.n self.now.ask cactus.now v.items) }
         ensures refusal { IfErr result (IsRefusal (2 ^ 30) self.now.n self.now.ask cactus.now) }
     {
-        self.list_within(alloc, cactus, LARGEST)
+        match self.ask {
+            Ask::All => self.list_all(alloc, cactus),
+            Ask::Parting(first, second) => list_parting(alloc, cactus, first, second),
+            Ask::Least(least, weights) => list_balanced(alloc, cactus, least, weights),
+        }
     }
 
     /// Those of some sides over n that are asked for, in their order.

@@ -1,17 +1,14 @@
 //! The sides of a cactus that part two vertices, by masses: where the two alone have the mass 1, these are the sides of a
 //! balance of at least 1.
 
-ghost use Rattle.std.specs.Prelude.{◌≡◌, ◌≤◌, true, IfOk, length};
-ghost use Rattle.std.specs.List.{All, filter};
-ghost use Rattle.cut_definitions.specs.Cuts.{has};
-ghost use Rattle.cut_definitions.specs.Weight.{parts};
-ghost use Rattle.rooted_cactus.specs.Different.{AreDifferent};
+ghost use Rattle.std.specs.Prelude.{◌≡◌, ◌≤◌, ◌^◌, true, IfErr, IfOk};
 ghost use Rattle.rooted_cactus.specs.Normal.{is_normal};
-ghost use Rattle.rooted_cactus.specs.Rooted.{sides_of};
-ghost use Rattle.cut_listing.specs.Listings.{different, members_of};
+ghost use Rattle.cut_listing.specs.Listings.{IsList, IsRefusal};
 ghost use Rattle.cut_listing.specs.Pairs.{ArePairMasses, vertex_or_one};
 
-use crate::weighed::{balanced_sides, number_of_balanced};
+use crate::ask::Ask;
+use crate::list_refusal::ListRefusal;
+use crate::weighed::list_balanced;
 use cut_definitions::{NoMemory, VertexWeights};
 use rooted_cactus::Cactus;
 use std::alloc::Global;
@@ -53,44 +50,23 @@ fn parting_weights(
     pair_weights(alloc, n, vertex_or_one(n, first), vertex_or_one(n, second))
 }
 
-/// The number of the different sides of a cactus that have exactly one of two vertices; a number that is no vertex is in no
-/// side.
+/// The different sides of the cuts of a cactus that have exactly one of two vertices, in the order of lists; a number that is
+/// no vertex is in no side.
 ///
-/// One step for each vertex and each node, in loops. It takes memory in proportion to these, and is refused only where that
-/// is wanting.
-pub(crate) fn number_of_parting(
+/// As `list_balanced`, by masses of 1 for the two, which take 8 bytes for each vertex.
+pub fn list_parting(
     alloc: Global,
     cactus: &Cactus,
     first: u32,
     second: u32,
-) -> Result<u64, NoMemory>
+) -> Result<Vec<Side>, ListRefusal>
     requires normal { is_normal cactus.now.root ≡ true }
     requires few { cactus.now.vertices ≤ 4194304 }
-    ensures { IfOk result (λ k. k ≡ length (different (filter (λ side. parts (has side) first second) (sides_of cactus.now)))) }
+    ensures list { IfOk result (λ v. IsList (2 ^ 30) cactus.now.vertices (Ask.Parting first second) cactus.now v.items) }
+    ensures refusal { IfErr result (IsRefusal (2 ^ 30) cactus.now.vertices (Ask.Parting first second) cactus.now) }
 {
     // known by this call: vertex 1 is in no side
     let _root = cactus.root();
     let weights = parting_weights(alloc, cactus, first, second)?;
-    number_of_balanced(alloc, cactus, &weights, 1)
-}
-
-/// The different sides of a cactus that have exactly one of two vertices, in the order of the tree.
-///
-/// As `number_of_parting`, and for each side n/64 steps and one for each of its vertices.
-pub(crate) fn parting_sides(
-    alloc: Global,
-    cactus: &Cactus,
-    first: u32,
-    second: u32,
-) -> Result<Vec<Side>, NoMemory>
-    requires normal { is_normal cactus.now.root ≡ true }
-    requires few { cactus.now.vertices ≤ 4194304 }
-    ensures over_n { IfOk result (λ v. All (λ s. s.vertices ≡ cactus.now.vertices) v.items) }
-    ensures differ { IfOk result (λ v. AreDifferent (members_of v.items)) }
-    ensures same { IfOk result (λ v. different (members_of v.items) ≡ different (filter (λ side. parts (has side) first second) (sides_of cactus.now))) }
-{
-    // known by this call: vertex 1 is in no side
-    let _root = cactus.root();
-    let weights = parting_weights(alloc, cactus, first, second)?;
-    balanced_sides(alloc, cactus, &weights, 1)
+    list_balanced(alloc, cactus, 1, &weights)
 }

@@ -5,7 +5,7 @@
 //! As its end goes on its mass does not fall, so the ranges from one border on that are asked for end at borders that stand
 //! side by side: a band. From the next border on a range has no more mass, so neither end of the band goes back.
 
-ghost use Rattle.std.specs.Prelude.{◌≡◌, ◌+◌, ◌-◌, ◌<◌, ◌≤◌, ◌^◌, ◌++◌, true, IfOk, OnOk, drop, length, map, max};
+ghost use Rattle.std.specs.Prelude.{◌≡◌, ◌+◌, ◌-◌, ◌<◌, ◌≤◌, ◌^◌, ◌++◌, true, IfErr, IfOk, OnOk, drop, length, map, max};
 ghost use Rattle.std.specs.List.{All, filter};
 ghost use Rattle.rooted_cactus.specs.Borders.{border_at};
 ghost use Rattle.rooted_cactus.specs.Different.{AreDifferent};
@@ -16,8 +16,12 @@ ghost use Rattle.rooted_cactus.specs.Rooted.{sides_of};
 ghost use Rattle.cactus_walk.specs.Walking.{AreBorders, AreChained};
 ghost use Rattle.cut_listing.specs.Asks.{is_balanced};
 ghost use Rattle.cut_listing.specs.Bands.{AreEnds, AreRising, AreShort, IsShort, is_heavy, mass_at, ranges_of, range_between, whole};
-ghost use Rattle.cut_listing.specs.Listings.{different, members_of};
+ghost use Rattle.cut_listing.specs.Listings.{IsList, IsRefusal, different, members_of};
 
+use crate::ask::Ask;
+use crate::limit::is_too_large;
+use crate::list_refusal::ListRefusal;
+use crate::sorting::sort_sides;
 use cactus_walk::{kept_places, masses_before, put_range};
 use cut_definitions::{NoMemory, VertexWeights};
 use rooted_cactus::{Border, Cactus};
@@ -186,7 +190,7 @@ fn gather_bands(
 ///
 /// One step for each vertex and each node, in loops. It takes memory in proportion to these, and is refused only where that
 /// is wanting.
-pub(crate) fn number_of_balanced(
+fn number_of_balanced(
     alloc: Global,
     cactus: &Cactus,
     weights: &VertexWeights,
@@ -207,7 +211,7 @@ pub(crate) fn number_of_balanced(
 /// The different sides of a cactus whose balance is at least a number, in the order of the tree.
 ///
 /// As `number_of_balanced`, and for each side n/64 steps and one for each of its vertices.
-pub(crate) fn balanced_sides(
+fn balanced_sides(
     alloc: Global,
     cactus: &Cactus,
     weights: &VertexWeights,
@@ -234,4 +238,36 @@ pub(crate) fn balanced_sides(
         &before,
         least,
     )
+}
+
+/// The different sides of the cuts of a cactus whose balance is at least a number, in the order of lists, a side that another
+/// begins with first.
+///
+/// The cactus is normal. The listing is refused as too large exactly where the number of these sides times n is above 2^30,
+/// with the two factors, and for want of memory. The number is found first, with one step for each node and vertex; so where
+/// it is too large, or there is none, no side is gathered. Else time: the same steps again, n/64 steps for each of the c sides
+/// and one for each of its vertices, and O(c log c) comparisons of n/64 steps. Memory: in proportion to the nodes and vertices,
+/// and n/8 bytes and a constant for each of these sides.
+pub fn list_balanced(
+    alloc: Global,
+    cactus: &Cactus,
+    least: u64,
+    weights: &VertexWeights,
+) -> Result<Vec<Side>, ListRefusal>
+    requires normal { is_normal cactus.now.root ≡ true }
+    requires masses { length weights.now ≡ cactus.now.vertices }
+    ensures list { IfOk result (λ v. IsList (2 ^ 30) cactus.now.vertices (Ask.Least least weights.entry) cactus.now v.items) }
+    ensures refusal { IfErr result (IsRefusal (2 ^ 30) cactus.now.vertices (Ask.Least least weights.entry) cactus.now) }
+{
+    let n = cactus.n();
+    let cuts = number_of_balanced(alloc, cactus, weights, least)?;
+    if is_too_large(cuts, n) {
+        return Err(ListRefusal::TooLarge { cuts, n });
+    }
+    if cuts == 0 {
+        return Ok(Vec::new(alloc));
+    }
+    let mut sides = balanced_sides(alloc, cactus, weights, least)?;
+    sort_sides(&mut sides, n);
+    Ok(sides)
 }

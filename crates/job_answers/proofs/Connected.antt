@@ -1,13 +1,11 @@
 -- Connected graphs as graphs of one component.
 use Rattle.std.proofs.Common.{◌≡◌, ℕ, ◌<◌, ◌≤◌, ⊎_elim, true, false, not, [], ◌∷◌, eqb, refl, sym, ◌∙◌, ap, arith}
-use Rattle.std.specs.Prelude.{◌≢◌, Option, None, Some, IfSome}
-use Rattle.std.specs.Option.{unwrap_or}
 use Rattle.std.proofs.lemmas.Bool.{cases_Bool, cases_eq, eq-eqb, eqb-true, false≢true, or_cases, or_left}
 use Rattle.cut_definitions.specs.Components.{IsConnected, HasComponents}
-use Rattle.cut_definitions.specs.Graph.{Graph, IsGraph}
-use Rattle.cut_definitions.specs.Cuts.{has, value}
+use Rattle.cut_definitions.specs.Graph.{Graph}
+use Rattle.cut_definitions.specs.Cuts.{has}
 use Rattle.cut_definitions.specs.Weight.{VertexSet, weight, IsCut}
-use Rattle.cut_definitions.proofs.Bridge.{value-le_cut}
+use Rattle.component_cuts.proofs.Counted.{law_of_one_number}
 
 only_one : (v : ℕ) → has (1 ∷ []) v ≡ true → v ≡ 1
 only_one v h = sym (eqb-true 1 v (⊎_elim (λ (e : eqb 1 v ≡ true). e) (λ (e : false ≡ true). absurd (false≢true e)) (or_cases (eqb 1 v) false h)))
@@ -51,3 +49,7 @@ one_of_connected g connected = record {
         (cases_Bool (s 1)),
   );
 }
+
+-- and no more
+pub none_apart : (g : Graph) (count : ℕ) → IsConnected g → HasComponents g count → 2 ≤ count → ⊥
+none_apart g count connected has several = omega (arith, law_of_one_number g count 1 has (one_of_connected g connected), several)

@@ -9,3 +9,4 @@ pub mod Raises
 pub mod Telling
 pub mod Unions
 pub mod Writing
+mod NoVertex

@@ -1,19 +1,18 @@
 //! What a job asks of a listing, and those of some sides that are asked for.
 
-ghost use Rattle.std.specs.Prelude.{ℕ, ◌≡◌, All, IfOk, length};
+ghost use Rattle.std.specs.Prelude.{ℕ, ◌≡◌, ◌==◌, ◌&&◌, All, length};
 ghost use Rattle.std.specs.List.{filter};
-ghost use Rattle.cut_definitions.specs.Cuts.{mincuts};
+ghost use Rattle.cut_definitions.specs.Cuts.{has, mincuts};
 ghost use Rattle.cut_definitions.specs.Graph.{Graph as EdgeGraph};
-ghost use Rattle.cut_listing.specs.Asks.{lets, IsAskWithin};
+ghost use Rattle.cut_listing.specs.Asks.{HasMasses, IsAskWithin, has_masses-prop, lets};
 ghost use Rattle.cut_listing.specs.Listings.{members_of};
 ghost use Rattle.job_answers.specs.Asked.{cuts_for};
 ghost use Rattle.job_answers.specs.Jobs.{asked_of};
 
 use balanced_cut::balance_of;
-use cut_definitions::{NoMemory, VertexWeights};
-use cut_listing::{Ask, Lister};
+use cut_definitions::VertexWeights;
+use cut_listing::Ask;
 use program_words::Job;
-use std::alloc::Global;
 use vertex_set::Side;
 
 /// What the job `cuts` lists: all minimum cuts, or those of at least a balance.
@@ -27,75 +26,52 @@ pub fn ask_of(least: Option<u64>, weights: &VertexWeights) -> Ask
     }
 }
 
-/// A copy of weights.
-pub fn copied(alloc: Global, weights: &VertexWeights) -> Result<VertexWeights, NoMemory>
-    ensures { IfOk result (λ copy. copy ≡ weights.now) }
+/// Whether a number is a vertex of a side.
+fn has_number(side: &Side, v: u32) -> bool
+    ensures { result ≡ has side.now.members v }
 {
-    // known by this call: there are few enough
-    let _few = weights.len();
-    let list = weights.as_slice().to_vec(alloc)?;
-    Ok(VertexWeights::from_list(list))
+    let n = side.n();
+    if v < 1 || n < v {
+        return false;
+    }
+    side.has(v)
 }
 
-/// Those of some sides that part two vertices.
-fn select_parting(
-    alloc: Global,
-    u: u32,
-    v: u32,
+/// What is asked of the sides over n.
+#[derive(Drop)]
+struct Asked<'a> {
     n: u32,
-    sides: Vec<Side>,
-) -> Result<Vec<Side>, NoMemory>
-    requires over_n { All (λ s. s.vertices ≡ n) sides.items }
-    requires within { IsAskWithin n (Ask.Parting u v) }
-    ensures { IfOk result (λ asked. members_of asked.items ≡ filter (lets (Ask.Parting u v)) (members_of sides.items)) }
-{
-    let keep = Box::new(
-        alloc,
-        move |side: &Side|
-            requires { IsAskWithin side.now.vertices (Ask.Parting u v) }
-        { side.has(u) != side.has(v) },
-    )?;
-    let lister = Lister::new(n, Ask::Parting(u, v), keep);
-    Ok(lister.select(sides))
+    ask: Ask<'a>,
+    ghost masses: { HasMasses n ask } by { has_masses-prop n ask },
 }
 
-/// Those of at least a balance. A boxed test borrows nothing, so it has weights of its own.
-fn select_balanced(
-    alloc: Global,
-    least: u64,
-    weights: &VertexWeights,
-    n: u32,
-    sides: Vec<Side>,
-) -> Result<Vec<Side>, NoMemory>
-    requires over_n { All (λ s. s.vertices ≡ n) sides.items }
-    requires weighed { length weights.now ≡ n }
-    ensures { IfOk result (λ asked. members_of asked.items ≡ filter (lets (Ask.Least least weights.entry)) (members_of sides.items)) }
-{
-    let own = copied(alloc, weights)?;
-    let keep = Box::new(
-        alloc,
-        move |side: &Side|
-            requires { length own ≡ side.now.vertices }
-        { balance_of(side, &own) >= least as u128 },
-    )?;
-    let lister = Lister::new(n, Ask::Least(least, weights), keep);
-    Ok(lister.select(sides))
+impl Asked<'_> {
+    /// Whether a side is over n and asked for.
+    fn selects(&self, side: &Side) -> bool
+        ensures { result ≡ (side.now.vertices == self.now.n && lets self.now.ask side.now.members) }
+    {
+        if side.n() != self.n {
+            return false;
+        }
+        match self.ask {
+            Ask::All => true,
+            Ask::Parting(u, v) => has_number(side, u) != has_number(side, v),
+            Ask::Least(least, weights) => balance_of(side, weights) >= least as u128,
+        }
+    }
 }
 
-/// Those of some sides that are asked for.
-pub fn select_asked(
-    alloc: Global,
-    ask: Ask,
-    n: u32,
-    sides: Vec<Side>,
-) -> Result<Vec<Side>, NoMemory>
+/// Those of some sides over n that are asked for, in their order. It takes no memory.
+pub fn select_asked(ask: Ask, n: u32, mut sides: Vec<Side>) -> Vec<Side>
     requires over_n { All (λ s. s.vertices ≡ n) sides.items }
     requires within { IsAskWithin n ask }
-    ensures { IfOk result (λ asked. members_of asked.items ≡ filter (lets ask.entry) (members_of sides.items)) }
+    ensures { members_of result.items ≡ filter (lets ask.entry) (members_of sides.items) }
 {
-    match ask {
-        Ask::All => Ok(sides),
-        Ask::Parting(u, v) => select_parting(alloc, u, v, n, sides),
-        Ask::Least(least, weights) => select_balanced(alloc, least, weights, n, sides),
-    }
+    let asked = Asked { n, ask };
+    sides.retain(
+        |side: &Side| -> bool
+            ensures { result ≡ (side.now.vertices == asked.entry.n && lets asked.entry.ask side.now.members) }
+        { asked.selects(side) },
+    );
+    sides
 }

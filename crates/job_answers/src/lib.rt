@@ -12,7 +12,7 @@ pub mod laws;
 mod limits;
 mod ranges;
 
-pub use asks::{ask_of, copied, select_asked};
+pub use asks::{ask_of, select_asked};
 pub use components::{are_unions_few, components_of};
 pub use intake::take_in;
 pub use limits::check_limits;

@@ -46,10 +46,10 @@ kept_solved g i solved kept law s is k =
     }
 
 module _ (g : Graph) (is : List Insertion) (i : ℕ) (x : Insertion) (at : slice_get is i ≡ Some x) where
-  pub told_next : (before after : Growing) (steps next : List Step) (step : Step) → HasGrown g (take i is) before steps → IsGrowing after → after.list ≡ with_insertion before.list x → step ≡ step_of after.list →
+  pub told_next : (before after : Growing) (steps next : List Step) (step : Step) → HasGrown g (take i is) before steps → IsGrowing after → after.graph ≡ with_insertion before.graph x → step ≡ step_of after.graph →
       next ≡ steps ++ step ∷ [] → HasGrown g (take (i + 1) is) after next
   told_next before after steps next step has growing list told more = record {
-    list = grown_next g is i x at before.list after.list has.list list;
+    list = grown_next g is i x at before.graph after.graph has.list list;
     growing = growing;
     told = more ∙ (λ j. has.told j ++ (told ∙ ap step_of (list ∙ ap (λ (h : Graph). with_insertion h x) has.list)) j ∷ [])
         ∙ sym (ap (steps_of g) (taken is i x at) ∙ steps_more g (take i is) x);
@@ -62,14 +62,14 @@ pub solved_by : (g h : Graph) (solved : Solved) → g ≡ h → solved.value ≡
 solved_by g h solved e v over same normal = subst (λ (x : Graph). IsSolved x solved) e (record { value = v; over = over; sides = same; normal = normal })
 
 pub kept_growing : (g : Graph) (i : Insertion) (longer : Graph) (solved : Solved) (kept : Rooted) → LawOfWeights → LawOfKeptCuts → 2 ≤ g.vertices → IsConnected g → IsSolved g solved → IsInsertion i →
-    IsKept i.0 i.1 solved.cactus kept → longer ≡ with_insertion g i → (after : Growing) → after.list ≡ longer → after.solved ≡ record { value = solved.value; cactus = kept } → IsGrowing after
+    IsKept i.0 i.1 solved.cactus kept → longer ≡ with_insertion g i → (after : Growing) → after.graph ≡ longer → after.solved ≡ record { value = solved.value; cactus = kept } → IsGrowing after
 kept_growing g i longer solved kept weights cuts two connected s is k e after l r = record {
   enough = subst (λ (h : Graph). 2 ≤ h.vertices) (sym (l ∙ e)) two;
   connected = subst IsConnected (sym (l ∙ e)) (still_connected g i weights connected);
-  solved = subst (λ (t : Solved). IsSolved after.list t) (sym r) (subst (λ (h : Graph). IsSolved h (record { value = solved.value; cactus = kept })) (sym (l ∙ e)) (kept_solved g i solved kept cuts s is k));
+  solved = subst (λ (t : Solved). IsSolved after.graph t) (sym r) (subst (λ (h : Graph). IsSolved h (record { value = solved.value; cactus = kept })) (sym (l ∙ e)) (kept_solved g i solved kept cuts s is k));
 }
 
-pub grow_text : (g : Graph) (is : List Insertion) (after : Growing) (steps : List Step) (cactus : Rooted) → LawOfFlatForm → LawOfFlatSides → HasGrown g is after steps → IsCactusOf after.list cactus →
+pub grow_text : (g : Graph) (is : List Insertion) (after : Growing) (steps : List Step) (cactus : Rooted) → LawOfFlatForm → LawOfFlatSides → HasGrown g is after steps → IsCactusOf after.graph cactus →
     IsGrowText g is (growth_text steps after.solved.value (flat_of cactus))
 grow_text g is after steps cactus form sides grows of_graph =
     let of_grown : IsCactusOf (grown g is) cactus = subst (λ (h : Graph). IsCactusOf h cactus) grows.list of_graph in

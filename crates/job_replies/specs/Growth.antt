@@ -10,12 +10,12 @@ use Rattle.answer_pages.specs.declared.growth_pages.Step.{Step}
 
 -- a connected graph with a cut, and its value and all its minimum cuts
 pub record IsGrowing (growing : Growing) : Type 0 where
-  pub enough : 2 ≤ growing.list.vertices
-  pub connected : IsConnected growing.list
-  pub solved : IsSolved growing.list growing.solved
+  pub enough : 2 ≤ growing.graph.vertices
+  pub connected : IsConnected growing.graph
+  pub solved : IsSolved growing.graph growing.solved
 
 -- the graph after insertions, and what is told of it after each
 pub record HasGrown (g : Graph) (is : List Insertion) (after : Growing) (steps : List Step) : Type 0 where
-  pub list : after.list ≡ grown g is
+  pub list : after.graph ≡ grown g is
   pub growing : IsGrowing after
   pub told : steps ≡ steps_of g is

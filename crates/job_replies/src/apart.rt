@@ -47,7 +47,7 @@ fn union_listing(
         return Err(Stop::TooManyUnions { components, n });
     }
     let unions = parts.sides(alloc)?;
-    let sides = select_asked(alloc, ask, n, unions)?;
+    let sides = select_asked(ask, n, unions);
     Ok(Reply::Listing { value: 0, sides })
 }
 

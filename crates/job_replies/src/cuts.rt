@@ -20,11 +20,11 @@ use balanced_cut::balance_of;
 use canonical_cactus::{canonical, first_best};
 use cut_definitions::{NoMemory, VertexWeights};
 use cut_listing::laws::{count_of_minimum_cuts, minimum_cuts_in_order, number_of_minimum_cuts};
-use cut_listing::{Ask, ListRefusal, Lister};
+use cut_listing::{Ask, ListRefusal, Lister, list_balanced, list_parting};
 use edge_augment::augment;
 use edge_augment::laws::augmentation;
 use flat_cactus::laws;
-use job_answers::{ask_of, copied};
+use job_answers::ask_of;
 use program_words::{Command, Job};
 use rooted_cactus::{Cactus, Solved};
 use std::alloc::Global;
@@ -44,57 +44,6 @@ fn all_sides(alloc: Global, graph: &ReadGraph, solved: &Solved) -> Result<Vec<Si
     lister.list(alloc, &solved.cactus)
 }
 
-/// Those that part two vertices.
-fn parting_sides(
-    alloc: Global,
-    u: u32,
-    v: u32,
-    graph: &ReadGraph,
-    solved: &Solved,
-) -> Result<Vec<Side>, ListRefusal>
-    requires solved { IsSolved graph.now solved.now }
-    requires within { IsAskWithin graph.now.vertices (Ask.Parting u v) }
-    ensures list { IfOk result (λ sides. IsList (2 ^ 30) graph.now.vertices (Ask.Parting u v) solved.now.cactus sides.items) }
-    ensures refusal { IfErr result (IsRefusal (2 ^ 30) graph.now.vertices (Ask.Parting u v) solved.now.cactus) }
-{
-    let Ok(keep) = Box::new(
-        alloc,
-        move |side: &Side|
-            requires { IsAskWithin side.now.vertices (Ask.Parting u v) }
-        { side.has(u) != side.has(v) },
-    ) else {
-        return Err(ListRefusal::NoMemory);
-    };
-    let lister = Lister::new(graph.n(), Ask::Parting(u, v), keep);
-    lister.list(alloc, &solved.cactus)
-}
-
-/// Those of at least a balance. A boxed test borrows nothing, so it has weights of its own.
-fn balanced_sides(
-    alloc: Global,
-    least: u64,
-    weights: &VertexWeights,
-    graph: &ReadGraph,
-    solved: &Solved,
-) -> Result<Vec<Side>, ListRefusal>
-    requires solved { IsSolved graph.now solved.now }
-    requires weighed { length weights.now ≡ graph.now.vertices }
-    ensures list { IfOk result (λ sides. IsList (2 ^ 30) graph.now.vertices (Ask.Least least weights.entry) solved.now.cactus sides.items) }
-    ensures refusal { IfErr result (IsRefusal (2 ^ 30) graph.now.vertices (Ask.Least least weights.entry) solved.now.cactus) }
-{
-    let own = copied(alloc, weights)?;
-    let Ok(keep) = Box::new(
-        alloc,
-        move |side: &Side|
-            requires { length own ≡ side.now.vertices }
-        { balance_of(side, &own) >= least as u128 },
-    ) else {
-        return Err(ListRefusal::NoMemory);
-    };
-    let lister = Lister::new(graph.n(), Ask::Least(least, weights), keep);
-    lister.list(alloc, &solved.cactus)
-}
-
 /// The sides of the minimum cuts that are asked for, in order, or their number where they are too many.
 fn asked_sides(
     alloc: Global,
@@ -107,10 +56,12 @@ fn asked_sides(
     ensures list { IfOk result (λ sides. IsList (2 ^ 30) graph.now.vertices ask.entry solved.now.cactus sides.items) }
     ensures refusal { IfErr result (IsRefusal (2 ^ 30) graph.now.vertices ask.entry solved.now.cactus) }
 {
+    // known by this call: the graph has at most 4,194,304 vertices
+    let _n = graph.n();
     match ask {
         Ask::All => all_sides(alloc, graph, solved),
-        Ask::Parting(u, v) => parting_sides(alloc, u, v, graph, solved),
-        Ask::Least(least, weights) => balanced_sides(alloc, least, weights, graph, solved),
+        Ask::Parting(u, v) => list_parting(alloc, &solved.cactus, u, v),
+        Ask::Least(least, weights) => list_balanced(alloc, &solved.cactus, least, weights),
     }
 }
 

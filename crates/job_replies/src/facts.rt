@@ -8,14 +8,14 @@ ghost use Rattle.job_answers.specs.Trials.{ones, trial_text, IsFactsText};
 ghost use Rattle.job_replies.specs.Replies.{text_of, IsPrintable, TakesMemory};
 
 use crate::cuts::count_of_cuts;
+use crate::read_graph::ReadGraph;
 use crate::reply::Reply;
 use balanced_cut::{balance_of, best};
-use cut_definitions::{NoMemory, VertexWeights};
+use cut_definitions::{EdgeList, NoMemory, VertexWeights};
 use graph_maker::laws::connected_making;
 use graph_maker::make;
 use rooted_cactus::Solved;
 use std::alloc::Global;
-use weighted_graph::Graph;
 
 /// The five lines.
 fn facts_text(
@@ -32,7 +32,7 @@ fn facts_text(
 }
 
 /// Masses of 1, one for each vertex of the graph.
-fn masses_of_one(alloc: Global, graph: &Graph) -> Result<VertexWeights, NoMemory>
+fn masses_of_one(alloc: Global, graph: &ReadGraph) -> Result<VertexWeights, NoMemory>
     ensures { IfOk result (λ weights. weights ≡ ones graph.now.vertices) }
 {
     let list = vec![in alloc; 1; graph.n() as usize]?;
@@ -41,7 +41,7 @@ fn masses_of_one(alloc: Global, graph: &Graph) -> Result<VertexWeights, NoMemory
 
 /// The text of a solved graph: its numbers of vertices and edges, its value, the number of its minimum cuts and the greatest
 /// balance of one.
-fn describe(alloc: Global, graph: &Graph, solved: &Solved) -> Result<String, NoMemory>
+fn describe(alloc: Global, graph: &ReadGraph, solved: &Solved) -> Result<String, NoMemory>
     requires enough { 2 ≤ graph.now.vertices }
     requires solved { IsSolved graph.now solved.now }
     ensures { IfOk result (λ text. IsFactsText graph.now (string_bytes text)) }
@@ -55,7 +55,7 @@ fn describe(alloc: Global, graph: &Graph, solved: &Solved) -> Result<String, NoM
     facts_text(
         alloc,
         graph.n(),
-        graph.edges(),
+        graph.list().len(),
         solved.value,
         count,
         balance,
@@ -63,7 +63,7 @@ fn describe(alloc: Global, graph: &Graph, solved: &Solved) -> Result<String, NoM
 }
 
 /// The graph that is made for a number. It is connected.
-pub fn made_for(alloc: Global, number: u32) -> Result<Graph, NoMemory>
+pub fn made_for(alloc: Global, number: u32) -> Result<EdgeList, NoMemory>
     requires from { 12 ≤ number }
     requires to { number ≤ 100000 }
     ensures graph { IfOk result (λ graph. graph ≡ made_graph number) }
@@ -71,13 +71,11 @@ pub fn made_for(alloc: Global, number: u32) -> Result<Graph, NoMemory>
     ensures connected { IfOk result IsConnected }
 {
     connected_making();
-    let list = make(alloc, number)?;
-    let graph = Graph::from_list(alloc, list)?;
-    Ok(graph)
+    make(alloc, number)
 }
 
 /// The reply that tells of a solved graph, which is taken over with what was found.
-pub fn facts_reply(alloc: Global, graph: Graph, solved: Solved) -> Result<Reply, NoMemory>
+pub fn facts_reply(alloc: Global, graph: ReadGraph, solved: Solved) -> Result<Reply, NoMemory>
     requires enough { 2 ≤ graph.vertices }
     requires solved { IsSolved graph solved }
     ensures text { IfOk result (λ reply. IsFactsText graph (text_of reply)) }

@@ -13,6 +13,7 @@ ghost use Rattle.program_words.specs.Insertions.{Insertion, IsInsertion};
 
 use crate::apart::disconnected;
 use crate::cuts::canonical_of;
+use crate::read_graph::ReadGraph;
 use crate::reply::Reply;
 use answer_pages::Step;
 use component_cuts::count_components;
@@ -28,18 +29,18 @@ use stop_lines::Stop;
 /// A graph, and its value and all its minimum cuts.
 #[derive(Drop)]
 pub struct Growing {
-    pub list: EdgeList,
+    pub graph: ReadGraph,
     pub solved: Solved,
 }
 
 /// What is told of a graph: its value and the number of its minimum cuts.
 pub fn step_for(alloc: Global, growing: &Growing) -> Result<Step, NoMemory>
     requires { IsGrowing growing.now }
-    ensures { IfOk result (λ step. step ≡ step_of growing.now.list) }
+    ensures { IfOk result (λ step. step ≡ step_of growing.now.graph) }
 {
     number_of_minimum_cuts();
     // known by this call: there are at most 4,194,304 vertices
-    let _n = growing.list.n();
+    let _n = growing.graph.n();
     let count = growing.solved.cactus.count_within(alloc)?;
     Ok(Step {
         value: growing.solved.value,
@@ -55,9 +56,9 @@ pub fn grown_reply(alloc: Global, growing: Growing, steps: Vec<Step>) -> Result<
 {
     laws::flat_form();
     laws::flat_sides();
-    let Growing { list, solved } = growing;
+    let Growing { graph, solved } = growing;
     // known by this call: there are at most 4,194,304 vertices
-    let _n = list.n();
+    let _n = graph.n();
     let value = solved.value;
     let cactus = canonical_of(alloc, solved)?;
     Ok(Reply::Growth {

@@ -1,7 +1,6 @@
 //! From the graph to what is written.
 
 ghost use Rattle.std.specs.Prelude.{◌≡◌, ◌≤◌, IfOk, IfErr, length};
-ghost use Rattle.cactus_solver.specs.SolvedLists.{graph_in};
 ghost use Rattle.cut_definitions.specs.Cuts.{value};
 ghost use Rattle.job_answers.specs.Jobs.{AsksCuts, IsAnswerOf, IsInRange, IsStopFor};
 ghost use Rattle.job_replies.specs.Replies.{text_of, IsPrintable};
@@ -9,10 +8,11 @@ ghost use Rattle.program_words.specs.Texts.{value_line};
 ghost use Rattle.program_words.specs.Words.{IsMakeable, IsReading};
 
 use crate::growth::grow_reply;
-use cactus_solver::{Cuts, GraphForm, SolvedList, solve_list};
+use crate::solving::read_graph;
+use cactus_solver::{Cuts, SolvedList, solve_list};
 use cut_definitions::{EdgeList, VertexWeights};
 use job_answers::first_outside;
-use job_replies::{ReadGraph, Reply, apart_reply, cuts_reply, no_cut, value_text};
+use job_replies::{Reply, apart_reply, cuts_reply, no_cut, value_text};
 use metis_reader::MetisGraph;
 use min_value::value_of_list;
 use outside::{Gate, NoMemory};
@@ -36,16 +36,6 @@ fn value_reply<R: Threads + Sync, G: Gate>(
 {
     let value = value_of_list(rt, alloc, list, workers, gate)?;
     value_text(alloc, value)
-}
-
-/// The graph as the replies take it.
-fn read_graph(form: GraphForm) -> ReadGraph
-    ensures { result ≡ graph_in form }
-{
-    match form {
-        GraphForm::Edges(list) => ReadGraph::of_list(list),
-        GraphForm::Rows(graph) => ReadGraph::with_rows(graph),
-    }
 }
 
 /// The answer of a job on the cuts themselves.

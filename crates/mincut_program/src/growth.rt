@@ -13,36 +13,35 @@ ghost use Rattle.program_words.specs.Insertions.{IsInsertion};
 ghost use Rattle.job_answers.specs.GrownGraphs.{with_insertion, StaysWithin};
 ghost use Rattle.job_answers.specs.Jobs.{AreInRange, IsGrowText, IsVertex};
 ghost use Rattle.job_replies.specs.Replies.{text_of, IsPrintable};
-ghost use Rattle.rooted_cactus.specs.Solving.{IsSolved};
 
+use crate::solving::solve_connected;
 use answer_pages::Step;
 use cactus_growth::{Grown, grow, laws, with_edge};
-use cactus_solver::{Solved, solve};
+use cactus_solver::Solved;
 use cut_definitions::EdgeList;
-use job_replies::{Growing, Reply, apart_growth, grown_reply, step_for};
+use job_replies::{Growing, ReadGraph, Reply, apart_growth, grown_reply, step_for};
 use outside::{Gate, NoMemory};
 use program_words::Insertions;
 use std::alloc::Global;
 use std::thread::Threads;
 use stop_lines::Stop;
-use weighted_graph::Graph;
 
-/// The value and all minimum cuts of a graph, found anew.
-fn solve_list<R: Threads + Sync, G: Gate>(
-    rt: &R,
+/// The list of a graph with one insertion. The graph is given back.
+fn inserted(
     alloc: Global,
-    list: &EdgeList,
-    workers: u32,
-    gate: &G,
-) -> Result<Solved, NoMemory>
-    requires enough { 2 ≤ list.now.vertices }
-    requires connected { IsConnected list.now }
-    requires workers { (1 ≤ workers) × (workers ≤ 64) }
-    ensures { IfOk result (IsSolved list.now) }
+    graph: ReadGraph,
+    insertion: (u64, u64, u64),
+) -> Result<EdgeList, NoMemory>
+    requires first { IsVertex graph.vertices insertion.0 }
+    requires second { IsVertex graph.vertices insertion.1 }
+    requires insertion { IsInsertion insertion }
+    requires fits { IsEdgeList (with_insertion graph insertion) }
+    ensures { IfOk result (λ list. list ≡ with_insertion graph insertion) }
 {
-    let graph = Graph::build(alloc, list)?;
-    let solved = solve(rt, alloc, &graph, workers, gate)?;
-    Ok(solved)
+    // known by this call: there are at most 4,194,304 vertices
+    let _n = graph.n();
+    let (u, v, w) = insertion;
+    with_edge(alloc, graph.list(), u as u32, v as u32, w)
 }
 
 /// The graph with one insertion.
@@ -55,33 +54,30 @@ fn grow_by<R: Threads + Sync, G: Gate>(
     gate: &G,
 ) -> Result<Growing, NoMemory>
     requires growing { IsGrowing growing }
-    requires first { IsVertex growing.list.vertices insertion.0 }
-    requires second { IsVertex growing.list.vertices insertion.1 }
+    requires first { IsVertex growing.graph.vertices insertion.0 }
+    requires second { IsVertex growing.graph.vertices insertion.1 }
     requires insertion { IsInsertion insertion }
-    requires fits { IsEdgeList (with_insertion growing.list insertion) }
+    requires fits { IsEdgeList (with_insertion growing.graph insertion) }
     requires workers { (1 ≤ workers) × (workers ≤ 64) }
-    ensures list { IfOk result (λ next. next.list ≡ with_insertion growing.list insertion) }
+    ensures graph { IfOk result (λ next. next.graph ≡ with_insertion growing.graph insertion) }
     ensures growing { IfOk result IsGrowing }
 {
     laws::weights();
     laws::kept_cuts();
-    let (u, v, w) = insertion;
-    let Growing { list, solved } = growing;
+    let Growing { graph, solved } = growing;
     // known by this call: there are at most 4,194,304 vertices
-    let _n = list.n();
-    let longer = with_edge(alloc, &list, u as u32, v as u32, w)?;
+    let _n = graph.n();
+    let longer = inserted(alloc, graph, insertion)?;
     let value = solved.value;
+    let (u, v, _) = insertion;
     match grow(alloc, solved.cactus, u as u32, v as u32)? {
         Grown::Kept(cactus) => Ok(Growing {
-            list: longer,
+            graph: ReadGraph::of_list(longer),
             solved: Solved { value, cactus },
         }),
         Grown::Gone => {
-            let solved = solve_list(rt, alloc, &longer, workers, gate)?;
-            Ok(Growing {
-                list: longer,
-                solved,
-            })
+            let (graph, solved) = solve_connected(rt, alloc, longer, workers, gate)?;
+            Ok(Growing { graph, solved })
         }
     }
 }
@@ -96,11 +92,11 @@ fn grow_all<R: Threads + Sync, G: Gate>(
     gate: &G,
 ) -> Result<(Growing, Vec<Step>), NoMemory>
     requires growing { IsGrowing start }
-    requires in_range { AreInRange start.list.vertices insertions.now }
+    requires in_range { AreInRange start.graph.vertices insertions.now }
     requires insertions { All IsInsertion insertions.now }
-    requires within { StaysWithin start.list insertions.now }
+    requires within { StaysWithin start.graph insertions.now }
     requires workers { (1 ≤ workers) × (workers ≤ 64) }
-    ensures { IfOk result (λ r. HasGrown start.list insertions.now r.0 r.1.items) }
+    ensures { IfOk result (λ r. HasGrown start.graph insertions.now r.0 r.1.items) }
 {
     let mut growing = start;
     let mut steps = Vec::new(alloc);
@@ -129,8 +125,8 @@ fn growth_reply<R: Threads + Sync, G: Gate>(
     ensures text { IfOk result (λ reply. IsGrowText list insertions.now (text_of reply)) }
     ensures printable { IfOk result IsPrintable }
 {
-    let solved = solve_list(rt, alloc, &list, workers, gate)?;
-    let start = Growing { list, solved };
+    let (graph, solved) = solve_connected(rt, alloc, list, workers, gate)?;
+    let start = Growing { graph, solved };
     let (growing, steps) = grow_all(rt, alloc, insertions, start, workers, gate)?;
     grown_reply(alloc, growing, steps)
 }

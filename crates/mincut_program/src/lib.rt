@@ -7,6 +7,7 @@
 mod answer;
 mod growth;
 mod program;
+mod solving;
 mod trial;
 
 pub use job_answers::laws;

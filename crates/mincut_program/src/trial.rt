@@ -4,7 +4,7 @@ ghost use Rattle.std.specs.Prelude.{◌≤◌, IfOk};
 ghost use Rattle.job_replies.specs.Replies.{text_of, IsPrintable, TakesMemory};
 ghost use Rattle.job_answers.specs.Trials.{IsTrialText};
 
-use cactus_solver::solve;
+use crate::solving::solve_connected;
 use job_replies::{Reply, facts_reply, made_for};
 use outside::{Gate, NoMemory};
 use std::alloc::Global;
@@ -28,7 +28,7 @@ pub fn trial_reply<R: Threads + Sync, G: Gate>(
     ensures printable { IfOk result IsPrintable }
     ensures ready { IfOk result (λ reply. ¬ TakesMemory reply) }
 {
-    let graph = made_for(alloc, number)?;
-    let solved = solve(rt, alloc, &graph, workers, gate)?;
+    let list = made_for(alloc, number)?;
+    let (graph, solved) = solve_connected(rt, alloc, list, workers, gate)?;
     facts_reply(alloc, graph, solved)
 }

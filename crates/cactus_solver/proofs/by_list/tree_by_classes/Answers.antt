@@ -5,7 +5,7 @@ use Rattle.cut_definitions.proofs.Results.{if_both}
 use Rattle.min_value.specs.Kernels.{IsKept}
 use Rattle.node_tree.specs.Finished.{IsFinished}
 use Rattle.cactus_solver.proofs.Lifting.{classes_within, lifted_finished}
-use Rattle.cactus_solver.proofs.Finishing.{still_connected}
+use Rattle.cactus_solver.proofs.Smaller.{still_connected}
 use Rattle.cactus_solver.proofs.by_list.tree_by_classes.Goals as goal
 
 pub tree_at_value-requires-clause-connected : goal.tree_at_value-requires-clause-connected

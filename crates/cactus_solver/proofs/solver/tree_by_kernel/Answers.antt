@@ -3,7 +3,7 @@ use Rattle.std.proofs.Common.{arith}
 use Rattle.cut_definitions.proofs.Results.{if_both}
 use Rattle.node_tree.specs.Finished.{IsFinished}
 use Rattle.cactus_solver.proofs.Lifting.{classes_within, lifted_finished}
-use Rattle.cactus_solver.proofs.Finishing.{still_connected}
+use Rattle.cactus_solver.proofs.Smaller.{still_connected}
 use Rattle.cactus_solver.proofs.solver.tree_by_kernel.Goals as goal
 
 pub tree_of_cuts-requires-clause-connected : goal.tree_of_cuts-requires-clause-connected

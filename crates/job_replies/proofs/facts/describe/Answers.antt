@@ -1,5 +1,6 @@
 use Rattle.std.proofs.Common.{◌≡◌, ◌∙◌, ap, length, string_bytes, sym, arith}
 use Rattle.std.proofs.lemmas.List.{length-replicate}
+use Rattle.cut_definitions.specs.Graph.{Graph}
 use Rattle.cut_definitions.proofs.Results.{if_ok_more}
 use Rattle.job_answers.specs.Trials.{trial_text, IsFactsText}
 use Rattle.job_replies.proofs.Graphs.{facts_known, has_block}
@@ -19,8 +20,8 @@ balance_of-balance-requires c = ap length c.in_ok-weights.ensures ∙ length-rep
 
 pub returns : goal.returns
 returns c =
-    if_ok_more (λ text. string_bytes text ≡ trial_text c.n.result c.edges.result c.args.solved.now.value c.in_ok-count.count c.balance_of-balance.result)
+    if_ok_more (λ text. string_bytes text ≡ trial_text c.n.result c.len.result c.args.solved.now.value c.in_ok-count.count c.balance_of-balance.result)
     (λ text. IsFactsText c.args.graph.now (string_bytes text)) c.facts_text.result
-    (λ text is. facts_known c.args.graph.now c.args.solved.now c.in_ok-weights.weights c.in_ok-side.side.members c.n.result c.edges.result c.in_ok-count.count c.balance_of-balance.result c.requires.solved
-    c.in_ok-weights.ensures c.in_ok-side.ensures.best c.n.ensures.value c.edges.ensures (c.in_ok-count.ensures c.args.graph.now c.requires.solved) c.balance_of-balance.ensures (string_bytes text) is)
+    (λ text is. facts_known c.args.graph.now c.args.solved.now c.in_ok-weights.weights c.in_ok-side.side.members c.n.result c.len.result c.in_ok-count.count c.balance_of-balance.result c.requires.solved
+    c.in_ok-weights.ensures c.in_ok-side.ensures.best c.n.ensures.value (c.len.ensures ∙ ap (λ (x : Graph). length x.edges) c.list.ensures) (c.in_ok-count.ensures c.args.graph.now c.requires.solved) c.balance_of-balance.ensures (string_bytes text) is)
     c.facts_text.ensures

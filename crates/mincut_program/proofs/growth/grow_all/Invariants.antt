@@ -4,4 +4,4 @@ use Rattle.job_replies.specs.Growth.{HasGrown}
 use Rattle.mincut_program.proofs.growth.grow_all.Given as goal
 
 abbrev pub invariant-insertions : goal.invariant-insertions
-invariant-insertions g l = HasGrown l.fn.start.list (take l.i l.insertions) l.growing l.steps.items
+invariant-insertions g l = HasGrown l.fn.start.graph (take l.i l.insertions) l.growing l.steps.items
