@@ -1,8 +1,7 @@
 //! Files that are accepted, and their edges.
 
-use crate::pieces::edges;
+use crate::pieces::has_edges;
 use cut_definitions::Edge;
-use std::test::Fail;
 
 type Accepted = (&'static [u8], &'static [Edge]);
 
@@ -54,12 +53,10 @@ const ACCEPTED: [Accepted; 9] = [
 ];
 
 #[test]
-fn files_are_read(rt: HostRuntime) -> Result<(), Fail> {
-    for (text, wanted) in ACCEPTED.iter() {
+fn files_are_read(rt: HostRuntime) {
+    for (text, edges) in &ACCEPTED {
         for length in [1, 2, 3, 1_000] {
-            let found = edges(rt.alloc(), text, length)?;
-            assert_eq!(rt; found.as_slice(), *wanted);
+            assert!(rt; has_edges(rt.alloc(), text, length, edges));
         }
     }
-    Ok(())
 }

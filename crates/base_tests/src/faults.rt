@@ -1,7 +1,7 @@
 //! Each fault, and its line.
 
-use crate::pieces::edges;
-use metis_reader::{Fault, FaultKind, ReadRefusal};
+use crate::pieces::is_refused;
+use metis_reader::{Fault, FaultKind};
 
 type Row = (&'static [u8], FaultKind, u64);
 
@@ -46,13 +46,13 @@ const ROWS: [Row; 28] = [
 
 #[test]
 fn each_fault_is_told(rt: HostRuntime) {
-    for (text, kind, line) in ROWS.iter() {
+    for (text, kind, line) in &ROWS {
+        let fault = Fault {
+            kind: *kind,
+            line: *line,
+        };
         for length in [1, 2, 3, 1_000] {
-            let fault = ReadRefusal::Fault(Fault {
-                kind: *kind,
-                line: *line,
-            });
-            assert_eq!(rt; edges(rt.alloc(), text, length).err(), Some(fault));
+            assert!(rt; is_refused(rt.alloc(), text, length, fault));
         }
     }
 }

@@ -1,9 +1,8 @@
 //! Words of seven and of eight digits, which the reader takes in two ways, cut into pieces at every place.
 
-use crate::pieces::{edges, graph};
+use crate::pieces::{has_edges, is_refused};
 use cut_definitions::Edge;
-use metis_reader::{Fault, FaultKind, ReadRefusal};
-use std::test::Fail;
+use metis_reader::{Fault, FaultKind};
 
 /// A text, and the weight of its edge from 1 to 2.
 type Weighed = (&'static [u8], u64);
@@ -25,21 +24,17 @@ const WEIGHED: [Weighed; 7] = [
 ];
 
 #[test]
-fn long_words_are_read_in_pieces(rt: HostRuntime) -> Result<(), Fail> {
-    for (text, weight) in WEIGHED.iter() {
+fn long_words_are_read_in_pieces(rt: HostRuntime) {
+    for (text, weight) in &WEIGHED {
+        let edge = Edge {
+            u: 1,
+            v: 2,
+            w: *weight,
+        };
         for length in 1..17 {
-            let wanted = Edge {
-                u: 1,
-                v: 2,
-                w: *weight,
-            };
-            assert_eq!(rt;
-                edges(rt.alloc(), text, length)?.as_slice(),
-                [wanted].as_slice()
-            );
+            assert!(rt; has_edges(rt.alloc(), text, length, &[edge]));
         }
     }
-    Ok(())
 }
 
 /// A text, its fault, and the fault's line.
@@ -57,13 +52,13 @@ const FAULTY: [Faulty; 7] = [
 
 #[test]
 fn faults_of_long_words_are_told(rt: HostRuntime) {
-    for (text, kind, line) in FAULTY.iter() {
+    for (text, kind, line) in &FAULTY {
+        let fault = Fault {
+            kind: *kind,
+            line: *line,
+        };
         for length in 1..17 {
-            let fault = ReadRefusal::Fault(Fault {
-                kind: *kind,
-                line: *line,
-            });
-            assert_eq!(rt; graph(rt.alloc(), text, length).err(), Some(fault));
+            assert!(rt; is_refused(rt.alloc(), text, length, fault));
         }
     }
 }

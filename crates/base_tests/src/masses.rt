@@ -1,7 +1,7 @@
 //! The masses of the vertices: the first weight of each, or 1.
 
 use crate::pieces::graph;
-use std::test::Fail;
+use std::alloc::Global;
 
 type Row = (&'static [u8], &'static [u64]);
 
@@ -16,13 +16,19 @@ const ROWS: [Row; 5] = [
     (b"2 1\n2\n1\n", &[1, 1]),
 ];
 
+/// Whether a text that comes in pieces of this length has just these masses.
+fn has_masses(alloc: Global, text: &[u8], length: usize, masses: &[u64]) -> bool {
+    match graph(alloc, text, length) {
+        Ok(graph) => graph.weights.as_slice() == masses,
+        Err(_) => false,
+    }
+}
+
 #[test]
-fn the_first_weight_is_kept(rt: HostRuntime) -> Result<(), Fail> {
-    for (text, wanted) in ROWS.iter() {
+fn the_first_weight_is_kept(rt: HostRuntime) {
+    for (text, masses) in &ROWS {
         for length in [1, 1_000] {
-            let found = graph(rt.alloc(), text, length)?;
-            assert_eq!(rt; found.weights.as_slice(), *wanted);
+            assert!(rt; has_masses(rt.alloc(), text, length, masses));
         }
     }
-    Ok(())
 }

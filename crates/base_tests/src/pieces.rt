@@ -13,21 +13,34 @@ pub(crate) fn graph(alloc: Global, text: &[u8], length: usize) -> Result<MetisGr
     reader.finish()
 }
 
-/// The edges of the graph.
-pub(crate) fn edges(alloc: Global, text: &[u8], length: usize) -> Result<Vec<Edge>, ReadRefusal> {
-    let graph = graph(alloc, text, length)?;
-    Ok(Vec::from_slice(alloc, graph.edges.edges())?)
+/// Whether a text that comes in pieces of this length is refused so.
+pub(crate) fn is_refused(alloc: Global, text: &[u8], length: usize, fault: Fault) -> bool {
+    graph(alloc, text, length).err() == Some(ReadRefusal::Fault(fault))
+}
+
+/// Whether a text that comes in pieces of this length has just these edges.
+pub(crate) fn has_edges(alloc: Global, text: &[u8], length: usize, edges: &[Edge]) -> bool {
+    match graph(alloc, text, length) {
+        Ok(graph) => graph.edges.edges() == edges,
+        Err(_) => false,
+    }
+}
+
+/// Whether each of these pieces, fed one after the other, is taken or told the fault.
+fn tells_from_second(reader: &mut Reader, fault: Fault) -> bool {
+    let told = Err(ReadRefusal::Fault(fault));
+    let first = reader.feed(b"2 1\nx") == Ok(());
+    let second = reader.feed(b"\n") == told;
+    let third = reader.feed(b"1\n") == told;
+    first && second && third && reader.feed(b"") == told
 }
 
 #[test]
 fn a_fault_is_told_by_the_piece_that_fixes_it(rt: HostRuntime) {
-    let fault = Err(ReadRefusal::Fault(Fault {
+    let mut reader = Reader::new(rt.alloc());
+    let fault = Fault {
         kind: FaultKind::BadNumber,
         line: 2,
-    }));
-    let mut reader = Reader::new(rt.alloc());
-    assert_eq!(rt; reader.feed(b"2 1\nx"), Ok(()));
-    assert_eq!(rt; reader.feed(b"\n"), fault);
-    assert_eq!(rt; reader.feed(b"1\n"), fault);
-    assert_eq!(rt; reader.feed(b""), fault);
+    };
+    assert!(rt; tells_from_second(&mut reader, fault));
 }

@@ -4,9 +4,9 @@ ghost use Rattle.std.specs.Prelude.{◌≡◌, ◌<◌, ◌≤◌, length};
 ghost use Rattle.cut_definitions.specs.Safe.{IsFair};
 
 use crate::triangle::uneven_triangle;
+use cut_definitions::NoMemory;
 use edge_certificates::heavy_edge;
 use mark_board::{Board, BoardSeat};
-use std::test::Fail;
 use weighted_graph::Graph;
 
 /// The degree of a vertex, which is the weight of a cut.
@@ -42,7 +42,7 @@ fn marks_the_heavy_edge(graph: &Graph, board: &Board, seat: &mut BoardSeat) -> b
 }
 
 #[test]
-fn a_mark_is_kept_at_the_close(rt: HostRuntime) -> Result<(), Fail> {
+fn a_mark_is_kept_at_the_close(rt: HostRuntime) -> Result<(), NoMemory> {
     let graph = uneven_triangle(rt.alloc())?;
     let (board, mut seat) = Board::open(rt.alloc(), &graph, degree_of(&graph, 1), 0)?;
     let marked = marks_the_heavy_edge(&graph, &board, &mut seat);
@@ -52,7 +52,7 @@ fn a_mark_is_kept_at_the_close(rt: HostRuntime) -> Result<(), Fail> {
 }
 
 #[test]
-fn a_new_seat_finds_the_mark_of_another(rt: HostRuntime) -> Result<(), Fail> {
+fn a_new_seat_finds_the_mark_of_another(rt: HostRuntime) -> Result<(), NoMemory> {
     let graph = uneven_triangle(rt.alloc())?;
     let (board, mut seat) = Board::open(rt.alloc(), &graph, degree_of(&graph, 1), 0)?;
     let marked = marks_the_heavy_edge(&graph, &board, &mut seat);
@@ -62,7 +62,7 @@ fn a_new_seat_finds_the_mark_of_another(rt: HostRuntime) -> Result<(), Fail> {
 }
 
 #[test]
-fn a_lowering_is_seen(rt: HostRuntime) -> Result<(), Fail> {
+fn a_lowering_is_seen(rt: HostRuntime) -> Result<(), NoMemory> {
     let graph = uneven_triangle(rt.alloc())?;
     let (board, mut seat) = Board::open(rt.alloc(), &graph, degree_of(&graph, 1), 0)?;
     let mut other = board.split(&mut seat);
@@ -72,7 +72,7 @@ fn a_lowering_is_seen(rt: HostRuntime) -> Result<(), Fail> {
 }
 
 #[test]
-fn a_vertex_is_won_once(rt: HostRuntime) -> Result<(), Fail> {
+fn a_vertex_is_won_once(rt: HostRuntime) -> Result<(), NoMemory> {
     let graph = uneven_triangle(rt.alloc())?;
     let (board, mut seat) = Board::open(rt.alloc(), &graph, degree_of(&graph, 1), 0)?;
     let first = board.take(&mut seat, 2);

@@ -8,7 +8,6 @@ use crate::triangle::uneven_triangle;
 use cut_definitions::NoMemory;
 use scan_core::{Core, Event};
 use std::alloc::Global;
-use std::test::Fail;
 use vertex_set::Side;
 use weighted_graph::Graph;
 
@@ -21,14 +20,115 @@ fn open_triangle(alloc: Global, graph: &Graph) -> Result<Core, NoMemory>
     Core::open(alloc, graph, 6, 0, 5, [1, 2].as_slice())
 }
 
-/// The side of one vertex.
-fn side_of(alloc: Global, v: u32) -> Result<Side, NoMemory>
-    requires { (1 ≤ v) × (v ≤ 3) }
-    ensures { IfOk result (λ s. s.vertices ≡ 3) }
-{
+/// An event of a table, with the members of its side.
+#[derive(Clone, Copy)]
+enum Turn {
+    Load(u32),
+    Lower(u32, &'static [u32]),
+    Mark(u32, u32),
+    Split(u32),
+    Join(u32, u32),
+    Take(u32, u32),
+}
+
+/// A turn, whether it is allowed, the bound after it, and what its seat has seen then.
+type Step = (Turn, bool, u64, Option<u64>);
+
+// The first mark of edge 2 by seat 2 is refused, since it saw 6 and the cut around vertex 3, of weight 5, parts the edge. There is
+// no seat 7, and no vertex 4.
+const STALE: [Step; 10] = [
+    (Turn::Split(1), true, 6, Some(6)),
+    (Turn::Load(2), true, 6, Some(6)),
+    (Turn::Lower(1, &[3]), true, 5, Some(5)),
+    (Turn::Mark(2, 0), true, 5, Some(6)),
+    (Turn::Mark(2, 2), false, 5, Some(6)),
+    (Turn::Load(2), true, 5, Some(5)),
+    (Turn::Mark(2, 2), true, 5, Some(5)),
+    (Turn::Load(7), false, 5, None),
+    (Turn::Take(1, 4), false, 5, Some(5)),
+    (Turn::Take(1, 3), true, 5, Some(5)),
+];
+
+// Refused are a mark of an edge that the lowered cut parts, a step of a seat that was joined away, a seat joined to itself, and a
+// vertex that is not there.
+const JOINED: [Step; 11] = [
+    (Turn::Split(1), true, 6, Some(6)),
+    (Turn::Split(1), true, 6, Some(6)),
+    (Turn::Lower(3, &[1, 2]), true, 5, Some(5)),
+    (Turn::Mark(1, 1), false, 5, Some(6)),
+    (Turn::Mark(1, 0), true, 5, Some(6)),
+    (Turn::Join(1, 3), true, 5, Some(5)),
+    (Turn::Mark(3, 0), false, 5, None),
+    (Turn::Mark(1, 1), true, 5, Some(5)),
+    (Turn::Join(2, 2), false, 5, Some(6)),
+    (Turn::Take(2, 4), false, 5, Some(6)),
+    (Turn::Take(2, 2), true, 5, Some(6)),
+];
+
+/// The side of some of the three vertices.
+fn side_of(alloc: Global, members: &[u32]) -> Result<Side, NoMemory> {
     let mut side = Side::empty(alloc, 3)?;
-    side.insert(v);
+    for v in members {
+        if 1 <= *v && *v <= side.n() {
+            side.insert(*v);
+        }
+    }
     Ok(side)
+}
+
+fn event_of(alloc: Global, turn: Turn) -> Result<Event, NoMemory> {
+    let event = match turn {
+        Turn::Load(seat) => Event::Load { seat },
+        Turn::Lower(seat, members) => {
+            let side = side_of(alloc, members)?;
+            Event::Lower { seat, side }
+        }
+        Turn::Mark(seat, edge) => Event::Mark { seat, edge },
+        Turn::Split(seat) => Event::Split { seat },
+        Turn::Join(seat, other) => Event::Join { seat, other },
+        Turn::Take(seat, vertex) => Event::Take { seat, vertex },
+    };
+    Ok(event)
+}
+
+fn seat_of(turn: Turn) -> u32 {
+    match turn {
+        Turn::Load(seat) => seat,
+        Turn::Lower(seat, _) => seat,
+        Turn::Mark(seat, _) => seat,
+        Turn::Split(seat) => seat,
+        Turn::Join(seat, _) => seat,
+        Turn::Take(seat, _) => seat,
+    }
+}
+
+/// Whether the next step is as told.
+fn is_step(alloc: Global, core: &mut Core, step: &Step) -> bool {
+    let (turn, allowed, bound, seen) = *step;
+    let Ok(event) = event_of(alloc, turn) else {
+        return false;
+    };
+    let answer = core.step(&event);
+    answer == Ok(allowed) && core.bound() == bound && core.seen(seat_of(turn)) == seen
+}
+
+/// Whether the machine goes through the steps as told.
+fn goes(alloc: Global, core: &mut Core, steps: &[Step]) -> bool {
+    for step in steps {
+        if !is_step(alloc, core, step) {
+            return false;
+        }
+    }
+    true
+}
+
+fn events_of(alloc: Global, steps: &[Step]) -> Result<Vec<Event>, NoMemory> {
+    let mut events = Vec::new(alloc);
+    for (turn, _, _, _) in steps {
+        let event = event_of(alloc, *turn)?;
+        events.push(event)?;
+    }
+    Ok(events)
 }
 
 /// Plays events on the machine as it was opened, and answers how many were allowed.
@@ -40,71 +140,66 @@ fn replayed(core: &mut Core, graph: &Graph, events: &[Event]) -> Result<u64, NoM
     Ok(allowed)
 }
 
+/// What is left once events were played: how many were allowed, which edges are marked, whether vertex 2 is taken, and what seat
+/// 2 saw last.
+struct Played {
+    allowed: u64,
+    marked: [bool; 3],
+    taken: bool,
+    seen: u64,
+}
+
+/// Whether this is left of the events of the steps, and the bound is 5.
+fn leaves(alloc: Global, graph: &Graph, steps: &[Step], played: &Played) -> Result<bool, NoMemory>
+    requires { graph.now ≡ record { vertices = 3; edges = record { u = 1; v = 2; w = 5 } ∷ record { u = 1; v = 3; w = 1 } ∷ record { u = 2; v = 3; w = 4 } ∷ [] } }
+{
+    let mut core = open_triangle(alloc, graph)?;
+    let events = events_of(alloc, steps)?;
+    let allowed = replayed(&mut core, graph, events.as_slice())?;
+    let marked = [core.is_marked(0), core.is_marked(1), core.is_marked(2)];
+    let seen = core.bound() == 5 && core.seen(2) == Some(played.seen);
+    Ok(
+        seen && allowed == played.allowed
+            && marked == played.marked
+            && core.is_taken(2) == played.taken,
+    )
+}
+
+const STALE_PLAYED: Played = Played {
+    allowed: 6,
+    marked: [true, false, true],
+    taken: false,
+    seen: 5,
+};
+
+const JOINED_PLAYED: Played = Played {
+    allowed: 7,
+    marked: [true, true, false],
+    taken: true,
+    seen: 6,
+};
+
 #[test]
-fn a_seat_that_was_not_made_is_refused(rt: HostRuntime) -> Result<(), Fail> {
+fn a_stale_mark_is_refused(rt: HostRuntime) -> Result<(), NoMemory> {
     let graph = uneven_triangle(rt.alloc())?;
     let mut core = open_triangle(rt.alloc(), &graph)?;
-    assert!(rt; !core.step(&Event::Load { seat: 7 })?);
+    assert!(rt; goes(rt.alloc(), &mut core, &STALE));
     Ok(())
 }
 
 #[test]
-fn a_vertex_that_is_there_is_taken(rt: HostRuntime) -> Result<(), Fail> {
+fn seats_join_and_take(rt: HostRuntime) -> Result<(), NoMemory> {
     let graph = uneven_triangle(rt.alloc())?;
     let mut core = open_triangle(rt.alloc(), &graph)?;
-    assert!(rt; !core.step(&Event::Take { seat: 1, vertex: 4 })?);
-    assert!(rt; core.step(&Event::Take { seat: 1, vertex: 3 })?);
+    assert!(rt; goes(rt.alloc(), &mut core, &JOINED));
     Ok(())
 }
 
-/// The second mark of seat 2 is refused, since it saw 6 and the cut around vertex 3, of weight 5, parts the edge.
 #[test]
-fn a_stale_mark_is_refused(rt: HostRuntime) -> Result<(), Fail> {
+fn events_are_replayed(rt: HostRuntime) -> Result<(), NoMemory> {
     let graph = uneven_triangle(rt.alloc())?;
-    let mut core = open_triangle(rt.alloc(), &graph)?;
-    let events = [
-        Event::Split { seat: 1 },
-        Event::Load { seat: 2 },
-        Event::Lower {
-            seat: 1,
-            side: side_of(rt.alloc(), 3)?,
-        },
-        Event::Mark { seat: 2, edge: 0 },
-        Event::Mark { seat: 2, edge: 2 },
-        Event::Load { seat: 2 },
-        Event::Mark { seat: 2, edge: 2 },
-    ];
-    let allowed = replayed(&mut core, &graph, &events)?;
-    assert!(rt; allowed == 6 && core.bound() == 5 && core.seen(2) == Some(5));
-    assert!(rt; core.is_marked(0) && !core.is_marked(1) && core.is_marked(2));
-    Ok(())
-}
-
-/// Refused are a mark of an edge that the lowered cut parts, a step of a seat that was joined away, a seat joined to itself, and
-/// a vertex that is not there.
-#[test]
-fn seats_join_and_take(rt: HostRuntime) -> Result<(), Fail> {
-    let graph = uneven_triangle(rt.alloc())?;
-    let mut core = open_triangle(rt.alloc(), &graph)?;
-    let mut side = side_of(rt.alloc(), 1)?;
-    side.insert(2);
-    let events = [
-        Event::Split { seat: 1 },
-        Event::Split { seat: 1 },
-        Event::Lower { seat: 3, side },
-        Event::Mark { seat: 1, edge: 1 },
-        Event::Mark { seat: 1, edge: 0 },
-        Event::Join { seat: 1, other: 3 },
-        Event::Mark { seat: 3, edge: 0 },
-        Event::Mark { seat: 1, edge: 1 },
-        Event::Join { seat: 2, other: 2 },
-        Event::Take { seat: 2, vertex: 4 },
-        Event::Take { seat: 2, vertex: 2 },
-    ];
-    let allowed = replayed(&mut core, &graph, &events)?;
-    assert!(rt;
-        allowed == 7 && core.bound() == 5 && core.seen(2) == Some(6) && core.seen(3) == None
-    );
-    assert!(rt; core.is_marked(0) && core.is_marked(1) && !core.is_marked(2) && core.is_taken(2));
+    let stale = leaves(rt.alloc(), &graph, &STALE[..7], &STALE_PLAYED);
+    let joined = leaves(rt.alloc(), &graph, &JOINED, &JOINED_PLAYED);
+    assert!(rt; stale == Ok(true) && joined == Ok(true));
     Ok(())
 }

@@ -2,12 +2,11 @@
 
 ghost use Rattle.std.specs.Prelude.{◌≡◌, ◌≤◌, length};
 
+use crate::graphs::graph_of;
 use component_cuts::Components;
-use cut_definitions::{Edge, EdgeList, NoMemory, VertexWeights};
+use cut_definitions::{EdgeList, NoMemory, VertexWeights};
 use std::alloc::Global;
-use std::test::Fail;
 use vertex_set::Side;
-use weighted_graph::Graph;
 
 /// Whether these are the members.
 fn has_members(side: &Side, members: &[u32]) -> bool {
@@ -51,22 +50,41 @@ fn has_best(alloc: Global, parts: &Components, weights: &VertexWeights, members:
     }
 }
 
-#[test]
-fn two_pairs(rt: HostRuntime) -> Result<(), Fail> {
-    let edges = [Edge { u: 1, v: 2, w: 1 }, Edge { u: 3, v: 4, w: 1 }];
-    let list = EdgeList::from_edges(4, Vec::from_slice(rt.alloc(), &edges)?);
-    let graph = Graph::build(rt.alloc(), &list)?;
-    let parts = Components::of(rt.alloc(), &graph)?;
-    assert!(rt; parts.len() == 2 && parts.part(2) == 1 && parts.part(4) == 2);
-    assert!(rt; has_sides(rt.alloc(), &parts, &[&[3, 4]])?);
-    let weights = VertexWeights::from_list(vec![in rt.alloc(); 1u64; 4]?);
-    assert!(rt; has_best(rt.alloc(), &parts, &weights, &[3, 4]));
-    Ok(())
+/// Whether the components are 1, 2 and 3, 4, and the best cut by four equal masses is the second.
+fn are_two_pairs(alloc: Global, parts: &Components) -> Result<bool, NoMemory>
+    requires { parts.now.vertices ≡ 4 }
+{
+    let weights = VertexWeights::from_list(vec![in alloc; 1u64; 4]?);
+    let halves = has_best(alloc, parts, &weights, &[3, 4]);
+    Ok(halves && parts.len() == 2 && parts.part(2) == 1 && parts.part(4) == 2)
+}
+
+/// Whether the graph of two pairs falls into these, and has one minimum cut.
+fn fall_into_pairs(alloc: Global) -> bool {
+    let Some(graph) = graph_of(alloc, "4 2\n2\n1\n4\n3\n") else {
+        return false;
+    };
+    if graph.n() != 4 {
+        return false;
+    }
+    match Components::of(alloc, &graph) {
+        Ok(parts) => {
+            are_two_pairs(alloc, &parts) == Ok(true)
+                && has_sides(alloc, &parts, &[&[3, 4]]) == Ok(true)
+        }
+        Err(_) => false,
+    }
 }
 
 #[test]
-fn three_vertices_without_edges(rt: HostRuntime) -> Result<(), Fail> {
+fn two_pairs(rt: HostRuntime) {
+    assert!(rt; fall_into_pairs(rt.alloc()));
+}
+
+#[test]
+fn three_vertices_without_edges(rt: HostRuntime) -> Result<(), NoMemory> {
     let parts = Components::of_list(rt.alloc(), &EdgeList::new(rt.alloc(), 3))?;
-    assert!(rt; has_sides(rt.alloc(), &parts, &[&[2], &[2, 3], &[3]])?);
+    let sides: [&[u32]; 3] = [&[2], &[2, 3], &[3]];
+    assert!(rt; has_sides(rt.alloc(), &parts, &sides) == Ok(true));
     Ok(())
 }

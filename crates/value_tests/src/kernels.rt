@@ -3,12 +3,11 @@
 ghost use Rattle.std.specs.Prelude.{◌≤◌};
 
 use crate::certificates::none_is_certified;
-use crate::graphs::{edges_of, uneven_triangle};
-use cut_definitions::{EdgeList, NoMemory};
+use crate::graphs::{graph_of, uneven_triangle};
+use cut_definitions::NoMemory;
 use min_value::{Kernel, kernel, reduce, value};
 use outside::OpenGate;
 use std::alloc::Global;
-use std::test::Fail;
 use std::thread::Threads;
 use weighted_graph::Graph;
 
@@ -48,63 +47,52 @@ fn has_kernel<R: Threads + Sync>(
     workers: u32,
     value: u64,
     classes: &[u32],
-) -> Result<bool, NoMemory>
+) -> bool
     requires enough { 2 ≤ graph.now.vertices }
     requires workers { (1 ≤ workers) × (workers ≤ 64) }
 {
-    let found = kernel(rt, alloc, graph, workers, &OpenGate)?;
-    Ok(is_kernel(&found, value, classes))
-}
-
-#[test]
-fn the_kernel_of_a_triangle(rt: HostRuntime) -> Result<(), Fail> {
-    let alloc = rt.alloc();
-    let graph = uneven_triangle(alloc)?;
-    let by_one = has_kernel(&rt, alloc, &graph, 1, 5, &TRIANGLE_CLASSES)?;
-    let by_four = has_kernel(&rt, alloc, &graph, 4, 5, &TRIANGLE_CLASSES)?;
-    assert!(rt; by_one && by_four);
-    Ok(())
-}
-
-/// Whether there is a smaller graph, and it is the kernel of the triangle.
-fn is_reduced_triangle(reduced: &Option<Kernel>) -> bool {
-    match reduced {
-        Some(kernel) => is_kernel(kernel, 5, &TRIANGLE_CLASSES),
-        None => false,
+    match kernel(rt, alloc, graph, workers, &OpenGate) {
+        Ok(found) => is_kernel(&found, value, classes),
+        Err(_) => false,
     }
 }
 
-#[test]
-fn a_triangle_is_reduced(rt: HostRuntime) -> Result<(), Fail> {
-    let alloc = rt.alloc();
-    let graph = uneven_triangle(alloc)?;
-    let weight = value(&rt, alloc, &graph, 1, &OpenGate)?;
-    let reduced = reduce(&rt, alloc, &graph, weight, 4, &OpenGate)?;
-    assert!(rt; is_reduced_triangle(&reduced));
-    Ok(())
-}
-
-/// Whether no edge of the graph itself is certified at 2 with slack 1, the graph is not light, and its kernels by one worker
-/// and by four are those of two blocks.
-fn has_kernels_of_two_blocks<R: Threads + Sync>(
-    rt: &R,
-    alloc: Global,
-    list: &EdgeList,
-) -> Result<bool, NoMemory> {
-    if list.n() < 2 {
-        return Ok(false);
-    }
-    let graph = Graph::build(alloc, list)?;
-    let by_one = has_kernel(rt, alloc, &graph, 1, 2, &BLOCK_CLASSES)?;
-    let by_four = has_kernel(rt, alloc, &graph, 4, 2, &BLOCK_CLASSES)?;
-    Ok(by_one && by_four && none_is_certified(&graph, 2, 1) && !is_light(&graph, 2))
-}
-
-#[test]
-fn two_blocks_leave_a_light_kernel(rt: HostRuntime) -> Result<(), Fail> {
-    let Some(list) = edges_of(rt.alloc(), TWO_BLOCKS) else {
-        return Err(Fail::from("no graph"));
+/// Whether four workers reduce the graph to the kernel of the triangle.
+fn is_reduced<R: Threads + Sync>(rt: &R, alloc: Global, graph: &Graph) -> bool
+    requires { 2 ≤ graph.now.vertices }
+{
+    let Ok(weight) = value(rt, alloc, graph, 1, &OpenGate) else {
+        return false;
     };
-    assert!(rt; has_kernels_of_two_blocks(&rt, rt.alloc(), &list)?);
+    match reduce(rt, alloc, graph, weight, 4, &OpenGate) {
+        Ok(Some(kernel)) => is_kernel(&kernel, 5, &TRIANGLE_CLASSES),
+        _ => false,
+    }
+}
+
+#[test]
+fn the_kernel_of_a_triangle(rt: HostRuntime) -> Result<(), NoMemory> {
+    let graph = uneven_triangle(rt.alloc())?;
+    let by_one = has_kernel(&rt, rt.alloc(), &graph, 1, 5, &TRIANGLE_CLASSES);
+    let by_four = has_kernel(&rt, rt.alloc(), &graph, 4, 5, &TRIANGLE_CLASSES);
+    assert!(rt; by_one && by_four && is_reduced(&rt, rt.alloc(), &graph));
     Ok(())
+}
+
+/// Whether no edge of the graph itself is certified at 2 with slack 1, the graph is not light, and its kernels are those of two
+/// blocks.
+fn has_kernels_of_two_blocks<R: Threads + Sync>(rt: &R, alloc: Global) -> bool {
+    let Some(graph) = graph_of(alloc, TWO_BLOCKS) else {
+        return false;
+    };
+    if graph.n() < 2 || is_light(&graph, 2) || !none_is_certified(&graph, 2, 1) {
+        return false;
+    }
+    let by_one = has_kernel(rt, alloc, &graph, 1, 2, &BLOCK_CLASSES);
+    by_one && has_kernel(rt, alloc, &graph, 4, 2, &BLOCK_CLASSES)
+}
+
+#[test]
+fn two_blocks_leave_a_light_kernel(rt: HostRuntime) {
+    assert!(rt; has_kernels_of_two_blocks(&rt, rt.alloc()));
 }

@@ -24,6 +24,8 @@ mod rounds;
 #[cfg(test)]
 mod scans;
 #[cfg(test)]
+mod shared_scans;
+#[cfg(test)]
 mod values;
 #[cfg(test)]
 mod workers;

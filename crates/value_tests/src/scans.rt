@@ -4,9 +4,8 @@ ghost use Rattle.std.specs.Prelude.{◌≡◌};
 ghost use Rattle.capped_scan.specs.Scan.{StandsFor};
 
 use crate::graphs::uneven_triangle;
-use cut_definitions::EdgeList;
+use cut_definitions::{EdgeList, NoMemory};
 use scan_forest::{Scan, Scanned};
-use std::test::Fail;
 use weighted_graph::Graph;
 
 fn scanned(vertex: u32, prefix_weight: u64, all: bool) -> Scanned {
@@ -48,7 +47,7 @@ fn goes_from_first(graph: &Graph, scan: &mut Scan) -> bool
 }
 
 #[test]
-fn a_capped_scan_of_a_triangle(rt: HostRuntime) -> Result<(), Fail> {
+fn a_capped_scan_of_a_triangle(rt: HostRuntime) -> Result<(), NoMemory> {
     let graph = uneven_triangle(rt.alloc())?;
     let mut scan = Scan::new(rt.alloc(), &graph)?;
     scan.start(1, 6);
@@ -69,7 +68,7 @@ fn goes_past_second(graph: &Graph, scan: &mut Scan) -> bool
 
 /// Vertex 2 is dropped, so 3 comes after 1, and the two are not everything.
 #[test]
-fn a_dropped_vertex_is_passed_over(rt: HostRuntime) -> Result<(), Fail> {
+fn a_dropped_vertex_is_passed_over(rt: HostRuntime) -> Result<(), NoMemory> {
     let graph = uneven_triangle(rt.alloc())?;
     let mut scan = Scan::new(rt.alloc(), &graph)?;
     scan.start(1, 3);
@@ -89,7 +88,7 @@ fn goes_from_third(graph: &Graph, scan: &mut Scan) -> bool
 
 /// Vertex 2 weighs more toward 3 than vertex 1 does, but both reach the cap.
 #[test]
-fn the_least_of_a_tie_comes_first(rt: HostRuntime) -> Result<(), Fail> {
+fn the_least_of_a_tie_comes_first(rt: HostRuntime) -> Result<(), NoMemory> {
     let graph = uneven_triangle(rt.alloc())?;
     let mut scan = Scan::new(rt.alloc(), &graph)?;
     scan.start(3, 1);
@@ -98,7 +97,7 @@ fn the_least_of_a_tie_comes_first(rt: HostRuntime) -> Result<(), Fail> {
 }
 
 #[test]
-fn a_scan_of_no_vertices(rt: HostRuntime) -> Result<(), Fail> {
+fn a_scan_of_no_vertices(rt: HostRuntime) -> Result<(), NoMemory> {
     let graph = Graph::build(rt.alloc(), &EdgeList::new(rt.alloc(), 0))?;
     let mut scan = Scan::new(rt.alloc(), &graph)?;
     assert!(rt; scan.next(&graph).is_none());

@@ -1,12 +1,13 @@
 //! Workers who scan a large graph side by side.
 
-ghost use Rattle.std.specs.Prelude.{◌≡◌, ◌≤◌, length};
+ghost use Rattle.std.specs.Prelude.{◌≡◌, ◌≤◌, length, IfSome};
 
-use crate::graphs::edges_of;
+use crate::graphs::{edges_in, feed_line, feed_number};
 use crate::rounds::degree_of;
-use cut_definitions::{EdgeList, NoMemory};
+use cut_definitions::EdgeList;
 use mark_board::Marks;
-use min_value::{Kernel, reduce, value};
+use metis_reader::Reader;
+use min_value::{reduce, value};
 use outside::{Gate, OpenGate};
 use round_workers::scan_round;
 use std::alloc::Global;
@@ -49,48 +50,42 @@ fn meeting_gate() -> MeetingGate {
     }
 }
 
-/// Puts the row of a vertex, counted from 0, which is joined to all others of its block; the last vertex of a block is joined to
-/// the first of the next one.
-fn put_row(
-    alloc: Global,
-    text: &mut String,
-    vertex: u32,
-    blocks: u32,
-    size: u32,
-) -> Result<(), NoMemory>
+/// Feeds the row of a vertex, counted from 0, which is joined to all others of its block; the last vertex of a block is joined
+/// to the first of the next one.
+fn feed_row(reader: &mut Reader, vertex: u32, blocks: u32, size: u32)
     requires vertex { vertex ≤ 100000 }
     requires blocks { blocks ≤ 1000 }
     requires size { (1 ≤ size) × (size ≤ 1000) }
 {
     let first = vertex / size * size;
     if vertex == first && vertex > 0 {
-        text.push_str(&format!(in alloc; "{vertex} ")?)?;
+        feed_number(reader, vertex);
     }
     for other in first..first + size {
-        let name = other + 1;
         if other != vertex {
-            text.push_str(&format!(in alloc; "{name} ")?)?;
+            feed_number(reader, other + 1);
         }
     }
     let next = vertex + 2;
     if vertex - first + 1 == size && next <= blocks * size {
-        text.push_str(&format!(in alloc; "{next} ")?)?;
+        feed_number(reader, next);
     }
-    text.push_str("\n")
+    feed_line(reader, &[]);
 }
 
-/// A file with a chain of complete blocks, of which one edge leads to the next: its value is 1.
-fn chain_of_blocks(alloc: Global, blocks: u32, size: u32) -> Result<String, NoMemory>
+/// A chain of complete blocks, of which one edge leads to the next: its value is 1.
+fn chain_of_blocks(alloc: Global, blocks: u32, size: u32) -> Option<EdgeList>
     requires blocks { (1 ≤ blocks) × (blocks ≤ 100) }
     requires size { (2 ≤ size) × (size ≤ 400) }
 {
+    let mut reader = Reader::new(alloc);
     let vertices = blocks * size;
     let edges = blocks * (size * (size - 1) / 2) + blocks - 1;
-    let mut text = format!(in alloc; "{vertices} {edges}\n")?;
+    feed_line(&mut reader, &[vertices, edges]);
     for vertex in 0..vertices {
-        put_row(alloc, &mut text, vertex, blocks, size)?;
+        feed_row(&mut reader, vertex, blocks, size);
     }
-    Ok(text)
+    edges_in(reader)
 }
 
 /// In how many blocks of eight vertices an edge is marked.
@@ -112,63 +107,64 @@ fn marked_blocks(graph: &Graph, marks: &Marks) -> u32
 
 /// Whether two workers run at the same time, lower the bound to 2 at most, and mark an edge in each of the 64 blocks. A block is
 /// scanned by one of them, or half of it at least by one of them once the bound has fallen.
-fn marks_each_block<R: Threads + Sync>(
-    rt: &R,
-    alloc: Global,
-    list: &EdgeList,
-) -> Result<bool, NoMemory> {
-    if list.n() < 2 {
-        return Ok(false);
-    }
-    let graph = Graph::build(alloc, list)?;
-    let opening = degree_of(&graph, 1);
+fn marks_each_block<R: Threads + Sync>(rt: &R, alloc: Global, graph: &Graph) -> bool
+    requires { 2 ≤ graph.now.vertices }
+{
+    let opening = degree_of(graph, 1);
     let gate = meeting_gate();
-    let (bound, marks) = scan_round(rt, alloc, &graph, opening, 0, 2, &gate)?;
+    let Ok(answer) = scan_round(rt, alloc, graph, opening, 0, 2, &gate) else {
+        return false;
+    };
+    let (bound, marks) = answer;
     let met = gate.met.load(Ordering::SeqCst) == 1;
-    Ok(met && opening == 7 && bound <= 2 && marked_blocks(&graph, &marks) == 64)
+    met && opening == 7 && bound <= 2 && marked_blocks(graph, &marks) == 64
+}
+
+/// Whether two workers reduce the graph to two vertices, and run at the same time.
+fn is_reduced_by_two<R: Threads + Sync>(rt: &R, alloc: Global, graph: &Graph) -> bool
+    requires { 2 ≤ graph.now.vertices }
+{
+    let Ok(weight) = value(rt, alloc, graph, 2, &OpenGate) else {
+        return false;
+    };
+    let gate = meeting_gate();
+    let reduced = match reduce(rt, alloc, graph, weight, 2, &gate) {
+        Ok(Some(kernel)) => kernel.graph.n() == 2,
+        _ => false,
+    };
+    reduced && weight == 1 && gate.met.load(Ordering::SeqCst) == 1
+}
+
+/// The graph of a list of so many edges.
+fn graph_of_list(alloc: Global, list: Option<EdgeList>, edges: usize) -> Option<Graph>
+    ensures { IfSome result (λ g. 2 ≤ g.vertices) }
+{
+    let list = list?;
+    if list.n() < 2 || list.len() != edges {
+        return None;
+    }
+    match Graph::from_list(alloc, list) {
+        Ok(graph) => Some(graph),
+        Err(_) => None,
+    }
 }
 
 #[test]
 fn two_workers_scan_a_large_graph(rt: HostRuntime) -> Result<(), Fail> {
-    let text = chain_of_blocks(rt.alloc(), 64, 8)?;
-    let Some(list) = edges_of(rt.alloc(), &text) else {
+    let list = chain_of_blocks(rt.alloc(), 64, 8);
+    let Some(graph) = graph_of_list(rt.alloc(), list, 1855) else {
         return Err(Fail::from("no graph"));
     };
-    assert!(rt; list.len() == 1855 && marks_each_block(&rt, rt.alloc(), &list)?);
+    assert!(rt; marks_each_block(&rt, rt.alloc(), &graph));
     Ok(())
-}
-
-/// Whether there is a smaller graph, and it has two vertices.
-fn has_two_left(reduced: &Option<Kernel>) -> bool {
-    match reduced {
-        Some(kernel) => kernel.graph.n() == 2,
-        None => false,
-    }
-}
-
-/// Whether two workers reduce the graph to two vertices, and run at the same time.
-fn is_reduced_by_two<R: Threads + Sync>(
-    rt: &R,
-    alloc: Global,
-    list: &EdgeList,
-) -> Result<bool, NoMemory> {
-    if list.n() < 2 {
-        return Ok(false);
-    }
-    let graph = Graph::build(alloc, list)?;
-    let weight = value(rt, alloc, &graph, 2, &OpenGate)?;
-    let gate = meeting_gate();
-    let reduced = reduce(rt, alloc, &graph, weight, 2, &gate)?;
-    let met = gate.met.load(Ordering::SeqCst) == 1;
-    Ok(weight == 1 && met && has_two_left(&reduced))
 }
 
 #[test]
 fn two_workers_reduce_a_large_graph(rt: HostRuntime) -> Result<(), Fail> {
-    let text = chain_of_blocks(rt.alloc(), 2, 300)?;
-    let Some(list) = edges_of(rt.alloc(), &text) else {
+    let list = chain_of_blocks(rt.alloc(), 2, 300);
+    let Some(graph) = graph_of_list(rt.alloc(), list, 89701) else {
         return Err(Fail::from("no graph"));
     };
-    assert!(rt; is_reduced_by_two(&rt, rt.alloc(), &list)?);
+    assert!(rt; is_reduced_by_two(&rt, rt.alloc(), &graph));
     Ok(())
 }
