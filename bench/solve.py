@@ -257,6 +257,49 @@ def three_way_torus(n, rng):
     return 3 * k, edges, all_alone(3 * k, 6)
 
 
+def all_in_pairs(n, value):
+    """Where each vertex alone is a minimum cut, and each of the n / 2 pairs that a heavy edge joins, and there is no other."""
+    return {'value': value, 'count': 3 * n // 2, 'shape': (3 * n // 2 + 1, 3 * n // 2, 0), 'balance': 2}
+
+
+def hexagons(n, rng):
+    """Four rings numbered along, with edges of weight 2 that make hexagons between each ring and the next, and the last and the first."""
+    k = max(n // 4, 6)
+    k -= k % 2
+    at = lambda i, j: 1 + (i % 4) * k + j % k
+    edges = [(at(i, j), at(i, j + 1), 1) for i in range(4) for j in range(k)]
+    edges += [(at(i, j), at(i + 1, j), 2) for i in range(4) for j in range(k) if (i + j) % 2 == 0]
+    return 4 * k, edges, all_in_pairs(4 * k, 4)
+
+
+def petersen(n, rng):
+    """A ring numbered along, a spoke of weight 2 at each vertex, and edges of weight 1 from the end of each spoke to that of the next but
+    one."""
+    k = max(n // 2, 12)
+    edges = ring_edges(range(1, k + 1)) + [(k + 1 + v, k + 1 + (v + 2) % k, 1) for v in range(k)]
+    return 2 * k, edges + [(v, k + v, 2) for v in range(1, k + 1)], all_in_pairs(2 * k, 4)
+
+
+def regular(n, rng):
+    """Two rings through all vertices, each in an order of its own at random."""
+    n = max(n, 8)
+    table = {}
+    for _ in range(2):
+        names = list(range(1, n + 1))
+        rng.shuffle(names)
+        for u, v, w in ring_edges(names):
+            table[min(u, v), max(u, v)] = table.get((min(u, v), max(u, v)), 0) + w
+    return n, [(u, v, w) for (u, v), w in table.items()], {}
+
+
+def hypercube(n, rng):
+    """A hypercube whose edges weigh 1 in the first direction, 2 in the second and so on, numbered at random."""
+    k = max(n.bit_length() - 1, 4)
+    n = 1 << k
+    edges = [(v + 1, (v | 1 << i) + 1, i + 1) for v in range(n) for i in range(k) if not v >> i & 1]
+    return n, shuffled(n, edges, rng), all_alone(n, k * (k + 1) // 2)
+
+
 # Each family with its number of vertices for a number of edges.
 FAMILIES = {
     'ring': (ring, lambda m: m),
@@ -272,6 +315,10 @@ FAMILIES = {
     'ring_at_a_quarter': (ring_at_a_quarter, lambda m: m // 2),
     'torus_along': (torus_along, lambda m: m // 2),
     'three_way_torus': (three_way_torus, lambda m: m // 3),
+    'hexagons': (hexagons, lambda m: m * 2 // 3),
+    'petersen': (petersen, lambda m: m * 2 // 3),
+    'regular': (regular, lambda m: m // 2),
+    'hypercube': (hypercube, lambda m: max(1 << k for k in range(4, 26) if k << (k - 1) <= max(m, 32))),
     'path': (path, lambda m: m + 1),
     'star': (star, lambda m: m + 1),
     'tree': (tree, lambda m: m + 1),
@@ -376,6 +423,9 @@ def check_answer(job, out_file, graph_file, m, facts):
             check_cactus(check, text, n, edges, facts)
             return check.same, check.wrong
         lines = text.decode().split('\n')
+        if job == 'grow':
+            check.equal('step', lines[0].split()[:2], ['step', '1'])
+            return check.same, check.wrong
         found = dict(line.split(' ', 1) for line in lines[:5] if ' ' in line and line[0].isalpha())
         check.value(int(found['value']), facts)
         if job in ('cuts', 'count', 'trial') and 'count' in facts:
@@ -417,7 +467,7 @@ def run_best(command, source_file, out_file, options):
     return best
 
 
-MOST_OF_A_TRIAL = 2000
+MOST_OF_A_TRIAL = 100_000
 SHORTEST = 0.02  # seconds; what takes less is mostly the start of the program
 
 
@@ -473,7 +523,7 @@ def measure_family(family, options, folder):
         file = os.path.join(folder, f'{family}_{wanted}_{options.seed}.graph')
         n, m, facts = apart(write_graph, family, wanted, options.seed, file)
         out_file = os.path.join(folder, 'answer')
-        words = [options.job] + {'part': ['1', str(n)], 'trial': [str(n)]}.get(options.job, [])
+        words = [options.job] + {'part': ['1', str(n)], 'grow': ['1', str(n), '1'], 'trial': [str(n)]}.get(options.job, [])
         words += ['--workers', str(options.workers)] if options.workers else []
         run = run_best([options.program] + words, file, out_file, options)
         remark, differs = remark_of(run, options.job, out_file, file, m, facts)

@@ -1,8 +1,7 @@
 #!/usr/bin/env python3
 """Small graphs and their minimum cuts by trying all sides; a strict reader of the text of a cactus.
 
-This file is imported by the scripts beside it (`check_cactus.py`, `check_listing.py`, `check_cactus_text.py`,
-`draw_cactus.py`). Run alone, it tries itself on a few known graphs:
+This file is imported by most scripts beside it and by the tests of the Python package. Run alone, it tries itself on a few known graphs:
 
     tools/cuts_by_hand.py
 

@@ -16,8 +16,8 @@ WRAPPER = os.path.join(TOP, 'mincut')
 BUILT = os.path.join(TOP, 'crates', 'mincut', 'out', 'mincut')
 
 # The jobs of the program, and those of them that read a graph and need no further words.
-JOBS = ['value', 'cactus', 'cuts', 'part', 'count', 'balanced', 'trial']
-PLAIN_JOBS = [job for job in JOBS if job not in ('part', 'trial')]
+JOBS = ['value', 'cactus', 'cuts', 'part', 'count', 'balanced', 'augment', 'grow', 'trial']
+PLAIN_JOBS = [job for job in JOBS if job not in ('part', 'grow', 'trial')]
 
 
 # The program
