@@ -126,7 +126,7 @@ def look_first(words, given):
 def built():
     """Whether the program is built, or could be."""
     if not shutil.which('rt'):
-        say("the program is not built, and rt, the toolchain's command, is not on the path; README.md says under 'Run it' what is needed")
+        say("the program is not built, and rt, the toolchain's command, is not on the path; README.md says under 'What you need' which toolchain that is")
         return False
     return first_build.build(say)
 

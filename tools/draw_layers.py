@@ -1,0 +1,62 @@
+#!/usr/bin/env python3
+"""Draws the layers of crates.txt: the crates of each, and on which other layers they stand.
+
+usage: draw_layers.py [FILE.svg]    FILE.svg: docs/layers.svg where none is named
+"""
+import os
+import sys
+from html import escape
+
+ROOT = os.path.dirname(os.path.dirname(os.path.abspath(__file__)))
+WIDTH, LEFT, LETTER, BOX, GAP = 980, 14, 7.1, 24, 8
+
+
+def layers():
+    """The title of each layer, its crates and the layers, by their number, that they use."""
+    found, layer_of = [], {}
+    with open(f'{ROOT}/crates.txt', encoding='utf-8') as file:
+        for line in list(file)[1:]:
+            if line.startswith('#'):
+                found.append((line[1:].partition(':')[0].strip(), [], set()))
+            elif ':' in line:
+                head, _, uses = line.partition(':')
+                name = head.split()[0]
+                layer_of[name] = len(found) - 1
+                found[-1][1].append(name)
+                found[-1][2].update(layer_of[used] for used in uses.split() if used in layer_of)
+    return found
+
+
+def drawn(found):
+    parts, top = [], 12
+    for number, (title, names, uses) in enumerate(found):
+        below = [found[other][0] for other in sorted(uses - {number})]
+        start, x, y = top, LEFT + 12, top + 34
+        boxes = []
+        for name in names:
+            width = len(name) * LETTER + 16
+            if x + width > WIDTH - LEFT - 12:
+                x, y = LEFT + 12, y + BOX + GAP
+            boxes.append(f'<rect x="{x:.0f}" y="{y}" width="{width:.0f}" height="{BOX}" rx="4" class="crate"/>'
+                         f'<text x="{x + 8:.0f}" y="{y + 16}" class="name">{escape(name)}</text>')
+            x += width + GAP
+        top = y + BOX + 12
+        stands = f'stands on {", ".join(below)}' if below else 'stands on the toolchain alone'
+        parts += [f'<rect x="{LEFT}" y="{start}" width="{WIDTH - 2 * LEFT}" height="{top - start}" rx="6" class="layer"/>',
+                  f'<text x="{LEFT + 12}" y="{start + 22}" class="title">{escape(title)}</text>',
+                  f'<text x="{WIDTH - LEFT - 12}" y="{start + 22}" class="uses">{escape(stands)}</text>', *boxes]
+        top += GAP
+    style = ('.layer{fill:#f4f6f8;stroke:#c3ccd5}.crate{fill:#fff;stroke:#5b7083}.title{font:bold 14px sans-serif;fill:#1d2b36}'
+             '.uses{font:12px sans-serif;fill:#5b7083;text-anchor:end}.name{font:12px monospace;fill:#1d2b36}')
+    head = f'<svg xmlns="http://www.w3.org/2000/svg" viewBox="0 0 {WIDTH} {top + 4}" role="img" aria-label="The layers of crates">'
+    return '\n'.join([head, f'<style>{style}</style>', *parts, '</svg>', ''])
+
+
+def main():
+    target = sys.argv[1] if len(sys.argv) > 1 else f'{ROOT}/docs/layers.svg'
+    with open(target, 'w', encoding='utf-8') as file:
+        file.write(drawn(layers()))
+
+
+if __name__ == '__main__':
+    main()
