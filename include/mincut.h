@@ -14,7 +14,7 @@
  *
  * Threads and memory. A call touches only its arrays and the heap, keeps nothing, and starts no thread; calls from several threads
  * may run side by side, on output arrays of their own. Memory comes from malloc, realloc and free of the program, is in proportion
- * to n + m, and is given back before the call returns, also where it is wanting. The stack stays small. Do not call from a
+ * to n + m, and is given back before the call returns, also when it runs out. The stack stays small. Do not call from a
  * signal handler. */
 #ifndef MINCUT_H
 #define MINCUT_H
@@ -54,7 +54,7 @@ uint32_t mincut_version(void);
 mincut_status mincut_value(uint32_t n, size_t m, const uint32_t *u, const uint32_t *v, const uint64_t *w, uint64_t *value);
 
 /* The lesser of the bound and the value, for separation: the value where that is below the bound, and else the bound. Its statuses
- * are those of mincut_value. Cost: as that; flows end at the bound, so a bound that the value reaches is told sooner than the value. */
+ * are those of mincut_value. Cost: as that; flows end at the bound, so a bound that the value reaches is answered sooner than the value. */
 mincut_status mincut_value_below(uint32_t n, size_t m, const uint32_t *u, const uint32_t *v, const uint64_t *w, uint64_t bound,
                                  uint64_t *value);
 
