@@ -30,14 +30,12 @@ import sys
 import tempfile
 import time
 
-HERE = os.path.dirname(os.path.abspath(__file__))
-sys.path.insert(0, os.path.join(HERE, os.pardir, 'tools'))
-sys.path.insert(0, HERE)
-import figures_page  # noqa: E402
-import plain_mincut  # noqa: E402
-import running  # noqa: E402
-import solve  # noqa: E402
+import figures_page
+import solve
+from checks import metis, running
+from checks.families import FAMILIES
 
+HERE = os.path.dirname(os.path.abspath(__file__))
 PEERS_FOLDER = os.path.join(HERE, 'peers')
 COMPILING = ['-O3', '-march=native', '-DNDEBUG', '-std=c++17']
 CLOCK = 20           # a run that takes so many times the limit by the clock is ended too
@@ -93,7 +91,7 @@ def peer_commands(names, folder):
         words = [peer.word] if peer.word else []
         if peer.source.endswith('.py'):
             there = subprocess.run([sys.executable, '-c', 'import networkx'], stderr=subprocess.DEVNULL).returncode == 0
-            command = [sys.executable, '-W', 'ignore', os.path.join(PEERS_FOLDER, peer.source), *words] if there else None
+            command = [sys.executable, '-W', 'ignore', os.path.join(HERE, peer.source), *words] if there else None
         else:
             binary = built(peer.source, peer.flags, folder)
             command = [binary, *words] if binary else None
@@ -111,7 +109,7 @@ def graphs_of(options, folder):
     for family in options.families:
         done = set()
         for size in options.sizes:
-            wanted = solve.FAMILIES[family][1](size)
+            wanted = FAMILIES[family][1](size)
             file = os.path.join(folder, f'{family}.graph')
             n, m, facts = solve.apart(solve.write_graph, family, wanted, options.seed, file)
             if (n, m) not in done:
@@ -124,8 +122,8 @@ def graphs_of(options, folder):
 
 
 def size_of(file):
-    with open(file) as source:
-        (n, edges), _ = plain_mincut.read_file(source.read())
+    with open(file, 'rb') as source:
+        n, edges = metis.read(source.read(), trusted=True).graph
     return n, len(edges)
 
 
@@ -283,7 +281,7 @@ def command_of(words):
 def read_options():
     parser = argparse.ArgumentParser(description=__doc__, formatter_class=argparse.RawDescriptionHelpFormatter)
     running.add_program(parser)
-    parser.add_argument('--families', default=','.join(solve.FAMILIES))
+    parser.add_argument('--families', default=','.join(FAMILIES))
     parser.add_argument('--sizes', default='100,1000,10000,100000,1000000')
     parser.add_argument('--files', nargs='*', default=[])
     parser.add_argument('--jobs', default='value,count,cactus')
@@ -303,7 +301,7 @@ def read_options():
     options.families = [name for name in options.families.split(',') if name]
     options.sizes = sorted(int(size) for size in options.sizes.split(','))
     options.jobs, options.peers = options.jobs.split(','), [name for name in options.peers.split(',') if name]
-    for names, known in ((options.families, solve.FAMILIES), (options.jobs, ['value', 'count', 'cactus']), (options.peers, PEERS)):
+    for names, known in ((options.families, FAMILIES), (options.jobs, ['value', 'count', 'cactus']), (options.peers, PEERS)):
         if not set(names) <= set(known):
             parser.error(f'the choices are {", ".join(known)}')
     options.command = command_of(sys.argv[1:])

@@ -4,6 +4,7 @@ import os
 import re
 
 import solve
+from checks.families import FAMILIES
 
 STEEP = 1.5          # exponents of growth that are said in words
 BUSY = 2             # a load that this script alone does not make
@@ -188,8 +189,8 @@ def comparison_lines(records, titles):
 
 def kind_lines(records):
     """What the kinds are whose names do not say it."""
-    kinds = dict.fromkeys(record['family'] for record in records if record['family'] in solve.FAMILIES)
-    said = {kind: solve.FAMILIES[kind][0].__doc__ for kind in kinds}
+    kinds = dict.fromkeys(record['family'] for record in records if record['family'] in FAMILIES)
+    said = {kind: FAMILIES[kind][0].__doc__ for kind in kinds}
     return [f'- `{kind}`: {" ".join(text.split())}' for kind, text in said.items() if text]
 
 

@@ -15,9 +15,7 @@ import random
 import sys
 import tempfile
 
-HERE = os.path.dirname(os.path.abspath(__file__))
-sys.path.insert(0, os.path.join(HERE, os.pardir, 'tools'))
-import running  # noqa: E402
+from checks import running
 
 
 def circulant(n, jumps):

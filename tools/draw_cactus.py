@@ -16,7 +16,8 @@ import math
 import sys
 from xml.sax.saxutils import escape
 
-import cuts_by_hand as hand
+from checks import cactuses, metis
+from checks.graphs import components_of
 
 UNIT = 104                     # pixels between two nodes that a bridge joins
 MARGIN = 64
@@ -247,7 +248,7 @@ def caption(i, at, neighbours, width, height):
 def draw_cactus(cactus, at):
     parts = []
     neighbours = {i: [] for i in at}
-    for i, j, _ in hand.cactus_edges(cactus):
+    for i, j, _ in cactuses.edges_of(cactus):
         neighbours[i].append(j)
         neighbours[j].append(i)
     for cycle in cactus.cycles:
@@ -326,7 +327,7 @@ def legend(cactus, with_network, with_plan, left, top):
 def picture(cactus, graph, plan):
     """The whole SVG text."""
     places = first_places(cactus)
-    spread(places, cactus_lengths(cactus), 8.0, [(i, j) for i, j, _ in hand.cactus_edges(cactus)])
+    spread(places, cactus_lengths(cactus), 8.0, [(i, j) for i, j, _ in cactuses.edges_of(cactus)])
     stand_upright(places)
     top, left, parts, height = 34, 0.0, [], 0.0
     if graph is not None:
@@ -335,7 +336,7 @@ def picture(cactus, graph, plan):
         left += width + 24
     widest = max(box_size(node)[0] for node in cactus.nodes)
     at, width, cactus_height = to_pixels(places, left, top, max(MARGIN, widest / 2 + 56))
-    cuts = len(set(hand.cactus_sides(cactus))) if len(cactus.nodes) < 200 else None
+    cuts = len(set(cactuses.sides_of(cactus))) if len(cactus.nodes) < 200 else None
     title = f'its cactus: value {cactus.value}' if graph is not None else f'cactus: value {cactus.value}'
     title += f', {cuts} minimum cuts' if cuts is not None else ''
     parts += draw_cactus(cactus, at) + [words(left + MARGIN - 17, 38, title, 19, anchor='start', bold=True)]
@@ -349,6 +350,14 @@ def picture(cactus, graph, plan):
     return '\n'.join([head, f'<rect width="{width:.0f}" height="{height:.0f}" fill="#ffffff"/>'] + parts + entries + ['</svg>', ''])
 
 
+def read_graph(path):
+    with open(path, 'rb') as source:
+        try:
+            return metis.read(source.read()).graph
+        except metis.Fault as fault:
+            sys.exit(f'draw_cactus: {path}: {fault.kind} at line {fault.line}')
+
+
 def main():
     parser = argparse.ArgumentParser(description=__doc__, formatter_class=argparse.RawDescriptionHelpFormatter)
     parser.add_argument('picture', help='the SVG file to write')
@@ -357,14 +366,13 @@ def main():
     options = parser.parse_args()
     text = sys.stdin.buffer.read()
     try:
-        cactus = hand.read_cactus(text)
-    except hand.Malformed as refusal:
+        cactus = cactuses.read(text)
+    except cactuses.Malformed as refusal:
         sys.exit(f'draw_cactus: standard input is no text of a cactus (line {refusal.line})')
     graph = None
     if options.graph:
-        with open(options.graph) as source:
-            graph, _ = hand.read_metis(source.read())
-        if graph[0] != cactus.n or hand.components(graph) != 1:
+        graph = read_graph(options.graph)
+        if graph[0] != cactus.n or len(components_of(graph)) != 1:
             sys.exit('draw_cactus: the graph is not that of the cactus')
     plan = []
     if options.plan:

@@ -1,14 +1,12 @@
 """The value by networkx: stoer_wagner. The graph comes on standard input, as METIS text."""
-import os
 import sys
 import time
 
 import networkx
 
-sys.path.insert(0, os.path.join(os.path.dirname(os.path.abspath(__file__)), os.pardir, os.pardir, 'tools'))
-import plain_mincut  # noqa: E402
+from checks import metis
 
-(n, edges), _ = plain_mincut.read_file(sys.stdin.read())
+n, edges = metis.read(sys.stdin.buffer.read(), trusted=True).graph
 graph = networkx.Graph()
 graph.add_nodes_from(range(1, n + 1))
 graph.add_weighted_edges_from(edges)

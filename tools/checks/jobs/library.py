@@ -1,7 +1,6 @@
-#!/usr/bin/env python3
 """Tests the C library that `./library PREFIX` built, against the program and against answers by trying all cuts.
 
-usage: check_library.py PREFIX [--program PROGRAM] [--graphs N] [--calls N] [--quick]
+    tools/check library PREFIX [--program PATH] [--graphs N] [--calls N] [--quick]
 
 It compiles the tests of bindings/c/tests against the library, and the shim anew under the address and undefined sanitizers; runs them,
 the small ones under valgrind and helgrind where these are there; makes each allocation of a call fail in turn; runs --calls random
@@ -17,9 +16,12 @@ import shutil
 import subprocess
 import sys
 import tempfile
-from ctypes import POINTER, byref, c_size_t, c_uint32, c_uint64
+from ctypes import byref, c_size_t, c_uint32, c_uint64
 
-ROOT = os.path.dirname(os.path.dirname(os.path.abspath(__file__)))
+from .. import cactuses, metis, running
+from ..graphs import graph_of
+
+ROOT = running.TOP
 TESTS = f'{ROOT}/bindings/c/tests'
 SANITIZERS = ('-fsanitize=address,undefined', '-fno-sanitize-recover=all')
 
@@ -139,29 +141,10 @@ def balanced_differs(found, value, sides, masses, n):
     return found != (value, max(map(balance_of, sides)), found[2]) or found[2] not in sides or balance_of(found[2]) != found[1]
 
 
-def reached(edges):
-    seen, stack = {0}, [0]
-    while stack:
-        i = stack.pop()
-        for a, b in edges:
-            for x, y in ((a, b), (b, a)):
-                if x == i and y not in seen:
-                    seen.add(y)
-                    stack.append(y)
-    return seen
-
-
 def sides_of(nodes, bridges, cycles):
-    """The sides of all cuts of a flat cactus."""
-    rings = [[(c[i], c[(i + 1) % len(c)]) for i in range(len(c))] for c in cycles]
-    edges = [(('b', k), e) for k, e in enumerate(bridges)] + [((j, i), e) for j, ring in enumerate(rings) for i, e in enumerate(ring)]
-    cuts = [{('b', k)} for k in range(len(bridges))]
-    cuts += [{(j, a), (j, b)} for j, ring in enumerate(rings) for a, b in itertools.combinations(range(len(ring)), 2)]
-    found = set()
-    for cut in cuts:
-        seen = reached([e for name, e in edges if name not in cut])
-        found.add(tuple(sorted(v + 1 for i, node in enumerate(nodes) if i not in seen for v in node)))
-    return found
+    """The sides of all cuts of a flat cactus of the library, whose vertices begin at 0."""
+    n = sum(map(len, nodes))
+    return set(cactuses.sides_of(cactuses.Cactus(0, n, [[v + 1 for v in node] for node in nodes], bridges, cycles)))
 
 
 def random_arrays(rng):
@@ -176,12 +159,8 @@ def random_arrays(rng):
 
 
 def metis_text(n, u, v, w):
-    rows = [{} for _ in range(n)]
-    for a, b, x in zip(u, v, w):
-        if a != b and x:
-            rows[a][b] = rows[b][a] = rows[a].get(b, 0) + x
-    lines = [f'{n} {sum(map(len, rows)) // 2} 1']
-    return '\n'.join(lines + [' '.join(f'{b + 1} {x}' for b, x in row.items()) for row in rows]) + '\n'
+    """The multigraph as the program takes it: loops and edges without weight left out, parallel edges added up."""
+    return metis.text_of(graph_of(n, [((a + 1, b + 1), x) for a, b, x in zip(u, v, w) if a != b and x]))
 
 
 def check_program(prefix, program, graphs):
@@ -227,15 +206,18 @@ def check_rust(prefix, room):
     run('cargo', 'run', '--offline', '-q', '--example', 'weakest', cwd=crate, env=env)
 
 
-def main():
-    words = argparse.ArgumentParser(description='Tests the C library.')
-    words.add_argument('prefix')
-    words.add_argument('--program', default=f'{ROOT}/crates/mincut/out/mincut')
-    words.add_argument('--graphs', type=int, default=20000)
-    words.add_argument('--calls', type=int, default=1000000)
-    words.add_argument('--quick', action='store_true')
-    given = words.parse_args()
+def add_options(parser: argparse.ArgumentParser) -> None:
+    parser.add_argument('prefix', help='the folder that `./library` filled')
+    running.add_program(parser)
+    parser.add_argument('--graphs', type=int, default=20000, help='how many multigraphs are compared with the program')
+    parser.add_argument('--calls', type=int, default=1000000, help='how many graphs with faults in them are tried in-process')
+    parser.add_argument('--quick', action='store_true', help='leave out valgrind and cargo')
+
+
+def main(given: argparse.Namespace) -> int:
+    """Ends the command with status 1 at the first thing that differs."""
     prefix = os.path.abspath(given.prefix)
+    program = running.ready(given.program)
     with tempfile.TemporaryDirectory(prefix='mincut-check-') as room:
         built = Built(prefix, room)
         check_exports(prefix)
@@ -243,8 +225,5 @@ def main():
         check_examples(built, prefix)
         if not given.quick and shutil.which('cargo'):
             check_rust(prefix, room)
-    check_program(prefix, given.program, given.graphs)
-
-
-if __name__ == '__main__':
-    main()
+    check_program(prefix, program, given.graphs)
+    return running.tell_end('library', f'{given.calls} calls with faults, {given.graphs} multigraphs and the tests of bindings/', [])

@@ -1,29 +1,30 @@
-#!/usr/bin/env python3
 """The text of `augment` on random graphs, judged by trying all sides and by the canonical cactus.
 
-    tools/check_augment.py [--program PATH] [--count 3000] [--seed 1] [--most 10] [--threads 4] [--workers 1,4,8] [--any-edges]
+    tools/check augment [--program PATH] [--count 3000] [--seed 1] [--most 10] [--threads 4] [--workers 1,4,8] [--any-edges]
 
 The printed sets must be exactly the inclusion-minimal ones among all sides of minimum cuts and their complements, in the order of
 lists; every minimum cut must part the ends of some printed edge; the edges are half as many as the sets, rounded up; with the
 edges added, once each, the value must be greater; and where there are few pairs of vertices, all lists of one edge less are
 tried, and must not raise it. At last the text is compared with the one whose edges join opposite end nodes of the canonical cactus;
-with `--any-edges` it is not. Exit status 1 on any difference.
+with `--any-edges` it is not.
 """
 import argparse
 import itertools
-import random
 import re
+from collections.abc import Sequence
+from random import Random
 
-import answers_by_hand as answers
-import check_canonical
-import cuts_by_hand as hand
-import running
+from .. import answers_by_hand as answers
+from .. import graphs, metis, running
+from ..cactuses import Side
+from ..cuts_by_hand import minimum_cuts
+from ..graphs import Graph, Pair
 
 FORM = re.compile(r'value (\d+)\nedges (\d+)\n((?:edge \d+ \d+\n)*)sets (\d+)\n((?:set(?: \d+)+\n)*)')
 MOST_LISTS = 500  # lists of one edge less that are tried
 
 
-def read_text(text):
+def read_text(text: str) -> tuple[int, list[Pair], list[Side]] | None:
     """(value, edges, sets) of a text of the right form, or None."""
     found = FORM.fullmatch(text)
     if found is None:
@@ -33,26 +34,26 @@ def read_text(text):
     return (int(found[1]), edges, sets) if (int(found[2]), int(found[4])) == (len(edges), len(sets)) else None
 
 
-def minimal_sets(n, sides):
+def minimal_sets(n: int, sides: Sequence[Side]) -> list[Side]:
     """The inclusion-minimal sets among the sides and their complements, in the order of lists."""
     everything = frozenset(range(1, n + 1))
     sets = {frozenset(side) for side in sides} | {everything - frozenset(side) for side in sides}
     return sorted(tuple(sorted(some)) for some in sets if not any(other < some for other in sets))
 
 
-def raised(graph, pairs):
+def raised(graph: Graph, pairs: Sequence[Pair]) -> int:
     """The value with a unit edge added for each of the pairs."""
-    return hand.minimum_cuts(answers.with_edges(graph, [(u, v, 1) for u, v in pairs]))[0]
+    return minimum_cuts(answers.with_edges(graph, [(u, v, 1) for u, v in pairs]))[0]
 
 
-def fewer_lists(n, number):
+def fewer_lists(n: int, number: int) -> list[tuple[Pair, ...]]:
     """All lists of so many pairs, or none where they are too many."""
     pairs = list(itertools.combinations(range(1, n + 1), 2))
     lists = list(itertools.islice(itertools.combinations_with_replacement(pairs, number), MOST_LISTS + 1))
     return lists if len(lists) <= MOST_LISTS else []
 
 
-def difference(text, graph, value, sides, lists):
+def difference(text: str, graph: Graph, value: int, sides: Sequence[Side], lists: Sequence[Sequence[Pair]]) -> str | None:
     """What is wrong with the text for a connected graph, or None."""
     n, found = graph[0], read_text(text)
     if found is None:
@@ -75,17 +76,18 @@ def difference(text, graph, value, sides, lists):
     return None if better is None else f'fewer edges do: {better}'
 
 
-def check(program, seed, options):
+def check(program: str, seed: int, options: argparse.Namespace) -> running.Verdict:
     """(names to count, what differs or None) of one random graph."""
-    rng = random.Random(seed)
-    kind, graph = hand.random_graph(rng, options.most) if rng.random() < 0.05 else check_canonical.connected_graph(rng, options.most)
-    text = hand.metis_text(graph)
+    rng = Random(seed)
+    make = graphs.random_graph if rng.random() < 0.05 else graphs.connected_graph
+    kind, graph = make(rng, options.most)
+    text = metis.text_of(graph)
     words = ['augment'] + running.worker_words(options, rng)
     status, out, err = running.run_program(program, words, text)
     right = answers.wanted(['augment'], graph, [1] * graph[0])[1][0]
     names, wrong = [out.split(' ')[0]], None
     if right.startswith('value'):
-        value, sides = hand.minimum_cuts(graph)
+        value, sides = minimum_cuts(graph)
         count = len(minimal_sets(graph[0], sides))
         lists = fewer_lists(graph[0], (count + 1) // 2 - 1)
         wrong = difference(out, graph, value, sides, lists)
@@ -99,16 +101,10 @@ def check(program, seed, options):
     return [f'graphs: {kind}'] + names, wrong
 
 
-def main():
-    parser = argparse.ArgumentParser(description=__doc__, formatter_class=argparse.RawDescriptionHelpFormatter)
-    running.add_graphs(parser)
-    parser.set_defaults(count=3000, workers='1,4,8')
+def add_options(parser: argparse.ArgumentParser) -> None:
+    running.add_graphs(parser, 3000, workers='1,4,8', largest=graphs.SMALL)
     parser.add_argument('--any-edges', action='store_true', help='the edges may be any that do')
-    options = parser.parse_args()
-    if not 6 <= options.most <= check_canonical.TRIED:
-        parser.error(f'all sides are tried of graphs of at most {check_canonical.TRIED} vertices')
-    running.judge_all(options, 'graphs', lambda program, k, seed: check(program, seed, options))
 
 
-if __name__ == '__main__':
-    main()
+def main(options: argparse.Namespace) -> int:
+    return running.judge_all(options, 'graphs', lambda program, k, seed: check(program, seed, options))

@@ -1,50 +1,34 @@
-#!/usr/bin/env python3
 """Refused memory: what the program says where one allocation fails, and where the address space is small.
 
-    tools/check_memory.py [--program PATH] [--workers 1,4] [--step 16]
+    tools/check memory [--program PATH] [--workers 1,4] [--step 16]
 
 Two ways. Where a C compiler is there, a small library before the program's own lets allocation number 1, 2, 3, .. fail, one number
 in each run, until a run meets none. And the address space is bounded (`ulimit -v`), in steps of so many KB, from where the program
 starts at all up to where it answers. Each run must end with status 5, its line on the error output and nothing on the standard
 output, or with the answer of a run with ample memory. While the program still makes the words it ends with status 5 and no line.
-Exit status 1 where a run does not.
 """
 import argparse
 import os
-import resource
 import shutil
 import subprocess
-import sys
 import tempfile
 
-import running
+from .. import graphs, metis, running
+from ..running import Answer, run_program
 
 TRIANGLE = '3 3\n2 3\n1 3\n1 2\n'
 MASSES = '4 3 10\n9 2\n1 1 3\n1 2 4\n1 3\n'
 TWO_CYCLES = '6 8 1\n2 2 4 1 6 1\n1 2 3 2\n2 2 4 1 6 1\n1 1 3 1 5 2\n4 2 6 2\n1 1 3 1 5 2\n'
-
-
-def ring_of_cliques(count, size):
-    """A file with so many cliques of so many vertices in a ring, with more edges than are left to rounds and rows alone."""
-    rows = [[] for _ in range(count * size)]
-    for c in range(count):
-        first = c * size
-        for i in range(size):
-            rows[first + i] += [first + j for j in range(size) if j != i]
-        after = (first + size) % (count * size)
-        rows[first + size - 1].append(after)
-        rows[after].append(first + size - 1)
-    edges = sum(map(len, rows)) // 2
-    return f'{len(rows)} {edges}\n' + ''.join(' '.join(str(v + 1) for v in sorted(row)) + '\n' for row in rows)
-
-
-CLIQUES = ring_of_cliques(20, 12)
+# More edges than are left to rounds and rows alone.
+CLIQUES = metis.text_of(graphs.graph_of(20 * 12, graphs.ring_of_cliques(20, 12)))
 
 CASES = [(['value'], TRIANGLE), (['cuts'], TRIANGLE), (['cactus'], TRIANGLE), (['cuts'], TWO_CYCLES), (['cactus'], TWO_CYCLES),
          (['count'], TWO_CYCLES), (['part', '2', '5'], TWO_CYCLES), (['balanced'], TWO_CYCLES),
          (['cuts', '--least', '2'], MASSES), (['augment'], TWO_CYCLES),
          (['grow', '1', '3', '1', '2', '5', '2'], TWO_CYCLES), (['trial', '1000'], ''),
          (['value'], CLIQUES), (['cactus'], CLIQUES)]
+
+Tried = tuple[int, int, list[str]]
 
 SHIM = r'''
 #define _GNU_SOURCE
@@ -62,19 +46,27 @@ static long number(void) {
 }
 static int fails(void) {
     long k = atomic_fetch_add(&count, 1) + 1;
-    if (k == number()) { const char *file = getenv("FAIL_MARK"); if (file) { extern int creat(const char *, unsigned); creat(file, 0600); } return 1; }
-    return 0;
+    if (k != number()) return 0;
+    const char *file = getenv("FAIL_MARK");
+    if (file) { extern int creat(const char *, unsigned); creat(file, 0600); }
+    return 1;
 }
 #define REAL(name) static __typeof__(&name) real; if (!real) real = (__typeof__(&name))dlsym(RTLD_NEXT, #name)
 void *malloc(size_t size) { REAL(malloc); if (fails()) { errno = ENOMEM; return NULL; } return real(size); }
 void *realloc(void *old, size_t size) { REAL(realloc); if (fails()) { errno = ENOMEM; return NULL; } return real(old, size); }
-void *aligned_alloc(size_t align, size_t size) { REAL(aligned_alloc); if (fails()) { errno = ENOMEM; return NULL; } return real(align, size); }
-int posix_memalign(void **out, size_t align, size_t size) { REAL(posix_memalign); if (fails()) return ENOMEM; return real(out, align, size); }
-void *mmap(void *at, size_t size, int prot, int flags, int fd, off_t off) { REAL(mmap); if (fails()) { errno = ENOMEM; return MAP_FAILED; } return real(at, size, prot, flags, fd, off); }
+void *aligned_alloc(size_t align, size_t size) {
+    REAL(aligned_alloc); if (fails()) { errno = ENOMEM; return NULL; } return real(align, size);
+}
+int posix_memalign(void **out, size_t align, size_t size) {
+    REAL(posix_memalign); if (fails()) return ENOMEM; return real(out, align, size);
+}
+void *mmap(void *at, size_t size, int prot, int flags, int fd, off_t off) {
+    REAL(mmap); if (fails()) { errno = ENOMEM; return MAP_FAILED; } return real(at, size, prot, flags, fd, off);
+}
 '''
 
 
-def build_shim(folder):
+def build_shim(folder: str) -> str | None:
     """The path of the library that lets one allocation fail, or None where there is no C compiler."""
     compiler = shutil.which('cc') or shutil.which('gcc')
     if compiler is None:
@@ -86,26 +78,18 @@ def build_shim(folder):
     return library
 
 
-def run(program, words, text, env=None, kilobytes=0):
-    def limit():
-        if kilobytes:
-            resource.setrlimit(resource.RLIMIT_AS, (kilobytes * 1024, kilobytes * 1024))
-    child = subprocess.run([program, *words], input=text.encode(), stdout=subprocess.PIPE, stderr=subprocess.PIPE, env=env, preexec_fn=limit, timeout=300)
-    return child.returncode, child.stdout.decode(), child.stderr.decode()
-
-
-def is_right(answer, whole):
+def is_right(answer: Answer, whole: Answer) -> bool:
     return answer == whole or answer == (5, '', 'out of memory\n')
 
 
-def fail_each(program, library, words, text, whole, folder):
+def fail_each(program: str, library: str, words: list[str], text: str, whole: Answer, folder: str) -> Tried:
     """(runs, runs that ended with status 5, what is wrong) where allocation 1, 2, .. fails."""
     mark = os.path.join(folder, 'failed')
     refused, wrong, k, told = 0, [], 0, False
     while k < 20_000:
         k += 1
         env = dict(os.environ, LD_PRELOAD=library, FAIL_AT=str(k), FAIL_MARK=mark)
-        answer = run(program, words, text, env)
+        answer = run_program(program, words, text, env=env)
         failed = os.path.exists(mark)
         if failed:
             os.remove(mark)
@@ -120,50 +104,50 @@ def fail_each(program, library, words, text, whole, folder):
     return k, refused, wrong + [f'{words}: no end']
 
 
-def is_before_main(answer):
+def is_before_main(answer: Answer) -> bool:
     return answer[0] == 127 or 'error while loading shared libraries' in answer[2]
 
 
-def bound_space(program, words, text, whole, step):
+def bound_space(program: str, words: list[str], text: str, whole: Answer, step: int) -> Tried:
     """(runs, runs that ended with status 5, what is wrong) under bounds of the address space from small to ample."""
     runs, refused, wrong, kilobytes, answered, told = 0, 0, [], step, 0, False
     while answered < 3 and kilobytes < 4_000_000:
-        answer = run(program, words, text, None, kilobytes)
+        answer = run_program(program, words, text, kilobytes)
         runs += 1
         refused += answer[0] == 5
         answered = answered + 1 if answer == whole else 0
         told = told or answer[2] != '' and not is_before_main(answer)
         makes_words = answer == (5, '', '') and not told
-        if not is_right(answer, whole) and not makes_words and not is_before_main(answer) and not (answer[0] in (-11, -9, -6) and refused == 0):
+        not_begun = is_before_main(answer) or (answer[0] in (-11, -9, -6) and refused == 0)
+        if not is_right(answer, whole) and not makes_words and not not_begun:
             wrong.append(f'{kilobytes} KB for {words}: {answer}')
         kilobytes += step
     return runs, refused, wrong
 
 
-def main():
-    parser = argparse.ArgumentParser(description=__doc__, formatter_class=argparse.RawDescriptionHelpFormatter)
+def check(program: str, library: str | None, case: tuple[list[str], str], step: int, folder: str) -> tuple[int, list[str]]:
+    """(runs, what is wrong) of one command and file; prints a line."""
+    words, text = case
+    whole = run_program(program, words, text)
+    tried = [bound_space(program, words, text, whole, step)]
+    if library:
+        tried.append(fail_each(program, library, words, text, whole, folder))
+    print(' '.join(words), *(f'{runs} runs, {refused} with status 5;' for runs, refused, _ in tried), flush=True)
+    return sum(runs for runs, _, _ in tried), [line for _, _, lines in tried for line in lines]
+
+
+def add_options(parser: argparse.ArgumentParser) -> None:
     running.add_program(parser)
-    parser.add_argument('--workers', default='1,4', help='numbers of workers')
-    parser.add_argument('--step', type=int, default=16, help='KB by which the address space grows')
-    options = parser.parse_args()
-    program = running.ready(options.program)
-    wrong = []
+    parser.add_argument('--workers', default='1,4', help='numbers of workers, 1,4 if not named')
+    parser.add_argument('--step', type=int, default=16, help='KB by which the address space grows, 16 if not named')
+
+
+def main(options: argparse.Namespace) -> int:
+    program, runs, wrong = running.ready(options.program), 0, []
     with tempfile.TemporaryDirectory() as folder:
         library = build_shim(folder)
         for workers in options.workers.split(','):
-            for job, text in CASES:
-                words = [*job, '--workers', workers]
-                whole = run(program, words, text)
-                tried = [bound_space(program, words, text, whole, options.step)]
-                if library:
-                    tried.append(fail_each(program, library, words, text, whole, folder))
-                wrong += [line for _, _, lines in tried for line in lines]
-                print(' '.join(words), *(f'{runs} runs, {refused} with status 5;' for runs, refused, _ in tried), flush=True)
-    for line in wrong[:20]:
-        print(line)
-    print(f'{len(wrong)} wrong')
-    sys.exit(1 if wrong else 0)
-
-
-if __name__ == '__main__':
-    main()
+            for words, text in CASES:
+                more, lines = check(program, library, ([*words, '--workers', workers], text), options.step, folder)
+                runs, wrong = runs + more, wrong + lines
+    return running.tell_end(options.job, f'{runs} runs', wrong)

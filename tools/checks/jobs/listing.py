@@ -1,44 +1,32 @@
-#!/usr/bin/env python3
 """The jobs that list, count and choose minimum cuts, on random graphs, compared with all sides tried by hand.
 
-    tools/check_listing.py [--jobs value,cuts,part,count,balanced,trial] [--program PATH] [--count 5000] [--seed 1] [--most 10]
-                           [--threads 4] [--workers 1,4,64]
+    tools/check listing [--jobs value,cuts,part,count,balanced,trial] [--program PATH] [--count 5000] [--seed 1] [--most 10]
+                        [--threads 4] [--workers 1,4,64]
 
 Each graph is given to one of the named jobs, in turn. `value`, `cuts`, `count` and `part U V` (random pairs, equal ones and numbers out of
 range among them) have one right text, and it is compared whole. Half of the graphs give their vertices weights, up to three and
 often 0, some with sizes before them; `cuts` asks for a least balance in half of its runs. `balanced` prints the first side of best
-balance, and any where the graph is in several components (`check_components.py` has more of these). `trial N` reads nothing and is
-compared with the formulas of its graph. Exit status 1 on any difference.
+balance, and any where the graph is in several components (`tools/check components` has more of these). `trial N` reads nothing and is
+compared with the formulas of its graph.
 """
 import argparse
-import random
+from collections.abc import Sequence
+from random import Random
 
-import answers_by_hand as answers
-import cuts_by_hand as hand
-import running
+from .. import answers_by_hand as answers
+from .. import graphs, metis, running
 
-# The jobs whose texts are compared here; that of `cactus` is by `check_cactus.py`.
+# The jobs whose texts are compared here; that of `cactus` is by `tools/check cactus`.
 JOBS = [job for job in running.JOBS if job not in ('cactus', 'augment', 'grow')]
 
 
-def leading_of(rng, n):
-    """(whether there are sizes, the words that begin each vertex line or None, the masses of the vertices)."""
-    count = rng.choice([0, 0, 1, 1, 2, 3])
-    sizes = count > 0 and rng.random() < 0.3
-    greatest = rng.choice([1, 3, 10, (1 << 64) - 1])
-    weigh = lambda: rng.choice([0, 1, rng.randrange(greatest + 1), greatest])
-    leading = [[rng.randrange(5)] * sizes + [weigh() for _ in range(count)] for _ in range(n)]
-    masses = [words[int(sizes)] for words in leading] if count else [1] * n
-    return sizes, leading if count and n else None, masses
-
-
-def least_of(rng, masses):
+def least_of(rng: Random, masses: Sequence[int]) -> int:
     """A least balance that is asked for: near the halves of the masses of some vertices."""
     some = sum(mass for mass in masses if rng.random() < 0.4)
     return max(0, min((1 << 64) - 1, rng.choice([0, 1, some, some + 1, sum(masses) // 2])))
 
 
-def words_of(rng, job, n, masses):
+def words_of(rng: Random, job: str, n: int, masses: Sequence[int]) -> list[str]:
     """The words of the command."""
     if job == 'cuts' and rng.random() < 0.5:
         return ['cuts', '--least', str(least_of(rng, masses))]
@@ -55,14 +43,12 @@ def words_of(rng, job, n, masses):
     return [job, zeros + str(u), str(v)]
 
 
-def wanted(words, graph, masses):
+def wanted(words: list[str], graph: graphs.Graph, masses: Sequence[int]) -> answers.Right:
     """The right answers: (status, list of the texts on standard output that are right, standard error)."""
-    if words[0] == 'trial':
-        return 0, [answers.lines(*(f'{name} {fact}' for name, fact in hand.trial_facts(int(words[1])).items()))], ''
-    return answers.wanted(words, graph, masses)
+    return (0, [answers.trial_text(int(words[1]))], '') if words[0] == 'trial' else answers.wanted(words, graph, masses)
 
 
-def kind_of_answer(words, right):
+def kind_of_answer(words: list[str], right: answers.Right) -> str:
     status, outs, _ = right
     if status == 7:
         return 'part: vertex out of range'
@@ -78,15 +64,15 @@ def kind_of_answer(words, right):
     return words[0] + ': an answer'
 
 
-def check(program, job, seed, options):
+def check(program: str, job: str, seed: int, options: argparse.Namespace) -> running.Verdict:
     """(names to count, what differs or None) of one random graph."""
-    rng = random.Random(seed)
-    kind, graph = hand.random_graph(rng, options.most)
-    sizes, leading, masses = leading_of(rng, graph[0])
+    rng = Random(seed)
+    kind, graph = graphs.random_graph(rng, options.most)
+    sizes, leading, masses = graphs.leading_of(rng, graph[0])
     words = words_of(rng, job, graph[0], masses)
     right = wanted(words, graph, masses)
     words += running.worker_words(options, rng)
-    text = '' if job == 'trial' else hand.metis_text(graph, leading, sizes)
+    text = '' if job == 'trial' else metis.text_of(graph, leading, sizes)
     status, out, err = running.run_program(program, words, text)
     wrong = None
     if status != right[0] or out not in right[1] or err != right[2]:
@@ -94,17 +80,11 @@ def check(program, job, seed, options):
     return [kind_of_answer(words, right)], wrong
 
 
-def main():
-    parser = argparse.ArgumentParser(description=__doc__, formatter_class=argparse.RawDescriptionHelpFormatter)
-    running.add_graphs(parser)
-    parser.add_argument('--jobs', default=','.join(JOBS), help='some of ' + ','.join(JOBS))
-    options = parser.parse_args()
-    jobs = options.jobs.split(',')
-    for job in jobs:
-        if job not in JOBS:
-            parser.error(f'no job {job}; there are {", ".join(JOBS)}')
-    running.judge_all(options, 'graphs', lambda program, k, seed: check(program, jobs[k % len(jobs)], seed, options))
+def add_options(parser: argparse.ArgumentParser) -> None:
+    running.add_graphs(parser, 5000)
+    parser.add_argument('--jobs', type=running.names_among(JOBS), default=JOBS, help='some of ' + ','.join(JOBS))
 
 
-if __name__ == '__main__':
-    main()
+def main(options: argparse.Namespace) -> int:
+    jobs = options.jobs
+    return running.judge_all(options, 'graphs', lambda program, k, seed: check(program, jobs[k % len(jobs)], seed, options))

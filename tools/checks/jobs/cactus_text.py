@@ -1,64 +1,36 @@
-#!/usr/bin/env python3
 """Broken texts of cactuses, each with the line of its first fault, for a reader of such texts.
 
-    tools/check_cactus_text.py --write FILE [--count 2500] [--seed 1] [--program PATH]
-    tools/check_cactus_text.py --compare FILE COMMAND [WORDS ..]
-    tools/check_cactus_text.py --trial FILE
+    tools/check cactus-text --write FILE [--count 2500] [--seed 1] [--program PATH]
+    tools/check cactus-text --compare FILE COMMAND [WORDS ..]
+    tools/check cactus-text --trial FILE
 
 The first form writes cases: right texts of random cactuses, and the same with one or two changes; half of the texts are what the
 program prints for random graphs. The second form gives the file to the command on its standard input and
 compares the numbers that it prints, one line for each case. The third form does so with a small program over `read` of the
-crate cactus_text, which it makes in a folder of its own and runs by `rt try`. Exit status 1 on any difference.
+crate cactus_text, which it makes in a folder of its own and runs by `rt try`.
 
 The file: a line with the number of cases; then for each case a line `E L`, where E is the line of the first fault, or 0 where
 the text has none, and L is the number of its bytes; then these bytes; then a line feed.
 """
 import argparse
 import pathlib
-import random
 import shutil
 import subprocess
 import sys
 import tempfile
 from collections import Counter
+from collections.abc import Sequence
+from random import Random
 
-import cuts_by_hand as hand
-import running
-
-
-def random_cactus(rng):
-    """A random cactus: bridges and cycles at random nodes, nodes with any number of vertices, numbered as they come."""
-    size = rng.randrange(1, 9)
-    node_count, bridges, cycles = 1, [], []
-    for _ in range(rng.randrange(0, size)):
-        at = rng.randrange(node_count)
-        if rng.random() < 0.5:
-            bridges.append((at, node_count))
-            node_count += 1
-        else:
-            more = rng.randrange(2, 5)
-            cycles.append([at] + list(range(node_count, node_count + more)))
-            node_count += more
-    nodes = [[] for _ in range(node_count)]
-    nodes[0].append(1)
-    n = 1
-    for i in rng.sample(range(node_count), node_count):
-        for _ in range(rng.choice([0, 1, 1, 1, 2]) if i else 0):
-            n += 1
-            nodes[i].append(n)
-    if rng.random() < 0.3:
-        more = rng.randrange(1, 4)
-        nodes[0] += range(n + 1, n + more + 1)
-        n += more
-    return hand.Cactus(rng.choice([0, 1, 2, 10, 1 << 62]), n, nodes, bridges, cycles)
+from .. import cactuses, graphs, metis, running
 
 
-def printed_text(rng, program):
+def printed_text(rng: Random, program: str) -> bytes:
     """What the program prints for a random graph that has a cactus."""
     while True:
-        graph = hand.random_graph(rng)[1]
-        if graph[0] > 1 and hand.components(graph) == 1:
-            status, out, err = running.run_program(program, ['cactus'], hand.metis_text(graph))
+        graph = graphs.random_graph(rng)[1]
+        if graph[0] > 1 and len(graphs.components_of(graph)) == 1:
+            status, out, err = running.run_program(program, ['cactus'], metis.text_of(graph))
             if status != 0:
                 sys.exit(f'the program ended with status {status}: {err}')
             return out.encode()
@@ -66,39 +38,40 @@ def printed_text(rng, program):
 
 # Changes. Each takes the text as a list of lines without their line feeds, changes it, and answers nothing.
 
-WILD = [b'0', b'1', b'2', b'3', b'00', b'01', b'-1', b'+1', b'1.0', b'x', b'', b'4194304', b'4194305', b'4611686018427387904', b'4611686018427387905',
-        b'18446744073709551615', b'18446744073709551616', b'9' * 30, b'node', b'1_0', '\u0663'.encode()]
+WILD = [b'0', b'1', b'2', b'3', b'00', b'01', b'-1', b'+1', b'1.0', b'x', b'', b'4194304', b'4194305', b'4611686018427387904',
+        b'4611686018427387905', b'18446744073709551615', b'18446744073709551616', b'9' * 30, b'node', b'1_0', '\u0663'.encode()]
 
 
-def some_line(rng, lines, word=b''):
+def some_line(rng: Random, lines: list[bytes], word: bytes = b'') -> int:
     """The place of a random line that starts with the word, or of any line where none does."""
     places = [i for i, line in enumerate(lines) if line.startswith(word)]
     return rng.choice(places or list(range(len(lines))))
 
 
-def delete_line(rng, lines):
+def delete_line(rng: Random, lines: list[bytes]) -> None:
     del lines[rng.randrange(len(lines))]
 
 
-def repeat_line(rng, lines):
+def repeat_line(rng: Random, lines: list[bytes]) -> None:
     i = rng.randrange(len(lines))
     lines.insert(i, lines[i])
 
 
-def swap_lines(rng, lines):
+def swap_lines(rng: Random, lines: list[bytes]) -> None:
     i, j = rng.randrange(len(lines)), rng.randrange(len(lines))
     lines[i], lines[j] = lines[j], lines[i]
 
 
-def add_line(rng, lines):
-    lines.insert(rng.randrange(len(lines) + 1), rng.choice([b'', b' ', b'x', b'bridge 0 1', b'node 1', b'cycle 0 1 2', b'cactus 1 1 1 0 0']))
+def add_line(rng: Random, lines: list[bytes]) -> None:
+    line = [b'', b' ', b'x', b'bridge 0 1', b'node 1', b'cycle 0 1 2', b'cactus 1 1 1 0 0']
+    lines.insert(rng.randrange(len(lines) + 1), rng.choice(line))
 
 
-def add_last_line(rng, lines):
+def add_last_line(rng: Random, lines: list[bytes]) -> None:
     lines.append(rng.choice([b'', b' ', b'x', b'bridge 0 1', b'node 1', lines[-1]]))
 
 
-def change_number(rng, lines):
+def change_number(rng: Random, lines: list[bytes]) -> None:
     i = rng.randrange(len(lines))
     words = lines[i].split(b' ')
     k = rng.randrange(len(words))
@@ -109,7 +82,7 @@ def change_number(rng, lines):
     lines[i] = b' '.join(words)
 
 
-def change_header(rng, lines):
+def change_header(rng: Random, lines: list[bytes]) -> None:
     words = lines[0].split(b' ')
     k = rng.randrange(1, max(2, len(words)))
     if k < len(words):
@@ -118,34 +91,35 @@ def change_header(rng, lines):
     lines[0] = b' '.join(words)
 
 
-def change_word(rng, lines):
+def change_word(rng: Random, lines: list[bytes]) -> None:
     i = rng.randrange(len(lines))
     words = lines[i].split(b' ')
     words[0] = rng.choice([b'node', b'bridge', b'cycle', b'cactus', b'Node', b'nodes', b'', words[0] + b' ' + words[0], words[0][:-1]])
     lines[i] = b' '.join(words)
 
 
-def add_word(rng, lines):
+def add_word(rng: Random, lines: list[bytes]) -> None:
     i = rng.randrange(len(lines))
     words = lines[i].split(b' ')
     words.insert(rng.randrange(1, len(words) + 1), rng.choice(WILD))
     lines[i] = b' '.join(words)
 
 
-def drop_word(rng, lines):
+def drop_word(rng: Random, lines: list[bytes]) -> None:
     i = rng.randrange(len(lines))
     words = lines[i].split(b' ')
     del words[rng.randrange(len(words))]
     lines[i] = b' '.join(words)
 
 
-def blanks(rng, lines):
+def blanks(rng: Random, lines: list[bytes]) -> None:
     i = rng.randrange(len(lines))
     line = lines[i]
-    lines[i] = rng.choice([line.replace(b' ', b'  ', 1), b' ' + line, line + b' ', line.replace(b' ', b'\t', 1), line + b'\t', line + b'\r', line + b'\0'])
+    lines[i] = rng.choice([line.replace(b' ', b'  ', 1), b' ' + line, line + b' ', line.replace(b' ', b'\t', 1),
+                           line + b'\t', line + b'\r', line + b'\0'])
 
 
-def leading_zero(rng, lines):
+def leading_zero(rng: Random, lines: list[bytes]) -> None:
     i = rng.randrange(len(lines))
     words = lines[i].split(b' ')
     k = rng.randrange(1, max(2, len(words)))
@@ -154,7 +128,7 @@ def leading_zero(rng, lines):
     lines[i] = b' '.join(words)
 
 
-def swap_words(rng, lines):
+def swap_words(rng: Random, lines: list[bytes]) -> None:
     i = some_line(rng, lines, rng.choice([b'node', b'bridge', b'cycle']))
     words = lines[i].split(b' ')
     j, k = rng.randrange(len(words)), rng.randrange(len(words))
@@ -162,7 +136,7 @@ def swap_words(rng, lines):
     lines[i] = b' '.join(words)
 
 
-def drop_vertex(rng, lines):
+def drop_vertex(rng: Random, lines: list[bytes]) -> None:
     i = some_line(rng, lines, b'node')
     words = lines[i].split(b' ')
     if len(words) > 2:
@@ -170,7 +144,7 @@ def drop_vertex(rng, lines):
     lines[i] = b' '.join(words)
 
 
-def repeat_vertex(rng, lines):
+def repeat_vertex(rng: Random, lines: list[bytes]) -> None:
     """A vertex of one node put in order into a further node."""
     i, j = some_line(rng, lines, b'node'), some_line(rng, lines, b'node')
     words, others = lines[i].split(b' '), lines[j].split(b' ')
@@ -179,7 +153,7 @@ def repeat_vertex(rng, lines):
     lines[j] = b' '.join(others)
 
 
-def move_vertex(rng, lines):
+def move_vertex(rng: Random, lines: list[bytes]) -> None:
     """A vertex moved in order to a further node; the text stays right unless it was vertex 1."""
     i, j = some_line(rng, lines, b'node'), some_line(rng, lines, b'node')
     words, others = lines[i].split(b' '), lines[j].split(b' ')
@@ -188,7 +162,7 @@ def move_vertex(rng, lines):
     lines[i], lines[j] = b' '.join(words), b' '.join(others)
 
 
-def turn_cycle(rng, lines):
+def turn_cycle(rng: Random, lines: list[bytes]) -> None:
     """A cycle turned or reversed. Where its least node stays first the text stays right."""
     i = some_line(rng, lines, b'cycle')
     words = lines[i].split(b' ')
@@ -201,7 +175,7 @@ def turn_cycle(rng, lines):
     lines[i] = b' '.join(words[:1] + rest)
 
 
-def reroute(rng, lines):
+def reroute(rng: Random, lines: list[bytes]) -> None:
     """Another end for a bridge, or another node in a cycle: nodes may be joined twice, and others not at all."""
     i = some_line(rng, lines, rng.choice([b'bridge', b'cycle']))
     words = lines[i].split(b' ')
@@ -213,14 +187,14 @@ def reroute(rng, lines):
     lines[i] = b' '.join(words)
 
 
-def copy_joint(rng, lines):
+def copy_joint(rng: Random, lines: list[bytes]) -> None:
     """One bridge or cycle overwritten by another of its kind."""
     word = rng.choice([b'bridge', b'cycle'])
     i, j = some_line(rng, lines, word), some_line(rng, lines, word)
     lines[i] = lines[j]
 
 
-def joint_less(rng, lines):
+def joint_less(rng: Random, lines: list[bytes]) -> None:
     """A bridge or cycle less, and one less in the first line."""
     word, k = rng.choice([(b'bridge', 4), (b'cycle', 5)])
     places = [i for i, line in enumerate(lines) if line.startswith(word + b' ')]
@@ -231,7 +205,7 @@ def joint_less(rng, lines):
         lines[0] = b' '.join(words)
 
 
-def node_more(rng, lines):
+def node_more(rng: Random, lines: list[bytes]) -> None:
     """A node without vertices more that nothing joins, and one more in the first line."""
     words = lines[0].split(b' ')
     places = [i for i, line in enumerate(lines) if line.startswith(b'node ')]
@@ -241,38 +215,38 @@ def node_more(rng, lines):
         lines[0] = b' '.join(words)
 
 
-def only_header(rng, lines):
+def only_header(rng: Random, lines: list[bytes]) -> None:
     lines[:] = [rng.choice([b'cactus 1 1 0 0 0', b'cactus 1 1 0 1 0', b'cactus 5 1 18446744073709551615 0 0', b'cactus 0 4194304 1 0 0',
                             b'cactus 1 1 18446744073709551616 0 0', b'cactus 1 0 1 0 0'])] + rng.choice([[], [b'node 0 1'], lines[1:]])
 
 
-CHANGES = [delete_line, repeat_line, swap_lines, add_line, add_last_line, change_number, change_number, change_header, change_word, add_word, drop_word,
-           blanks, leading_zero, swap_words, drop_vertex, repeat_vertex, move_vertex, turn_cycle, reroute, reroute, copy_joint, joint_less, node_more,
-           only_header]
+CHANGES = [delete_line, repeat_line, swap_lines, add_line, add_last_line, change_number, change_number, change_header, change_word,
+           add_word, drop_word, blanks, leading_zero, swap_words, drop_vertex, repeat_vertex, move_vertex, turn_cycle, reroute, reroute,
+           copy_joint, joint_less, node_more, only_header]
 
 
-def without_last_feed(rng, text):
+def without_last_feed(rng: Random, text: bytes) -> bytes:
     return text[:-1]
 
 
-def cut_off(rng, text):
+def cut_off(rng: Random, text: bytes) -> bytes:
     return text[:rng.randrange(len(text) + 1)]
 
 
-def byte_changed(rng, text):
+def byte_changed(rng: Random, text: bytes) -> bytes:
     i = rng.randrange(len(text) + 1)
     byte = rng.choice([b'\0', b'\t', b'\n', b'\n', b'\r', b' ', b'0', b'1', b'9', b'a', b'\xff', b''])
     return text[:i] + byte + text[i + rng.choice([0, 1]):]
 
 
-def carriage_returns(rng, text):
+def carriage_returns(rng: Random, text: bytes) -> bytes:
     return text.replace(b'\n', b'\r\n')
 
 
 BYTE_CHANGES = [without_last_feed, cut_off, byte_changed, byte_changed, carriage_returns]
 
 
-def changed(rng, text):
+def changed(rng: Random, text: bytes) -> tuple[str, bytes]:
     """(name of the change, text)"""
     names = []
     for _ in range(rng.choice([1, 1, 1, 2])):
@@ -288,21 +262,24 @@ def changed(rng, text):
     return names[0] if len(names) == 1 else 'two changes', text
 
 
-def first_fault(text):
+def first_fault(text: bytes) -> int:
     """The line of the first fault, 0 where there is none."""
     try:
-        hand.read_cactus(text)
-    except hand.Malformed as refusal:
+        cactuses.read(text)
+    except cactuses.Malformed as refusal:
         return refusal.line
     return 0
 
 
-def make_cases(count, seed, program):
+Case = tuple[str, int, bytes]
+
+
+def make_cases(count: int, seed: int, program: str) -> list[Case]:
     """Cases as (name of the change, expected number, text)."""
-    rng = random.Random(seed)
+    rng = Random(seed)
     cases = []
     for k in range(count):
-        text = printed_text(rng, program) if k % 2 else random_cactus(rng).text().encode()
+        text = printed_text(rng, program) if k % 2 else cactuses.random_cactus(rng).text().encode()
         name = 'none'
         if k % 10:
             name, text = changed(rng, text)
@@ -310,14 +287,14 @@ def make_cases(count, seed, program):
     return cases
 
 
-def write_cases(path, cases):
+def write_cases(path: str, cases: Sequence[Case]) -> None:
     with open(path, 'wb') as out:
         out.write(b'%d\n' % len(cases))
         for _, expected, text in cases:
             out.write(b'%d %d\n' % (expected, len(text)) + text + b'\n')
 
 
-def read_cases(path):
+def read_cases(path: str) -> list[tuple[int, bytes]]:
     """The cases of a file as (expected number, text)."""
     with open(path, 'rb') as source:
         cases = []
@@ -329,7 +306,7 @@ def read_cases(path):
         return cases
 
 
-def report(cases):
+def report(cases: Sequence[Case]) -> None:
     """How many cases of each change have which kind of answer."""
     table = {}
     for name, expected, text in cases:
@@ -343,24 +320,20 @@ def report(cases):
     print(f'{"all":>18} {total["right"]:6d} {total["a line"]:16d} {total["past the last"]:14d}')
 
 
-def compare(path, command):
-    """The number of cases for which the command prints another number than the expected one."""
+def compare(path: str, command: list[str]) -> int:
+    """Compares the numbers that the command prints with the expected ones; answers the status."""
     cases = read_cases(path)
     with open(path, 'rb') as source:
         child = subprocess.run(command, stdin=source, stdout=subprocess.PIPE)
     answers = child.stdout.decode('utf-8', 'replace').split()
-    wrong = 0
+    wrong = []
     for k, (expected, text) in enumerate(cases):
         answer = answers[k] if k < len(answers) else 'nothing'
         if answer != str(expected):
-            wrong += 1
-            if wrong <= 10:
-                print(f'DIFFERS case {k + 1}: expected {expected}, answer {answer}, text {text!r}')
+            wrong.append(f'DIFFERS case {k + 1}: expected {expected}, answer {answer}, text {text!r}')
     if len(answers) > len(cases) or child.returncode != 0:
-        wrong += 1
-        print(f'DIFFERS: {len(answers)} answers, status {child.returncode}')
-    print(f'{len(cases)} cases, {wrong} differ')
-    return wrong
+        wrong.insert(0, f'DIFFERS: {len(answers)} answers, status {child.returncode}')
+    return running.tell_end('cactus-text', f'{len(cases)} cases', wrong)
 
 
 CRATES = ('outside', 'cut_definitions', 'vertex_set', 'rooted_cactus', 'flat_cactus', 'cactus_printing', 'cactus_text')
@@ -410,9 +383,9 @@ fn main(rt: HostRuntime) -> io::Result<()> {
 '''
 
 
-def try_reader(path):
+def try_reader(path: str) -> int:
     """Compares with what a small program over `read` prints, which `rt try` runs in a folder of its own."""
-    top = pathlib.Path(__file__).resolve().parent.parent
+    top = pathlib.Path(running.TOP)
     with tempfile.TemporaryDirectory() as folder:
         trial = pathlib.Path(folder)
         for name in CRATES:
@@ -426,27 +399,24 @@ def try_reader(path):
         return compare(path, ['sh', '-c', f'cd {source.parent} && exec rt try --seconds 600'])
 
 
-def main():
-    parser = argparse.ArgumentParser(description=__doc__, formatter_class=argparse.RawDescriptionHelpFormatter)
+def add_options(parser: argparse.ArgumentParser) -> None:
     mode = parser.add_mutually_exclusive_group(required=True)
-    mode.add_argument('--write', metavar='FILE')
-    mode.add_argument('--trial', metavar='FILE')
-    mode.add_argument('--compare', metavar=('FILE', 'COMMAND'), nargs=argparse.REMAINDER)
-    parser.add_argument('--count', type=int, default=2500)
-    parser.add_argument('--seed', type=int, default=1)
+    mode.add_argument('--write', metavar='FILE', help='write cases into this file')
+    mode.add_argument('--trial', metavar='FILE', help='compare with the crate cactus_text, by `rt try`')
+    mode.add_argument('--compare', nargs=argparse.REMAINDER, metavar='WORD', help='a file and a command: compare what it prints')
+    parser.add_argument('--count', type=int, default=2500, help='how many cases, 2500 if not named')
+    parser.add_argument('--seed', type=int, default=1, help='other seeds make other cases')
     running.add_program(parser)
-    options = parser.parse_args()
-    if options.write is not None:
-        cases = make_cases(options.count, options.seed, running.ready(options.program))
-        write_cases(options.write, cases)
-        report(cases)
-    elif options.trial is not None:
-        sys.exit(1 if try_reader(options.trial) else 0)
-    else:
+
+
+def main(options: argparse.Namespace) -> int:
+    if options.trial is not None:
+        return try_reader(options.trial)
+    if options.compare is not None:
         if len(options.compare) < 2:
-            parser.error('--compare needs a file and a command')
-        sys.exit(1 if compare(options.compare[0], options.compare[1:]) else 0)
-
-
-if __name__ == '__main__':
-    main()
+            sys.exit('--compare needs a file and a command')
+        return compare(options.compare[0], options.compare[1:])
+    cases = make_cases(options.count, options.seed, running.ready(options.program))
+    write_cases(options.write, cases)
+    report(cases)
+    return 0
