@@ -31,43 +31,14 @@ added_both x depth xs ys old mid new h k = record {
   nodes = map-append (λ (w : Visit). w.node.now) h.added k.added ∙ ap (λ l. l ++ visited k.added) h.nodes ∙ ap (λ l. xs ++ l) k.nodes;
 }
 
-added_one : (x : Node) (depth : ℕ) (old new : List Visit) (w : Visit) → new ≡ old ++ w ∷ [] → w.depth ≡ depth → HasChild x w.step w.node.now → AreAdded x depth (w.node.now ∷ []) old new
-added_one x depth old new w e d h = record {
-  added = w ∷ [];
-  whole = e;
-  below = All-cons (IsBelow x depth) w [] (record { deep = d; child = h }) (All-nil (IsBelow x depth));
-  nodes = refl;
-}
-
 abbrev pub Lacks : ℕ → Node → Type 0
 Lacks v x = has (vertices x) v ≡ false
-
-added_none : (x : Node) (depth : ℕ) (old : List Visit) → AreAdded x depth [] old old
-added_none x depth old = record { added = []; whole = sym (append-nil old); below = All-nil (IsBelow x depth); nodes = refl }
-
-pub visited_none : (v : ℕ) (x : Node) (depth : ℕ) (old new : List Visit) → new ≡ old → AreVisited v x depth [] old new
-visited_none v x depth old new e =
-    subst (AreVisited v x depth [] old) (sym e) (record { lacking = All-nil (Lacks v); added = added_none x depth old })
 
 visited_both : (v : ℕ) (x : Node) (depth : ℕ) (xs ys : List Node) (old mid new : List Visit) → AreVisited v x depth xs old mid → AreVisited v x depth ys mid new → AreVisited v x depth (xs ++ ys) old new
 visited_both v x depth xs ys old mid new h k = record {
   lacking = All-append (Lacks v) xs ys h.lacking k.lacking;
   added = subst (λ (l : List Node). AreAdded x depth l old new) (sym (filter-append is_inner xs ys))
       (added_both x depth (filter is_inner xs) (filter is_inner ys) old mid new h.added k.added);
-}
-
--- a node with a block below it, and one without
-pub visited_inner : (v : ℕ) (x : Node) (depth : ℕ) (old new : List Visit) (w : Visit) → new ≡ old ++ w ∷ [] → w.depth ≡ depth → HasChild x w.step w.node.now → Lacks v w.node.now → is_inner w.node.now ≡ true →
-    AreVisited v x depth (w.node.now ∷ []) old new
-visited_inner v x depth old new w e d h n i = record {
-  lacking = All-cons (Lacks v) w.node.now [] n (All-nil (Lacks v));
-  added = subst (λ (l : List Node). AreAdded x depth l old new) (sym (cond-true (is_inner w.node.now) (w.node.now ∷ []) [] i)) (added_one x depth old new w e d h);
-}
-
-pub visited_leaf : (v : ℕ) (x y : Node) (depth : ℕ) (old : List Visit) → Lacks v y → is_inner y ≡ false → AreVisited v x depth (y ∷ []) old old
-visited_leaf v x y depth old n i = record {
-  lacking = All-cons (Lacks v) y [] n (All-nil (Lacks v));
-  added = subst (λ (l : List Node). AreAdded x depth l old old) (sym (cond-false (is_inner y) (y ∷ []) [] i)) (added_none x depth old);
 }
 
 -- a node of a block is right below the node above

@@ -1,13 +1,12 @@
 //! What becomes of a tree where two of its nodes become one: the cuts that part them go, and all others stay.
 
 ghost use Rattle.std.specs.Prelude.{ℕ, ◌≡◌, ◌≢◌, ◌<◌, ◌++◌, ◌∷◌, false, true, take, slice_get, IfOk};
-ghost use Rattle.std.specs.List.{flat_map};
 ghost use Rattle.rooted_cactus.specs.declared.tree.Node.{Node};
 ghost use Rattle.rooted_cactus.specs.declared.tree.Block.{Block};
 ghost use Rattle.rooted_cactus.specs.Entered.{entered};
 ghost use Rattle.rooted_cactus.specs.Entries.{nodes_of, top_first};
 ghost use Rattle.rooted_cactus.specs.Sides.{below};
-ghost use Rattle.rooted_cactus.specs.Trees.{blocks, nodes_in, vertices};
+ghost use Rattle.rooted_cactus.specs.Trees.{blocks, nodes_in};
 ghost use Rattle.cactus_growth.specs.Growth.{AreOnce, IsArcHung, IsGrown, IsOpened, IsPulled, IsToward};
 ghost use Rattle.cactus_growth.specs.Levels.{AreAbove};
 ghost use Rattle.cactus_growth.specs.Ways.{HasChild, IsWay, LeadsTo};

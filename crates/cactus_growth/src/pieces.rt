@@ -1,9 +1,8 @@
 //! Pieces of trees: nodes with more blocks, lists of nodes taken apart and put together.
 
-ghost use Rattle.std.specs.Prelude.{ℕ, ◌≡◌, ◌≤◌, ◌<◌, ◌++◌, ◌∷◌, [], length, map, take, drop, slice_get, IfOk, OnOk};
+ghost use Rattle.std.specs.Prelude.{ℕ, ◌≡◌, ◌≤◌, ◌<◌, ◌++◌, ◌∷◌, length, map, take, slice_get, IfOk, OnOk};
 ghost use Rattle.std.specs.List.{All, flat_map};
 ghost use Rattle.cut_definitions.specs.Cuts.{has, IsAscendingWithin};
-ghost use Rattle.rooted_cactus.specs.declared.tree.Node.{Node};
 ghost use Rattle.rooted_cactus.specs.Entered.{entered, entered_block};
 ghost use Rattle.rooted_cactus.specs.Entries.{nodes_of};
 ghost use Rattle.rooted_cactus.specs.Sides.{block_part, cycle_of, part, with_below};

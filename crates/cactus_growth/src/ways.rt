@@ -1,6 +1,6 @@
 //! The way from a node down to the node below it that has a vertex, found by a loop over the tree.
 
-ghost use Rattle.std.specs.Prelude.{ℕ, ◌≡◌, ◌≢◌, ◌≤◌, ◌<◌, ◌==◌, ◌&&◌, take, length, map, slice_get, true, [], ◌∷◌, IfOk, IfSome, IfNone};
+ghost use Rattle.std.specs.Prelude.{◌≡◌, ◌≢◌, ◌≤◌, take, length, slice_get, true, [], ◌∷◌, IfOk, IfSome, IfNone};
 ghost use Rattle.std.specs.List.{flat_map};
 ghost use Rattle.cut_definitions.specs.Cuts.{has};
 ghost use Rattle.rooted_cactus.specs.declared.tree.Node.{Node};

@@ -1,5 +1,5 @@
 -- The mass of a side is that of its range.
-use Rattle.std.proofs.Common.{◌≡◌, ℕ, zero, suc, ◌+◌, ◌-◌, ◌*◌, ◌≤◌, ◌<◌, ◌^◌, ◌⊎◌, inl, inr, ⊎_elim, true, ◌||◌, ◌==◌, List, [], ◌∷◌, ◌++◌, length, get_or, take, ap, ◌∙◌, sym, refl, subst, arith}
+use Rattle.std.proofs.Common.{◌≡◌, ℕ, zero, suc, ◌+◌, ◌-◌, ◌*◌, ◌≤◌, ◌<◌, ◌^◌, ◌⊎◌, inl, inr, ⊎_elim, true, ◌||◌, ◌==◌, List, [], ◌∷◌, ◌++◌, length, get_or, take, ap, ◌∙◌, sym, subst, arith}
 use Rattle.std.specs.List.{All, sum_by}
 use Rattle.std.specs.Prelude.{◌≢◌}
 use Rattle.std.proofs.Math.Seq.{get_or-append_seam, take-suc}
@@ -38,10 +38,6 @@ sums_more masses order sums more count total sum long l so_far next is h k le =
     (λ (e : k ≡ count + 1). rw (e, ← long) (get_or-append_seam sums sum [] 0) ∙ (next ∙ (rw so_far (sym (before_next masses order count l)) ∙ ap (mass_before masses order) (sym e))))
     (λ (ne : k ≢ count + 1). get_or_append_left sums (sum ∷ []) 0 k (omega arith) ∙ h k (omega arith))
     (cases_eq k (count + 1))
-
--- no place comes before the first
-pub before_first : (masses order : List ℕ) → mass_before masses order 0 ≡ 0
-before_first masses order = refl
 
 -- the mass of the elements at so many places
 elements_mass : (n : ℕ) (masses order : List ℕ) → length masses ≡ n → AreOnce n order → All (IsVertex n) order → (from count : ℕ) → from + count ≤ length order →

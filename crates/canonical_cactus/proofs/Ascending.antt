@@ -1,5 +1,5 @@
 -- One more part at the end of a row: its least vertices, and whether they ascend.
-use Rattle.std.proofs.Common.{◌≡◌, ℕ, zero, suc, ◌+◌, ◌≤◌, ◌<◌, min, inl, inr, true, ◌&&◌, ◌||◌, ◌==◌, Some, List, [], ◌∷◌, ◌++◌, length, take, map, ap, ◌∙◌, sym, refl, arith, append-nil}
+use Rattle.std.proofs.Common.{◌≡◌, ℕ, zero, suc, ◌+◌, ◌<◌, min, inl, inr, true, ◌&&◌, ◌||◌, ◌==◌, Some, List, [], ◌∷◌, ◌++◌, length, take, map, ap, ◌∙◌, sym, refl, arith, append-nil}
 use Rattle.std.specs.Prelude.{nat_lt, slice_get}
 use Rattle.std.specs.List.{list_all, concat}
 use Rattle.std.proofs.lemmas.Bool.{and_parts, and_from, ltb-true, lt-ltb, cases_eq, eq-eqb, ne_eqb}
@@ -9,7 +9,7 @@ use Rattle.std.proofs.Math.Bool.{and-true}
 use Rattle.cut_definitions.specs.Cuts.{least}
 use Rattle.cut_definitions.proofs.ListLaws.{taken}
 use Rattle.cut_definitions.proofs.Bools.{same_tests}
-use Rattle.canonical_cactus.specs.Canonical.{Arranged, all_vertices, leasts, ascend, rises, last_from}
+use Rattle.canonical_cactus.specs.Canonical.{Arranged, all_vertices, leasts, ascend, last_from}
 use Rattle.canonical_cactus.specs.Standing.{least_in, lesser_of, or_zero}
 
 abbrev pub first_or_zero : List ℕ → ℕ
@@ -132,8 +132,3 @@ pub some_before : {X : Type 0} (f : X → Arranged) (xs : List X) (i : ℕ) → 
 some_before f [] i h k = absurd (omega (arith, h))
 some_before f (x ∷ xs) zero h k = absurd (omega (arith, k))
 some_before f (x ∷ xs) (suc i) h k = omega arith
-
--- a list of three or more numbers rises where its first is less than its last
-pub rises_ends : (xs : List ℕ) → 3 ≤ length xs → rises xs ≡ nat_lt (first_or_zero xs) (last_or_zero xs)
-rises_ends [] h = absurd (omega (arith, h))
-rises_ends (x ∷ xs) h = refl

@@ -1,6 +1,6 @@
 -- The ranges of one border that have a mass: where the first of them ends, and that the end does not go back.
 use Rattle.std.specs.Prelude.{Option, Some}
-use Rattle.std.proofs.Common.{◌≡◌, ℕ, zero, suc, ◌+◌, ◌-◌, ◌*◌, ◌≤◌, ◌<◌, ◌⊎◌, inl, inr, max, List, [], ◌∷◌, sym, refl, subst, arith}
+use Rattle.std.proofs.Common.{◌≡◌, ℕ, zero, suc, ◌+◌, ◌-◌, ◌≤◌, ◌<◌, ◌⊎◌, inl, inr, max, List, [], ◌∷◌, sym, refl, subst, arith}
 use Rattle.std.proofs.lemmas.Bool.{cases_eq, cases_lt}
 use Rattle.rooted_cactus.specs.Borders.{border_at}
 use Rattle.rooted_cactus.specs.CutRanges.{Range}
@@ -72,14 +72,7 @@ less_next k mass start end ranked are =
     ]
 
 -- ---- the two masses
--- a range of either mass has the balance
-pub wanted_by : (k : Ranked) (mass : ℕ) (r : Range) → 2 * k.high ≤ k.scale.total → (mass ≡ k.high) ⊎ (mass + k.high ≡ k.scale.total) → span_mass k.scale r ≡ mass → IsWanted k r
-wanted_by k mass r half either is = elim either [
-  | inl e ↦ omega (arith, half, e, is)
-  | inr e ↦ omega (arith, half, e, is)
-]
-
--- and no other
+-- a range with the balance has the one or the other
 pub mass_by : (k : Ranked) (r : Range) → IsWanted k r → span_mass k.scale r ≤ k.scale.total → (span_mass k.scale r ≡ k.high) ⊎ (span_mass k.scale r + k.high ≡ k.scale.total)
 mass_by k r wanted whole = elim (cases_lt (span_mass k.scale r) (k.scale.total - span_mass k.scale r)) [
   | inl l ↦ inl (omega (arith, wanted, l))

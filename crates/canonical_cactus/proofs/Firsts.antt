@@ -7,11 +7,7 @@ use Rattle.std.specs.declared.cmp.Ordering.{Ordering}
 use Rattle.std.specs.declared.cmp.Ordering.TheVariants.{Less}
 use Rattle.std.proofs.lemmas.Cmp.{nat_cmp_total, tied_itself}
 use Rattle.std.proofs.lemmas.Bool.{cases_eq, false≢true}
-use Rattle.std.proofs.lemmas.Bool.Decides.{nat_tests}
 use Rattle.cut_definitions.proofs.Orderings.{lesser_first}
-
-less_numbers : (x y : ℕ) → x < y → nat_cmp x y ≡ Less
-less_numbers x y l = grind (arith, nat_tests, l)
 
 -- a first element that both lists have
 both_first : (x : ℕ) (k l : List ℕ) (o : Ordering) → slice_cmp nat_cmp k l ≡ o → slice_cmp nat_cmp (x ∷ k) (x ∷ l) ≡ o

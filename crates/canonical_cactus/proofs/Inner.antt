@@ -175,13 +175,6 @@ drawn_block bs i b rest known some a k =
     flat_one [] b = append-nil (nodes_of b)
     flat_one (c ∷ cs) b = ap (λ l. nodes_of c ++ l) (flat_one cs b) ∙ sym (append_assoc (nodes_of c) (flat_map nodes_of cs) (nodes_of b))
 
--- the node itself is drawn where it has blocks
-pub inner_leasts : (x : Node) → is_inner x ≡ true → leasts_of (filter is_inner (x ∷ [])) ≡ least_of x ∷ []
-inner_leasts x h = ap (λ t. leasts_of (cond t (x ∷ []) [])) h
-
-pub leaf_leasts : (x : Node) → is_inner x ≡ false → leasts_of (filter is_inner (x ∷ [])) ≡ []
-leaf_leasts x h = ap (λ t. leasts_of (cond t (x ∷ []) [])) h
-
 -- ---- one more part at the front of a row
 pub from_place : {X : Type 0} (f : X → Arranged) (xs : List X) (i : ℕ) (x : X) → 0 < i → i ≤ length xs → slice_get xs (i - 1) ≡ Some x → map f (drop (i - 1) xs) ≡ f x ∷ map f (drop i xs)
 from_place f xs i x some within a = ap (map f) (drop_at xs i x some within (sym (get_or_from_slice_get xs (i - 1) x x a)))

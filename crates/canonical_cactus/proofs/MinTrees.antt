@@ -1,5 +1,5 @@
 -- Trees of minima: how one is built, and how the least number of a range is found from level to level.
-use Rattle.std.proofs.Common.{◌≡◌, ℕ, ◌+◌, ◌-◌, ◌*◌, ◌/◌, ◌<◌, ◌≤◌, ◌⊎◌, inl, inr, ⊎_elim, List, length, get_or, set, min, refl, sym, subst, ap, ◌∙◌, arith, get_or-set_same, get_or-set_other}
+use Rattle.std.proofs.Common.{◌≡◌, ℕ, ◌+◌, ◌-◌, ◌*◌, ◌/◌, ◌<◌, ◌≤◌, ◌⊎◌, inl, inr, List, length, get_or, set, min, refl, sym, subst, ap, ◌∙◌, arith, get_or-set_same, get_or-set_other}
 use Rattle.std.specs.Prelude.{◌≢◌}
 use Rattle.std.proofs.lemmas.Bool.{cases_eq}
 use Rattle.cut_definitions.proofs.Values.{min_cases}
@@ -26,14 +26,6 @@ node_made tree p one l =
     let left : get_or (set tree p x) (2 * p) 0 ≡ get_or tree (2 * p) 0 = get_or-set_other tree p (2 * p) x 0 (λ q. omega arith) in
     let right : get_or (set tree p x) (2 * p + 1) 0 ≡ get_or tree (2 * p + 1) 0 = get_or-set_other tree p (2 * p + 1) x 0 (λ q. omega arith) in
     rw (here, left, right) refl
-
-pub built_step : (tree : List ℕ) (size p : ℕ) → 1 ≤ p → p < size → length tree ≡ 2 * size → ((i : ℕ) → p + 1 ≤ i → i < size → NodeIs tree i) →
-    (i : ℕ) → p ≤ i → i < size → NodeIs (set tree p (min (get_or tree (2 * p) 0) (get_or tree (2 * p + 1) 0))) i
-built_step tree size p one l long rest i low high =
-    ⊎_elim
-    (λ (e : p ≡ i). subst (λ (k : ℕ). NodeIs (set tree p (min (get_or tree (2 * p) 0) (get_or tree (2 * p + 1) 0))) k) e (node_made tree p one (omega arith)))
-    (λ (ne : p ≢ i). node_kept tree p _ i (λ q. ne (sym q)) (λ q. omega arith) (λ q. omega arith) (rest i (omega arith) high))
-    (cases_eq p i)
 
 -- ---- from level to level
 -- the greatest number of 32 bits, or the number of one of the leaves

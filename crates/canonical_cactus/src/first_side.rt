@@ -12,7 +12,7 @@
 //! come first (`first_within`). From such a range on the borders at both ends are taken in one after another, at most once
 //! each, until all that is around comes behind all that is in it. So of each run one range is compared.
 
-ghost use Rattle.std.specs.Prelude.{◌≡◌, ◌≢◌, ◌+◌, ◌*◌, ◌<◌, ◌≤◌, ◌⊎◌, [], ℕ, IfOk, IsFalse, IsTrue, Some, length, slice_index};
+ghost use Rattle.std.specs.Prelude.{◌≡◌, ◌≢◌, ◌+◌, ◌<◌, ◌≤◌, ◌⊎◌, [], ℕ, IfOk, IsFalse, IsTrue, Some, length, slice_index};
 ghost use Rattle.std.specs.List.{All, Contains};
 ghost use Rattle.balanced_cut.specs.Ends.{IsRangeOf, range_between, range_of, span_mass};
 ghost use Rattle.rooted_cactus.specs.Borders.{border_at, ranges_between};

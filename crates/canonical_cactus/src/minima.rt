@@ -1,7 +1,7 @@
 //! The least numbers of ranges of a list, by a tree of minima in one vector: the nodes 2 i and 2 i + 1 stand below node i,
 //! and the numbers themselves are the second half, the leaves.
 
-ghost use Rattle.std.specs.Prelude.{◌≡◌, ℕ, ◌+◌, ◌*◌, ◌<◌, ◌≤◌, IfOk, length, map, min, slice_index, vec_len};
+ghost use Rattle.std.specs.Prelude.{◌≡◌, ℕ, ◌+◌, ◌*◌, ◌<◌, ◌≤◌, IfOk, length, min, slice_index};
 ghost use Rattle.canonical_cactus.specs.Minima.{IsLeast, IsMinTree, leaf_at};
 
 use cactus_walk::Span;

@@ -1,6 +1,6 @@
 //! Finished parts of a tree: nodes that may stand below a block, and blocks that may hang from a node.
 
-ghost use Rattle.std.specs.Prelude.{◌≡◌, ◌==◌, [], ◌∷◌, false, length, IfOk};
+ghost use Rattle.std.specs.Prelude.{◌≡◌, [], ◌∷◌, false, length, IfOk};
 ghost use Rattle.rooted_cactus.specs.Entries.{Read, nodes_of, bridge_read};
 ghost use Rattle.rooted_cactus.specs.Normal.{block_shape};
 ghost use Rattle.rooted_cactus.specs.Trees.{blocks, blocks_in, vertices};

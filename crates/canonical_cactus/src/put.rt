@@ -1,6 +1,6 @@
 //! A tree put together from its entries, from the last to the first, as its canonical form.
 
-ghost use Rattle.std.specs.Prelude.{List, ◌≡◌, ◌∷◌, [], ◌≤◌, ◌<◌, length, take, drop, map, OnOk, IfOk, slice_index_or};
+ghost use Rattle.std.specs.Prelude.{List, ◌≡◌, ◌∷◌, [], ◌≤◌, ◌<◌, length, take, drop, OnOk, IfOk, slice_index_or};
 ghost use Rattle.cut_definitions.specs.Cuts.{has};
 ghost use Rattle.rooted_cactus.specs.Entries.{Read, top_first, bridge_read, cycle_read, node_read, nothing_read};
 ghost use Rattle.rooted_cactus.specs.Trees.{vertices};

@@ -3,7 +3,7 @@
 ghost use Rattle.std.specs.Prelude.{◌≡◌, [], ◌∷◌, length, IfOk, OnOk, List};
 ghost use Rattle.std.specs.List.Sorted.{IsPermutation, IsNonDecreasingBy};
 ghost use Rattle.cut_definitions.specs.Cuts.{has};
-ghost use Rattle.rooted_cactus.specs.Entries.{Read, bridge_read, cycle_read, node_read, top_first};
+ghost use Rattle.rooted_cactus.specs.Entries.{Read, cycle_read, node_read, top_first};
 ghost use Rattle.canonical_cactus.specs.Making.{AreBlocksOf, AreChildrenOf, IsBlockOf, IsNodeOf, key_of, ends_rise, faced};
 
 use crate::order::{least_vertex, lesser, vertex_or_zero};

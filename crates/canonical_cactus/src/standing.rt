@@ -1,6 +1,6 @@
 //! Whether the blocks and the cycles of a tree stand in order, by loops, so that a deep tree does not run out of stack.
 
-ghost use Rattle.std.specs.Prelude.{List, Option, ℕ, ◌≡◌, ◌&&◌, [], ◌∷◌, ◌++◌, IfOk, OnOk, length, map, nat_le};
+ghost use Rattle.std.specs.Prelude.{List, Option, ℕ, ◌≡◌, ◌&&◌, [], ◌∷◌, ◌++◌, IfOk, length, map, nat_le};
 ghost use Rattle.std.specs.List.{filter, flat_map, list_all};
 ghost use Rattle.rooted_cactus.specs.Entries.{nodes_of};
 ghost use Rattle.rooted_cactus.specs.Numbers.{is_inner, seen};

@@ -42,13 +42,6 @@ mass_rises before bs i a b h c up w ia ab few =
     up.rise (border_at bs a).place (border_at bs b).place (no_less bs i a b c ia ab few) (place_there before bs b h up (block_there (length before - 1) bs i b h w (omega (arith, ia, ab)) few))
 
 -- ---- the ends move on
--- an end that is at least the next border
-pub short_max : (before : List ℕ) (bs : List Border) (mass start end from : ℕ) → from ≡ max end (start + 1) → IsShort before bs mass start end → IsShort before bs mass start from
-short_max before bs mass start end from e s = record {
-  within = omega (arith, e, s.within);
-  less = λ k l m. s.less k l (omega (arith, e, l, m));
-}
-
 -- one border on
 short_next : (before : List ℕ) (bs : List Border) (mass start end : ℕ) → AreBorders (length before - 1) bs → AreChained bs → AreRising before → start < length bs → IsShort before bs mass start end → IsShort before bs mass (start + 1) end
 short_next before bs mass start end h c up w s = elim (cases_lt 0 (border_at bs start).following) [
@@ -72,12 +65,6 @@ pub ends_next : (before : List ℕ) (bs : List Border) (least start from to : �
 ends_next before bs least start from to h c up w ends = record {
   low = short_next before bs least start from h c up w ends.short.low;
   high = short_next before bs (whole before - least + 1) start to h c up w ends.short.high;
-}
-
-pub at_first : (before : List ℕ) (bs : List Border) (least : ℕ) → AreShort before bs least 0 0 0
-at_first before bs least = record {
-  low = record { within = omega arith; less = λ e l m. absurd (omega (arith, m)) };
-  high = record { within = omega arith; less = λ e l m. absurd (omega (arith, m)) };
 }
 
 -- ---- which ranges from a border have the least balance
@@ -253,10 +240,6 @@ band_more bs start from end l w =
     get_or_at [] k d h = absurd (omega (arith, h))
     get_or_at (b ∷ bs) zero d h = refl
     get_or_at (b ∷ bs) (suc k) d h = get_or_at bs k d (omega (arith, h))
-
--- a band without a border
-pub band_none : (bs : List Border) (start from to : ℕ) → to ≤ from → ranges_of bs start from to ≡ []
-band_none bs start from to h = ap (λ k. ranges_to (border_at bs start).place (take k (drop from bs))) (let e : to - from ≡ 0 = omega (arith, h) in e)
 
 -- a test passes no more than there are
 pub few_pass : (q : Range → Bool) (rs : List Range) → length (filter q rs) ≤ length rs

@@ -1,14 +1,14 @@
 -- Lists of lists in strict order: their members determine them, and the least different ones of a list do not depend on
 -- the greater ones.
-use Rattle.std.proofs.Common.{◌≡◌, ℕ, zero, suc, Bool, true, List, [], ◌∷◌, ◌⊎◌, inl, inr, length, take, refl, sym, ◌∙◌, ap, subst, true≢false}
+use Rattle.std.proofs.Common.{◌≡◌, ℕ, suc, Bool, true, List, [], ◌∷◌, ◌⊎◌, inl, inr, length, refl, sym, ◌∙◌, ap, subst}
 use Rattle.std.specs.declared.cmp.Ordering.{Ordering}
 use Rattle.std.specs.declared.cmp.Ordering.TheVariants.{Less, Equal, Greater}
-use Rattle.std.specs.Ordering.{nat_cmp, is_lt, ordering_reverse}
+use Rattle.std.specs.Ordering.{nat_cmp, ordering_reverse}
 use Rattle.std.specs.Cmp.Lexicographic.{slice_cmp}
 use Rattle.std.specs.List.{All, Contains, filter}
 use Rattle.std.specs.List.Sorted.{IsStrictlySortedBy}
 use Rattle.std.proofs.lemmas.Cmp.{nat_list_cmp_total}
-use Rattle.std.proofs.lemmas.List.Elements.{All-nil, All-take, All-weaker, All-contains, All-contains_itself, All-from_recursion, recursion_from_All}
+use Rattle.std.proofs.lemmas.List.Elements.{All-nil, All-weaker, All-contains, All-contains_itself, All-from_recursion, recursion_from_All}
 use Rattle.std.proofs.lemmas.Map.Keys.{sorted_head, sorted_tail}
 use Rattle.std.proofs.lemmas.Map.Lookups.{exact_bytes}
 use Rattle.cut_definitions.proofs.Lists.{Contains-here, Contains-there, Contains-cons_cases, Contains-nil}
@@ -23,9 +23,6 @@ abbrev cmp : List ℕ → List ℕ → Ordering
 cmp = slice_cmp nat_cmp
 
 -- ---- the order
-less_equal : Less ≡ Equal → ⊥
-less_equal e = true≢false (ap is_lt e)
-
 pub less_on : (x y z : List ℕ) → slice_cmp nat_cmp x y ≡ Less → slice_cmp nat_cmp y z ≡ Less → slice_cmp nat_cmp x z ≡ Less
 less_on = nat_list_cmp_total.trans
 
@@ -49,11 +46,6 @@ all_after x xs h = All-from_recursion (λ y. cmp x y ≡ Less) xs (sorted_head c
 
 pub after_head : (x : List ℕ) (xs : Lists) (s : List ℕ) → IsAscending (x ∷ xs) → Contains xs s → slice_cmp nat_cmp x s ≡ Less
 after_head x xs s h c = All-contains (λ y. cmp x y ≡ Less) xs s (all_after x xs h) c
-
-pub ascending_take : (count : ℕ) (xs : Lists) → IsAscending xs → IsAscending (take count xs)
-ascending_take zero xs h = ascending_nil
-ascending_take (suc count) [] h = ascending_nil
-ascending_take (suc count) (x ∷ xs) h = ascending_cons x (take count xs) (All-take (λ y. cmp x y ≡ Less) count xs (all_after x xs h)) (ascending_take count xs (sorted_tail cmp x xs h))
 
 -- ---- putting a list into a listing
 at_order_of : (P : Lists → Type 0) (x y : List ℕ) (ys more : Lists) (o : Ordering) → cmp x y ≡ o
@@ -143,9 +135,6 @@ different_is_listing xs = record { ascending = different_ascending xs; same = λ
 -- an ascending list with the same members is the listing
 pub is_different : (xs ys : List (List ℕ)) → IsAscending ys → ((s : List ℕ) → Contains ys s → Contains xs s) → ((s : List ℕ) → Contains xs s → Contains ys s) → ys ≡ different xs
 is_different xs ys up from to = one_listed nat_list_cmp_total exact_bytes ys (different xs) up (different_ascending xs) (λ s. ((λ c. different_to xs s (from s c)), (λ c. to s (different_from xs s c))))
-
-pub different_itself : (xs : List (List ℕ)) → IsAscending xs → different xs ≡ xs
-different_itself xs up = sym (is_different xs xs up (λ s c. c) (λ s c. c))
 
 pub same_different : (xs ys : List (List ℕ)) → ((s : List ℕ) → Contains xs s → Contains ys s) → ((s : List ℕ) → Contains ys s → Contains xs s) → different xs ≡ different ys
 same_different xs ys to from = is_different ys (different xs) (different_ascending xs) (λ s c. to s (different_from xs s c)) (λ s c. different_to xs s (from s c))

@@ -30,9 +30,6 @@ use Rattle.rooted_cactus.specs.Rooted.{IsCactus}
 use Rattle.rooted_cactus.specs.Trees.{vertices, blocks}
 use Rattle.rooted_cactus.proofs.Orders.{entered_out}
 
-abbrev Lists : Type 0
-Lists = List (List ℕ)
-
 -- ---- the sides
 pub sides_ascend : (c : Rooted) → All (IsAscendingWithin 1 c.vertices) (sides_of c)
 sides_ascend c = All-map (IsAscendingWithin 1 c.vertices) (λ (s : VertexSet). filter s (range_with_len 1 c.vertices)) (cuts c.root)

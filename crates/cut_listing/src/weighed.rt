@@ -5,7 +5,7 @@
 //! As its end goes on its mass does not fall, so the ranges from one border on that are asked for end at borders that stand
 //! side by side: a band. From the next border on a range has no more mass, so neither end of the band goes back.
 
-ghost use Rattle.std.specs.Prelude.{◌≡◌, ◌+◌, ◌-◌, ◌<◌, ◌≤◌, ◌^◌, ◌++◌, true, IfErr, IfOk, OnOk, drop, length, map, max};
+ghost use Rattle.std.specs.Prelude.{◌≡◌, ◌+◌, ◌-◌, ◌<◌, ◌≤◌, ◌^◌, ◌++◌, true, IfErr, IfOk, OnOk, length, map, max};
 ghost use Rattle.std.specs.List.{All, filter};
 ghost use Rattle.rooted_cactus.specs.Borders.{border_at};
 ghost use Rattle.rooted_cactus.specs.Different.{AreDifferent};
@@ -15,7 +15,7 @@ ghost use Rattle.cactus_walk.specs.Repeats.{mark_at, passed_over, ranges_kept};
 ghost use Rattle.rooted_cactus.specs.Rooted.{sides_of};
 ghost use Rattle.cactus_walk.specs.Walking.{AreBorders, AreChained};
 ghost use Rattle.cut_listing.specs.Asks.{is_balanced};
-ghost use Rattle.cut_listing.specs.Bands.{AreEnds, AreRising, AreShort, IsShort, is_heavy, mass_at, ranges_of, range_between, whole};
+ghost use Rattle.cut_listing.specs.Bands.{AreEnds, AreRising, AreShort, IsShort, is_heavy, mass_at, ranges_of};
 ghost use Rattle.cut_listing.specs.Listings.{IsList, IsRefusal, different, members_of};
 
 use crate::ask::Ask;

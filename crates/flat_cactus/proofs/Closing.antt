@@ -30,12 +30,6 @@ pub record Splits (whole one two : Edges) : Type 0 where
   pub second : (set : ℕ → Bool) → IsClosed whole set → IsClosed two set
   pub both : (set : ℕ → Bool) → IsClosed one set → IsClosed two set → IsClosed whole set
 
-pub split_append : (one two : Edges) → Splits (one ++ two) one two
-split_append one two = record { first = closed_left one two; second = closed_right one two; both = closed_append one two }
-
-pub split_swap : (whole one two : Edges) → Splits whole one two → Splits whole two one
-split_swap whole one two s = record { first = s.second; second = s.first; both = λ set h k. s.both set k h }
-
 -- two pairs of lists
 pub split_four : (a b c d : Edges) → Splits ((a ++ b) ++ (c ++ d)) (a ++ c) (b ++ d)
 split_four a b c d = record {
@@ -64,18 +58,6 @@ split_around a b cs ds = subst (λ es. Splits ((a ++ b) ++ es) (a ++ around cs) 
 abbrev pub IsEach : (ℕ → Bool) → Bool → List ℕ → Type 0
 IsEach set b [] = ⊤
 IsEach set b (x ∷ xs) = (set x ≡ b) × IsEach set b xs
-
-pub each_append : (set : ℕ → Bool) (b : Bool) (xs ys : List ℕ) → IsEach set b xs → IsEach set b ys → IsEach set b (xs ++ ys)
-each_append set b [] ys h k = k
-each_append set b (x ∷ xs) ys h k = (h.0, each_append set b xs ys h.1 k)
-
-pub each_left : (set : ℕ → Bool) (b : Bool) (xs ys : List ℕ) → IsEach set b (xs ++ ys) → IsEach set b xs
-each_left set b [] ys h = tt
-each_left set b (x ∷ xs) ys h = (h.0, each_left set b xs ys h.1)
-
-pub each_right : (set : ℕ → Bool) (b : Bool) (xs ys : List ℕ) → IsEach set b (xs ++ ys) → IsEach set b ys
-each_right set b [] ys h = h
-each_right set b (x ∷ xs) ys h = each_right set b xs ys h.1
 
 -- the way round a cycle has its ends both in a closed set, and then all that lies between them
 pub way_ends : (first at : ℕ) (rest : List ℕ) (set : ℕ → Bool) → IsClosed (edges_along first at rest) set → set at ≡ set first

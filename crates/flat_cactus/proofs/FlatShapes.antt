@@ -246,10 +246,6 @@ roots_length : (xs : List Node) (k : ℕ) → length (roots_from k (trees xs)) �
 roots_length [] k = refl
 roots_length (x ∷ xs) k = ap suc (roots_length xs (k + (tree_joins x).size))
 
-widths_length : (xs : List Node) → length (map widths xs) ≡ length xs
-widths_length [] = refl
-widths_length (x ∷ xs) = ap suc (widths_length xs)
-
 ring_shaped : (xs : List Node) → AllByRecursion TreeShaped xs → 2 ≤ length (map widths xs) → wide (joined (map widths xs)) → (up first : ℕ) → up < first →
     IsShaped 0 first (first + trees_size (trees xs)) ((cycle_joins (trees xs)).joins up first)
 ring_shaped [] h long w up first a = absurd (omega (arith, long))

@@ -1,5 +1,5 @@
 -- What is done to one level, and to some of them.
-use Rattle.std.proofs.Common.{◌≡◌, ℕ, ◌+◌, ◌<◌, ◌≤◌, ⊎_elim, inl, inr, List, [], ◌∷◌, ◌++◌, length, get_or, set, refl, ◌∙◌, ap, subst, arith, get_or-set_other, get_or-set_same, length-set, length-append}
+use Rattle.std.proofs.Common.{◌≡◌, ℕ, ◌+◌, ◌<◌, ◌≤◌, ⊎_elim, inl, inr, List, [], ◌∷◌, ◌++◌, length, get_or, set, ◌∙◌, ap, subst, arith, get_or-set_other, get_or-set_same, length-set, length-append}
 use Rattle.std.specs.Prelude.{◌≢◌, ◌⊎◌}
 use Rattle.std.proofs.lemmas.Bool.{cases_eq, cases_lt}
 use Rattle.std.proofs.Math.Seq.{get_or-append_seam}
@@ -7,10 +7,7 @@ use Rattle.std.proofs.lemmas.List.{get_or_default, get_or_append_left}
 use Rattle.cut_definitions.specs.Weight.{VertexSet}
 use Rattle.vertex_classes.specs.Classes.{AreJoined, Respects, HasSameClasses, HasJoined}
 use Rattle.forest_contraction.specs.Forests.{level, AreOver, HasSameLevels}
-use Rattle.vertex_classes.proofs.Joining.{same_classes, same_classes-more, joined_before}
-
-pub same_levels : (levels : List (List ℕ)) → HasSameLevels levels levels
-same_levels levels = record { count = refl; each = λ l h. same_classes (level levels l) }
+use Rattle.vertex_classes.proofs.Joining.{same_classes-more, joined_before}
 
 -- one level gets other parents for the same classes
 pub same_levels-set : (old levels : List (List ℕ)) (m : ℕ) (x new : List ℕ) → HasSameLevels old levels → m < length levels → HasSameClasses (get_or levels m x) new → HasSameLevels old (set levels m new)

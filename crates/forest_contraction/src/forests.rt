@@ -1,7 +1,6 @@
 //! Forests, each over the vertices that the one before has joined.
 
-ghost use Rattle.std.specs.Prelude.{◌≡◌, ◌⊎◌, ◌+◌, ◌*◌, ◌^◌, ◌<◌, ◌≤◌, ℕ, [], ◌∷◌, ◌++◌, IfOk, List, length};
-ghost use Rattle.std.specs.List.{All, sum_by};
+ghost use Rattle.std.specs.Prelude.{◌≡◌, ◌⊎◌, ◌+◌, ◌*◌, ◌^◌, ◌<◌, ◌≤◌, ℕ, [], ◌∷◌, ◌++◌, List, length};
 ghost use Rattle.cut_definitions.specs.declared.edge_list.Edge.{Edge};
 ghost use Rattle.vertex_classes.specs.Classes.{AreJoined, HasJoined};
 ghost use Rattle.forest_contraction.specs.Forests.{level, AreForests, AreOver, HasReach, HasSameLevels, HasTaken};

@@ -5,10 +5,8 @@
 //! together with the edges from these to a common neighbour (Padberg and Rinaldi, 1990). The only neighbour that is tried is
 //! the one of greatest degree, where it is the same for both ends.
 
-ghost use Rattle.std.specs.Prelude.{◌≡◌, ◌+◌, ◌<◌, ◌≤◌, ◌^◌, ◌⊎◌, ℕ, All, IfOk, IsTrue, length, slice_index};
-ghost use Rattle.cut_definitions.specs.declared.edge_list.Edge.{Edge};
-ghost use Rattle.cut_definitions.specs.Graph.{Graph, IsEdgeWithin};
-ghost use Rattle.cut_definitions.specs.Scan.{single};
+ghost use Rattle.std.specs.Prelude.{◌≡◌, ◌+◌, ◌≤◌, ◌^◌, ◌⊎◌, IfOk, IsTrue, length};
+ghost use Rattle.cut_definitions.specs.Graph.{Graph};
 ghost use Rattle.cut_definitions.specs.Weight.{weight};
 ghost use Rattle.edge_certificates.specs.Certificates.{edge_weight, IsHeavyVertex, IsTriangle};
 ghost use Rattle.weighted_graph.specs.ContractionLaws.{ClassesAreSafe};

@@ -1,13 +1,13 @@
 //! Classes that no light cut parts, by the list of edges alone.
 
-ghost use Rattle.std.specs.Prelude.{◌≡◌, ◌+◌, ◌-◌, ◌*◌, ◌^◌, ◌<◌, ◌≤◌, ℕ, [], All, IfOk, length};
+ghost use Rattle.std.specs.Prelude.{◌≡◌, ◌+◌, ◌-◌, ◌*◌, ◌^◌, ◌<◌, ◌≤◌, ℕ, All, IfOk, length};
 ghost use Rattle.std.specs.List.{sum_by};
 ghost use Rattle.cut_definitions.specs.declared.edge_list.Edge.{Edge};
 ghost use Rattle.cut_definitions.specs.Contraction.{label, RespectsClasses};
 ghost use Rattle.cut_definitions.specs.Graph.{IsEdgeWithin};
 ghost use Rattle.cut_definitions.specs.Weight.{VertexSet, weight};
 ghost use Rattle.vertex_classes.specs.Classes.{no_vertex, Respects};
-ghost use Rattle.forest_contraction.specs.Forests.{level, AreForests, AreOver, AreTied, JoinsHeavy};
+ghost use Rattle.forest_contraction.specs.Forests.{level, AreOver, AreTied, JoinsHeavy};
 ghost use Rattle.forest_contraction.specs.Left.{AreLabelsTied};
 
 use crate::forests::{tie_edge, tie_edge_twice};

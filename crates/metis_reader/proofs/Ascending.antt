@@ -1,5 +1,5 @@
 -- Edges that ascend at each step ascend.
-use Rattle.std.proofs.Common.{◌≡◌, ◌≤◌, ◌<◌, ◌-◌, ◌+◌, ℕ, zero, suc, List, length, get_or, arith, Option, None, Some, IfNone, subst}
+use Rattle.std.proofs.Common.{◌≡◌, ◌≤◌, ◌<◌, ◌-◌, ◌+◌, ℕ, zero, suc, List, length, get_or, arith, subst}
 use Rattle.std.specs.List.{AllPairs}
 use Rattle.cut_definitions.specs.declared.edge_list.Edge.{Edge}
 use Rattle.cut_definitions.specs.Graph.{IsBefore}
@@ -28,7 +28,3 @@ AllPairs-from_AscendsBelow xs n all steps i j d before inside =
     let e : suc (i + (j - suc i)) ≡ j = omega arith in
     let short : AscendsBelow xs (length xs) = λ k d low high. steps k d low (omega arith) in
     subst (λ k. IsBefore (get_or xs i d) (get_or xs k d)) e (ascends_between xs short (j - suc i) i d (omega arith))
-
-pub IfNone-weaker : {X : Type 0} (found : Option X) (P Q : Type 0) → (P → Q) → IfNone found P → IfNone found Q
-IfNone-weaker None P Q f p = f p
-IfNone-weaker (Some x) P Q f p = p

@@ -40,14 +40,6 @@ digit_of b low high = grind (arith, nat_tests)
 pub digit_from : (b : ℕ) → is_ascii_digit b ≡ true → is_digit b ≡ true
 digit_from b h = grind (arith, nat_tests)
 
-pub digits_none : (bytes : List ℕ) (from start : ℕ) → from ≤ length bytes → AreDigits bytes from from start start
-digits_none bytes from start le = record {
-  low = omega arith;
-  high = le;
-  digits = ap (λ xs. list_all is_digit xs) (run_none from bytes);
-  value = sym (ap (λ xs. fold more_digit start xs) (run_none from bytes));
-}
-
 pub digits_more : (bytes : List ℕ) (from end start value : ℕ) → end < length bytes → is_digit (get_or bytes end 0) ≡ true → AreDigits bytes from end start value
     → AreDigits bytes from (end + 1) start (value * 10 + (get_or bytes end 0 - 48))
 digits_more bytes from end start value lt digit h =
@@ -76,9 +68,6 @@ word_digits word longer bytes digits number is all longer_number value fits len 
       is_number = longer_number ∙ sym (and_from (list_all is_digit (bytes ++ digits)) (nat_lt (decimal (bytes ++ digits)) (2 ^ 64)) every below);
       value = λ yes. whole;
     }
-
-pub word_same : (word : Word) (bytes digits : List ℕ) → digits ≡ [] → IsWord word bytes → IsWord word (bytes ++ digits)
-word_same word bytes digits none is = subst (λ bytes. IsWord word bytes) (sym (ap (λ xs. bytes ++ xs) none ∙ append-nil bytes)) is
 
 -- What a reading makes of digits.
 

@@ -7,7 +7,6 @@ use Rattle.std.proofs.lemmas.List.Elements.{All-contains}
 use Rattle.cut_definitions.specs.declared.edge_list.Edge.{Edge}
 use Rattle.cut_definitions.specs.Graph.{IsEdgeWithin}
 use Rattle.cut_definitions.proofs.Lists.{Contains-here, Contains-there}
-use Rattle.metis_reader.specs.declared.fault.Fault.{Fault}
 use Rattle.metis_reader.specs.declared.fault.FaultKind.{FaultKind}
 use Rattle.metis_reader.specs.declared.fault.FaultKind.TheVariants.{MissingLines, TooFewEntries, Repeated, Unsymmetric}
 use Rattle.metis_reader.specs.Profile.{Finding, Header, Entry, found_at, where_true}
@@ -17,9 +16,6 @@ use Rattle.metis_reader.specs.Mates.{is_pair, times, RepeatsAt, IsOnceAt, LacksA
 use Rattle.metis_reader.proofs.Times.{times_cons, is_pair_from}
 use Rattle.metis_reader.proofs.Rows.{repeats, has_any, told, line_of_vertex, repeat_none, repeat_some, any_none, any_some}
 use Rattle.metis_reader.proofs.BothKinds.{upward, downward, entries_once, entries_repeat, entries_matched, entries_lack}
-
-fault : FaultKind → ℕ → Fault
-fault kind line = record { kind = kind; line = line }
 
 -- the four tests
 abbrev ending : Bool → Bool → List Finding → List Finding → ℕ → ℕ → List Finding

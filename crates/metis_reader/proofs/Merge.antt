@@ -67,17 +67,6 @@ pub record IsMergedTo (greater lesser : List Edge) (i j : ℕ) (found : Option �
   pub lesser_done : (k : ℕ) (d : Edge) → k < j → IsAtMost found (get_or lesser k d).v ⊎ Contains greater (get_or lesser k d)
   pub lacks : IfSome found (λ x. LacksAt x greater lesser)
 
-pub merge_start : (greater lesser : List Edge) → IsMergedTo greater lesser 0 0 None
-merge_start greater lesser = record {
-  i_within = omega arith;
-  j_within = omega arith;
-  greater_first = λ k l d h. absurd (omega arith);
-  lesser_first = λ k l d h. absurd (omega arith);
-  greater_done = λ k d h. absurd (omega arith);
-  lesser_done = λ k d h. absurd (omega arith);
-  lacks = tt;
-}
-
 weaker : (found lesser : Option ℕ) (vertex x : ℕ) (P : Type 0) → IsLesserOf found vertex lesser → IsAtMost found x ⊎ P → IsAtMost lesser x ⊎ P
 weaker found lesser vertex x P is (inl h) = inl (is.found_above x h)
 weaker found lesser vertex x P is (inr p) = inr p
@@ -146,9 +135,6 @@ other_first : (greater lesser : List Edge) (i j : ℕ) → Ascends greater → A
     → (l : ℕ) (d : Edge) → i + 1 ≤ l → l < length greater → IsBefore (get_or lesser j d) (get_or greater l d)
 other_first greater lesser i j up a l d le lt =
     same_before (get_or lesser j d) (get_or greater i d) (get_or greater l d) (sym (a.same_u d)) (sym (a.same_v d)) (up i l d (omega arith) lt)
-
-abbrev edge : ℕ → ℕ → ℕ → Edge
-edge u v w = record { u = u; v = v; w = w }
 
 -- and they have one weight
 pub merge_same : (greater lesser : List Edge) (i j : ℕ) (found : Option ℕ) (d : Edge) → Ascends greater → Ascends lesser → IsMergedTo greater lesser i j found → AreMates greater i lesser j

@@ -73,9 +73,6 @@ no_percent b h = grind (arith, nat_tests)
 space_no_percent : (b : ℕ) → (b == 32) ≡ true → (b == 37) ≡ false
 space_no_percent b h = grind (arith, nat_tests)
 
-space_blank : (b : ℕ) → (b == 32) ≡ true → is_blank b ≡ true
-space_blank b h = rw h refl
-
 digits_are : (word : List ℕ) → list_all is_ascii_digit word ≡ true → list_all is_digit word ≡ true
 digits_are [] h = refl
 digits_are (b ∷ word) h =

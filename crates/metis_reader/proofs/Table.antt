@@ -17,9 +17,6 @@ use Rattle.metis_reader.specs.Bodies.{header_view, greater_of, lesser_of}
 use Rattle.metis_reader.specs.Shown.{BodyShows, is_upward, mirrored}
 use Rattle.metis_reader.proofs.Meeting.{met_append, met_row, next_unmet, All-met}
 
-abbrev weight_sum : List Edge → ℕ
-weight_sum edges = sum_by (λ (e : Edge). e.w) edges
-
 -- The end of a line.
 
 pub record RowEnds (start : ℕ) (cursors : List ℕ) (old new : List Edge) : Type 0 where

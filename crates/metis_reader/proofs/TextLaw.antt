@@ -72,11 +72,6 @@ words_last beg at (c ∷ word) all e =
     ∙ ap (λ fs. filter has_bytes (placed beg fs)) (fields_last c word all)
     ∙ ap (λ at. filter has_bytes (piece (c ∷ word) at ∷ [])) e
 
-line_word : (s : State) (number end at : ℕ) (word : List ℕ) (words : List Piece)
-    → line_findings s number end (filter has_bytes (piece word at ∷ []) ++ words) ≡ word_end s word at number ++ line_findings (word_end_state s word at) number end words
-line_word s number end at [] words = refl
-line_word s number end at (c ∷ word) words = refl
-
 pub state_word : (s : State) (at : ℕ) (word : List ℕ) (words : List Piece)
     → line_state s (filter has_bytes (piece word at ∷ []) ++ words) ≡ line_state (word_end_state s word at) words
 state_word s at [] words = refl

@@ -2,7 +2,7 @@
 use Rattle.std.proofs.Common.{ne_eqb, ◌≡◌, ℕ, zero, suc, ◌+◌, ◌-◌, ◌≤◌, ◌==◌, ◌&&◌, Bool, true, not, List, [], ◌∷◌, ◌++◌, length, take, drop, Some, ap, ◌∙◌, sym, refl, subst, arith}
 use Rattle.std.specs.Prelude.{slice_get, slice_index_or}
 use Rattle.std.specs.List.{list_all}
-use Rattle.std.proofs.lemmas.Bool.{false≢true, and_parts, eqb-true}
+use Rattle.std.proofs.lemmas.Bool.{false≢true, and_parts}
 use Rattle.std.proofs.lemmas.Option.{get_or_from_slice_get}
 use Rattle.std.proofs.lemmas.List.{append_assoc, append-nil, drop-drop, length-drop}
 use Rattle.std.proofs.Math.Bool.{and-true}
@@ -53,9 +53,6 @@ above_first vs bs b r spare at e =
       one [] h a = absurd (false≢true h)
       one (c ∷ []) h a = and-true (not (block_shape c).is_cycle) ∙ ap (λ d. not (block_shape d).is_cycle) (get_or_from_slice_get (c ∷ []) 0 b b a)
       one (c ∷ (d ∷ cs)) h a = absurd (false≢true (sym (ne_eqb (length (c ∷ (d ∷ cs))) 1 (λ k. omega (arith, k))) ∙ h))
-
-pub spare_one : (vs : List ℕ) (bs : List Block) → is_spare vs bs ≡ true → length bs ≡ 1
-spare_one vs bs h = eqb-true (length bs) 1 (and_parts (length vs == 0) (length bs == 1) h).1
 
 -- ---- nodes are drawn for a cycle
 pub record DrawsNodes (rs : List Read) (nodes stack : List Node) : Type 0 where

@@ -17,17 +17,6 @@ pub hops_step : (s : List ℕ) (m from to : ℕ) → 0 < m → Hops s m from to 
 hops_step s zero from to some h = absurd (omega (arith, some))
 hops_step s (suc m) from to some h = let e : m ≡ suc m - 1 = omega arith in (h.0, subst (λ k. Hops s k (from + slice_index s from) to) e h.1)
 
-pub hops_back : (s : List ℕ) (m from to : ℕ) → 0 < m → from < length s → Hops s (m - 1) (from + slice_index s from) to → Hops s m from to
-hops_back s zero from to some le h = absurd (omega (arith, some))
-hops_back s (suc m) from to some le h = let e : suc m - 1 ≡ m = omega arith in (le, subst (λ k. Hops s k (from + slice_index s from) to) e h)
-
-pub hops_done : (s : List ℕ) (m from to : ℕ) → m ≡ 0 → Hops s m from to → from ≡ to
-hops_done s zero from to e h = h
-hops_done s (suc m) from to e h = absurd (omega (arith, e))
-
-pub hops_none : (s : List ℕ) (m to : ℕ) → m ≡ 0 → Hops s m to to
-hops_none s m to e = subst (λ k. Hops s k to to) (sym e) refl
-
 -- there is one end
 pub hops_one : (s : List ℕ) (m from to to' : ℕ) → Hops s m from to → Hops s m from to' → to ≡ to'
 hops_one s zero from to to' g h = sym g ∙ h

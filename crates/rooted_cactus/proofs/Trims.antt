@@ -156,9 +156,6 @@ trimmed_kept r x stays h g =
     }
 
 -- ---- a node of a cycle that gives way to the node below its bridge
-abbrev OverBridge : Read → Block → Node → Type 0
-OverBridge r b f = ShowsBlock (bridge_read r) b → nodes_of b ≡ f ∷ [] → ShowsChild r f
-
 over_bridge : (r : Read) (child : Box Node Global) → ShowsBlock (bridge_read r) (Bridge child) → ShowsChild r child.value
 over_bridge r child s =
     let x = child.value in

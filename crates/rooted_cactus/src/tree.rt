@@ -1,6 +1,6 @@
 //! The tree of a cactus: nodes, and the bridges and cycles that join them.
 
-ghost use Rattle.std.specs.Prelude.{List, ◌≡◌, ℕ, [], ◌∷◌, ◌++◌, ◌<◌, length, option_to_list, IsSome, ◌↔◌, OnOk, OnErr, IfOk, map, slice_get, take, drop, ◌≤◌};
+ghost use Rattle.std.specs.Prelude.{◌≡◌, [], ◌∷◌, ◌++◌, ◌<◌, length, option_to_list, IsSome, ◌↔◌, OnOk, OnErr, IfOk, slice_get, take, drop, ◌≤◌};
 ghost use Rattle.rooted_cactus.specs.Trees.{blocks_in, nodes_in};
 
 use crate::vertex_list::VertexList;

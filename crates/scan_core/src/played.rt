@@ -1,11 +1,11 @@
 //! The machine as a value, which tests play.
 
-ghost use Rattle.std.specs.Prelude.{◌≡◌, ◌↔◌, ℕ, ◌+◌, ◌-◌, ◌<◌, ◌≤◌, true, false, length, take, slice_index_or, IfOk, OnErr, IsTrue, MatchOption};
+ghost use Rattle.std.specs.Prelude.{◌≡◌, ◌↔◌, ℕ, ◌+◌, ◌-◌, ◌<◌, ◌≤◌, length, take, IfOk, OnErr, IsTrue, MatchOption};
 ghost use Rattle.cut_definitions.specs.Safe.{IsFair};
 ghost use Rattle.cut_definitions.specs.Cuts.{has, value as value_of};
 ghost use Rattle.cut_definitions.specs.Weight.{IsCut};
 ghost use Rattle.scan_core.specs.declared.event.Event.TheVariants.{Load, Lower, IsMarked, Mark, Split, Join, Take};
-ghost use Rattle.scan_core.specs.Machine.{Machine, IsSafeEdge, IsLive, seat_at, opening_machine};
+ghost use Rattle.scan_core.specs.Machine.{Machine, seat_at, opening_machine};
 ghost use Rattle.scan_core.specs.Shown.{ArePartedEdges, Shows, IsLiveSeat, IsAnswer, IsShownLive, IsSafeHere, HasGone};
 
 use crate::event::Event;

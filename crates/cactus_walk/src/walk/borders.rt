@@ -1,6 +1,6 @@
 //! The borders of the blocks of a tree: the places at which the nodes of a block begin, and the one at which the last ends.
 
-ghost use Rattle.std.specs.Prelude.{◌≡◌, ℕ, ◌+◌, ◌++◌, ◌<◌, ◌≤◌, length, drop, map, OnOk, IfOk};
+ghost use Rattle.std.specs.Prelude.{◌≡◌, ℕ, ◌++◌, ◌<◌, ◌≤◌, length, drop, map, OnOk, IfOk};
 ghost use Rattle.rooted_cactus.specs.Outlines.{Hops};
 ghost use Rattle.rooted_cactus.specs.Borders.{AllHop, all_borders, border_at, borders_along, placed, ranges_between};
 

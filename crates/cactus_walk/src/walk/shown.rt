@@ -1,11 +1,11 @@
 //! A side that has the vertices at the places of a range of a list, and its change to another range.
 
-ghost use Rattle.std.specs.Prelude.{◌≡◌, ℕ, ◌≤◌, length};
+ghost use Rattle.std.specs.Prelude.{◌≡◌, ◌≤◌, length};
 ghost use Rattle.std.specs.List.{All};
 ghost use Rattle.cut_definitions.specs.Weight.{VertexSet, either, minus};
 ghost use Rattle.cut_definitions.specs.Cuts.{has};
 ghost use Rattle.vertex_set.specs.Side.{listed};
-ghost use Rattle.rooted_cactus.specs.CutRanges.{Range, elements_at};
+ghost use Rattle.rooted_cactus.specs.CutRanges.{elements_at};
 ghost use Rattle.rooted_cactus.specs.Places.{AreOnce, IsVertex};
 
 use vertex_set::Side;

@@ -3,7 +3,7 @@
 ghost use Rattle.std.specs.Prelude.{◌≡◌, ◌==◌, ◌∷◌, length, map, true, IfOk};
 ghost use Rattle.std.specs.List.{list_all};
 ghost use Rattle.rooted_cactus.specs.Trees.{blocks, blocks_in, nodes_in, vertices};
-ghost use Rattle.rooted_cactus.specs.Normal.{BlockShape, shape, block_shape, child_fine, well_placed};
+ghost use Rattle.rooted_cactus.specs.Normal.{shape, block_shape, child_fine, well_placed};
 ghost use Rattle.rooted_cactus.specs.Placed.{is_placed, is_set};
 
 use super::number::stack_inner;

@@ -1,14 +1,9 @@
 //! The number of the different sides of a normal cactus.
 
-ghost use Rattle.std.specs.Prelude.{◌≡◌, ◌≤◌, ◌<◌, ◌+◌, ◌++◌, ◌∷◌, [], ◌-◌, ◌*◌, ◌^◌, ◌&&◌, ◌==◌, true, length, map, OnOk, IfOk};
+ghost use Rattle.std.specs.Prelude.{◌≡◌, ◌<◌, ◌++◌, ◌∷◌, [], ◌^◌, map, OnOk, IfOk};
 ghost use Rattle.std.specs.List.{filter, flat_map};
 ghost use Rattle.rooted_cactus.specs.Entries.{nodes_of};
-ghost use Rattle.rooted_cactus.specs.Normal.{is_normal};
 ghost use Rattle.rooted_cactus.specs.Trees.{blocks, blocks_in, nodes_in, vertices};
-ghost use Rattle.rooted_cactus.specs.Rooted.{sides_of};
-ghost use Rattle.rooted_cactus.specs.Different.{HasDifferent};
-ghost use Rattle.rooted_cactus.specs.Formula.{census};
-ghost use Rattle.rooted_cactus.specs.Widths.{widths};
 ghost use Rattle.rooted_cactus.specs.Numbers.{number, total, tally, between, all_own, all_under, own_of, seen, is_inner};
 
 use super::normal::is_cycle;

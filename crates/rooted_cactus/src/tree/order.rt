@@ -1,6 +1,6 @@
 //! The order in which a tree is entered: a node, then its blocks in order.
 
-ghost use Rattle.std.specs.Prelude.{List, ◌≡◌, ℕ, [], ◌∷◌, ◌++◌, ◌<◌, length, option_to_list, IsSome, ◌↔◌, OnOk, OnErr, IfOk, map, slice_get, take, drop, ◌≤◌};
+ghost use Rattle.std.specs.Prelude.{◌≡◌, ◌++◌, OnOk, IfOk};
 ghost use Rattle.std.specs.List.{flat_map, concat};
 ghost use Rattle.rooted_cactus.specs.Trees.{blocks_in, nodes_in};
 ghost use Rattle.rooted_cactus.specs.Entered.{entered, entered_block, waiting};

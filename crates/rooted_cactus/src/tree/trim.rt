@@ -1,12 +1,10 @@
 //! A cactus without the nodes and bridges that can be spared.
 
-ghost use Rattle.std.specs.Prelude.{List, ◌≡◌, ◌∷◌, [], ◌≤◌, ◌<◌, ◌&&◌, ◌==◌, true, false, not, length, take, drop, map, OnOk, IfOk, slice_index_or};
+ghost use Rattle.std.specs.Prelude.{List, ◌≡◌, ◌∷◌, [], ◌≤◌, ◌<◌, false, length, take, drop, OnOk, IfOk, slice_index_or};
 ghost use Rattle.cut_definitions.specs.Cuts.{has};
 ghost use Rattle.rooted_cactus.specs.Trees.{blocks, blocks_in, nodes_in, vertices};
-ghost use Rattle.rooted_cactus.specs.Normal.{is_normal, block_shape};
+ghost use Rattle.rooted_cactus.specs.Normal.{block_shape};
 ghost use Rattle.rooted_cactus.specs.Entries.{Read, nodes_of, Shows, kept, top_first, used, wanted, drawn, all_drawn, bridge_read, cycle_read, nothing_read, left, IsReady, read_entries};
-ghost use Rattle.rooted_cactus.specs.Rooted.{IsCactus, sides_of};
-ghost use Rattle.rooted_cactus.specs.Different.{HaveSameSides, HasNoEmptySide};
 ghost use Rattle.rooted_cactus.specs.Trims.{is_spare, is_above_bridge, IsNodeOf, IsChildOf, IsBlockOf, AreNodesOf, AreChildrenOf, AreBlocksOf};
 
 use super::entries::{Joint, ShedNode, shed_blocks};

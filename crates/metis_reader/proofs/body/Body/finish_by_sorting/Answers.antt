@@ -15,7 +15,7 @@ use Rattle.metis_reader.proofs.Meeting.{All-met}
 use Rattle.metis_reader.proofs.EndLaw.{mismatch_inside}
 use Rattle.metis_reader.proofs.BodyEnd.{body_mismatch, body_accepted, matched_is_edge_list, few_masses, one_for_each}
 use Rattle.metis_reader.proofs.body.Body.finish_by_sorting.Goals as goal
-use Rattle.metis_reader.proofs.body.Body.finish_by_sorting.Goals.{After-as_mut_slice-2, After-deref-in-Some, After-shrink_to_fit}
+use Rattle.metis_reader.proofs.body.Body.finish_by_sorting.Goals.{After-shrink_to_fit}
 
 pub put_back-requires : goal.put_back-requires
 put_back-requires c =
@@ -37,9 +37,6 @@ lesser_inside b l moved =
     let P : Edge → Type 0 = IsEdgeWithin b.header.vertices in
     All-permutation P (lesser_of b) l moved
     (All-append P (met_from 0 b.cursors.items b.greater.items) b.lesser.items (All-met P 0 b.cursors.items b.greater.items b.greater_within) b.lesser_within)
-
-lesser_back : (c : After-as_mut_slice-2) → IsPermutation (lesser_of c.args.self) c.as_mut_slice-2.result.now
-lesser_back c = back c.args.self c.as_mut_slice-2.result.now c.deref.result.now c.deref-2.result.now c.deref.ensures.value c.deref-2.ensures.value (c.as_mut_slice-2.ensures.value ∙ c.put_back.ensures)
 
 pub mismatch-requires : goal.mismatch-requires
 mismatch-requires c =
