@@ -3,28 +3,26 @@ use Rattle.std.proofs.Common.{◌≡◌, inl, inr, true, false, not, ◌==◌, [
 use Rattle.std.specs.List.{list_all, flat_map}
 use Rattle.std.specs.declared.boxed.Box.{Box}
 use Rattle.std.specs.declared.alloc.Global.{Global}
-use Rattle.std.proofs.lemmas.Bool.{and_parts, false≢true, and_from, not-true}
+use Rattle.std.proofs.lemmas.Bool.{cases_Bool, and_parts, and_from, not-true}
 use Rattle.cut_definitions.specs.Weight.{either}
 use Rattle.cut_definitions.specs.Cuts.{has}
-use Rattle.cut_definitions.proofs.ListLaws.{only}
 use Rattle.rooted_cactus.specs.Sides.{Part, part, block_part, all_of, belows, all_cuts}
 use Rattle.rooted_cactus.specs.Trees.{vertices, blocks}
 use Rattle.rooted_cactus.specs.Entered.{entered, entered_block}
 use Rattle.rooted_cactus.specs.Widths.{widths, block_widths, joined}
 use Rattle.rooted_cactus.specs.Normal.{BlockShape, block_shape, well_placed}
 use Rattle.rooted_cactus.specs.Entries.{Read, bridge_read, nodes_of}
-use Rattle.rooted_cactus.specs.Trims.{SameSets, is_spare, is_above_bridge}
+use Rattle.rooted_cactus.specs.Trims.{IsBridgeTo, SameSets, is_spare, is_above_bridge}
 use Rattle.rooted_cactus.specs.declared.tree.Node.{Node}
 use Rattle.rooted_cactus.specs.declared.tree.Block.{Block}
 use Rattle.rooted_cactus.specs.declared.tree.Block.TheVariants.{Bridge}
 use Rattle.rooted_cactus.proofs.Parts.{bridge_part, either_nothing}
 use Rattle.rooted_cactus.proofs.Orders.{entered_out, entered_bridge}
 use Rattle.rooted_cactus.proofs.Widths.{widths_out, widths_bridge}
-use Rattle.rooted_cactus.proofs.Shapes.{bridge_shape, cycle_shape, child_parts}
-use Rattle.rooted_cactus.proofs.Entries.{nodes_bridge}
+use Rattle.rooted_cactus.proofs.Shapes.{bridge_shape, child_parts}
 use Rattle.rooted_cactus.proofs.Trims.{below_out, cuts_out, none_of, placed_of, cycle_placed, no_node, bridge_to_cycle, same_cons, same_own, own_cut}
+use Rattle.rooted_cactus.proofs.Stands.{is_bridge}
 use Rattle.rooted_cactus.proofs.Fits.{cycles_of}
-use Rattle.rooted_cactus.proofs.Views.{view}
 use Rattle.canonical_cactus.specs.Canonical.{Arranged, arranged, arranged_block, all_vertices, ascend, leasts}
 use Rattle.canonical_cactus.specs.Standing.{least_in}
 use Rattle.canonical_cactus.specs.Making.{SameLists, AreWide, ShowsNode, ShowsChild, ShowsBlock, IsNodeOf, IsChildOf, IsBlockOf}
@@ -124,19 +122,12 @@ over_bridge r child s =
       in_order = sym (ap (λ (k : Arranged). k.in_order) (arranged_bridge child)) ∙ s.in_order;
     }
 
--- the block that is a bridge down to a node
-is_bridge : (b : Block) (f : Node) → (block_shape b).is_cycle ≡ false → nodes_of b ≡ f ∷ [] → (child : Box Node Global) × (b ≡ Bridge child) × (child.value ≡ f)
-is_bridge b f straight nodes = elim (view b) [
-  | inl y ↦ (y.0, y.1, only y.0.value f (sym (nodes_bridge y.0) ∙ sym (ap nodes_of y.1) ∙ nodes))
-  | inr y ↦ absurd (false≢true (sym straight ∙ ap (λ c. (block_shape c).is_cycle) y.1 ∙ ap (λ (c : BlockShape). c.is_cycle) (cycle_shape y.0)))
-]
-
 pub trimmed_below : (r : Read) (p q : Placed) (b : Block) → q.least ≡ p.least → is_above_bridge (vertices p.node) (blocks p.node) ≡ true → blocks p.node ≡ b ∷ [] → nodes_of b ≡ q.node ∷ [] → IsNodeOf r p → IsChildOf r q
 trimmed_below r p q b l above bs nodes n =
     let x = p.node in
     let parts = and_parts (is_spare (vertices x) (blocks x)) (list_all (λ c. not (block_shape c).is_cycle) (blocks x)) above in
     let straight : (block_shape b).is_cycle ≡ false = not-true (block_shape b).is_cycle (and_parts (not (block_shape b).is_cycle) true (sym (ap (list_all (λ c. not (block_shape c).is_cycle)) bs) ∙ parts.1)).0 in
-    let y = is_bridge b q.node straight nodes in
+    let y = is_bridge b q.node (straight, nodes) in
     let v : vertices x ≡ [] = none_of (vertices x) (and_parts _ _ parts.0).0 in
     let a : arranged_block b ≡ arranged q.node = ap arranged_block y.1 ∙ arranged_bridge y.0 ∙ ap arranged y.2 in
     record {
@@ -145,3 +136,24 @@ trimmed_below r p q b l above bs nodes n =
           let s : ShowsBlock (bridge_read r) b = one_shown r x b parts.0 bs (n.shows g) in
           subst (ShowsChild r) y.2 (over_bridge r y.0 (subst (ShowsBlock (bridge_read r)) y.1 s));
     }
+
+-- ---- what is hung or trimmed, whichever way it goes
+pub hung_shows : (r : Read) (p : Placed) (h : Hung) → h.least ≡ p.least → (is_spare (vertices p.node) (blocks p.node) ≡ true → blocks p.node ≡ h.block ∷ []) → (is_spare (vertices p.node) (blocks p.node) ≡ false → IsBridgeTo h.block p.node) →
+    IsNodeOf r p → IsBlockOf (bridge_read r) h
+hung_shows r p h l spare stays n = elim (cases_Bool (is_spare (vertices p.node) (blocks p.node))) [
+  | inl t ↦ hung_spare r p h l t (spare t) n
+  | inr f ↦
+      let y = is_bridge h.block p.node (stays f) in
+      hung_kept r p y.0 h y.2 y.1 l f n
+]
+
+pub trimmed_shows : (r : Read) (p q : Placed) → q.least ≡ p.least → (is_above_bridge (vertices p.node) (blocks p.node) ≡ true → (b : Block) × (blocks p.node ≡ b ∷ []) × (nodes_of b ≡ q.node ∷ [])) →
+    (is_above_bridge (vertices p.node) (blocks p.node) ≡ false → q.node ≡ p.node) → IsNodeOf r p → IsChildOf r q
+trimmed_shows r p q l below stays n = elim (cases_Bool (is_above_bridge (vertices p.node) (blocks p.node))) [
+  | inl t ↦
+      let b = below t in
+      trimmed_below r p q b.0 l t b.1 b.2 n
+  | inr f ↦ subst (IsChildOf r) (same_placed p q (sym (stays f)) (sym l)) (trimmed_kept r p f n)
+] where
+  same_placed : (p q : Placed) → p.node ≡ q.node → p.least ≡ q.least → p ≡ q
+  same_placed p q e f = λ i. record { node = e i; least = f i }

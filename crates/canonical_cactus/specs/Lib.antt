@@ -3,7 +3,6 @@ pub mod Plain
 pub mod Laws
 pub mod Standing
 pub mod Inner
-pub mod Taken
 pub mod Making
 pub mod FirstBest
 pub mod Minima

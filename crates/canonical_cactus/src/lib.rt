@@ -14,9 +14,9 @@
 //! be spared, and the order of blocks and children are the freedoms which the representation of Dinitz, Karzanov and
 //! Lomonosov (1976) leaves.
 //!
-//! `canonical` gives a canonical cactus back as it is. Else it takes the tree apart into entries (`entries`), but for leaves
-//! below bridges, and puts it together from the last one (`put`): each node and block is finished with its least vertex
-//! (`parts`), and blocks and cycles are put in order as they are made (`rows`).
+//! `canonical` gives a canonical cactus back as it is. Else it takes the tree apart into entries (`rooted_cactus::entries_of`),
+//! but for leaves below bridges, and puts it together from the last one (`put`): each node and block is finished with its
+//! least vertex (`parts`), and blocks and cycles are put in order as they are made (`rows`).
 //! It takes O(n log n) for n vertices, in loops; `is_canonical` one step for each node and vertex, and a call for each
 //! level (`order`), and `is_canonical_within` the same by loops (`standing`).
 //!
@@ -29,7 +29,6 @@
 ghost use Rattle.std.specs.Prelude.{◌≡◌, IfOk};
 ghost use Rattle.canonical_cactus.specs.Canonical.{is_canonical};
 
-mod entries;
 mod first_side;
 pub mod laws;
 mod making;

@@ -4,11 +4,10 @@ ghost use Rattle.std.specs.Prelude.{◌≡◌, IfOk, true};
 ghost use Rattle.rooted_cactus.specs.Different.{HasNoEmptySide, HaveSameSides};
 ghost use Rattle.canonical_cactus.specs.Canonical.{is_canonical};
 
-use crate::entries::entries_of;
 use crate::is_canonical_within;
 use crate::put::put_in_order;
 use cut_definitions::NoMemory;
-use rooted_cactus::Cactus;
+use rooted_cactus::{Cactus, entries_of};
 use std::alloc::Global;
 
 /// The canonical cactus with the same set of sides.

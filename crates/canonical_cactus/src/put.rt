@@ -2,17 +2,15 @@
 
 ghost use Rattle.std.specs.Prelude.{List, ◌≡◌, ◌∷◌, [], ◌≤◌, ◌<◌, length, take, drop, OnOk, IfOk, slice_index_or};
 ghost use Rattle.cut_definitions.specs.Cuts.{has};
-ghost use Rattle.rooted_cactus.specs.Entries.{Read, top_first, bridge_read, cycle_read, node_read, nothing_read};
+ghost use Rattle.rooted_cactus.specs.Entries.{Read, IsReady, all_drawn, bridge_read, cycle_read, drawn, left, node_read, nothing_read, read_entries, top_first, used, wanted};
 ghost use Rattle.rooted_cactus.specs.Trees.{vertices};
 ghost use Rattle.canonical_cactus.specs.Making.{AreBlocksOf, AreChildrenOf, AreNodesOf, IsBlockOf, IsNodeOf};
-ghost use Rattle.canonical_cactus.specs.Taken.{IsReady, all_drawn, drawn, left, read_entries, used, wanted};
 
-use crate::entries::{Joint, OpenNode};
 use crate::order::least_vertex;
-use crate::parts::{Hung, Placed, hang_in, trimmed};
+use crate::parts::{Hung, Placed, hang_in, in_cycle};
 use crate::rows::{cycle_of, node_of, star_of};
 use cut_definitions::NoMemory;
-use rooted_cactus::{Block, Blocks, Node};
+use rooted_cactus::{Block, Blocks, Joint, Node, ShedNode};
 use std::alloc::Global;
 
 /// Takes the nodes of a cycle from the top of the stack, in order.
@@ -25,7 +23,7 @@ fn draw_nodes(alloc: Global, stack: &mut Vec<Placed>, count: usize) -> Result<Ve
     let mut nodes = Vec::with_capacity(alloc, count)?;
     'draw: while nodes.len() < count {
         let node = stack.pop().unwrap();
-        nodes.push(trimmed(node))?;
+        nodes.push(in_cycle(node))?;
     }
     Ok(nodes)
 }
@@ -121,7 +119,7 @@ fn draw_blocks(
 /// A tree that shows what the entries of another show, in its canonical form.
 ///
 /// From the last entry to the first: the nodes below an entry are finished when it is its turn. All share one row of blocks.
-pub fn put_in_order(alloc: Global, entries: Vec<OpenNode>) -> Result<Placed, NoMemory>
+pub fn put_in_order(alloc: Global, entries: Vec<ShedNode>) -> Result<Placed, NoMemory>
     requires ready { IsReady entries.items 0 }
     requires one { left entries.items 0 ≡ 1 }
     ensures { IfOk result (λ p. (r : Read) → read_entries has entries.items [] ≡ r ∷ [] → IsNodeOf r p) }
@@ -130,7 +128,7 @@ pub fn put_in_order(alloc: Global, entries: Vec<OpenNode>) -> Result<Placed, NoM
     let mut finished = Vec::with_capacity(alloc, entries.len())?;
     let mut row = Vec::new(alloc);
     'up: while let Some(entry) = entries.pop() {
-        let OpenNode { vertices, joints } = entry;
+        let ShedNode { vertices, joints } = entry;
         draw_blocks(alloc, &mut finished, joints, &mut row)?;
         let node = node_of(alloc, vertices, &mut row)?;
         finished.push(node)?;

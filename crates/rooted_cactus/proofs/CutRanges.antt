@@ -16,37 +16,8 @@ use Rattle.rooted_cactus.specs.declared.tree.Blocks.{Blocks}
 use Rattle.rooted_cactus.specs.declared.tree.Children.{Children}
 use Rattle.rooted_cactus.specs.declared.tree.Block.TheViews.{roll-Node, roll-Block, roll-Blocks, roll-Children}
 use Rattle.rooted_cactus.specs.declared.tree.Block.TheOpen as Open
-use Rattle.rooted_cactus.specs.declared.tree.Block.TheFolds.{map-Block, ind-Node, fold_out-Node, fold_out-Blocks, fold_out-Children, fold-Block, fold-Blocks, fold-Children, fold-roll-Node, fold-roll-Block, fold-roll-Blocks, fold-roll-Children}
-
-abbrev Lists : Type 0
-Lists = List (List ℕ)
-
-abbrev part_of_block : Block → Part
-part_of_block = fold-Block Part Part (List Part) Part block_step blocks_step children_step node_step
-
-abbrev part_of_blocks : Blocks → Part
-part_of_blocks = fold-Blocks Part Part (List Part) Part block_step blocks_step children_step node_step
-
-abbrev parts_of_children : Children → List Part
-parts_of_children = fold-Children Part Part (List Part) Part block_step blocks_step children_step node_step
-
-abbrev layout_of_block : Block → Layout
-layout_of_block = fold-Block Layout Layout (List Layout) Layout block_layout_step blocks_layout_step children_layout_step node_layout_step
-
-abbrev layout_of_blocks : Blocks → Layout
-layout_of_blocks = fold-Blocks Layout Layout (List Layout) Layout block_layout_step blocks_layout_step children_layout_step node_layout_step
-
-abbrev layouts_of_children : Children → List Layout
-layouts_of_children = fold-Children Layout Layout (List Layout) Layout block_layout_step blocks_layout_step children_layout_step node_layout_step
-
-abbrev lists_of_block : Block → Lists
-lists_of_block = fold-Block Lists Lists Lists Lists entered_block_step entered_blocks_step entered_children_step entered_node_step
-
-abbrev lists_of_blocks : Blocks → Lists
-lists_of_blocks = fold-Blocks Lists Lists Lists Lists entered_block_step entered_blocks_step entered_children_step entered_node_step
-
-abbrev lists_of_children : Children → Lists
-lists_of_children = fold-Children Lists Lists Lists Lists entered_block_step entered_blocks_step entered_children_step entered_node_step
+use Rattle.rooted_cactus.specs.declared.tree.Block.TheFolds.{map-Block, ind-Node, fold_out-Node, fold_out-Blocks, fold_out-Children, fold-Block, fold-roll-Node, fold-roll-Block, fold-roll-Blocks, fold-roll-Children}
+use Rattle.rooted_cactus.proofs.Folds.{Lists, part_of_block, part_of_blocks, parts_of_children, layout_of_block, layout_of_blocks, layouts_of_children, lists_of_block, lists_of_blocks, lists_of_children}
 
 abbrev BlockLaid : Block → Type 0
 BlockLaid b = IsLaid (part_of_block b) (layout_of_block b) (lists_of_block b)

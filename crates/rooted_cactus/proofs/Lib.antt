@@ -5,6 +5,7 @@ pub mod Orders
 pub mod PartsBy
 pub mod Lifts
 pub mod Segments
+pub mod Folds
 pub mod Laid
 pub mod CutRanges
 pub mod Hops
@@ -36,6 +37,7 @@ pub mod Few
 pub mod Tallies
 pub mod Trims
 pub mod Makes
+pub mod Stands
 pub mod Normals
 pub mod AllFine
 pub mod Bounds

@@ -1,22 +1,19 @@
--- A tree is put together from entries, and shows what was read off them.
+-- A tree is put together from entries: each finished node or block stands, in one way or another, for what was read off them.
 use Rattle.std.proofs.Common.{ne_eqb, ◌≡◌, ℕ, zero, suc, ◌+◌, ◌-◌, ◌≤◌, ◌==◌, ◌&&◌, Bool, true, not, List, [], ◌∷◌, ◌++◌, length, take, drop, Some, ap, ◌∙◌, sym, refl, subst, arith}
 use Rattle.std.specs.Prelude.{slice_get, slice_index_or}
 use Rattle.std.specs.List.{list_all}
 use Rattle.std.proofs.lemmas.Bool.{false≢true, and_parts}
 use Rattle.std.proofs.lemmas.Option.{get_or_from_slice_get}
-use Rattle.std.proofs.lemmas.List.{append_assoc, append-nil, drop-drop, length-drop}
+use Rattle.std.proofs.lemmas.List.{append_assoc, append-nil, drop-drop}
 use Rattle.std.proofs.Math.Bool.{and-true}
-use Rattle.cut_definitions.specs.Cuts.{has}
-use Rattle.rooted_cactus.specs.Trees.{vertices, blocks}
+use Rattle.cut_definitions.specs.Weight.{VertexSet}
 use Rattle.rooted_cactus.specs.Normal.{block_shape}
-use Rattle.rooted_cactus.specs.Entries.{Read, bridge_read, nothing_read, used, wanted, drawn, all_drawn, joints_of, read_entry, read_entries, left, IsReady}
-use Rattle.rooted_cactus.specs.declared.tree.Node.{Node}
+use Rattle.rooted_cactus.specs.Entries.{Read, bridge_read, node_read, nothing_read, used, wanted, drawn, all_drawn, joints_of, read_entry, read_entries, left, IsReady}
 use Rattle.rooted_cactus.specs.declared.tree.Block.{Block}
 use Rattle.rooted_cactus.specs.declared.tree.entries.Joint.{Joint}
 use Rattle.rooted_cactus.specs.declared.tree.entries.ShedNode.{ShedNode}
 use Rattle.rooted_cactus.proofs.Entries.{drawn_front, read_push, left_push, ready_pop}
-use Rattle.rooted_cactus.specs.Trims.{IsNodeOf, IsChildOf, IsBlockOf, Each, AreNodesOf, AreChildrenOf, AreBlocksOf, is_spare, is_above_bridge}
-use Rattle.rooted_cactus.proofs.Trims.{node_made}
+use Rattle.rooted_cactus.specs.Trims.{Each, is_spare, is_above_bridge}
 
 -- ---- pairs, one by one
 pub each_push : {X Y : Type 0} (P : X → Y → Type 0) (xs : List X) (ys : List Y) (x : X) (y : Y) → Each P xs ys → P x y → Each P (xs ++ x ∷ []) (ys ++ y ∷ [])
@@ -55,101 +52,100 @@ above_first vs bs b r spare at e =
       one (c ∷ (d ∷ cs)) h a = absurd (false≢true (sym (ne_eqb (length (c ∷ (d ∷ cs))) 1 (λ k. omega (arith, k))) ∙ h))
 
 -- ---- nodes are drawn for a cycle
-pub record DrawsNodes (rs : List Read) (nodes stack : List Node) : Type 0 where
+pub record DrawsNodes {X Y : Type 0} (N : Read → X → Type 0) (C : Read → Y → Type 0) (rs : List Read) (nodes : List Y) (stack : List X) : Type 0 where
   pub done : List Read
   pub rest : List Read
-  pub children : AreChildrenOf done nodes
-  pub nodes_left : AreNodesOf rest stack
+  pub children : Each C done nodes
+  pub nodes_left : Each N rest stack
   pub whole : done ++ rest ≡ rs
 
-pub draws_none : (rs : List Read) (nodes stack : List Node) → nodes ≡ [] → AreNodesOf rs stack → DrawsNodes rs nodes stack
-draws_none rs nodes stack e a = record { done = []; rest = rs; children = subst (AreChildrenOf []) (sym e) tt; nodes_left = a; whole = refl }
+pub draws_none : {X Y : Type 0} (N : Read → X → Type 0) (C : Read → Y → Type 0) (rs : List Read) (nodes : List Y) (stack : List X) → nodes ≡ [] → Each N rs stack → DrawsNodes N C rs nodes stack
+draws_none N C rs nodes stack e a = record { done = []; rest = rs; children = subst (Each C []) (sym e) tt; nodes_left = a; whole = refl }
 
-pub draws_one : (rs : List Read) (nodes more before after : List Node) (x y : Node) → DrawsNodes rs nodes before → before ≡ x ∷ after → more ≡ nodes ++ y ∷ [] → ((r : Read) → IsNodeOf r x → IsChildOf r y) → DrawsNodes rs more after
-draws_one rs nodes more before after x y d b m f =
-    let v = each_first IsNodeOf d.rest x after (subst (AreNodesOf d.rest) b d.nodes_left) in
+pub draws_one : {X Y : Type 0} (N : Read → X → Type 0) (C : Read → Y → Type 0) (rs : List Read) (nodes more : List Y) (before after : List X) (x : X) (y : Y) → DrawsNodes N C rs nodes before → before ≡ x ∷ after → more ≡ nodes ++ y ∷ [] →
+    ((r : Read) → N r x → C r y) → DrawsNodes N C rs more after
+draws_one N C rs nodes more before after x y d b m f =
+    let v = each_first N d.rest x after (subst (Each N d.rest) b d.nodes_left) in
     record {
       done = d.done ++ v.0 ∷ [];
       rest = v.1;
-      children = subst (AreChildrenOf (d.done ++ v.0 ∷ [])) (sym m) (each_push IsChildOf d.done nodes v.0 y d.children (f v.0 v.3));
+      children = subst (Each C (d.done ++ v.0 ∷ [])) (sym m) (each_push C d.done nodes v.0 y d.children (f v.0 v.3));
       nodes_left = v.4;
       whole = append_assoc d.done (v.0 ∷ []) v.1 ∙ ap (λ l. d.done ++ l) (sym v.2) ∙ d.whole;
     }
 
-pub draws_all : (rs : List Read) (nodes stack : List Node) (k : ℕ) → length nodes ≡ k → DrawsNodes rs nodes stack → AreChildrenOf (take k rs) nodes
-draws_all rs nodes stack k n d =
-    subst (λ l. AreChildrenOf l nodes) (drawn_front d.done d.rest rs k (each_length IsChildOf d.done nodes d.children ∙ n) d.whole) d.children
+pub draws_all : {X Y : Type 0} (N : Read → X → Type 0) (C : Read → Y → Type 0) (rs : List Read) (nodes : List Y) (stack : List X) (k : ℕ) → length nodes ≡ k → DrawsNodes N C rs nodes stack → Each C (take k rs) nodes
+draws_all N C rs nodes stack k n d =
+    subst (λ l. Each C l nodes) (drawn_front d.done d.rest rs k (each_length C d.done nodes d.children ∙ n) d.whole) d.children
 
 -- ---- a bridge is drawn
-pub bridge_drawn : (b : Block) (x : Node) (after all : List Node) (rs : List Read) → all ≡ x ∷ after → ((r : Read) → IsNodeOf r x → IsBlockOf (bridge_read r) b) → AreNodesOf rs all → IsBlockOf (bridge_read (slice_index_or rs 0 nothing_read)) b
-bridge_drawn b x after all rs e f a =
-    let v = each_first IsNodeOf rs x after (subst (AreNodesOf rs) e a) in
-    subst (λ (l : List Read). IsBlockOf (bridge_read (slice_index_or l 0 nothing_read)) b) (sym v.2) (f v.0 v.3)
+pub bridge_drawn : {X B : Type 0} (N : Read → X → Type 0) (K : Read → B → Type 0) (b : B) (x : X) (after all : List X) (rs : List Read) → all ≡ x ∷ after → ((r : Read) → N r x → K (bridge_read r) b) → Each N rs all →
+    K (bridge_read (slice_index_or rs 0 nothing_read)) b
+bridge_drawn N K b x after all rs e f a =
+    let v = each_first N rs x after (subst (Each N rs) e a) in
+    subst (λ (l : List Read). K (bridge_read (slice_index_or l 0 nothing_read)) b) (sym v.2) (f v.0 v.3)
 
 -- ---- blocks are drawn for a node
-pub record DrawsBlocks (target : List Read) (js : List Joint) (bs : List Block) (stack : List Node) : Type 0 where
+pub record DrawsBlocks {X B : Type 0} (sets : List ℕ → VertexSet) (N : Read → X → Type 0) (K : Read → B → Type 0) (target : List Read) (js : List Joint) (bs : List B) (stack : List X) : Type 0 where
   pub done : List Read
   pub rest : List Read
-  pub blocks_done : AreBlocksOf done bs
-  pub nodes_left : AreNodesOf rest stack
-  pub whole : done ++ all_drawn js rest ≡ target
+  pub blocks_done : Each K done bs
+  pub nodes_left : Each N rest stack
+  pub whole : done ++ all_drawn sets js rest ≡ target
 
-pub blocks_none : (rs : List Read) (js : List Joint) (bs : List Block) (stack : List Node) → bs ≡ [] → AreNodesOf rs stack → DrawsBlocks (all_drawn js rs) js bs stack
-blocks_none rs js bs stack e a = record { done = []; rest = rs; blocks_done = subst (AreBlocksOf []) (sym e) tt; nodes_left = a; whole = refl }
+pub blocks_none : {X B : Type 0} (sets : List ℕ → VertexSet) (N : Read → X → Type 0) (K : Read → B → Type 0) (rs : List Read) (js : List Joint) (bs : List B) (stack : List X) → bs ≡ [] → Each N rs stack → DrawsBlocks sets N K (all_drawn sets js rs) js bs stack
+blocks_none sets N K rs js bs stack e a = record { done = []; rest = rs; blocks_done = subst (Each K []) (sym e) tt; nodes_left = a; whole = refl }
 
-pub blocks_one : (target : List Read) (js later : List Joint) (j : Joint) (bs more : List Block) (b : Block) (before after : List Node) → DrawsBlocks target js bs before → js ≡ j ∷ later → more ≡ bs ++ b ∷ [] →
-    after ≡ drop (used j) before → ((rs : List Read) → AreNodesOf rs before → IsBlockOf (drawn j rs) b) → DrawsBlocks target later more after
-blocks_one target js later j bs more b before after d e m a f = record {
-  done = d.done ++ drawn j d.rest ∷ [];
+pub blocks_one : {X B : Type 0} (sets : List ℕ → VertexSet) (N : Read → X → Type 0) (K : Read → B → Type 0) (target : List Read) (js later : List Joint) (j : Joint) (bs more : List B) (b : B) (before after : List X) → DrawsBlocks sets N K target js bs before →
+    js ≡ j ∷ later → more ≡ bs ++ b ∷ [] → after ≡ drop (used j) before → ((rs : List Read) → Each N rs before → K (drawn sets j rs) b) → DrawsBlocks sets N K target later more after
+blocks_one sets N K target js later j bs more b before after d e m a f = record {
+  done = d.done ++ drawn sets j d.rest ∷ [];
   rest = drop (used j) d.rest;
-  blocks_done = subst (AreBlocksOf (d.done ++ drawn j d.rest ∷ [])) (sym m) (each_push IsBlockOf d.done bs (drawn j d.rest) b d.blocks_done (f d.rest d.nodes_left));
-  nodes_left = subst (AreNodesOf (drop (used j) d.rest)) (sym a) (each_drop IsNodeOf (used j) d.rest before d.nodes_left);
-  whole = append_assoc d.done (drawn j d.rest ∷ []) (all_drawn later (drop (used j) d.rest)) ∙ ap (λ (l : List Joint). d.done ++ all_drawn l d.rest) (sym e) ∙ d.whole;
+  blocks_done = subst (Each K (d.done ++ drawn sets j d.rest ∷ [])) (sym m) (each_push K d.done bs (drawn sets j d.rest) b d.blocks_done (f d.rest d.nodes_left));
+  nodes_left = subst (Each N (drop (used j) d.rest)) (sym a) (each_drop N (used j) d.rest before d.nodes_left);
+  whole = append_assoc d.done (drawn sets j d.rest ∷ []) (all_drawn sets later (drop (used j) d.rest)) ∙ ap (λ (l : List Joint). d.done ++ all_drawn sets l d.rest) (sym e) ∙ d.whole;
 }
 
-pub blocks_all : (target : List Read) (js : List Joint) (bs : List Block) (stack : List Node) → js ≡ [] → DrawsBlocks target js bs stack → AreBlocksOf target bs
-blocks_all target js bs stack e d =
-    subst (λ l. AreBlocksOf l bs) (sym (append-nil d.done) ∙ ap (λ (l : List Joint). d.done ++ all_drawn l d.rest) (sym e) ∙ d.whole) d.blocks_done
+pub blocks_all : {X B : Type 0} (sets : List ℕ → VertexSet) (N : Read → X → Type 0) (K : Read → B → Type 0) (target : List Read) (js : List Joint) (bs : List B) (stack : List X) → js ≡ [] → DrawsBlocks sets N K target js bs stack → Each K target bs
+blocks_all sets N K target js bs stack e d =
+    subst (λ l. Each K l bs) (sym (append-nil d.done) ∙ ap (λ (l : List Joint). d.done ++ all_drawn sets l d.rest) (sym e) ∙ d.whole) d.blocks_done
 
 -- ---- a tree is put together from the last entry
-pub record Makes (r : Read) (entries : List ShedNode) (finished : List Node) : Type 0 where
+-- so many nodes are finished as the entries that are left want
+pub record Readied (entries : List ShedNode) (finished : ℕ) : Type 0 where
+  pub ready : IsReady entries finished
+  pub one : left entries finished ≡ 1
+
+pub readied_enough : (entries es : List ShedNode) (e : ShedNode) (finished : ℕ) → Readied entries finished → entries ≡ es ++ e ∷ [] → wanted (joints_of e) ≤ finished
+readied_enough entries es e finished h p = (ready_pop es e finished (subst (λ (l : List ShedNode). IsReady l finished) p h.ready)).0
+
+pub readied_one : (entries es : List ShedNode) (e : ShedNode) (before after : ℕ) → Readied entries before → entries ≡ es ++ e ∷ [] → after ≡ before - wanted (joints_of e) + 1 → Readied es after
+readied_one entries es e before after h p a = record {
+  ready = subst (IsReady es) (sym a) (ready_pop es e before (subst (λ (l : List ShedNode). IsReady l before) p h.ready)).1;
+  one = ap (left es) a ∙ sym (left_push es e before) ∙ ap (λ (l : List ShedNode). left l before) (sym p) ∙ h.one;
+}
+
+-- the finished nodes stand for what all is read off with the entries that are left
+pub record Makes {X : Type 0} (sets : List ℕ → VertexSet) (N : Read → X → Type 0) (r : Read) (entries : List ShedNode) (finished : List X) : Type 0 where
   pub reads : List Read
-  pub nodes : AreNodesOf reads finished
-  pub all : read_entries has entries reads ≡ r ∷ []
+  pub nodes : Each N reads finished
+  pub all : read_entries sets entries reads ≡ r ∷ []
 
-pub record Puts (all entries : List ShedNode) (finished : List Node) : Type 0 where
-  pub ready : IsReady entries (length finished)
-  pub one : left entries (length finished) ≡ 1
-  pub makes : (r : Read) → read_entries has all [] ≡ r ∷ [] → Makes r entries finished
+pub makes_none : {X : Type 0} (sets : List ℕ → VertexSet) (N : Read → X → Type 0) (r : Read) (entries : List ShedNode) (finished : List X) → finished ≡ [] → read_entries sets entries [] ≡ r ∷ [] → Makes sets N r entries finished
+makes_none sets N r entries finished none e = record { reads = []; nodes = subst (Each N []) (sym none) tt; all = e }
 
-pub puts_none : (all : List ShedNode) → IsReady all 0 → left all 0 ≡ 1 → Puts all all []
-puts_none all r o = record { ready = r; one = o; makes = λ r e. record { reads = []; nodes = tt; all = e } }
+pub makes_one : {X : Type 0} (sets : List ℕ → VertexSet) (N : Read → X → Type 0) (r : Read) (entries es : List ShedNode) (e : ShedNode) (x : X) (before after now : List X) → Makes sets N r entries before → entries ≡ es ++ e ∷ [] →
+    ((rs : List Read) → Each N rs before → N (node_read sets e.vertices (all_drawn sets (joints_of e) rs)) x) → after ≡ drop (wanted (joints_of e)) before → now ≡ x ∷ after → Makes sets N r es now
+makes_one sets N r entries es e x before after now m p made a n = record {
+  reads = read_entry sets e m.reads;
+  nodes = subst (Each N (read_entry sets e m.reads)) (sym n) (
+    made m.reads m.nodes,
+    subst (Each N (drop (wanted (joints_of e)) m.reads)) (sym a) (each_drop N (wanted (joints_of e)) m.reads before m.nodes),
+  );
+  all = sym (read_push sets es e m.reads) ∙ ap (λ (l : List ShedNode). read_entries sets l m.reads) (sym p) ∙ m.all;
+}
 
-pub puts_enough : (all entries es : List ShedNode) (e : ShedNode) (finished : List Node) → Puts all entries finished → entries ≡ es ++ e ∷ [] → wanted (joints_of e) ≤ length finished
-puts_enough all entries es e finished h p = (ready_pop es e (length finished) (subst (λ (l : List ShedNode). IsReady l (length finished)) p h.ready)).0
-
-pub puts_one : (all entries es : List ShedNode) (e : ShedNode) (x : Node) (before after : List Node) → Puts all entries before → entries ≡ es ++ e ∷ [] → vertices x ≡ e.vertices →
-    ((rs : List Read) → AreNodesOf rs before → AreBlocksOf (all_drawn (joints_of e) rs) (blocks x)) → after ≡ drop (wanted (joints_of e)) before → Puts all es (x ∷ after)
-puts_one all entries es e x before after h p v bs a =
-    let r = ready_pop es e (length before) (subst (λ (l : List ShedNode). IsReady l (length before)) p h.ready) in
-    let same : length before - wanted (joints_of e) + 1 ≡ length (x ∷ after) = omega (arith, ap length a, length-drop (wanted (joints_of e)) before) in
-    record {
-      ready = subst (IsReady es) same r.1;
-      one = ap (left es) (sym same) ∙ sym (left_push es e (length before)) ∙ ap (λ (l : List ShedNode). left l (length before)) (sym p) ∙ h.one;
-      makes = λ t begun.
-          let m = h.makes t begun in
-          record {
-            reads = read_entry has e m.reads;
-            nodes = (
-              node_made e.vertices (all_drawn (joints_of e) m.reads) x v (bs m.reads m.nodes),
-              subst (AreNodesOf (drop (wanted (joints_of e)) m.reads)) (sym a) (each_drop IsNodeOf (wanted (joints_of e)) m.reads before m.nodes),
-            );
-            all = sym (read_push has es e m.reads) ∙ ap (λ (l : List ShedNode). read_entries has l m.reads) (sym p) ∙ m.all;
-          };
-    }
-
-pub puts_all : (all entries : List ShedNode) (finished : List Node) (x : Node) (r : Read) → Puts all entries finished → entries ≡ [] → finished ≡ x ∷ [] → read_entries has all [] ≡ r ∷ [] → IsNodeOf r x
-puts_all all entries finished x r h e f begun =
-    let m = h.makes r begun in
-    let reads : m.reads ≡ r ∷ [] = ap (λ (l : List ShedNode). read_entries has l m.reads) (sym e) ∙ m.all in
-    (subst (λ (l : List Read). AreNodesOf l (x ∷ [])) reads (subst (AreNodesOf m.reads) f m.nodes)).0
+pub makes_all : {X : Type 0} (sets : List ℕ → VertexSet) (N : Read → X → Type 0) (r : Read) (entries : List ShedNode) (finished : List X) (x : X) → Makes sets N r entries finished → entries ≡ [] → finished ≡ x ∷ [] → N r x
+makes_all sets N r entries finished x m e f =
+    let reads : m.reads ≡ r ∷ [] = ap (λ (l : List ShedNode). read_entries sets l m.reads) (sym e) ∙ m.all in
+    (subst (λ (l : List Read). Each N l (x ∷ [])) reads (subst (Each N m.reads) f m.nodes)).0

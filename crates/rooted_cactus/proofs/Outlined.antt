@@ -18,6 +18,7 @@ use Rattle.rooted_cactus.specs.declared.tree.Block.TheVariants.{Bridge, Cycle, r
 use Rattle.rooted_cactus.specs.declared.tree.Block.TheViews.{roll-Node, roll-Block, roll-Blocks, roll-Children}
 use Rattle.rooted_cactus.specs.declared.tree.Block.TheOpen as Open
 use Rattle.rooted_cactus.specs.declared.tree.Block.TheFolds.{map-Block, ind-Node, fold_out-Node, fold_out-Blocks, fold_out-Children, fold-Block, fold-Blocks, fold-Children, fold-roll-Node, fold-roll-Block, fold-roll-Blocks, fold-roll-Children}
+use Rattle.rooted_cactus.proofs.Folds.{layout_of_block, layout_of_blocks, layouts_of_children}
 
 abbrev Numbers : Type 0
 Numbers = List ℕ
@@ -33,15 +34,6 @@ outline_of_blocks = fold-Blocks Outlines (List Outlines) Outlines Outline block_
 
 abbrev outline_of_children : Children → Outlines
 outline_of_children = fold-Children Outlines (List Outlines) Outlines Outline block_outline_step blocks_outline_step children_outline_step node_outline_step
-
-abbrev layout_of_block : Block → Layout
-layout_of_block = fold-Block Layout Layout (List Layout) Layout block_layout_step blocks_layout_step children_layout_step node_layout_step
-
-abbrev layout_of_blocks : Blocks → Layout
-layout_of_blocks = fold-Blocks Layout Layout (List Layout) Layout block_layout_step blocks_layout_step children_layout_step node_layout_step
-
-abbrev layouts_of_children : Children → List Layout
-layouts_of_children = fold-Children Layout Layout (List Layout) Layout block_layout_step blocks_layout_step children_layout_step node_layout_step
 
 abbrev sizes_of_block : Block → Numbers
 sizes_of_block = fold-Block Numbers Numbers Numbers Numbers sizes_block_step sizes_blocks_step sizes_children_step sizes_node_step

@@ -1,5 +1,5 @@
 -- A tree taken apart into its nodes, and what is read off them.
-use Rattle.std.specs.Prelude.{ℕ, ◌≡◌, ◌+◌, ◌-◌, ◌≤◌, ⊤, List, [], ◌∷◌, ◌++◌, length, map, take, drop, slice_index_or}
+use Rattle.std.specs.Prelude.{ℕ, Bool, true, ◌≡◌, ◌+◌, ◌-◌, ◌≤◌, ⊤, List, [], ◌∷◌, ◌++◌, length, map, take, drop, slice_index_or}
 use Rattle.std.specs.List.{flat_map}
 use Rattle.cut_definitions.specs.Weight.{VertexSet, either}
 use Rattle.rooted_cactus.specs.declared.tree.Node.{Node}
@@ -10,7 +10,7 @@ use Rattle.rooted_cactus.specs.declared.tree.Block.TheOpen.{Block-F, Bridge, Cyc
 use Rattle.rooted_cactus.specs.declared.tree.entries.Joint.{Joint}
 use Rattle.rooted_cactus.specs.declared.tree.entries.Joint.TheVariants as Joints
 use Rattle.rooted_cactus.specs.declared.tree.entries.ShedNode.{ShedNode}
-use Rattle.rooted_cactus.specs.Trees.{nodes_in}
+use Rattle.rooted_cactus.specs.Trees.{vertices, nodes_in}
 use Rattle.rooted_cactus.specs.Entered.{entered, entered_block}
 use Rattle.rooted_cactus.specs.Widths.{widths, block_widths}
 use Rattle.rooted_cactus.specs.Sides.{Part, nothing, part_by, block_part_by, together, bridge_of, cycle_of}
@@ -27,14 +27,6 @@ nodes_of_step (Cycle nodes) = nodes_in nodes
 
 abbrev pub nodes_of : Block → List Node
 nodes_of b = nodes_of_step (out-Block b)
-
--- a block without its nodes
-abbrev pub joint_of_step : Block-F Block Blocks Children Node → Joint
-joint_of_step (Bridge child) = Joints.Bridge
-joint_of_step (Cycle nodes) = Joints.Cycle (length (nodes_in nodes))
-
-abbrev pub joint_of : Block → Joint
-joint_of b = joint_of_step (out-Block b)
 
 -- what is read off a node or a block: its part, the vertices of its nodes in the order of entering, and the number of children of each of its cycles
 pub record Read : Type 0 where
@@ -78,9 +70,10 @@ read_block sets names b = record { part = block_part_by (λ l. sets (names l)) b
 abbrev pub kept : List ℕ → List ℕ
 kept l = l
 
--- how many nodes a block has, without the node above
+-- how many nodes a block takes from the front of a list
 abbrev pub used : Joint → ℕ
-used Joints.Bridge = 1
+used (Joints.Bridge _) = 1
+used (Joints.Leaf _) = 0
 used (Joints.Cycle k) = k
 
 abbrev pub wanted : List Joint → ℕ
@@ -88,13 +81,30 @@ wanted [] = 0
 wanted (j ∷ js) = used j + wanted js
 
 -- what is read off a block, which takes its nodes from the front of a list
-abbrev pub drawn : Joint → List Read → Read
-drawn Joints.Bridge rs = bridge_read (slice_index_or rs 0 nothing_read)
-drawn (Joints.Cycle k) rs = cycle_read (take k rs)
+abbrev pub drawn : (List ℕ → VertexSet) → Joint → List Read → Read
+drawn sets (Joints.Bridge _) rs = bridge_read (slice_index_or rs 0 nothing_read)
+drawn sets (Joints.Leaf child) rs = bridge_read (node_read sets (vertices child.value) [])
+drawn sets (Joints.Cycle k) rs = cycle_read (take k rs)
 
-abbrev pub all_drawn : List Joint → List Read → List Read
-all_drawn [] rs = []
-all_drawn (j ∷ js) rs = drawn j rs ∷ all_drawn js (drop (used j) rs)
+abbrev pub all_drawn : (List ℕ → VertexSet) → List Joint → List Read → List Read
+all_drawn sets [] rs = []
+all_drawn sets (j ∷ js) rs = drawn sets j rs ∷ all_drawn sets js (drop (used j) rs)
+
+-- the names that vertices may be given: any, but their own alone where leaves stay in their boxes
+abbrev pub MayName : Bool → (List ℕ → List ℕ) → Type 0
+MayName leaves_stay names = leaves_stay ≡ true → names ≡ kept
+
+-- a block is taken apart into a joint and nodes: what is read off these is what is read off the block
+pub record IsShed (leaves_stay : Bool) (b : Block) (j : Joint) (xs : List Node) : Type 0 where
+  pub uses : used j ≡ length xs
+  pub fewer : length (flat_map entered xs) ≤ length (entered_block b)
+  pub reads : (names : List ℕ → List ℕ) → MayName leaves_stay names → (sets : List ℕ → VertexSet) (rs : List Read) → drawn sets j (map (read_node sets names) xs ++ rs) ≡ read_block sets names b
+
+-- the same of several blocks
+pub record AreShed (leaves_stay : Bool) (bs : List Block) (js : List Joint) (xs : List Node) : Type 0 where
+  pub wants : wanted js ≡ length xs
+  pub fewer : length (flat_map entered xs) ≤ length (flat_map entered_block bs)
+  pub reads : (names : List ℕ → List ℕ) → MayName leaves_stay names → (sets : List ℕ → VertexSet) (rs : List Read) → all_drawn sets js (map (read_node sets names) xs ++ rs) ≡ map (read_block sets names) bs
 
 -- the blocks of an entry, the first first
 abbrev pub joints_of : ShedNode → List Joint
@@ -102,7 +112,7 @@ joints_of e = top_first e.joints.items
 
 -- what is read off an entry, which takes the nodes below it from the front of a list, and all that is left
 abbrev pub read_entry : (List ℕ → VertexSet) → ShedNode → List Read → List Read
-read_entry sets e rs = node_read sets e.vertices (all_drawn (joints_of e) rs) ∷ drop (wanted (joints_of e)) rs
+read_entry sets e rs = node_read sets e.vertices (all_drawn sets (joints_of e) rs) ∷ drop (wanted (joints_of e)) rs
 
 -- the same of several entries, the last first
 abbrev pub read_entries : (List ℕ → VertexSet) → List ShedNode → List Read → List Read

@@ -1,13 +1,14 @@
 -- Trees that show what was read off another tree, with the nodes and bridges left out that can be spared.
-use Rattle.std.specs.Prelude.{ℕ, ◌≡◌, ◌↔◌, ◌≤◌, ⊤, true, Bool, not, ◌==◌, ◌&&◌, List, [], ◌∷◌, length, slice_index_or}
+use Rattle.std.specs.Prelude.{ℕ, ◌≡◌, ◌↔◌, ◌≤◌, ⊤, true, false, Bool, not, ◌==◌, ◌&&◌, List, [], ◌∷◌, length, slice_index_or}
 use Rattle.std.specs.List.{All, Contains, filter, list_all}
 use Rattle.cut_definitions.specs.Weight.{VertexSet}
+use Rattle.cut_definitions.specs.Cuts.{has}
 use Rattle.rooted_cactus.specs.declared.tree.Node.{Node}
 use Rattle.rooted_cactus.specs.declared.tree.Block.{Block}
 use Rattle.rooted_cactus.specs.Trees.{vertices, blocks}
 use Rattle.rooted_cactus.specs.Sides.{part, block_part, nothing}
 use Rattle.rooted_cactus.specs.Entered.{entered, entered_block}
-use Rattle.rooted_cactus.specs.Entries.{Read}
+use Rattle.rooted_cactus.specs.Entries.{Read, nodes_of, read_node, read_block, kept}
 use Rattle.rooted_cactus.specs.Widths.{widths, block_widths}
 use Rattle.rooted_cactus.specs.Normal.{shape, block_shape, child_fine}
 
@@ -70,9 +71,6 @@ Each P (x ∷ xs) (y ∷ ys) = P x y × Each P xs ys
 Each P [] (y ∷ ys) = ⊥
 Each P (x ∷ xs) [] = ⊥
 
-abbrev pub AreNodesOf : List Read → List Node → Type 0
-AreNodesOf = Each IsNodeOf
-
 abbrev pub AreChildrenOf : List Read → List Node → Type 0
 AreChildrenOf = Each IsChildOf
 
@@ -86,3 +84,35 @@ is_spare vs bs = (length vs == 0) && (length bs == 1)
 -- that block is a bridge
 abbrev pub is_above_bridge : List ℕ → List Block → Bool
 is_above_bridge vs bs = is_spare vs bs && list_all (λ b. not (block_shape b).is_cycle) bs
+
+-- a block is a bridge down to a node
+abbrev pub IsBridgeTo : Block → Node → Type 0
+IsBridgeTo b x = ((block_shape b).is_cycle ≡ false) × (nodes_of b ≡ x ∷ [])
+
+-- what stands for what was read off a node: a node that shows it where a tree is trimmed, else one off which the same is read
+abbrev pub NodeStands : Bool → (List ℕ → VertexSet) → Read → Node → Type 0
+NodeStands true sets = IsNodeOf
+NodeStands false sets = λ r x. read_node sets kept x ≡ r
+
+-- the same of a node in a cycle, and of a block
+abbrev pub ChildStands : Bool → (List ℕ → VertexSet) → Read → Node → Type 0
+ChildStands true sets = IsChildOf
+ChildStands false sets = λ r x. read_node sets kept x ≡ r
+
+abbrev pub BlockStands : Bool → (List ℕ → VertexSet) → Read → Block → Type 0
+BlockStands true sets = IsBlockOf
+BlockStands false sets = λ r b. read_block sets kept b ≡ r
+
+-- the same of several, one by one
+abbrev pub NodesStand : Bool → (List ℕ → VertexSet) → List Read → List Node → Type 0
+NodesStand trims sets = Each (NodeStands trims sets)
+
+abbrev pub ChildrenStand : Bool → (List ℕ → VertexSet) → List Read → List Node → Type 0
+ChildrenStand trims sets = Each (ChildStands trims sets)
+
+abbrev pub BlocksStand : Bool → (List ℕ → VertexSet) → List Read → List Block → Type 0
+BlocksStand trims sets = Each (BlockStands trims sets)
+
+-- the sets that lists are read as: any, but their own alone where a tree is trimmed
+abbrev pub AreSetsFor : Bool → (List ℕ → VertexSet) → Type 0
+AreSetsFor trims sets = trims ≡ true → sets ≡ has

@@ -16,7 +16,7 @@ ghost use Rattle.rooted_cactus.specs.Numbers.{number, total, triangle};
 
 use crate::tree::{
     Blocks, Node, blocks_are_normal, count_cuts, count_node, entries_of, is_normal_below,
-    number_of, put_trimmed, spread_node,
+    number_of, put_together, spread_node,
 };
 use crate::vertex_list::VertexList;
 use cut_definitions::NoMemory;
@@ -149,7 +149,7 @@ impl Cactus {
     {
         let n = self.n();
         let entries = entries_of(alloc, self.into_root(), n as usize)?;
-        let root = put_trimmed(alloc, entries)?;
+        let root = put_together(alloc, entries, true)?;
         Ok(Cactus::from_root(n, root))
     }
 

@@ -14,19 +14,22 @@ mod normal;
 mod number;
 mod order;
 mod outline;
+mod put;
 mod rename;
+mod spare;
 mod spread;
-mod trim;
 
 pub use border::Border;
 pub use count::count_node;
+pub use entries::{Joint, ShedNode, bare_node, entries_of};
 pub use normal::{blocks_are_normal, is_normal_below};
 pub use number::{count_cuts, number_of, stack_inner};
 pub use order::{InOrder, in_order, vertices_in_order};
 pub use outline::{NodeOutline, outline_of, sizes_along, subtree_sizes};
+pub use put::put_together;
 pub use rename::rename_node;
+pub use spare::{hung, trimmed};
 pub use spread::{spread_node, vertices_by_class};
-pub use trim::{entries_of, put_trimmed};
 
 /// A node: its vertices, and the blocks below it.
 #[cycle(tree)]

@@ -7,7 +7,7 @@ ghost use Rattle.rooted_cactus.specs.Trees.{blocks, blocks_in, nodes_in, vertice
 ghost use Rattle.rooted_cactus.specs.Numbers.{number, total, tally, between, all_own, all_under, own_of, seen, is_inner};
 
 use super::normal::is_cycle;
-use super::trim::is_spare;
+use super::spare::is_spare;
 use super::{Block, Blocks, Children, Node};
 use cut_definitions::NoMemory;
 use std::alloc::Global;

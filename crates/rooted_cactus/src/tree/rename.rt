@@ -8,7 +8,8 @@ ghost use Rattle.rooted_cactus.specs.Entries.{Shows};
 ghost use Rattle.rooted_cactus.specs.Widths.{widths};
 
 use super::Node;
-use super::entries::{ShedNode, put_together, shed_blocks};
+use super::entries::{ShedNode, shed_blocks};
+use super::put::put_together;
 use cut_definitions::NoMemory;
 use std::alloc::Global;
 
@@ -23,7 +24,7 @@ fn renamed_entries(alloc: Global, root: Node, names: &[u32]) -> Result<Vec<ShedN
         let Node { vertices, blocks } = node;
         let mut vertices = vertices;
         vertices.rename(names);
-        let joints = shed_blocks(alloc, &mut stack, blocks)?;
+        let joints = shed_blocks(alloc, &mut stack, blocks, false)?;
         entries.push(ShedNode { vertices, joints })?;
     }
     Ok(entries)
@@ -41,6 +42,6 @@ pub fn rename_node(alloc: Global, node: Node, names: &[u32]) -> Result<Node, NoM
     ensures widths { IfOk result (λ x. widths x ≡ widths node) }
 {
     let entries = renamed_entries(alloc, node, names)?;
-    let tree = put_together(alloc, entries)?;
+    let tree = put_together(alloc, entries, false)?;
     Ok(tree)
 }

@@ -11,7 +11,8 @@ ghost use Rattle.rooted_cactus.specs.Spread.{group_at, AreGathered};
 ghost use Rattle.rooted_cactus.specs.Widths.{widths};
 
 use super::Node;
-use super::entries::{ShedNode, put_together, shed_blocks};
+use super::entries::{ShedNode, shed_blocks};
+use super::put::put_together;
 use crate::vertex_list::VertexList;
 use cut_definitions::NoMemory;
 use std::alloc::Global;
@@ -106,7 +107,7 @@ fn spread_entries(alloc: Global, root: Node, groups: &[Vec<u32>]) -> Result<Vec<
     'walk: while let Some(node) = stack.pop() {
         let Node { vertices, blocks } = node;
         let vertices = spread_list(alloc, &vertices, groups)?;
-        let joints = shed_blocks(alloc, &mut stack, blocks)?;
+        let joints = shed_blocks(alloc, &mut stack, blocks, false)?;
         entries.push(ShedNode { vertices, joints })?;
     }
     Ok(entries)
@@ -122,6 +123,6 @@ pub fn spread_node(alloc: Global, node: Node, classes: &[u32], last: u32) -> Res
 {
     let groups = vertices_by_class(alloc, classes, last)?;
     let entries = spread_entries(alloc, node, &groups)?;
-    let tree = put_together(alloc, entries)?;
+    let tree = put_together(alloc, entries, false)?;
     Ok(tree)
 }

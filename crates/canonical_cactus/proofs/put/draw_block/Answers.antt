@@ -1,8 +1,8 @@
 use Rattle.std.proofs.Common.{sym, subst}
 use Rattle.cut_definitions.specs.Cuts.{has}
-use Rattle.canonical_cactus.specs.declared.entries.Joint.{Joint}
+use Rattle.rooted_cactus.specs.declared.tree.entries.Joint.{Joint}
 use Rattle.canonical_cactus.specs.Making.{IsBlockOf}
-use Rattle.canonical_cactus.specs.Taken.{drawn}
+use Rattle.rooted_cactus.specs.Entries.{drawn}
 use Rattle.canonical_cactus.proofs.put.draw_block.Goals as goal
 
 pub returns-in-Bridge-clause-block : goal.returns-in-Bridge-clause-block

@@ -1,18 +1,18 @@
 use Rattle.std.proofs.Common.{◌≡◌, [], ◌∷◌, List, length, drop, ◌∙◌, ap, sym, refl, arith}
 use Rattle.std.proofs.lemmas.List.{length-append, length-drop}
 use Rattle.cut_definitions.proofs.ListLaws.{popped_is}
-use Rattle.rooted_cactus.specs.Entries.{top_first}
-use Rattle.rooted_cactus.proofs.Entries.{top_push, top_length, none_popped}
-use Rattle.canonical_cactus.specs.Taken.{used, wanted, all_drawn}
+use Rattle.rooted_cactus.specs.Entries.{top_first, used, wanted, all_drawn}
+use Rattle.rooted_cactus.proofs.Entries.{dropped_more, top_push, top_length, none_popped}
+use Rattle.rooted_cactus.proofs.Makes.{blocks_none, blocks_one, blocks_all}
 use Rattle.cut_definitions.specs.Cuts.{has}
-use Rattle.canonical_cactus.specs.declared.entries.Joint.{Joint}
-use Rattle.canonical_cactus.proofs.Draws.{blocks_none, blocks_one, blocks_all, dropped_more}
+use Rattle.rooted_cactus.specs.declared.tree.entries.Joint.{Joint}
+use Rattle.canonical_cactus.specs.Making.{IsNodeOf, IsBlockOf}
 use Rattle.canonical_cactus.proofs.put.draw_blocks.Goals as goal
 
 pub draw-init : goal.draw-init
 draw-init c = record {
   enough = c.requires.enough;
-  blocks = λ rs a. blocks_none rs (top_first c.args.joints.items) c.reserve.new.self.items (top_first c.args.stack.now.items) (c.reserve.ensures.items ∙ c.requires.empty) a;
+  blocks = λ rs a. blocks_none has IsNodeOf IsBlockOf rs (top_first c.args.joints.items) c.reserve.new.self.items (top_first c.args.stack.now.items) (c.reserve.ensures.items ∙ c.requires.empty) a;
   stack = refl;
 }
 
@@ -40,14 +40,14 @@ draw-preserved c =
     let top : all ≡ joint ∷ later = ap top_first popped ∙ top_push left joint in
     record {
       enough = omega (arith, ap wanted top, c.draw.invariant.enough, ap length c.in_ok-block.ensures.stack, length-drop (used joint) before, top_length c.draw.stack.items, top_length c.draw_block.new.stack.items);
-      blocks = λ rs a. blocks_one (all_drawn has (top_first c.args.joints.items) rs) all later joint c.draw.row.items c.push.new.self.items c.in_ok-block.block before after (c.draw.invariant.blocks rs a) top c.in_ok-push.ensures.items c.in_ok-block.ensures.stack c.in_ok-block.ensures.block;
+      blocks = λ rs a. blocks_one has IsNodeOf IsBlockOf (all_drawn has (top_first c.args.joints.items) rs) all later joint c.draw.row.items c.push.new.self.items c.in_ok-block.block before after (c.draw.invariant.blocks rs a) top c.in_ok-push.ensures.items c.in_ok-block.ensures.stack c.in_ok-block.ensures.block;
       stack = dropped_more all later joint before after _ top c.in_ok-block.ensures.stack c.draw.invariant.stack;
     }
 
 pub returns-clause-blocks : goal.returns-clause-blocks
 returns-clause-blocks c = λ rs a.
     let none = none_popped c.draw.joints.items c.draw.joints.len c.pop.result c.draw.joints.ok.0 c.pop.ensures.variant c.in_default.not-Some in
-    blocks_all (all_drawn has (top_first c.args.joints.items) rs) (top_first c.draw.joints.items) c.draw.row.items (top_first c.draw.stack.items) (ap top_first none) (c.draw.invariant.blocks rs a)
+    blocks_all has IsNodeOf IsBlockOf (all_drawn has (top_first c.args.joints.items) rs) (top_first c.draw.joints.items) c.draw.row.items (top_first c.draw.stack.items) (ap top_first none) (c.draw.invariant.blocks rs a)
 
 pub returns-clause-stack : goal.returns-clause-stack
 returns-clause-stack c =

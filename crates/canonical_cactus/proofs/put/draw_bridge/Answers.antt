@@ -2,7 +2,8 @@ use Rattle.std.proofs.Common.{◌∙◌, ap, sym, drop}
 use Rattle.cut_definitions.proofs.ListLaws.{popped_is}
 use Rattle.rooted_cactus.specs.Entries.{top_first}
 use Rattle.rooted_cactus.proofs.Entries.{top_push}
-use Rattle.canonical_cactus.proofs.Draws.{bridge_drawn}
+use Rattle.rooted_cactus.proofs.Makes.{bridge_drawn}
+use Rattle.canonical_cactus.specs.Making.{IsNodeOf, IsBlockOf}
 use Rattle.canonical_cactus.proofs.put.draw_bridge.Goals as goal
 
 pub returns-clause-block : goal.returns-clause-block
@@ -10,7 +11,7 @@ returns-clause-block c = λ rs a.
     let node = c.unwrap-node.result in
     let left = c.pop.new.self.items in
     let popped = popped_is c.args.stack.now.items left c.pop.result node c.pop.ensures.items c.unwrap-node.ensures in
-    bridge_drawn c.hang_in.result node (top_first left) (top_first c.args.stack.now.items) rs (ap top_first popped ∙ top_push left node) c.hang_in.ensures a
+    bridge_drawn IsNodeOf IsBlockOf c.hang_in.result node (top_first left) (top_first c.args.stack.now.items) rs (ap top_first popped ∙ top_push left node) c.hang_in.ensures a
 
 pub returns-clause-stack : goal.returns-clause-stack
 returns-clause-stack c =

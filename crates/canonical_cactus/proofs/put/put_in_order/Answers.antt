@@ -1,19 +1,19 @@
 use Rattle.cut_definitions.specs.Cuts.{has}
-use Rattle.std.proofs.Common.{◌≡◌, [], ◌∷◌, List, length, ◌∙◌, ap, sym, subst, arith}
-use Rattle.std.proofs.lemmas.List.{length-append}
+use Rattle.std.proofs.Common.{◌≡◌, ◌+◌, ◌-◌, [], ◌∷◌, List, length, ◌∙◌, ap, sym, subst, arith}
+use Rattle.std.proofs.lemmas.List.{length-append, length-drop}
 use Rattle.cut_definitions.proofs.ListLaws.{popped_is}
-use Rattle.rooted_cactus.specs.Entries.{top_first}
+use Rattle.rooted_cactus.specs.Entries.{top_first, all_drawn, left, joints_of, wanted}
 use Rattle.rooted_cactus.proofs.Entries.{top_push, top_length, none_popped, alone}
-use Rattle.canonical_cactus.specs.Taken.{all_drawn, left, joints_of}
-use Rattle.canonical_cactus.specs.declared.entries.OpenNode.{OpenNode}
+use Rattle.rooted_cactus.specs.declared.tree.entries.ShedNode.{ShedNode}
 use Rattle.canonical_cactus.specs.declared.parts.Placed.{Placed}
-use Rattle.canonical_cactus.proofs.Draws.{Puts, puts_none, puts_enough, puts_one, puts_all}
+use Rattle.rooted_cactus.proofs.Makes.{Readied, readied_enough, readied_one, makes_none, makes_one, makes_all}
+use Rattle.canonical_cactus.specs.Making.{IsNodeOf}
 use Rattle.canonical_cactus.proofs.put.put_in_order.Goals as goal
 
 pub up-init : goal.up-init
 up-init c = record {
-  puts = subst (λ (l : List Placed). Puts c.args.entries.items c.args.entries.items (top_first l)) (sym c.in_ok-finished.ensures.items)
-      (puts_none c.args.entries.items c.requires.ready c.requires.one);
+  readied = subst (λ (l : List Placed). Readied c.args.entries.items (length l)) (sym c.in_ok-finished.ensures.items) record { ready = c.requires.ready; one = c.requires.one };
+  makes = λ r e. makes_none has IsNodeOf r c.args.entries.items (top_first c.in_ok-finished.finished.items) (ap top_first c.in_ok-finished.ensures.items) e;
   empty = c.new-row.ensures.items;
 }
 
@@ -22,7 +22,7 @@ draw_blocks-requires-clause-enough c =
     let es = c.pop.new.self.items in
     let e = c.in-Some.entry in
     let popped = popped_is c.up.entries.items es c.pop.result e c.pop.ensures.items c.in-Some.is in
-    omega (arith, puts_enough c.args.entries.items c.up.entries.items es e (top_first c.up.finished.items) c.up.invariant.puts popped, top_length c.up.finished.items)
+    readied_enough c.up.entries.items es e (length c.up.finished.items) c.up.invariant.readied popped
 
 pub up-smaller : goal.up-smaller
 up-smaller c =
@@ -35,26 +35,30 @@ up-preserved c =
     let e = c.in-Some.entry in
     let popped = popped_is c.up.entries.items es c.pop.result e c.pop.ensures.items c.in-Some.is in
     let x = c.in_ok-node.node in
+    let before = c.up.finished.items in
     let under = c.draw_blocks.new.stack.items in
+    let fewer : length under ≡ length before - wanted (joints_of e) =
+    sym (top_length under) ∙ ap length c.in_ok-draw_blocks.ensures.stack ∙ length-drop (wanted (joints_of e)) (top_first before) ∙ ap (λ k. k - wanted (joints_of e)) (top_length before) in
     record {
-      puts = subst (Puts c.args.entries.items es) (sym (ap top_first c.in_ok-push.ensures.items ∙ top_push under x))
-          (puts_one c.args.entries.items c.up.entries.items es e x (top_first c.up.finished.items) (top_first under) c.up.invariant.puts popped
-          (λ rs a. c.in_ok-node.ensures.node (all_drawn has (joints_of e) rs) (c.in_ok-draw_blocks.ensures.blocks rs a)) c.in_ok-draw_blocks.ensures.stack);
+      readied = readied_one c.up.entries.items es e (length before) (length c.push.new.self.items) c.up.invariant.readied popped (ap length c.in_ok-push.ensures.items ∙ length-append under (x ∷ []) ∙ ap (λ k. k + 1) fewer);
+      makes = λ r begun.
+          makes_one has IsNodeOf r c.up.entries.items es e x (top_first before) (top_first under) (top_first c.push.new.self.items) (c.up.invariant.makes r begun) popped
+          (λ rs a. c.in_ok-node.ensures.node (all_drawn has (joints_of e) rs) (c.in_ok-draw_blocks.ensures.blocks rs a))
+          c.in_ok-draw_blocks.ensures.stack (ap top_first c.in_ok-push.ensures.items ∙ top_push under x);
       empty = c.in_ok-node.ensures.empty;
     }
 
 pub unwrap-requires : goal.unwrap-requires
 unwrap-requires c =
     let none = none_popped c.up.entries.items c.up.entries.len c.pop.result c.up.entries.ok.0 c.pop.ensures.variant c.in_default.not-Some in
-    let one : left c.up.entries.items (length (top_first c.up.finished.items)) ≡ 1 = c.up.invariant.puts.one in
-    let many : length (top_first c.up.finished.items) ≡ 1 = subst (λ (l : List OpenNode). left l (length (top_first c.up.finished.items)) ≡ 1) none one in
-    c.pop-2.ensures.variant.1 (omega (arith, many, top_length c.up.finished.items))
+    let many : length c.up.finished.items ≡ 1 = subst (λ (l : List ShedNode). left l (length c.up.finished.items) ≡ 1) none c.up.invariant.readied.one in
+    c.pop-2.ensures.variant.1 (omega (arith, many))
 
 pub returns : goal.returns
 returns c = λ r begun.
     let none = none_popped c.up.entries.items c.up.entries.len c.pop.result c.up.entries.ok.0 c.pop.ensures.variant c.in_default.not-Some in
     let finished = c.up.finished.items in
-    let many : length (top_first finished) ≡ 1 = subst (λ (l : List OpenNode). left l (length (top_first finished)) ≡ 1) none c.up.invariant.puts.one in
+    let many : length finished ≡ 1 = subst (λ (l : List ShedNode). left l (length finished) ≡ 1) none c.up.invariant.readied.one in
     let x = c.unwrap.result in
     let popped = popped_is finished c.pop-2.new.self.items c.pop-2.result x c.pop-2.ensures.items c.unwrap.ensures in
-    puts_all c.args.entries.items c.up.entries.items (top_first finished) x r c.up.invariant.puts none (alone finished c.pop-2.new.self.items x popped (omega (arith, many, top_length finished))) begun
+    makes_all has IsNodeOf r c.up.entries.items (top_first finished) x (c.up.invariant.makes r begun) none (alone finished c.pop-2.new.self.items x popped many)

@@ -1,10 +1,10 @@
-use Rattle.std.proofs.Common.{List, ◌∙◌, ap, sym, subst}
+use Rattle.std.proofs.Common.{false, List, ◌∙◌, ap, sym, subst}
 use Rattle.cut_definitions.specs.Contraction.{lift}
 use Rattle.cut_definitions.proofs.ListLaws.{popped_is}
 use Rattle.rooted_cactus.specs.Entries.{top_first, Shows}
 use Rattle.rooted_cactus.specs.declared.tree.Node.{Node}
 use Rattle.rooted_cactus.specs.declared.tree.entries.ShedNode.{ShedNode}
-use Rattle.rooted_cactus.proofs.Entries.{entered_one, fewer_left, first_entered, none_popped, top_push}
+use Rattle.rooted_cactus.proofs.Entries.{any_names, entered_one, fewer_left, first_entered, none_popped, top_push}
 use Rattle.rooted_cactus.proofs.tree.spread.spread_entries.Goals as goal
 
 pub walk-init : goal.walk-init
@@ -15,7 +15,7 @@ walk-smaller c =
     let x = c.in-Some.node in
     let left = c.pop.new.self.items in
     let popped = popped_is c.walk.stack.items left c.pop.result x c.pop.ensures.items c.in-Some.is in
-    fewer_left x (top_first left) (top_first c.walk.stack.items) (top_first c.shed_blocks.new.stack.items) (ap top_first popped ∙ top_push left x) c.in_ok-joints.ensures.stack
+    fewer_left false x (top_first c.in_ok-joints.joints.items) c.in_ok-joints.ensures.0 (top_first left) (top_first c.walk.stack.items) (top_first c.shed_blocks.new.stack.items) (ap top_first popped ∙ top_push left x) c.in_ok-joints.ensures.1 c.in_ok-joints.ensures.2
 
 pub walk-preserved : goal.walk-preserved
 walk-preserved c = λ classes g.
@@ -24,14 +24,14 @@ walk-preserved c = λ classes g.
     let popped = popped_is c.walk.stack.items left c.pop.result x c.pop.ensures.items c.in-Some.is in
     let e : ShedNode = record { vertices = c.in_ok-vertices.vertices; joints = c.in_ok-joints.joints } in
     subst (λ (l : List ShedNode). Shows (lift classes) c.args.root l (top_first c.shed_blocks.new.stack.items)) (sym c.in_ok-push-2.ensures.items)
-    (entered_one (lift classes) c.args.root x c.walk.entries.items e (top_first left) (top_first c.walk.stack.items) (top_first c.shed_blocks.new.stack.items) (c.walk.invariant classes g) (ap top_first popped ∙ top_push left x) (c.in_ok-vertices.ensures classes g) c.in_ok-joints.ensures.joints c.in_ok-joints.ensures.stack)
+    (entered_one false (lift classes) c.args.root x c.walk.entries.items e c.in_ok-joints.ensures.0 (top_first left) (top_first c.walk.stack.items) (top_first c.shed_blocks.new.stack.items) (any_names (lift classes)) (c.walk.invariant classes g) (ap top_first popped ∙ top_push left x) (c.in_ok-vertices.ensures classes g) c.in_ok-joints.ensures.1 c.in_ok-joints.ensures.2)
 
 pub walk-smaller-in_ok-push-2 : goal.walk-smaller-in_ok-push-2
 walk-smaller-in_ok-push-2 c =
     let x = c.in-Some.node in
     let left = c.pop.new.self.items in
     let popped = popped_is c.walk.stack.items left c.pop.result x c.pop.ensures.items c.in-Some.is in
-    fewer_left x (top_first left) (top_first c.walk.stack.items) (top_first c.shed_blocks.new.stack.items) (ap top_first popped ∙ top_push left x) c.in_ok-joints.ensures.stack
+    fewer_left false x (top_first c.in_ok-joints.joints.items) c.in_ok-joints.ensures.0 (top_first left) (top_first c.walk.stack.items) (top_first c.shed_blocks.new.stack.items) (ap top_first popped ∙ top_push left x) c.in_ok-joints.ensures.1 c.in_ok-joints.ensures.2
 
 pub walk-preserved-in_ok-push-2 : goal.walk-preserved-in_ok-push-2
 walk-preserved-in_ok-push-2 c = λ classes g.
@@ -40,7 +40,7 @@ walk-preserved-in_ok-push-2 c = λ classes g.
     let popped = popped_is c.walk.stack.items left c.pop.result x c.pop.ensures.items c.in-Some.is in
     let e : ShedNode = record { vertices = c.in_ok-vertices.vertices; joints = c.in_ok-joints.joints } in
     subst (λ (l : List ShedNode). Shows (lift classes) c.args.root l (top_first c.shed_blocks.new.stack.items)) (sym c.in_ok-push-2.ensures.items)
-    (entered_one (lift classes) c.args.root x c.walk.entries.items e (top_first left) (top_first c.walk.stack.items) (top_first c.shed_blocks.new.stack.items) (c.walk.invariant classes g) (ap top_first popped ∙ top_push left x) (c.in_ok-vertices.ensures classes g) c.in_ok-joints.ensures.joints c.in_ok-joints.ensures.stack)
+    (entered_one false (lift classes) c.args.root x c.walk.entries.items e c.in_ok-joints.ensures.0 (top_first left) (top_first c.walk.stack.items) (top_first c.shed_blocks.new.stack.items) (any_names (lift classes)) (c.walk.invariant classes g) (ap top_first popped ∙ top_push left x) (c.in_ok-vertices.ensures classes g) c.in_ok-joints.ensures.1 c.in_ok-joints.ensures.2)
 
 pub returns : goal.returns
 returns c = λ classes g.
