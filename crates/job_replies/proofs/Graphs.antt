@@ -1,17 +1,16 @@
 -- What a solved graph is printed as.
-use Rattle.std.proofs.Common.{◌≡◌, ℕ, List, [], ◌<◌, ◌≤◌, ◌^◌, ◌∙◌, arith, sym, ap, subst, true}
+use Rattle.std.proofs.Common.{◌≡◌, ℕ, List, [], ◌<◌, ◌≤◌, ◌^◌, ◌∙◌, sym, ap, subst, true}
 use Rattle.std.proofs.lemmas.List.Elements.{All-contains_itself, All-weaker}
 use Rattle.std.specs.Prelude.{◌*◌, length}
 use Rattle.cut_definitions.specs.Graph.{Graph}
 use Rattle.cut_definitions.specs.Cuts.{value, mincuts}
-use Rattle.cut_definitions.proofs.Values.{value_is_weight, Contains-mincuts, IsSide-from_mincuts}
+use Rattle.cut_definitions.proofs.Values.{IsSide-from_mincuts}
 use Rattle.rooted_cactus.specs.Different.{HasNoEmptySide, HaveSameSides}
 use Rattle.rooted_cactus.specs.Trees.{blocks}
-use Rattle.job_replies.proofs.Single.{no_sides}
+use Rattle.flat_cactus.proofs.SomeBlock.{not_alone}
 use Rattle.rooted_cactus.specs.Rooted.{Rooted, IsCactus, sides_of}
 use Rattle.canonical_cactus.specs.Canonical.{is_canonical}
 use Rattle.canonical_cactus.specs.FirstBest.{IsFirstBest}
-use Rattle.cut_definitions.specs.Members.{SameMembers}
 use Rattle.job_answers.specs.Jobs.{IsCactusOf, IsBalancedText}
 use Rattle.job_answers.specs.Asked.{IsListReply, IsListStop, cuts_for}
 use Rattle.rooted_cactus.specs.Solving.{IsSolved}
@@ -64,17 +63,9 @@ best_text g solved masses side b s even first = record {
   text_is = λ i. balanced_text (s.value i) (even i) side;
 }
 
--- a cactus of a graph that has a cut has a block
-pub some_block : (g : Graph) (c : Rooted) → 2 ≤ g.vertices → SameMembers (sides_of c) (mincuts g) → blocks c.root ≡ [] → ⊥
-some_block g c two same none =
-    let least = value_is_weight g two in
-    let m : Contains (mincuts g) least.0 = Contains-mincuts g least.0 least.1 least.2 in
-    let empty : sides_of c ≡ [] = no_sides c none in
-    let gone : Contains [] least.0 = subst (λ (l : List (List ℕ)). Contains l least.0) empty ((same least.0).1 m) in
-    omega (arith, gone.1)
-
+-- the cactus of a graph that has a cut has a block
 pub has_block : (g : Graph) (solved : Solved) → 2 ≤ g.vertices → IsSolved g solved → blocks solved.cactus.root ≡ [] → ⊥
-has_block g solved two s none = some_block g solved.cactus two s.sides none
+has_block g solved two s none = not_alone g solved.cactus two s.sides none
 
 -- the list of a solved graph
 pub list_reply : (g : Graph) (solved : Solved) (a : Ask) (n : ℕ) (list : List VertexList) → LawOfMinimumCuts → IsSolved g solved → n ≡ g.vertices → IsList (2 ^ 30) n a solved.cactus list →

@@ -3,8 +3,8 @@
 ghost use Rattle.std.specs.Prelude.{◌≤◌};
 
 use crate::graphs::{
-    COMPLETE, HEAVY_END, HEAVY_PAIR, NO_VERTEX, ONE_EDGE, ONE_VERTEX, PATH, SQUARE, TRIANGLE,
-    TWO_CYCLES, TWO_PIECES,
+    COMMENTED, COMPLETE, HEAVY_END, HEAVY_PAIR, NO_VERTEX, ONE_EDGE, ONE_VERTEX, PATH, SQUARE,
+    TRIANGLE, TWO_CYCLES, TWO_PIECES,
 };
 use crate::runs::{HONEST, Script, UNREADABLE, Wanted, answers, gives, meets, passes_of, tells};
 use mincut_program::Status;
@@ -17,10 +17,7 @@ const VALUES: &[(&[u8], &str)] = &[
     (TWO_PIECES, "value 0\n"),
     (ONE_EDGE, "value 7\n"),
     (HEAVY_PAIR, "value 5\n"),
-    (
-        b"% made by hand\r\n2\t1 011\r\n% first vertex\r\n7 2 3\r\n4 1 3",
-        "value 3\n",
-    ),
+    (COMMENTED, "value 3\n"),
     (
         b"2 1 1\n2 2305843009213693952\n1 2305843009213693952\n",
         "value 2305843009213693952\n",
@@ -85,6 +82,8 @@ fn one_cactus_is_printed(rt: HostRuntime) -> Result<(), Fail> {
 
 const TRIANGLE_CUTS: &str = "value 2\ncuts 3\n2\n2 3\n3\n";
 
+const SQUARE_BALANCED: &str = "value 2\nbalance 2\nside 2 3\n";
+
 const LISTS: &[(&[&str], &[u8], &str)] = &[
     (&["cuts"], TRIANGLE, TRIANGLE_CUTS),
     (&["cuts", "--workers=2"], TRIANGLE, TRIANGLE_CUTS),
@@ -119,7 +118,9 @@ const LISTS: &[(&[&str], &[u8], &str)] = &[
         TWO_CYCLES,
         "value 4\nbalance 3\nside 4 5 6\n",
     ),
-    (&["balanced"], SQUARE, "value 2\nbalance 2\nside 2 3\n"),
+    (&["balanced"], SQUARE, SQUARE_BALANCED),
+    (&["balanced", "--workers", "1"], SQUARE, SQUARE_BALANCED),
+    (&["balanced", "--workers", "8"], SQUARE, SQUARE_BALANCED),
     (&["balanced"], NO_VERTEX, "no cut\n"),
     (&["balanced"], HEAVY_END, "value 1\nbalance 3\nside 2 3 4\n"),
     (
@@ -134,11 +135,7 @@ const LISTS: &[(&[&str], &[u8], &str)] = &[
         SQUARE,
         "value 2\ncuts 2\n2 3\n3 4\n",
     ),
-    (
-        &["balanced"],
-        b"2 1 011\n7 2 3\n4 1 3\n",
-        "value 3\nbalance 4\nside 2\n",
-    ),
+    (&["balanced"], COMMENTED, "value 3\nbalance 4\nside 2\n"),
 ];
 
 #[test]
@@ -248,6 +245,9 @@ fn reads_may_be_cut_anywhere(rt: HostRuntime) -> Result<(), Fail> {
 
 const TWELVE: &str = "vertices 12\nedges 15\nvalue 4\ncount 9\nbalance 4\n";
 
+// 160 rings of four and as many edges between them: few enough edges for a value by rounds.
+const RINGS: &str = "vertices 640\nedges 800\nvalue 4\ncount 13040\nbalance 320\n";
+
 const THOUSAND: &str = "vertices 1000\nedges 1250\nvalue 4\ncount 31625\nbalance 500\n";
 
 const TWO_THOUSAND: &str = "vertices 2000\nedges 2500\nvalue 4\ncount 125750\nbalance 1000\n";
@@ -258,6 +258,8 @@ const TRIALS: &[(&[&str], &str)] = &[
     (&["trial", "12"], TWELVE),
     (&["trial", "15"], TWELVE),
     (&["--workers=64", "trial", "012"], TWELVE),
+    (&["trial", "640", "--workers", "1"], RINGS),
+    (&["trial", "640", "--workers", "8"], RINGS),
     (&["trial", "1000", "--workers", "1"], THOUSAND),
     (&["trial", "1000", "--workers", "8"], THOUSAND),
     (&["trial", "2001"], TWO_THOUSAND),

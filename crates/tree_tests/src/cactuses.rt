@@ -53,6 +53,20 @@ fn has_no_other(alloc: Global, cactus: &Cactus, lists: &[&[u32]]) -> Result<bool
     Ok(true)
 }
 
+/// Whether a walk gives so many sides, and then says, whenever it is asked, that there is no more.
+fn gives_just(alloc: Global, cactus: &Cactus, count: u32) -> Result<bool, NoMemory> {
+    let mut room = Side::empty(alloc, cactus.n())?;
+    let mut walk = Walk::new(alloc, cactus)?;
+    'answers: for _ in 0..count {
+        if !walk.next(&mut room) {
+            return Ok(false);
+        }
+    }
+    let next = walk.next(&mut room);
+    let later = walk.next(&mut room);
+    Ok(!next && !later)
+}
+
 /// Whether the cactus has just these sides, as lists of their vertices.
 pub(crate) fn has_sides(
     alloc: Global,
@@ -92,6 +106,18 @@ fn a_walk_without_sides_leaves_the_room(rt: HostRuntime) -> Result<(), Fail> {
     room.insert(2);
     let mut walk = Walk::new(rt.alloc(), &cactus)?;
     assert!(rt; !walk.next(&mut room) && has_exactly(&room, &[2]));
+    Ok(())
+}
+
+const RING: [&[u32]; 6] = [&[2], &[2, 3], &[2, 3, 4], &[3], &[3, 4], &[4]];
+
+/// Six answers that have six different sides among them give each once.
+#[test]
+fn a_walk_gives_each_side_of_a_ring_once(rt: HostRuntime) -> Result<(), Fail> {
+    let cactus = one_ring(rt.alloc())?;
+    let shown = has_sides(rt.alloc(), &cactus, &RING)?;
+    let counted = gives_just(rt.alloc(), &cactus, 6)?;
+    assert!(rt; shown && counted);
     Ok(())
 }
 

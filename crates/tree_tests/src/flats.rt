@@ -31,7 +31,7 @@ fn has_cycles(flat: &FlatCactus, cycles: &[&[u64]]) -> bool {
 }
 
 /// Whether the cactus is over n vertices and has these nodes, bridges and cycles.
-fn has_lists(
+pub(crate) fn has_lists(
     flat: &FlatCactus,
     n: u32,
     nodes: &[&[u32]],

@@ -27,6 +27,24 @@ fn weight_is_added_or_an_edge_is_made(rt: HostRuntime) -> Result<(), Fail> {
     Ok(())
 }
 
+/// The list 1-2 of weight 5, 1-3 of weight 1 and 2-3 of weight 4, with 3 more between 1 and 2.
+fn heavier_pair(alloc: Global) -> Result<EdgeList, NoMemory> {
+    let mut list = EdgeList::new(alloc, 3);
+    list.push(Edge { u: 1, v: 2, w: 5 })?;
+    list.push(Edge { u: 1, v: 3, w: 1 })?;
+    list.push(Edge { u: 2, v: 3, w: 4 })?;
+    with_edge(alloc, &list, 1, 2, 3)
+}
+
+#[test]
+fn the_other_edges_of_a_triangle_stay(rt: HostRuntime) -> Result<(), Fail> {
+    let list = heavier_pair(rt.alloc())?;
+    let first = has_edge_at(&list, 0, 1, 2, 8);
+    let others = has_edge_at(&list, 1, 1, 3, 1) && has_edge_at(&list, 2, 2, 3, 4);
+    assert!(rt; list.n() == 3 && list.len() == 3 && first && others);
+    Ok(())
+}
+
 /// Whether a block is a bridge to a node with one vertex.
 fn leads_to(block: &Block, v: u32) -> bool {
     match block {

@@ -1,6 +1,7 @@
 //! Listings of the sides of a cactus.
 
-ghost use Rattle.std.specs.Prelude.{◌≡◌, ◌≤◌, length};
+ghost use Rattle.std.specs.Prelude.{◌≡◌, ◌≤◌, IfOk, length};
+ghost use Rattle.std.specs.List.{All};
 ghost use Rattle.cut_listing.specs.Asks.{IsAskWithin};
 ghost use Rattle.cut_listing.specs.declared.ask.Ask.TheVariants.{Parting};
 
@@ -8,7 +9,8 @@ use crate::cactuses::has_exactly;
 use crate::trees::{one_ring, two_rings};
 use balanced_cut::balance_of;
 use cactus_tree::Cactus;
-use cut_definitions::VertexWeights;
+use component_cuts::Components;
+use cut_definitions::{Edge, EdgeList, NoMemory, VertexWeights};
 use cut_listing::{Ask, Lister};
 use std::alloc::Global;
 use std::test::Fail;
@@ -55,6 +57,44 @@ fn listed_parting(alloc: Global, cactus: &Cactus, u: u32, v: u32) -> Result<Vec<
     )?;
     let lister = Lister::new(cactus.n(), Ask::Parting(u, v), keep);
     list_by(alloc, cactus, &lister)
+}
+
+/// The graph of the edges 1-2 and 3-4.
+fn two_pairs(alloc: Global) -> Result<EdgeList, NoMemory>
+    ensures { IfOk result (λ g. g.vertices ≡ 4) }
+{
+    let mut graph = EdgeList::new(alloc, 4);
+    graph.push(Edge { u: 1, v: 2, w: 1 })?;
+    graph.push(Edge { u: 3, v: 4, w: 1 })?;
+    Ok(graph)
+}
+
+/// The minimum cuts of a graph in two, three or four components; none for another one.
+fn unions_of(alloc: Global, graph: &EdgeList) -> Result<Vec<Side>, NoMemory>
+    requires { graph.now.vertices ≤ 4 }
+    ensures { IfOk result (λ v. All (λ s. s.vertices ≡ graph.now.vertices) v.items) }
+{
+    let parts = Components::of_list(alloc, graph)?;
+    if parts.len() < 2 || parts.len() > 4 {
+        return Ok(Vec::new(alloc));
+    }
+    parts.sides(alloc)
+}
+
+/// Those of the minimum cuts of a graph in several components that part two vertices, by a closure that tests it.
+fn selected_parting(alloc: Global, graph: &EdgeList, u: u32, v: u32) -> Result<Vec<Side>, NoMemory>
+    requires few { graph.now.vertices ≤ 4 }
+    requires ask { IsAskWithin graph.now.vertices (Parting u v) }
+{
+    let unions = unions_of(alloc, graph)?;
+    let keep = Box::new(
+        alloc,
+        move |side: &Side|
+            requires { IsAskWithin side.now.vertices (Parting u v) }
+        { side.has(u) != side.has(v) },
+    )?;
+    let lister = Lister::new(graph.n(), Ask::Parting(u, v), keep);
+    Ok(lister.select(unions))
 }
 
 /// The sides of a least balance, by a closure that has the weights for itself.
@@ -129,5 +169,23 @@ fn sides_of_a_least_balance(rt: HostRuntime) -> Result<(), Fail> {
     let own = VertexWeights::from_list(vec![in rt.alloc(); 9, 1, 1, 1]?);
     let sides = listed_least(rt.alloc(), &cactus, 2, &weights, own)?;
     assert!(rt; are_listed(&sides, &[&[2, 3], &[2, 3, 4], &[3, 4]]));
+    Ok(())
+}
+
+#[test]
+fn unions_of_two_pairs_are_selected(rt: HostRuntime) -> Result<(), Fail> {
+    let graph = two_pairs(rt.alloc())?;
+    let within = selected_parting(rt.alloc(), &graph, 1, 2)?;
+    let across = selected_parting(rt.alloc(), &graph, 2, 3)?;
+    assert!(rt; within.is_empty() && are_listed(&across, &[&[3, 4]]));
+    Ok(())
+}
+
+/// Of 2, of 2 and 3, and of 3 the first two.
+#[test]
+fn unions_of_three_vertices_are_selected(rt: HostRuntime) -> Result<(), Fail> {
+    let graph = EdgeList::new(rt.alloc(), 3);
+    let sides = selected_parting(rt.alloc(), &graph, 1, 2)?;
+    assert!(rt; are_listed(&sides, &[&[2], &[2, 3]]));
     Ok(())
 }
