@@ -5,7 +5,7 @@ ghost use Rattle.cut_definitions.specs.Cuts.{value};
 ghost use Rattle.cut_definitions.specs.Graph.{Graph as EdgeGraph};
 ghost use Rattle.forest_contraction.specs.Left.{AreTies, Tells};
 
-use crate::values::value_away;
+use crate::values::{FEW_EDGES, value_away};
 use cut_definitions::{EdgeList, NoMemory};
 use forest_contraction::{Contracted, Ties, WithTies, contract_list, contract_with_ties};
 use least_cut::value_of_dense;
@@ -14,7 +14,8 @@ use std::alloc::Global;
 use std::thread::Threads;
 use weighted_graph::Graph;
 
-/// The lesser of a bound and the value of a list that is taken over, or the bound where that has fewer than two vertices.
+/// The lesser of a bound and the value of a list that is taken over, or the bound where that has fewer than two vertices. Where
+/// few edges are left of a long list one worker does all.
 fn value_below<R: Threads + Sync, G: Gate>(
     rt: &R,
     alloc: Global,
@@ -30,7 +31,13 @@ fn value_below<R: Threads + Sync, G: Gate>(
         return Ok(bound);
     }
     let graph = Graph::from_list(alloc, list)?;
-    let weight = value_away(rt, alloc, graph, workers, gate)?;
+    // a round of a small graph is over before threads have started
+    let team = if graph.edges() <= FEW_EDGES {
+        1
+    } else {
+        workers
+    };
+    let weight = value_away(rt, alloc, graph, team, gate)?;
     Ok(weight.min(bound))
 }
 

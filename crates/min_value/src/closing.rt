@@ -187,7 +187,7 @@ pub(crate) fn close_once<R: Threads + Sync, G: Gate>(
     let Some(marks) = find_marks(rt, alloc, &kept.graph, kept.value, workers, gate)? else {
         return Ok(false);
     };
-    keep_less(alloc, kept, &marks)?;
+    keep_less(rt, alloc, kept, &marks, workers)?;
     Ok(true)
 }
 
@@ -210,30 +210,7 @@ pub(crate) fn close_first<R: Threads + Sync, G: Gate>(
     let Some(marks) = find_marks(rt, alloc, graph, value, workers, gate)? else {
         return Ok(None);
     };
-    let kept = contract_safely(alloc, graph, value, &marks)?;
-    Ok(Some(kept))
-}
-
-/// Scans by so many workers, and the contraction of the edges that they mark; none where they mark nothing.
-fn scan_once<R: Threads + Sync, G: Gate>(
-    rt: &R,
-    alloc: Global,
-    graph: &Graph,
-    value: u64,
-    workers: u32,
-    gate: &G,
-) -> Result<Option<Kernel>, NoMemory>
-    requires enough { 2 ≤ graph.now.vertices }
-    requires value { value ≡ least_value graph.now }
-    requires workers { (1 ≤ workers) × (workers ≤ 64) }
-    ensures kept { IfOk result (λ found. IfSome found (λ k. IsKept graph.now k.value k.graph k.labels)) }
-    ensures fewer { IfOk result (λ found. IfSome found (λ k. k.graph.vertices < graph.now.vertices)) }
-    ensures light { IfOk result (λ found. IfNone found (IsLight graph.now value)) }
-{
-    let Some(marks) = marks_of_scans(rt, alloc, graph, value, workers, gate)? else {
-        return Ok(None);
-    };
-    let kept = contract_safely(alloc, graph, value, &marks)?;
+    let kept = contract_safely(rt, alloc, graph, value, &marks, workers)?;
     Ok(Some(kept))
 }
 
@@ -254,10 +231,11 @@ fn scan_again<R: Threads + Sync, G: Gate>(
     ensures fewer { IfOk result (λ more. more ≡ true → kept.new.graph.vertices < kept.old.graph.vertices) }
 {
     let before = kept.graph.n();
-    let Some(marks) = marks_of_scans(rt, alloc, &kept.graph, kept.value, workers, gate)? else {
+    let team = scanners(&kept.graph, kept.value, workers);
+    let Some(marks) = marks_of_scans(rt, alloc, &kept.graph, kept.value, team, gate)? else {
         return Ok(false);
     };
-    keep_less(alloc, kept, &marks)?;
+    keep_less(rt, alloc, kept, &marks, workers)?;
     Ok(is_tenth_less(kept.graph.n(), before))
 }
 
@@ -278,8 +256,7 @@ fn scan_on<R: Threads + Sync, G: Gate>(
     let mut kept = first;
     let mut shrinks = true;
     'scans: while shrinks {
-        let team = scanners(&kept.graph, kept.value, workers);
-        shrinks = scan_again(rt, alloc, &mut kept, team, gate)?;
+        shrinks = scan_again(rt, alloc, &mut kept, workers, gate)?;
     }
     Ok(kept)
 }
@@ -308,9 +285,10 @@ pub(crate) fn contract_by_scans<R: Threads + Sync, G: Gate>(
         return Ok(None);
     }
     let team = scanners(graph, value, workers);
-    let Some(first) = scan_once(rt, alloc, graph, value, team, gate)? else {
+    let Some(marks) = marks_of_scans(rt, alloc, graph, value, team, gate)? else {
         return Ok(None);
     };
+    let first = contract_safely(rt, alloc, graph, value, &marks, workers)?;
     if is_tenth_less(first.graph.n(), n) {
         let kept = scan_on(rt, alloc, graph, first, workers, gate)?;
         return Ok(Some(kept));

@@ -33,11 +33,13 @@ pub(crate) fn is_tenth_less(left: u32, before: u32) -> bool
 }
 
 /// The graph on the classes that marked edges join, where these lie in no minimum cut. It costs O(m log m).
-pub(crate) fn contract_safely(
+pub(crate) fn contract_safely<R: Threads + Sync>(
+    rt: &R,
     alloc: Global,
     graph: &Graph,
     value: u64,
     marks: &Marks,
+    workers: u32,
 ) -> Result<Kernel, NoMemory>
     requires enough { 2 ≤ graph.now.vertices }
     requires value { value ≡ least_value graph.now }
@@ -49,7 +51,7 @@ pub(crate) fn contract_safely(
 {
     // known by this call: the graph is an edge list
     let _n = graph.n();
-    let (small, labels) = contract(alloc, graph, marks)?;
+    let (small, labels) = contract(rt, alloc, graph, marks, workers)?;
     Ok(Kernel {
         value,
         graph: small,
@@ -58,7 +60,13 @@ pub(crate) fn contract_safely(
 }
 
 /// Contracts marked edges of what is kept of a graph, and leads the labels on.
-pub(crate) fn keep_less(alloc: Global, kept: &mut Kernel, marks: &Marks) -> Result<(), NoMemory>
+pub(crate) fn keep_less<R: Threads + Sync>(
+    rt: &R,
+    alloc: Global,
+    kept: &mut Kernel,
+    marks: &Marks,
+    workers: u32,
+) -> Result<(), NoMemory>
     requires enough { 2 ≤ kept.old.graph.vertices }
     requires value { kept.old.value ≡ least_value kept.old.graph }
     requires counted { classes kept.old.labels ≡ kept.old.graph.vertices }
@@ -68,7 +76,7 @@ pub(crate) fn keep_less(alloc: Global, kept: &mut Kernel, marks: &Marks) -> Resu
     ensures at_most { IfOk result (λ _. kept.new.graph.vertices ≤ kept.old.graph.vertices) }
     ensures fewer { SomeIsMarked marks.now → IfOk result (λ _. kept.new.graph.vertices < kept.old.graph.vertices) }
 {
-    let next = contract_safely(alloc, &kept.graph, kept.value, marks)?;
+    let next = contract_safely(rt, alloc, &kept.graph, kept.value, marks, workers)?;
     kept.labels = kept.labels.compose(alloc, &next.labels)?;
     kept.graph = next.graph;
     Ok(())
@@ -109,7 +117,7 @@ fn contract_once<R: Threads + Sync, G: Gate>(
     ensures { IfOk result (λ k. IsKept graph.now k.value k.graph k.labels) }
 {
     let marks = round_at_value(rt, alloc, graph, value, workers, gate)?;
-    let kept = contract_safely(alloc, graph, value, &marks)?;
+    let kept = contract_safely(rt, alloc, graph, value, &marks, workers)?;
     Ok(kept)
 }
 
@@ -129,7 +137,7 @@ fn contract_again<R: Threads + Sync, G: Gate>(
 {
     let before = kept.graph.n();
     let marks = round_at_value(rt, alloc, &kept.graph, kept.value, 1, gate)?;
-    keep_less(alloc, kept, &marks)?;
+    keep_less(rt, alloc, kept, &marks, 1)?;
     Ok(is_tenth_less(kept.graph.n(), before))
 }
 

@@ -53,11 +53,13 @@ fn mark_by_links(graph: &Graph, scan: &mut Scan, bound: u64, marks: &mut Marks) 
 
 /// The contraction of marked edges, if that takes away a tenth of the vertices; the marks are safe for the least weight that
 /// is known.
-fn contract_marked(
+fn contract_marked<R: Threads + Sync>(
+    rt: &R,
     alloc: Global,
     graph: &Graph,
     best: u64,
     marks: &Marks,
+    workers: u32,
 ) -> Result<Shrunk, NoMemory>
     requires enough { 2 ≤ graph.now.vertices }
     requires marks { marks.now.edges ≡ length graph.now.edges }
@@ -73,7 +75,7 @@ fn contract_marked(
             smaller: None,
         });
     }
-    let smaller = contracted_list(alloc, graph, &labels)?;
+    let smaller = contracted_list(rt, alloc, graph, &labels, workers)?;
     Ok(Shrunk {
         best,
         smaller: Some(smaller),
@@ -81,7 +83,13 @@ fn contract_marked(
 }
 
 /// One scan, and the contraction of the edges that it marks, if that takes away a tenth of the vertices.
-fn scan_once(alloc: Global, graph: &Graph, bound: u64) -> Result<Shrunk, NoMemory>
+fn scan_once<R: Threads + Sync>(
+    rt: &R,
+    alloc: Global,
+    graph: &Graph,
+    bound: u64,
+    workers: u32,
+) -> Result<Shrunk, NoMemory>
     requires enough { 2 ≤ graph.now.vertices }
     requires bound { bound ≤ 2 ^ 62 }
     ensures { IfOk result (λ s. IsShrunk graph.now bound s.best s.smaller) }
@@ -89,7 +97,7 @@ fn scan_once(alloc: Global, graph: &Graph, bound: u64) -> Result<Shrunk, NoMemor
     let mut marks = Marks::none(alloc, graph.edges())?;
     let mut scan = Scan::new(alloc, graph)?;
     let best = mark_by_links(graph, &mut scan, bound, &mut marks);
-    let shrunk = contract_marked(alloc, graph, best, &marks)?;
+    let shrunk = contract_marked(rt, alloc, graph, best, &marks, workers)?;
     Ok(shrunk)
 }
 
@@ -108,7 +116,7 @@ fn scan_by_workers<R: Threads + Sync, G: Gate>(
 {
     let opening = least_degree(graph);
     let (low, marks) = scan_round(rt, alloc, graph, opening, 0, workers, gate)?;
-    let shrunk = contract_marked(alloc, graph, low.min(bound), &marks)?;
+    let shrunk = contract_marked(rt, alloc, graph, low.min(bound), &marks, workers)?;
     Ok(shrunk)
 }
 
@@ -129,13 +137,13 @@ fn scan_shared<R: Threads + Sync, G: Gate>(
 {
     let team = scanners(graph, bound, workers);
     if team == 1 {
-        return scan_once(alloc, graph, bound);
+        return scan_once(rt, alloc, graph, bound, workers);
     }
     let shrunk = scan_by_workers(rt, alloc, graph, bound, team, gate)?;
     if shrunk.smaller.is_some() {
         return Ok(shrunk);
     }
-    let next = scan_once(alloc, graph, shrunk.best)?;
+    let next = scan_once(rt, alloc, graph, shrunk.best, workers)?;
     Ok(next)
 }
 

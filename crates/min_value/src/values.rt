@@ -49,7 +49,7 @@ fn contract_once<R: Threads + Sync, G: Gate>(
     let _n = graph.n();
     let bound = least_degree(graph);
     let (low, marks) = round(rt, alloc, graph, bound, 0, workers, gate)?;
-    let (smaller, _labels) = contract(alloc, graph, &marks)?;
+    let (smaller, _labels) = contract(rt, alloc, graph, &marks, workers)?;
     Ok((low, smaller))
 }
 

@@ -6,12 +6,17 @@ ghost use Rattle.cut_definitions.specs.Weight.{between};
 ghost use Rattle.weighted_graph.specs.declared.graph.Arc.{Arc};
 ghost use Rattle.round_contract.specs.Rows.{AreFirst, AreNext, IsNext, edges_by, toward};
 
+use crate::threads::relabel_in_threads;
 use cut_definitions::{Edge, EdgeList, NoMemory};
 use std::alloc::Global;
+use std::thread::Threads;
 use weighted_graph::{Arc, Graph, Labels, relabel_list};
 
 /// The greatest number of classes for which rows are added up: each two of them may be joined by an edge.
 const MANY_CLASSES: u32 = 4096;
+
+/// On a list of fewer edges threads gain nothing.
+const EDGES_FOR_THREADS: usize = 131_072;
 
 /// Writes for each class its first vertex, and for each vertex the next one of its class, or 0 where there is none.
 fn link(labels: &Labels, first: &mut [u32], next: &mut [u32])
@@ -144,24 +149,40 @@ fn is_dense(graph: &Graph, labels: &Labels) -> bool
 /// The list of edges of the graph on the classes of labels, one for each vertex, as `relabel_list` makes it.
 ///
 /// A dense graph that becomes little smaller is not sorted: with k classes it costs O(n + m + k^2), where k^2 is at most in
-/// proportion to m, and memory in proportion to n + m. All others cost O(m log m). It is refused only where memory is
-/// wanting.
-pub fn contracted_list(alloc: Global, graph: &Graph, labels: &Labels) -> Result<EdgeList, NoMemory>
+/// proportion to m, and memory in proportion to n + m. All others cost O(m log m); where there are two workers or more, and
+/// 131,072 edges or more, rayon's calls map and sort them, which start threads for the processors of the machine, whatever the
+/// number of workers. It is refused only where memory is wanting.
+pub fn contracted_list<R: Threads + Sync>(
+    rt: &R,
+    alloc: Global,
+    graph: &Graph,
+    labels: &Labels,
+    workers: u32,
+) -> Result<EdgeList, NoMemory>
     requires { length labels.now ≡ graph.now.vertices }
     ensures { IfOk result (λ l. l ≡ relabel graph.now labels.now) }
 {
     if is_dense(graph, labels) {
         return list_by_rows(alloc, graph, labels);
     }
+    if workers > 1 && graph.edges() >= EDGES_FOR_THREADS {
+        return relabel_in_threads(rt, alloc, graph.list(), labels);
+    }
     let list = relabel_list(alloc, graph.list(), labels)?;
     Ok(list)
 }
 
 /// The graph on the classes of labels, one for each vertex, with rows: that of `contracted_list`. It costs as much.
-pub fn contracted(alloc: Global, graph: &Graph, labels: &Labels) -> Result<Graph, NoMemory>
+pub fn contracted<R: Threads + Sync>(
+    rt: &R,
+    alloc: Global,
+    graph: &Graph,
+    labels: &Labels,
+    workers: u32,
+) -> Result<Graph, NoMemory>
     requires { length labels.now ≡ graph.now.vertices }
     ensures { IfOk result (λ g. g ≡ relabel graph.now labels.now) }
 {
-    let list = contracted_list(alloc, graph, labels)?;
+    let list = contracted_list(rt, alloc, graph, labels, workers)?;
     Graph::from_list(alloc, list)
 }

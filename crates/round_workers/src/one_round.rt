@@ -28,7 +28,6 @@ fn shares_for(edges: usize, workers: u32) -> usize
 /// joined.
 fn run_workers<R: Threads + Sync, G: Gate>(
     rt: &R,
-    alloc: Global,
     graph: &Graph,
     bound: u64,
     task: Task,
@@ -44,9 +43,9 @@ fn run_workers<R: Threads + Sync, G: Gate>(
 {
     // known by this call: the graph is an edge list, so no bound is above 2^61
     let _n = graph.n();
-    let (board, mut seat) = Board::open(alloc, graph, bound, task.slack)?;
-    let mut seated = workers_for(alloc, graph, &board, &mut seat, task.shares)?;
-    race(rt, alloc, &board, graph, seated.as_mut_slice(), task, gate);
+    let (board, mut seat) = Board::open(task.alloc, graph, bound, task.slack)?;
+    let mut seated = workers_for(task.alloc, graph, &board, &mut seat, task.shares)?;
+    race(rt, &board, graph, seated.as_mut_slice(), task, gate);
     join_workers(&board, graph, &mut seat, seated, task)?;
     Ok((board, seat))
 }
@@ -102,11 +101,12 @@ pub fn round<R: Threads + Sync, G: Gate>(
     ensures certified { IfOk result (λ r. CertifiedAreMarked graph.now (has r.1.marked) (r.0 + slack)) }
 {
     let task = Task {
+        alloc,
         shares: shares_for(graph.edges(), workers),
         slack,
         certifies: true,
     };
-    let (board, seat) = run_workers(rt, alloc, graph, bound, task, gate)?;
+    let (board, seat) = run_workers(rt, graph, bound, task, gate)?;
     Ok(close_round(board, seat, graph, bound, slack))
 }
 
@@ -117,9 +117,10 @@ pub fn round<R: Threads + Sync, G: Gate>(
 /// The answered bound is the weight of some cut, and each mark is safe for it and the slack. There are 1 to 64 workers, each of
 /// which runs, so the caller sees that the graph is worth them. Each passes the gate with its number, and scans from a vertex of
 /// its own what no other worker takes, until no vertex that waits touches what it scanned; they share the bound, the marks and
-/// the taken vertices, and none waits for another. In a dense graph each looks first for a vertex far from where the others
-/// begin, and does not scan where there is none. All together go along each row about once: O(m log n), and O(n) for each
-/// worker, in a dense graph O(n log n) for each worker before it. It takes O(m) memory, and O(n) for each worker, which that
+/// the taken vertices, and none waits for another. In a dense graph each looks first for vertices that are far from each other,
+/// one for each cluster: where there are as many as workers or fewer, each has a cluster and stays in it, and else the first
+/// worker scans alone. All together go along each row about once: O(m log n), and O(n) for each worker, in a dense graph
+/// O(n log n) for each worker, of each worker. It takes O(m) memory, and O(n) for each worker, which that
 /// takes in its own thread, and is refused only where that is wanting.
 pub fn scan_round<R: Threads + Sync, G: Gate>(
     rt: &R,
@@ -140,10 +141,11 @@ pub fn scan_round<R: Threads + Sync, G: Gate>(
     ensures safe { IfOk result (λ r. MarksAreSafe graph.now (has r.1.marked) r.0 slack) }
 {
     let task = Task {
+        alloc,
         shares: workers as usize,
         slack,
         certifies: false,
     };
-    let (board, seat) = run_workers(rt, alloc, graph, bound, task, gate)?;
+    let (board, seat) = run_workers(rt, graph, bound, task, gate)?;
     Ok(board.close(seat))
 }

@@ -21,7 +21,7 @@ const NEAR: u64 = 16;
 const CAP: u64 = 1 << 62;
 
 /// Whether a graph is so dense that each vertex has some neighbours in a sample of few vertices. Workers begin far apart there,
-/// and one who finds no vertex that is far from the others does not scan; elsewhere each begins in its run of the vertices.
+/// each in a cluster of its own, and do not scan where there is none for them; elsewhere each begins in its run of the vertices.
 pub fn is_dense(graph: &Graph) -> bool
     ensures { IsTrue result ↔ (graph.now.vertices ≤ length graph.now.edges / 512) }
 {
@@ -35,8 +35,8 @@ fn sample_size(graph: &Graph) -> u32 {
     (vertices / half_degree.max(1)).saturating_mul(EDGES_TO_SAMPLE / 2)
 }
 
-/// Scans a sample from a root on: vertices that are close to each other. They count as near from then on.
-fn scan_sample(graph: &Graph, scan: &mut Scan, root: u32, size: u32, sums: &mut [u64])
+/// Scans a sample from a root on: vertices that are close to each other. They have no sum from then on.
+fn scan_sample(graph: &Graph, scan: &mut Scan, root: u32, size: u32, sums: &mut [Option<u64>])
     requires stands { StandsFor scan.old graph.now }
     requires from_one { 1 ≤ root }
     requires to_n { root ≤ graph.now.vertices }
@@ -48,24 +48,37 @@ fn scan_sample(graph: &Graph, scan: &mut Scan, root: u32, size: u32, sums: &mut 
         let Some(next) = scan.next(graph) else {
             return;
         };
-        sums[next.vertex as usize] = u64::MAX;
+        sums[next.vertex as usize] = None;
     }
 }
 
-/// Adds to each vertex's sum its link to the sample that was scanned.
-fn add_links(graph: &Graph, scan: &Scan, sums: &mut [u64])
+/// Adds to each vertex's sum, if it has one, its link to the sample that was scanned.
+fn add_links(graph: &Graph, scan: &Scan, sums: &mut [Option<u64>])
     requires stands { StandsFor scan.now graph.now }
     requires room { length sums.old ≡ graph.now.vertices + 1 }
 {
     for before in 0..graph.n() {
         let vertex = before + 1;
         let place = vertex as usize;
-        sums[place] = sums[place].saturating_add(scan.link(graph, vertex));
+        if let Some(sum) = sums[place] {
+            sums[place] = Some(sum.saturating_add(scan.link(graph, vertex)));
+        }
     }
 }
 
-/// The first vertex with the least sum.
-fn farthest(graph: &Graph, sums: &[u64]) -> u32
+/// Whether a vertex's sum is less than the least one so far.
+fn is_farther(sum: Option<u64>, least: Option<u64>) -> bool {
+    let Some(sum) = sum else {
+        return false;
+    };
+    match least {
+        Some(least) => sum < least,
+        None => true,
+    }
+}
+
+/// The first vertex with the least sum; the first vertex where none has a sum.
+fn farthest(graph: &Graph, sums: &[Option<u64>]) -> u32
     requires enough { 1 ≤ graph.now.vertices }
     requires room { length sums.now ≡ graph.now.vertices + 1 }
     ensures from_one { 1 ≤ result }
@@ -74,7 +87,7 @@ fn farthest(graph: &Graph, sums: &[u64]) -> u32
     let mut far = 1;
     for before in 1..graph.n() {
         let vertex = before + 1;
-        if sums[vertex as usize] < sums[far as usize] {
+        if is_farther(sums[vertex as usize], sums[far as usize]) {
             far = vertex;
         }
     }
@@ -82,65 +95,103 @@ fn farthest(graph: &Graph, sums: &[u64]) -> u32
 }
 
 /// The mean of the sums of those that are in no sample; the vertices of samples are counted, since they are few.
-fn mean_sum(sums: &[u64]) -> u64 {
+fn mean_sum(sums: &[Option<u64>]) -> u64 {
     let mut total = 0u64;
     for sum in sums {
-        if *sum < u64::MAX {
-            total = total.saturating_add(*sum);
-        }
+        total = total.saturating_add(sum.unwrap_or(0));
     }
     total / (sums.len() as u64).max(1)
 }
 
-/// A vertex of a dense graph that is far from samples around those from which the workers before this one begin; none where no
-/// vertex is. Each worker finds them again for itself.
-fn far_root(
-    alloc: Global,
-    graph: &Graph,
-    scan: &mut Scan,
-    share: usize,
-) -> Result<Option<u32>, NoMemory>
-    requires enough { 1 ≤ graph.now.vertices }
-    requires stands { StandsFor scan.old graph.now }
-    ensures stands { StandsFor scan.new graph.now }
-    ensures from_one { IfOk result (λ found. IfSome found (λ root. 1 ≤ root)) }
-    ensures to_n { IfOk result (λ found. IfSome found (λ root. root ≤ graph.now.vertices)) }
+/// Whether a vertex is far from the samples.
+fn is_far(sums: &[Option<u64>], vertex: u32) -> bool
+    requires { vertex < length sums.now }
 {
-    let mut sums = vec![in alloc; 0u64; graph.n() as usize + 1]?;
-    let size = sample_size(graph);
-    let mut root = 1;
-    for _ in 0..share {
-        scan_sample(graph, scan, root, size, sums.as_mut_slice());
-        add_links(graph, scan, sums.as_mut_slice());
-        root = farthest(graph, sums.as_slice());
-        if sums[root as usize] > mean_sum(sums.as_slice()) / NEAR {
-            return Ok(None);
-        }
+    match sums[vertex as usize] {
+        Some(sum) => sum <= mean_sum(sums) / NEAR,
+        None => false,
     }
-    Ok(Some(root))
 }
 
-/// The vertex from which a worker scans. The vertices are divided into as many runs as there are shares, and it is the first of
-/// the worker's run; in a dense graph one that is far from those of the workers before it, if there is one: of a vertex that is
-/// near to several of them each would see only a part of the weight.
-pub(crate) fn root_of(
+/// Where a worker begins to scan, and whether it stays in the cluster where it begins: it ends where it would leave it then.
+#[derive(Clone, Copy)]
+pub(crate) struct Start {
+    pub(crate) root: u32,
+    pub(crate) stays: bool,
+}
+
+/// Where a worker begins in a dense graph, if it scans. The roots are found one after another: the first vertex, and then one
+/// that is far from samples around all roots before it, as long as there is one. Where there are as many as workers or fewer,
+/// and not one alone, each worker has a cluster, and stays in it; where there are more, the first worker scans alone. Each
+/// worker finds all roots for itself, so they begin to scan at about the same time.
+fn far_start(
     alloc: Global,
     graph: &Graph,
     scan: &mut Scan,
     share: usize,
     shares: usize,
-) -> Result<Option<u32>, NoMemory>
+) -> Result<Option<Start>, NoMemory>
+    requires enough { 1 ≤ graph.now.vertices }
+    requires stands { StandsFor scan.old graph.now }
+    ensures stands { StandsFor scan.new graph.now }
+    ensures from_one { IfOk result (λ found. IfSome found (λ start. 1 ≤ start.root)) }
+    ensures to_n { IfOk result (λ found. IfSome found (λ start. start.root ≤ graph.now.vertices)) }
+{
+    let mut sums = vec![in alloc; Some(0u64); graph.n() as usize + 1]?;
+    let size = sample_size(graph);
+    let mut root = 1;
+    let mut own = None;
+    for before in 0..shares {
+        if before == share {
+            own = Some(Start { root, stays: true });
+        }
+        scan_sample(graph, scan, root, size, sums.as_mut_slice());
+        add_links(graph, scan, sums.as_mut_slice());
+        root = farthest(graph, sums.as_slice());
+        if !is_far(sums.as_slice(), root) {
+            return Ok(if before == 0 { first_alone(share) } else { own });
+        }
+    }
+    Ok(first_alone(share))
+}
+
+/// Where the first worker begins who scans alone, and goes wherever the scan leads; the others do not scan.
+fn first_alone(share: usize) -> Option<Start>
+    ensures { IfSome result (λ start. start.root ≡ 1) }
+{
+    if share == 0 {
+        return Some(Start {
+            root: 1,
+            stays: false,
+        });
+    }
+    None
+}
+
+/// Where a worker begins to scan, if it does. The vertices are divided into as many runs as there are shares, and it is the first
+/// of the worker's run; in a dense graph each cluster has one worker, for of a vertex that is near to several of them each would
+/// see only a part of the weight.
+pub(crate) fn start_of(
+    alloc: Global,
+    graph: &Graph,
+    scan: &mut Scan,
+    share: usize,
+    shares: usize,
+) -> Result<Option<Start>, NoMemory>
     requires enough { 1 ≤ graph.now.vertices }
     requires share { share < shares }
     requires shares { shares ≤ 64 }
     requires stands { StandsFor scan.old graph.now }
     ensures stands { StandsFor scan.new graph.now }
-    ensures from_one { IfOk result (λ found. IfSome found (λ root. 1 ≤ root)) }
-    ensures to_n { IfOk result (λ found. IfSome found (λ root. root ≤ graph.now.vertices)) }
+    ensures from_one { IfOk result (λ found. IfSome found (λ start. 1 ≤ start.root)) }
+    ensures to_n { IfOk result (λ found. IfSome found (λ start. start.root ≤ graph.now.vertices)) }
 {
     if is_dense(graph) {
-        return far_root(alloc, graph, scan, share);
+        return far_start(alloc, graph, scan, share, shares);
     }
     let before = graph.n() as usize * share / shares;
-    Ok(Some(before as u32 + 1))
+    Ok(Some(Start {
+        root: before as u32 + 1,
+        stays: false,
+    }))
 }

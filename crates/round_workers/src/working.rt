@@ -3,7 +3,7 @@
 ghost use Rattle.std.specs.Prelude.{◌≡◌, ◌+◌, ◌<◌, ◌≤◌, All, IfOk, OnOk, length, true, vec_len};
 ghost use Rattle.round_workers.specs.Seats.{HasSeen, HasAll, HasTested, IsLater, AreWon, IsReady, IsDone, AreDone};
 
-use crate::roots::root_of;
+use crate::roots::start_of;
 use crate::scanning::scan_on_board;
 use crate::shares::mark_share;
 use capped_scan::Scan;
@@ -22,10 +22,11 @@ pub(crate) struct Worker {
     pub(crate) scan: Option<Result<Scan, NoMemory>>,
 }
 
-/// What the workers of a round do: into how many shares the edges are divided, one for each worker, the slack of all marks, and
-/// whether each worker tests the edges of its share by certificates before it scans.
+/// What the workers of a round do: into how many shares the edges are divided, one for each worker, the slack of all marks,
+/// whether each worker tests the edges of its share by certificates before it scans, and whence it takes its memory.
 #[derive(Clone, Copy)]
 pub(crate) struct Task {
+    pub(crate) alloc: Global,
     pub(crate) shares: usize,
     pub(crate) slack: u64,
     pub(crate) certifies: bool,
@@ -73,7 +74,6 @@ fn certify(board: &Board, seat: &mut BoardSeat, graph: &Graph, share: usize, tas
 /// Makes a scan of the graph for a worker, and scans what no other worker takes from a root of its own, if it has one. Memory
 /// O(n) is all that it takes, and want of it is its only refusal.
 fn scan_own(
-    alloc: Global,
     board: &Board,
     seat: &mut BoardSeat,
     graph: &Graph,
@@ -90,19 +90,18 @@ fn scan_own(
     ensures later { IsLater seat.old seat.new }
     ensures won { IfOk result (λ scan. AreWon scan seat.new) }
 {
-    let mut scan = Scan::new(alloc, graph)?;
-    let Some(root) = root_of(alloc, graph, &mut scan, share, task.shares)? else {
+    let mut scan = Scan::new(task.alloc, graph)?;
+    let Some(start) = start_of(task.alloc, graph, &mut scan, share, task.shares)? else {
         scan.start(1, 0);
         return Ok(scan);
     };
-    scan_on_board(board, seat, graph, &mut scan, root, bound, task.slack);
+    scan_on_board(board, seat, graph, &mut scan, start, bound, task.slack);
     Ok(scan)
 }
 
 /// The work of one worker: it passes the gate, looks at the bound, tests the edges of its share, where that is asked for, and
 /// scans the graph from a vertex of its own.
 fn work<G: Gate>(
-    alloc: Global,
     board: &Board,
     graph: &Graph,
     worker: &mut Worker,
@@ -120,14 +119,13 @@ fn work<G: Gate>(
     gate.pass(share as u32);
     let bound = board.bound(&mut worker.seat);
     certify(board, &mut worker.seat, graph, share, task, bound);
-    let scan = scan_own(alloc, board, &mut worker.seat, graph, share, task, bound);
+    let scan = scan_own(board, &mut worker.seat, graph, share, task, bound);
     worker.scan = Some(scan);
 }
 
 /// Runs the workers side by side, each on the share of its place and with memory of its own.
 pub(crate) fn race<R: Threads + Sync, G: Gate>(
     rt: &R,
-    alloc: Global,
     board: &Board,
     graph: &Graph,
     workers: &mut [Worker],
@@ -148,7 +146,7 @@ pub(crate) fn race<R: Threads + Sync, G: Gate>(
         task.shares,
         &|share: usize, worker: &mut Worker|
             requires { IsReady board.now graph.now task.slack worker.now × (1 ≤ graph.now.vertices) × (task.slack ≤ 1) × (share < task.shares) × (task.shares ≤ 64) }
-        { work(alloc, board, graph, worker, share, task, gate) },
+        { work(board, graph, worker, share, task, gate) },
     );
 }
 

@@ -45,19 +45,23 @@ fn is_contracted(graph: &Graph, labels: &Labels) -> bool {
 }
 
 /// Whether the first of three edges is contracted alone where it alone is marked.
-fn first_is_contracted(alloc: Global, graph: &Graph) -> Result<bool, NoMemory>
+fn first_is_contracted<R: Threads + Sync>(
+    rt: &R,
+    alloc: Global,
+    graph: &Graph,
+) -> Result<bool, NoMemory>
     requires { length graph.now.edges ≡ 3 }
 {
     let mut marks = Marks::none(alloc, 3)?;
     marks.set(0);
-    let (contracted, labels) = contract(alloc, graph, &marks)?;
+    let (contracted, labels) = contract(rt, alloc, graph, &marks, 1)?;
     Ok(is_contracted(&contracted, &labels))
 }
 
 #[test]
 fn the_first_edge_of_a_triangle_is_contracted(rt: HostRuntime) -> Result<(), NoMemory> {
     let graph = uneven_triangle(rt.alloc())?;
-    assert!(rt; first_is_contracted(rt.alloc(), &graph) == Ok(true));
+    assert!(rt; first_is_contracted(&rt, rt.alloc(), &graph) == Ok(true));
     Ok(())
 }
 

@@ -120,7 +120,7 @@ fn marks_each_block<R: Threads + Sync>(rt: &R, alloc: Global, graph: &Graph) -> 
     met && opening == 7 && bound <= 2 && marked_blocks(graph, &marks) == 64
 }
 
-/// Whether two workers reduce the graph to two vertices, and run at the same time.
+/// Whether two workers reduce a chain of 100 blocks to a vertex for each, and run at the same time.
 fn is_reduced_by_two<R: Threads + Sync>(rt: &R, alloc: Global, graph: &Graph) -> bool
     requires { 2 ≤ graph.now.vertices }
 {
@@ -129,7 +129,7 @@ fn is_reduced_by_two<R: Threads + Sync>(rt: &R, alloc: Global, graph: &Graph) ->
     };
     let gate = meeting_gate();
     let reduced = match reduce(rt, alloc, graph, weight, 2, &gate) {
-        Ok(Some(kernel)) => kernel.graph.n() == 2,
+        Ok(Some(kernel)) => kernel.graph.n() == 100,
         _ => false,
     };
     reduced && weight == 1 && gate.met.load(Ordering::SeqCst) == 1
@@ -161,8 +161,8 @@ fn two_workers_scan_a_large_graph(rt: HostRuntime) -> Result<(), Fail> {
 
 #[test]
 fn two_workers_reduce_a_large_graph(rt: HostRuntime) -> Result<(), Fail> {
-    let list = chain_of_blocks(rt.alloc(), 2, 300);
-    let Some(graph) = graph_of_list(rt.alloc(), list, 89701) else {
+    let list = chain_of_blocks(rt.alloc(), 100, 38);
+    let Some(graph) = graph_of_list(rt.alloc(), list, 70399) else {
         return Err(Fail::from("no graph"));
     };
     assert!(rt; is_reduced_by_two(&rt, rt.alloc(), &graph));

@@ -4,7 +4,7 @@ use Rattle.min_value.proofs.Kept.{kept_more}
 use Rattle.min_value.proofs.kept_graph.keep_less.Goals as goal
 
 pub returns-clause-kept : goal.returns-clause-kept
-returns-clause-kept c g before =
+returns-clause-kept _ c g before =
     let kept = c.args.kept.now in
     let next = c.in_ok-next.next in
     subst (λ (l : List ℕ). IsKept g kept.value next.graph l) (sym c.in_ok-kept.ensures)

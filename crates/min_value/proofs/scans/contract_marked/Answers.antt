@@ -8,7 +8,7 @@ use Rattle.min_value.proofs.Scanned.{left_marks}
 use Rattle.min_value.proofs.scans.contract_marked.Goals as goal
 
 pub returns-clause-shrunk : goal.returns-clause-shrunk
-returns-clause-shrunk c =
+returns-clause-shrunk _ c =
     let g = c.args.graph.now in
     let best = c.args.best in
     let labels = c.in_ok-labels.labels in
