@@ -254,12 +254,28 @@ def hexagons(n: int, rng: Random) -> Made:
     return 4 * k, edges, all_in_pairs(4 * k, 4)
 
 
-def petersen(n: int, rng: Random) -> Made:
-    """A ring numbered along, a spoke of weight 2 at each vertex, and edges of weight 1 from the end of each spoke to that of the next but
-    one."""
+def spoked(n: int, shift: int) -> Made:
+    """A ring numbered along, a spoke of weight 2 at each vertex, and edges of weight 1 from the end of each spoke to that of the one
+    so many further."""
     k = max(n // 2, 12)
-    edges = ring_edges(range(1, k + 1)) + [(k + 1 + v, k + 1 + (v + 2) % k, 1) for v in range(k)]
+    edges = ring_edges(range(1, k + 1)) + [(k + 1 + v, k + 1 + (v + shift) % k, 1) for v in range(k)]
     return 2 * k, edges + [(v, k + v, 2) for v in range(1, k + 1)], all_in_pairs(2 * k, 4)
+
+
+def petersen(n: int, rng: Random) -> Made:
+    """Such a ring with spokes to the next but one, numbered along."""
+    return spoked(n, 2)
+
+
+def petersen_by_three(n: int, rng: Random) -> Made:
+    """Such a ring with spokes to the third, numbered along."""
+    return spoked(n, 3)
+
+
+def petersen_scattered(n: int, rng: Random) -> Made:
+    """Such a ring with spokes to the next but one, numbered at random."""
+    n, edges, known = spoked(n, 2)
+    return n, shuffled(n, edges, rng), known
 
 
 def regular(n: int, rng: Random) -> Made:
@@ -299,6 +315,8 @@ FAMILIES: dict[str, tuple[Callable[[int, Random], Made], Callable[[int], int]]] 
     'three_way_torus': (three_way_torus, lambda m: m // 3),
     'hexagons': (hexagons, lambda m: m * 2 // 3),
     'petersen': (petersen, lambda m: m * 2 // 3),
+    'petersen_by_three': (petersen_by_three, lambda m: m * 2 // 3),
+    'petersen_scattered': (petersen_scattered, lambda m: m * 2 // 3),
     'regular': (regular, lambda m: m // 2),
     'hypercube': (hypercube, lambda m: max(1 << k for k in range(4, 26) if k << (k - 1) <= max(m, 32))),
     'path': (path, lambda m: m + 1),

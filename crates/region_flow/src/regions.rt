@@ -1,7 +1,6 @@
 //! The flow, its regions, and the memory for searches.
 
 ghost use Rattle.std.specs.Prelude.{◌≡◌, ◌≢◌, ◌↔◌, ◌+◌, ◌-◌, ◌^◌, ◌<◌, ◌≤◌, ◌⊎◌, ℕ, None, IfOk, IfSome, length, slice_index, slice_set};
-ghost use Rattle.weighted_graph.specs.RowLaws.{IsArcAt};
 ghost use Rattle.residual_arcs.specs.Outcome.{IfBest};
 ghost use Rattle.region_flow.specs.Regions.{RegionState, IsRegionFlow};
 ghost use Rattle.cut_definitions.specs.Regions.{IsOpenAt};
@@ -9,7 +8,7 @@ ghost use Rattle.region_flow.specs.Inflow.{IsStopReached, ShowsLeast};
 ghost use Rattle.region_flow.specs.CutOff.{MayBeCutOff, relabelled};
 
 use crate::cutting::cut_off;
-use crate::searching::{search, search_beside};
+use crate::searching::{search, search_past};
 use crate::task::Task;
 use crate::tree::{SearchTree, clear};
 use cut_definitions::NoMemory;
@@ -17,7 +16,7 @@ use residual_arcs::Outcome;
 use residual_arcs::residual::start;
 use std::alloc::Global;
 use std::marker::Model;
-use weighted_graph::{Arc, Graph};
+use weighted_graph::Graph;
 
 /// A flow from a source that grows, with the vertices outside in regions, and the memory for searches.
 ///
@@ -232,19 +231,18 @@ impl RegionFlow {
         }
     }
 
-    /// Brings the vertex at the other end of an arc of `t`, in the region of `t`, what others there are fed, as far as its
-    /// stop, by one search that passes `t` over. It ends where it went along rows of more arcs than `most`.
+    /// Brings a vertex outside the source what others of its region are fed, as far as its stop, by one search that never
+    /// comes to `t`. It ends where it went along rows of more arcs than `most`.
     ///
-    /// No other vertex is fed more than before. It moves feed inside the region alone, and takes no memory.
-    pub fn feed_beside(&mut self, graph: &Graph, t: u32, arc: &Arc, stop: u64, most: usize)
+    /// No other vertex is fed more than before, and `t` is fed the same. It moves feed inside the region alone, and takes no memory.
+    pub fn feed_past(&mut self, graph: &Graph, v: u32, t: u32, stop: u64, most: usize)
         requires flow { IsRegionFlow graph.now self.old }
-        requires to_n { t ≤ graph.now.vertices }
-        requires outside { 1 ≤ slice_index self.old.labels t }
-        requires arc { IsArcAt graph.now t arc.now }
-        requires region { slice_index self.old.labels arc.now.to ≡ slice_index self.old.labels t }
+        requires to_n { v ≤ graph.now.vertices }
+        requires outside { 1 ≤ slice_index self.old.labels v }
         ensures flow { IsRegionFlow graph.now self.new }
         ensures labels { self.new.labels ≡ self.old.labels }
-        ensures others { (v : ℕ) → v ≢ arc.now.to → slice_index self.new.feed v ≤ slice_index self.old.feed v }
+        ensures others { (u : ℕ) → u ≢ v → slice_index self.new.feed u ≤ slice_index self.old.feed u }
+        ensures kept { t ≢ v → slice_index self.new.feed t ≡ slice_index self.old.feed t }
     {
         let _n = graph.n();
         let task = Task {
@@ -255,7 +253,7 @@ impl RegionFlow {
         let feed = self.feed.as_mut_slice();
         let toward = self.toward.as_mut_slice();
         let tree = &mut self.tree;
-        search_beside(task, feed, toward, tree, t, arc, most);
+        search_past(task, feed, toward, tree, v, t, most);
         clear(tree.marks.as_mut_slice(), tree.order.as_slice());
     }
 }

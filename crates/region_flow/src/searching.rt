@@ -3,8 +3,9 @@
 ghost use Rattle.std.specs.Prelude.{◌≡◌, ◌≢◌, ◌↔◌, ◌+◌, ◌<◌, ◌≤◌, ◌⊎◌, ℕ, IsTrue, IsFalse, length, slice_index};
 ghost use Rattle.cut_definitions.specs.Graph.{IsEdgeList};
 ghost use Rattle.weighted_graph.specs.RowLaws.{IsArcAt};
+ghost use Rattle.residual_arcs.specs.Marks.{order_mark};
 ghost use Rattle.region_flow.specs.Regions.{IsFlowIn};
-ghost use Rattle.region_flow.specs.Tree.{IsTreeIn, IsReady, IsCalmIn, IsFollowed, IsPath, IsUsedUp, ExtendsTree, StaysCalm, IsExpandedCalmly, IsSearchedCalmly};
+ghost use Rattle.region_flow.specs.Tree.{IsTreeIn, IsReady, IsCalmIn, IsFollowed, IsPath, IsUsedUp, ExtendsTree, StaysCalm, IsExpandedCalmly, IsSearchedCalmly, KeepsUnfound, IsPassed};
 
 use crate::pulling::{is_used_up, pull};
 use crate::task::Task;
@@ -38,6 +39,8 @@ fn visit(
         StaysCalm feed.new toward.old toward.new tree.new }
     ensures still { IsFalse result → feed.new ≡ feed.old }
     ensures followed { IsFollowed task.entry.labels.now toward.old tree.new.marks.items (slice_index tree.old.order.items place) arc.now }
+    ensures unfound { KeepsUnfound tree.new feed.old feed.new }
+    ensures found { (v : ℕ) → v ≢ arc.now.to → order_mark tree.new.marks.items v ≡ order_mark tree.old.marks.items v }
 {
     let v = tree.places().order[place as usize];
     if !leads_on(task, toward, tree.marks.as_slice(), v, arc) {
@@ -158,39 +161,91 @@ pub fn search(
     work
 }
 
-/// Searches from the other end of an arc of `t`, inside its region, as `search` does, but with `t` in the tree from the start:
-/// what is found is pulled through `t` maybe, and `t` itself is passed over. It ends once that vertex is fed the stop, or where
-/// the rows that it went along are longer than `most`.
-pub fn search_beside(
+/// Follows an arc as `visit` does, unless it leads to `t`.
+fn visit_past(
     task: Task<'_>,
     feed: &mut [u64],
     toward: &mut [u64],
     tree: &mut SearchTree,
-    t: u32,
+    place: u32,
     arc: &Arc,
+    t: u32,
+) -> bool
+    requires edge_list { IsEdgeList task.graph.now }
+    requires flow { IsFlowIn task.graph.now task.labels.now feed.old toward.old }
+    requires outside { 1 ≤ slice_index task.labels.now (slice_index tree.old.order.items 0) }
+    requires tree { IsTreeIn task.graph.now task.labels.now tree.old }
+    requires place { place < length tree.old.order.items }
+    requires arc { IsArcAt task.graph.now (slice_index tree.old.order.items place) arc.now }
+    requires wanting { slice_index feed.old (slice_index tree.old.order.items 0) < task.stop }
+    ensures flow { IsFlowIn task.entry.graph.now task.entry.labels.now feed.new toward.new }
+    ensures tree { IsTreeIn task.entry.graph.now task.entry.labels.now tree.new }
+    ensures extends { ExtendsTree tree.old tree.new }
+    ensures others { (v : ℕ) → v ≢ slice_index tree.old.order.items 0 → slice_index feed.new v ≤ slice_index feed.old v }
+    ensures passed { order_mark tree.old.marks.items t ≡ 0 → IsPassed t feed.old feed.new tree.new }
+    ensures still { IsFalse result → feed.new ≡ feed.old }
+{
+    if arc.to == t {
+        return false;
+    }
+    visit(task, feed, toward, tree, place, arc)
+}
+
+/// The same as `expand`, but it passes over the arcs to `t`.
+fn expand_past(
+    task: Task<'_>,
+    feed: &mut [u64],
+    toward: &mut [u64],
+    tree: &mut SearchTree,
+    place: u32,
+    t: u32,
+)
+    requires flow { IsFlowIn task.graph.now task.labels.now feed.old toward.old }
+    requires outside { 1 ≤ slice_index task.labels.now (slice_index tree.old.order.items 0) }
+    requires tree { IsTreeIn task.graph.now task.labels.now tree.old }
+    requires place { place < length tree.old.order.items }
+    requires wanting { slice_index feed.old (slice_index tree.old.order.items 0) < task.stop }
+    ensures flow { IsFlowIn task.entry.graph.now task.entry.labels.now feed.new toward.new }
+    ensures tree { IsTreeIn task.entry.graph.now task.entry.labels.now tree.new }
+    ensures extends { ExtendsTree tree.old tree.new }
+    ensures others { (v : ℕ) → v ≢ slice_index tree.old.order.items 0 → slice_index feed.new v ≤ slice_index feed.old v }
+    ensures passed { order_mark tree.old.marks.items t ≡ 0 → IsPassed t feed.old feed.new tree.new }
+{
+    let v = tree.places().order[place as usize];
+    let row = task.graph.row(v);
+    if is_used_up(task, toward, tree.places(), place) {
+        return;
+    }
+    for arc in row {
+        if visit_past(task, feed, toward, tree, place, arc, t)
+            && is_done(task, feed, toward, tree.places(), place)
+        {
+            return;
+        }
+    }
+}
+
+/// Searches from a vertex, inside its region, as `search` does, but never comes to `t`, so that what `t` is fed stays. It ends
+/// once the vertex is fed the stop, or where the rows that it went along are longer than `most`.
+pub fn search_past(
+    task: Task<'_>,
+    feed: &mut [u64],
+    toward: &mut [u64],
+    tree: &mut SearchTree,
+    root: u32,
+    t: u32,
     most: usize,
 )
     requires flow { IsFlowIn task.graph.now task.labels.now feed.old toward.old }
     requires ready { IsReady (task.graph.now.vertices + 1) tree.old }
-    requires to_n { t ≤ task.graph.now.vertices }
-    requires outside { 1 ≤ slice_index task.labels.now t }
-    requires arc { IsArcAt task.graph.now t arc.now }
-    requires region { slice_index task.labels.now arc.now.to ≡ slice_index task.labels.now t }
+    requires to_n { root ≤ task.graph.now.vertices }
+    requires outside { 1 ≤ slice_index task.labels.now root }
     ensures flow { IsFlowIn task.entry.graph.now task.entry.labels.now feed.new toward.new }
     ensures tree { IsTreeIn task.entry.graph.now task.entry.labels.now tree.new }
-    ensures others { (v : ℕ) → v ≢ arc.now.to → slice_index feed.new v ≤ slice_index feed.old v }
+    ensures others { (v : ℕ) → v ≢ root → slice_index feed.new v ≤ slice_index feed.old v }
+    ensures kept { t ≢ root → slice_index feed.new t ≡ slice_index feed.old t }
 {
-    // known by this call: the graph is an edge list
-    let _n = task.graph.n();
-    let root = arc.to;
     tree.plant(root);
-    tree.put(
-        t,
-        Link {
-            parent: 0,
-            arc: *arc,
-        },
-    );
     let mut work = 0usize;
     let mut place = 0;
     'places: while (place as usize) < tree.order.len()
@@ -199,7 +254,7 @@ pub fn search_beside(
     {
         let v = tree.places().order[place as usize];
         work = work.saturating_add(task.graph.row(v).len());
-        expand(task, feed, toward, tree, place);
+        expand_past(task, feed, toward, tree, place, t);
         place += 1;
     }
 }

@@ -1,4 +1,5 @@
 pub mod Beside
 pub mod Fronts
 pub mod Listed
+pub mod Newest
 pub mod Open

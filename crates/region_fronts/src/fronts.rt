@@ -8,6 +8,7 @@ ghost use Rattle.weighted_graph.specs.Rows.{row_of};
 ghost use Rattle.cut_definitions.specs.Regions.{IsOpenAt};
 ghost use Rattle.region_fronts.specs.Open.{IsShutAt};
 ghost use Rattle.region_fronts.specs.Beside.{IsFirstToOpen, IsOpenIn, LeadsToNoneBefore};
+ghost use Rattle.region_fronts.specs.Newest.{IsAnother, IsNewestBut, IsNoneFrom};
 ghost use Rattle.region_fronts.specs.Fronts.{FrontsState, list_at, lists_of, IsCovered, KeepsAll, KeepsFronts, HasEnds, AreFew, AreApart, IsAtFront, taken_out};
 
 use cut_definitions::NoMemory;
@@ -71,6 +72,9 @@ fn is_open(graph: &Graph, labels: &[u32], v: u32) -> bool
 /// How long the rows may be that are looked at for an open vertex beside another.
 const LONG_ROW: usize = 32;
 
+/// How many of the newest entries of a list are looked at for an open vertex other than one.
+const LATE: usize = 4;
+
 /// Whether an arc leads to an open vertex of a region, and to no long row.
 fn leads_to_open(graph: &Graph, labels: &[u32], region: u32, to: u32) -> bool
     requires to_n { to ≤ graph.now.vertices }
@@ -105,6 +109,21 @@ pub fn open_beside(graph: &Graph, labels: &[u32], v: u32) -> Option<Arc>
         }
     }
     None
+}
+
+/// Whether a vertex is another open vertex of the region of `t`.
+fn is_another(graph: &Graph, labels: &[u32], t: u32, v: u32) -> bool
+    requires t_to_n { t ≤ graph.now.vertices }
+    requires to_n { v ≤ graph.now.vertices }
+    requires labels { length labels.now ≡ graph.now.vertices + 1 }
+    ensures { IsTrue result ↔ IsAnother graph.now labels.now t v }
+{
+    // known by this call: the graph is an edge list
+    let _n = graph.n();
+    if v == t || label(labels, v) != label(labels, t) {
+        return false;
+    }
+    is_open(graph, labels, v)
 }
 
 /// Lists without an entry.
@@ -361,6 +380,28 @@ impl Fronts {
                 return Some(v);
             }
             self.take_out(region, last);
+        }
+        None
+    }
+
+    /// The last entry in the list of the region of `t` that is another open vertex of that region, if it is one of the last four;
+    /// none exactly where none of these is.
+    ///
+    /// A look at an entry goes along its row up to the first arc to another label.
+    pub fn newest_but(&self, graph: &Graph, labels: &[u32], t: u32) -> Option<u32>
+        requires labels { length labels.now ≡ graph.now.vertices + 1 }
+        requires vertices { self.now.vertices ≡ graph.now.vertices }
+        requires to_n { t ≤ graph.now.vertices }
+        ensures some { IfSome result (λ v. IsNewestBut graph.now labels.now t (list_at self.now.lists (slice_index labels.now t)) v) }
+        ensures none { result ≡ None → let list = list_at self.now.lists (slice_index labels.now t) in IsNoneFrom graph.now labels.now t list (length list - 4) }
+    {
+        let region = label(labels, t);
+        let count = self.count(region);
+        for back in 0..LATE.min(count) {
+            let v = self.at(region, count - 1 - back);
+            if is_another(graph, labels, t, v) {
+                return Some(v);
+            }
         }
         None
     }

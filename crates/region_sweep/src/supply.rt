@@ -1,6 +1,6 @@
 //! Whether what a region is fed lies far from where the sweep goes on.
 
-ghost use Rattle.std.specs.Prelude.{◌≡◌, ◌↔◌, ◌<◌, ◌≤◌, ◌-◌, ◌*◌, ◌/◌, ◌^◌, max, min, true, false, IsTrue, IsFalse};
+ghost use Rattle.std.specs.Prelude.{◌≡◌, ◌↔◌, ◌<◌, ◌≤◌, ◌+◌, ◌-◌, ◌*◌, ◌/◌, ◌^◌, max, min, true, false, IsTrue, IsFalse};
 
 /// How many vertices a search from what is fed may find before that is called far.
 const NEAR: usize = 64;
@@ -54,6 +54,18 @@ impl Supply {
         ensures { IsTrue result ↔ ((64 < self.reach) × (self.tried ≡ false) × (self.pause ≡ 0)) }
     {
         self.reach > NEAR && !self.tried && self.pause == 0
+    }
+
+    /// What a vertex is to be fed that is fed so much already: something, and where searches went very far one more.
+    pub fn wanted(self, fed: u64) -> u64
+        ensures far { 256 < self.reach → result ≡ min (fed + 1) (2 ^ 64 - 1) }
+        ensures near { self.reach ≤ 256 → result ≡ 1 }
+    {
+        if self.went_far() {
+            fed.saturating_add(1)
+        } else {
+            1
+        }
     }
 
     /// How many arcs that may take: some more than the rows of what these searches found.

@@ -171,22 +171,50 @@ impl Sweep {
             .split(graph, &self.flow, &mut self.fronts, t, &mut self.parts)
     }
 
-    /// Brings some of what the region of `t` is fed to an open vertex beside `t`. Answers whether there is one.
+    /// Brings an open vertex of the region of `t` something that others than `t` there are fed: as much as is wanted of it. Answers
+    /// whether it is fed more than before.
+    fn bring_to(&mut self, graph: &Graph, v: u32, t: u32) -> bool
+        requires under_way { IsUnderWay graph.now self.old }
+        requires open { IsOpenAt graph.now self.old.flow.labels v }
+        ensures under_way { IsUnderWay graph.now self.new }
+        ensures labels { self.new.flow.labels ≡ self.old.flow.labels }
+    {
+        let before = self.flow.feed(v);
+        let stop = self.supply.wanted(before);
+        let most = self.supply.most();
+        self.flow.feed_past(graph, v, t, stop, most);
+        self.supply = self.supply.after_feeding();
+        self.flow.feed(v) > before
+    }
+
+    /// Does so for an open vertex beside `t`. Answers whether one is fed more than before.
     fn feed_beside(&mut self, graph: &Graph, t: u32) -> bool
         requires under_way { IsUnderWay graph.now self.old }
         requires open { IsOpenAt graph.now self.old.flow.labels t }
         ensures under_way { IsUnderWay graph.now self.new }
         ensures labels { self.new.flow.labels ≡ self.old.flow.labels }
     {
-        let most = self.supply.most();
         let Some(arc) = open_beside(graph, self.flow.labels(), t) else {
             return false;
         };
-        self.flow.feed_beside(graph, t, &arc, 1, most);
-        true
+        self.bring_to(graph, arc.to, t)
     }
 
-    /// Feeds `t` the value and a vertex beside it a little, where what its region is fed lies far away.
+    /// Does so for the newest open vertex of the region but `t`, if there is one.
+    fn feed_newest(&mut self, graph: &Graph, t: u32)
+        requires under_way { IsUnderWay graph.now self.old }
+        requires open { IsOpenAt graph.now self.old.flow.labels t }
+        ensures under_way { IsUnderWay graph.now self.new }
+        ensures labels { self.new.flow.labels ≡ self.old.flow.labels }
+    {
+        let Some(v) = self.fronts.newest_but(graph, self.flow.labels(), t) else {
+            return;
+        };
+        let _more = self.bring_to(graph, v, t);
+    }
+
+    /// Feeds `t` the value and a vertex beside it a little, where what its region is fed lies far away; and where that does not help
+    /// and searches went very far, another new open vertex.
     ///
     /// So the searches for parts need not go there, nor for those after it. No answer rests on it.
     fn feed_near(&mut self, graph: &Graph, t: u32, value: u64)
@@ -199,8 +227,8 @@ impl Sweep {
             return;
         }
         let _fed = self.flow.flow(graph, t, value);
-        if self.feed_beside(graph, t) {
-            self.supply = self.supply.after_feeding();
+        if !self.feed_beside(graph, t) && self.supply.went_far() {
+            self.feed_newest(graph, t);
         }
     }
 

@@ -1,7 +1,7 @@
 -- Flows into open vertices keep all that holds between two steps.
-use Rattle.std.proofs.Common.{List, ℕ, sym, subst}
+use Rattle.std.proofs.Common.{List, ℕ, sym, ◌∙◌, subst}
 use Rattle.cut_definitions.specs.Regions.{IsOpenAt}
-use Rattle.region_sweep.proofs.UnderWay.{another_supply, flowed}
+use Rattle.region_sweep.proofs.UnderWay.{flowed}
 use Rattle.region_sweep.proofs.sweep.Sweep.feed_near.Goals as goal
 
 pub feed_beside-requires-clause-under_way : goal.feed_beside-requires-clause-under_way
@@ -12,5 +12,6 @@ feed_beside-requires-clause-under_way c =
 pub feed_beside-requires-clause-open : goal.feed_beside-requires-clause-open
 feed_beside-requires-clause-open c = subst (λ (l : List ℕ). IsOpenAt c.args.graph.now l c.args.t) (sym c.flow-fed.ensures.labels) c.requires.open
 
-pub returns-then-feed_beside-clause-under_way : goal.returns-then-feed_beside-clause-under_way
-returns-then-feed_beside-clause-under_way c = another_supply c.args.graph.now _ c.after_feeding-self.result c.feed_beside.ensures.under_way
+pub feed_newest-requires-clause-open : goal.feed_newest-requires-clause-open
+feed_newest-requires-clause-open c =
+    subst (λ (l : List ℕ). IsOpenAt c.args.graph.now l c.args.t) (sym (c.feed_beside.ensures.labels ∙ c.flow-fed.ensures.labels)) c.requires.open

@@ -1,8 +1,8 @@
 -- The tree so far, and that no vertex but its root is fed more.
 use Rattle.std.proofs.Common.{ℕ, ◌≡◌, ◌≢◌, ◌+◌, ◌-◌, ◌≤◌, length, get_or}
 use Rattle.region_flow.specs.Regions.{IsFlowIn}
-use Rattle.region_flow.specs.Tree.{IsTreeIn}
-use Rattle.region_flow.proofs.searching.search_beside.Given as goal
+use Rattle.region_flow.specs.Tree.{IsTreeIn, IsPassed}
+use Rattle.region_flow.proofs.searching.search_past.Given as goal
 
 abbrev pub invariant-places : goal.invariant-places
 invariant-places l = record {
@@ -10,6 +10,7 @@ invariant-places l = record {
   tree : IsTreeIn l.task.graph.now l.task.labels.now l.tree;
   first : get_or l.tree.order.items 0 0 ≡ l.root;
   within : l.place ≤ length l.tree.order.items;
+  passed : l.t ≢ l.root → IsPassed l.t l.fn.feed l.feed l.tree;
   others : (v : ℕ) → v ≢ l.root → get_or l.feed v 0 ≤ get_or l.fn.feed v 0;
 }
 
