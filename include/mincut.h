@@ -1,4 +1,5 @@
-/* Minimum cuts of a weighted undirected graph: their value, their number, a cactus of all of them, and a most balanced one.
+/* Minimum cuts of a weighted undirected graph: their value, their number, a cactus of all of them, a most balanced one, and lists
+ * of their sides.
  *
  * Graphs. A graph has n vertices, 0 to n - 1, and m edges in three arrays of m entries: edge i joins u[i] and v[i] and weighs
  * w[i], a whole number. The edges stand in any order and each once, not once from each end. It is a multigraph: edges with the
@@ -27,11 +28,11 @@ extern "C" {
 #endif
 
 /* 10000 * major + 100 * minor + patch, of this header */
-#define MINCUT_VERSION 200u
+#define MINCUT_VERSION 300u
 
-/* Several faults may be there at once: masses are looked at first, then the lengths of the arrays, then n, then m, then the edges in turn,
- * then whether there are two vertices, whether the graph is connected, and what there is room for. MINCUT_OUT_OF_MEMORY may come in
- * place of any of the last. */
+/* Several faults may be there at once: masses and the two vertices of a pair are looked at first, then the lengths of the arrays, then n,
+ * then m, then the edges in turn, then whether there are two vertices, whether the graph is connected, how many sides a list has, and
+ * what there is room for. MINCUT_OUT_OF_MEMORY may come in place of any of the last. */
 typedef enum mincut_status {
     MINCUT_OK = 0,
     MINCUT_NO_CUT = 1,            /* n is 0 or 1 */
@@ -39,11 +40,12 @@ typedef enum mincut_status {
     MINCUT_BAD_LENGTH = 3,        /* a pointer is null and its length is not 0, or arrays of one graph differ in length */
     MINCUT_TOO_MANY_VERTICES = 4, /* n is above 4,194,304 */
     MINCUT_TOO_MANY_EDGES = 5,    /* m is above 16,777,216 */
-    MINCUT_BAD_VERTEX = 6,        /* an end of an edge is n or more */
+    MINCUT_BAD_VERTEX = 6,        /* an end of an edge, or a vertex of a pair, is n or more */
     MINCUT_WEIGHT_SUM = 7,        /* the weights of all edges but loops add up to more than 2^61 */
     MINCUT_DISCONNECTED = 8,      /* the graph is not connected: its value is 0, and it has no cactus */
     MINCUT_NO_ROOM = 9,           /* an output array is too short; the sizes say what is needed */
-    MINCUT_MASS_SUM = 10          /* the masses of all vertices add up to 2^64 or more */
+    MINCUT_MASS_SUM = 10,         /* the masses of all vertices add up to 2^64 or more */
+    MINCUT_TOO_MANY_SIDES = 11    /* n times the number of the sides that are asked for is above 2^30; the listing says how many they are */
 } mincut_status;
 
 /* MINCUT_VERSION of the library that is linked */
@@ -110,9 +112,39 @@ typedef struct mincut_balance {
 mincut_status mincut_balanced(uint32_t n, size_t m, const uint32_t *u, const uint32_t *v, const uint64_t *w, const uint64_t *mass,
                               mincut_balance *balance, uint8_t *in_side);
 
+/* The value, and how many sides were asked for. */
+typedef struct mincut_listing {
+    uint64_t value, sides;
+} mincut_listing;
+
+/* All minimum cuts of a connected graph, each once: side k is the row of n bytes from in_side + k * n, 0 for vertex 0 and all on its
+ * side, 1 for the others. The sides stand in the order of the lists of their vertices, entry by entry, a list before those that begin
+ * with it.
+ *
+ * in_side has rows * n bytes, and may be null where rows is 0. There are at most n (n - 1) / 2 sides, and listing tells how many with
+ * the statuses MINCUT_OK, MINCUT_NO_ROOM, where they are more than rows, and MINCUT_TOO_MANY_SIDES, where they are more than 2^30
+ * bytes, whatever rows is; so a call with 0 rows asks for the room. What is behind the last row is left as it was, and with another
+ * status than MINCUT_OK all bytes; with another than these three the listing too.
+ *
+ * The statuses are 0 to 9 and 11. Cost: that of the cactus, O(c log c) comparisons of n / 64 steps for c sides, and n steps for each;
+ * the memory is in proportion to n + m + c n / 8. */
+mincut_status mincut_sides(uint32_t n, size_t m, const uint32_t *u, const uint32_t *v, const uint64_t *w, size_t rows,
+                           mincut_listing *listing, uint8_t *in_side);
+
+/* The same for the minimum cuts that separate two vertices: none where a and b are one vertex. The statuses are 0 to 9 and 11, with
+ * MINCUT_BAD_VERTEX also where a or b is n or more. */
+mincut_status mincut_sides_between(uint32_t n, size_t m, const uint32_t *u, const uint32_t *v, const uint64_t *w, uint32_t a,
+                                   uint32_t b, size_t rows, mincut_listing *listing, uint8_t *in_side);
+
+/* The same for the minimum cuts whose balance, the lesser of the masses of their two sides, is `least` or more. `mass` has n entries, or is
+ * null, for a mass of 1 each. The statuses are 0 to 11. */
+mincut_status mincut_sides_balanced(uint32_t n, size_t m, const uint32_t *u, const uint32_t *v, const uint64_t *w,
+                                    const uint64_t *mass, uint64_t least, size_t rows, mincut_listing *listing, uint8_t *in_side);
+
 /* The proved exports on which the calls above stand, for bindings: each array is a pointer that is not null, also where its length
- * is 0, and its length. They answer the same statuses. mincut_raw_cactus and mincut_raw_balanced take any room: where an array is
- * too short the status is MINCUT_NO_ROOM, the arrays are left as they were, and the former tells the sizes. Masses are n, or none. */
+ * is 0, and its length. They answer the same statuses. mincut_raw_cactus, mincut_raw_balanced and the lists of sides take any room:
+ * where an array is too short the status is MINCUT_NO_ROOM, the arrays are left as they were, and all but mincut_raw_balanced tell the
+ * sizes. Masses are n, or none. mincut_raw_sides lists the minimum cuts of a least balance, which are all where that is 0. */
 uint32_t mincut_raw_value(uint32_t n, const uint32_t *u, size_t u_len, const uint32_t *v, size_t v_len, const uint64_t *w,
                           size_t w_len, uint64_t *value);
 uint32_t mincut_raw_value_below(uint32_t n, const uint32_t *u, size_t u_len, const uint32_t *v, size_t v_len, const uint64_t *w,
@@ -126,6 +158,12 @@ uint32_t mincut_raw_cactus(uint32_t n, const uint32_t *u, size_t u_len, const ui
 uint32_t mincut_raw_balanced(uint32_t n, const uint32_t *u, size_t u_len, const uint32_t *v, size_t v_len, const uint64_t *w,
                              size_t w_len, const uint64_t *mass, size_t mass_len, mincut_balance *balance, uint8_t *in_side,
                              size_t in_side_len);
+uint32_t mincut_raw_sides(uint32_t n, const uint32_t *u, size_t u_len, const uint32_t *v, size_t v_len, const uint64_t *w,
+                          size_t w_len, const uint64_t *mass, size_t mass_len, uint64_t least, mincut_listing *listing,
+                          uint8_t *in_side, size_t in_side_len);
+uint32_t mincut_raw_sides_between(uint32_t n, const uint32_t *u, size_t u_len, const uint32_t *v, size_t v_len, const uint64_t *w,
+                                  size_t w_len, uint32_t a, uint32_t b, mincut_listing *listing, uint8_t *in_side,
+                                  size_t in_side_len);
 
 #ifdef __cplusplus
 }

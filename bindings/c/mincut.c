@@ -8,6 +8,9 @@ static const void *some(const void *array) { return array ? array : &nothing; }
 
 static int is_bad(size_t m, const uint32_t *u, const uint32_t *v, const uint64_t *w) { return m > 0 && (!u || !v || !w); }
 
+/* the bytes of some rows of n; no list has more than 2^30 */
+static size_t bytes_of(size_t rows, uint32_t n) { return (rows < 1 << 30 ? rows : 1 << 30) * n; }
+
 uint32_t mincut_version(void) { return MINCUT_VERSION; }
 
 mincut_status mincut_value(uint32_t n, size_t m, const uint32_t *u, const uint32_t *v, const uint64_t *w, uint64_t *value) {
@@ -39,6 +42,27 @@ mincut_status mincut_balanced(uint32_t n, size_t m, const uint32_t *u, const uin
                               mincut_balance *balance, uint8_t *in_side) {
     if (is_bad(m, u, v, w) || !balance || !in_side) return MINCUT_BAD_LENGTH;
     return (mincut_status)mincut_raw_balanced(n, some(u), m, some(v), m, some(w), m, some(mass), mass ? n : 0, balance, in_side, n);
+}
+
+mincut_status mincut_sides(uint32_t n, size_t m, const uint32_t *u, const uint32_t *v, const uint64_t *w, size_t rows,
+                           mincut_listing *listing, uint8_t *in_side) {
+    return mincut_sides_balanced(n, m, u, v, w, NULL, 0, rows, listing, in_side);
+}
+
+mincut_status mincut_sides_between(uint32_t n, size_t m, const uint32_t *u, const uint32_t *v, const uint64_t *w, uint32_t a,
+                                   uint32_t b, size_t rows, mincut_listing *listing, uint8_t *in_side) {
+    uint8_t none = 0;
+    if (is_bad(m, u, v, w) || !listing || (rows > 0 && !in_side)) return MINCUT_BAD_LENGTH;
+    return (mincut_status)mincut_raw_sides_between(n, some(u), m, some(v), m, some(w), m, a, b, listing, in_side ? in_side : &none,
+                                                   bytes_of(rows, n));
+}
+
+mincut_status mincut_sides_balanced(uint32_t n, size_t m, const uint32_t *u, const uint32_t *v, const uint64_t *w,
+                                    const uint64_t *mass, uint64_t least, size_t rows, mincut_listing *listing, uint8_t *in_side) {
+    uint8_t none = 0;
+    if (is_bad(m, u, v, w) || !listing || (rows > 0 && !in_side)) return MINCUT_BAD_LENGTH;
+    return (mincut_status)mincut_raw_sides(n, some(u), m, some(v), m, some(w), m, some(mass), mass ? n : 0, least, listing,
+                                           in_side ? in_side : &none, bytes_of(rows, n));
 }
 
 void mincut_node_of(const mincut_sizes *sizes, const size_t *node_starts, const uint32_t *vertices, uint64_t *node_of) {

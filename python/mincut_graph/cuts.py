@@ -26,8 +26,8 @@ class MinimumCuts:
     function of a vertex; each is 1 without it. `names`: those of the rows of a matrix. `scale`: all weights are multiplied by it.
     `undirected`: takes a directed graph as an undirected one, each arrow an edge.
 
-    `program`, `workers` (1 to 64): the program that answers. `library`: the shared library that answers `value`, `count`, `cactus` and
-    `balanced`; None looks for one, False goes by the program alone. `time_limit`: seconds for each call that names no other, None for no limit.
+    `program`, `workers` (1 to 64): the program that answers. `library`: the shared library that answers `value`, `count`, `cactus`,
+    `sides` and `balanced`; None looks for one, False goes by the program alone. `time_limit`: seconds for each call that names no other, None for no limit.
 
     Raises BadInput for what is no graph, UnknownName for a mass that is missing. Calls raise NoCut below two vertices, Disconnected
     where a job wants a connected graph, TimedOut, NoProgram, and Failed with the status of the program for all else. A call that is
@@ -73,7 +73,14 @@ class MinimumCuts:
         if least is not None and parting is not None:
             raise ValueError('`least` and `parting` do not go together')
         pair = None if parting is None else (self.number_of(parting[0]) - 1, self.number_of(parting[1]) - 1)
-        found = Program(self.program, self.workers).sides(self.graph, least, pair, self.limit(time_limit))
+        limit = self.limit(time_limit)
+        try:
+            found = self.fastest().sides(self.graph, least, pair, limit)
+        except (Disconnected, Refused):
+            if not self.library:
+                raise
+            # as for `balanced`
+            found = Program(self.program, self.workers).sides(self.graph, least, pair, limit)
         return [self.named(side) for side in found[1]]
 
     def balanced(self, *, time_limit: Optional[float] = None) -> tuple[int, list[Any]]:
@@ -119,7 +126,7 @@ class MinimumCuts:
         return self.time_limit if time_limit is None else time_limit
 
     def fastest(self) -> Union[Library, Program]:
-        """The back end for the value, the count, the cactus and a most balanced cut."""
+        """The back end for the value, the count, the cactus, lists of sides and a most balanced cut."""
         return self.library or Program(self.program, self.workers)
 
 

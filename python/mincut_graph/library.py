@@ -1,4 +1,5 @@
-"""The shared library as a back end: the calls of mincut.h by ctypes, for the value, the count, the cactus, and a most balanced cut.
+"""The shared library as a back end: the calls of mincut.h by ctypes, for the value, the count, the cactus, a most balanced cut, and lists of
+sides.
 
 A call on a small graph without a time limit runs in this process, and an interrupt waits for its end, some milliseconds. All others run
 in a process of their own, which is ended where the call is interrupted or its time is over.
@@ -20,9 +21,10 @@ from .errors import Disconnected, MincutError, NoCut, NoProgram, OutOfMemory, Re
 from .graph import Graph
 
 EDGES_IN_PROCESS = 20_000
+FIRST_ROOM = 1 << 16                   # bytes for the rows of a first call, which tells how many sides there are
 MOST_COMPONENTS = 127                  # as in the program, whose count has 127 bits
 INTERRUPTS = {signal.SIGINT, signal.SIGTERM}
-NO_CUT, OUT_OF_MEMORY, DISCONNECTED, MASS_SUM = 1, 2, 8, 10
+NO_CUT, OUT_OF_MEMORY, DISCONNECTED, NO_ROOM, MASS_SUM, TOO_MANY_SIDES = 1, 2, 8, 9, 10, 11
 FAULTS = {3: 'the arrays differ in length', 4: 'too many vertices', 5: 'too many edges', 6: 'an end of an edge is no vertex',
           7: 'the weights add up to more than 2^61', 9: 'an array is too short', 10: 'the masses add up to 2^64 or more'}
 
@@ -40,6 +42,10 @@ class Balance(ctypes.Structure):
     _fields_ = [('value', c_uint64), ('balance', c_uint64)]
 
 
+class Listing(ctypes.Structure):
+    _fields_ = [('value', c_uint64), ('sides', c_uint64)]
+
+
 class Library:
     """Answers by the shared library; lists of vertices are lists of their places, counted from 0."""
     name = 'library'
@@ -53,6 +59,9 @@ class Library:
             loaded.mincut_cactus.argtypes = graph + [POINTER(Sizes), POINTER(c_size_t), POINTER(c_uint32), POINTER(Bridge),
                                                      POINTER(c_size_t), POINTER(c_uint64)]
             loaded.mincut_balanced.argtypes = graph + [POINTER(c_uint64), POINTER(Balance), POINTER(c_uint8)]
+            rows: list[Any] = [c_size_t, POINTER(Listing), POINTER(c_uint8)]
+            loaded.mincut_sides_balanced.argtypes = graph + [POINTER(c_uint64), c_uint64] + rows
+            loaded.mincut_sides_between.argtypes = graph + [c_uint32, c_uint32] + rows
         except (OSError, AttributeError) as fault:
             raise NoProgram(f'{path} is no library of mincut ({fault})') from None
         self.path, self.loaded = path, loaded
@@ -84,6 +93,32 @@ class Library:
         balance, inside = Balance(), (c_uint8 * len(graph.names))()
         checked(self.loaded.mincut_balanced(*arrays(graph), masses(graph), byref(balance), inside), graph)
         return balance.value, balance.balance, [v for v, byte in enumerate(inside) if byte]
+
+    def sides(self, graph: Graph, least: Optional[int], parting: Optional[tuple[int, int]],
+              time_limit: Optional[float] = None) -> tuple[int, list[list[int]]]:
+        """(value, sides) of all minimum cuts, or of those of balance `least` or more, or of those that part two vertices.
+
+        Raises Disconnected, and Refused where the masses add up to 2^64 or more, or where `least` is no number of 64 bits: the program
+        answers these."""
+        return alone(lambda: self.listed(graph, least, parting), graph, time_limit)
+
+    def listed(self, graph: Graph, least: Optional[int], parting: Optional[tuple[int, int]]) -> tuple[int, list[list[int]]]:
+        if least is not None and not 0 <= least < 1 << 64:
+            raise Refused(1, 'the least balance is no number of 64 bits')
+        n, given = len(graph.names), arrays(graph)
+        call = self.loaded.mincut_sides_balanced if parting is None else self.loaded.mincut_sides_between
+        asked: tuple[Any, ...] = (masses(graph) if least else None, least or 0) if parting is None else parting
+        listing, count = Listing(), FIRST_ROOM // max(n, 1)
+        rows = (c_uint8 * (count * n))()
+        status = call(*given, *asked, count, byref(listing), rows)
+        if status == NO_ROOM:
+            rows = (c_uint8 * (listing.sides * n))()
+            status = call(*given, *asked, listing.sides, byref(listing), rows)
+        if status == TOO_MANY_SIDES:
+            raise TooLarge(6, f'list too large: {listing.sides} cuts, {n} vertices')
+        checked(status, graph)
+        text = bytes(rows)
+        return listing.value, [[v for v, byte in enumerate(text[k * n:(k + 1) * n]) if byte] for k in range(listing.sides)]
 
     def number(self, call: Callable[..., int], graph: Graph) -> int:
         result = c_uint64()

@@ -1,5 +1,5 @@
-/* Stands in for the shared library in tests, with the calls of mincut.h: the value, the count and a most balanced cut by trying all sides of up to 16
- * vertices, and the cactus of a ring whose edges stand in order, written down from another node than the canonical cactus begins with. A first weight
+/* Stands in for the shared library in tests, with the calls of mincut.h: the value, the count, a most balanced cut and lists of sides by trying all
+ * sides of up to 16 vertices, and the cactus of a ring whose edges stand in order, written down from another node than the canonical cactus begins with. A first weight
  * of 999 makes a call that does not end, one of 998 one that ends its process, one of 997 one without memory. */
 #include <stddef.h>
 #include <stdint.h>
@@ -74,4 +74,55 @@ int mincut_balanced(uint32_t n, size_t m, const uint32_t *u, const uint32_t *v, 
         for (uint32_t i = 0; i < n; ++i) in_side[i] = side >> i & 1;
     }
     return 0;
+}
+
+struct listing { uint64_t value, sides; };
+
+static uint64_t weight_of(size_t m, const uint32_t *u, const uint32_t *v, const uint64_t *w, uint32_t side) {
+    uint64_t weight = 0;
+    for (size_t k = 0; k < m; ++k) weight += (side >> u[k] & 1) != (side >> v[k] & 1) ? w[k] : 0;
+    return weight;
+}
+
+static uint64_t balance_of(uint32_t n, const uint64_t *mass, uint32_t side) {
+    uint64_t inside = 0, outside = 0;
+    for (uint32_t i = 0; i < n; ++i) *(side >> i & 1 ? &inside : &outside) += mass ? mass[i] : 1;
+    return inside < outside ? inside : outside;
+}
+
+/* all sides with some vertices from one on, in the order of lists; those that are asked for are counted, and told where rows is not null */
+static void list(uint32_t n, size_t m, const uint32_t *u, const uint32_t *v, const uint64_t *w, const uint64_t *mass, uint64_t least, uint32_t pair,
+                 uint32_t side, uint32_t from, struct listing *listing, uint8_t *rows) {
+    const uint32_t both = side & pair;
+    if (side && weight_of(m, u, v, w, side) == listing->value && balance_of(n, mass, side) >= least && (!pair || (both && both != pair))) {
+        for (uint32_t i = 0; rows && i < n; ++i) rows[listing->sides * n + i] = side >> i & 1;
+        ++listing->sides;
+    }
+    for (uint32_t next = from; next < n; ++next) list(n, m, u, v, w, mass, least, pair, side | 1u << next, next + 1, listing, rows);
+}
+
+static int sides(uint32_t n, size_t m, const uint32_t *u, const uint32_t *v, const uint64_t *w, const uint64_t *mass, uint64_t least, uint32_t pair,
+                 size_t rows, struct listing *listing, uint8_t *in_side) {
+    uint64_t count, value;
+    const int status = best(n, m, u, v, w, &value, &count);
+    uint64_t total = 0;
+    for (uint32_t i = 0; mass && i < n; total += mass[i++])
+        if (mass[i] > UINT64_MAX - total) return 10;
+    if (status || value == 0) return status ? status : 8;
+    *listing = (struct listing){value, 0};
+    list(n, m, u, v, w, mass, least, pair, 0, 1, listing, 0);
+    if (listing->sides > rows) return 9;
+    *listing = (struct listing){value, 0};
+    list(n, m, u, v, w, mass, least, pair, 0, 1, listing, in_side);
+    return 0;
+}
+
+int mincut_sides_balanced(uint32_t n, size_t m, const uint32_t *u, const uint32_t *v, const uint64_t *w, const uint64_t *mass, uint64_t least,
+                          size_t rows, struct listing *listing, uint8_t *in_side) {
+    return sides(n, m, u, v, w, mass, least, 0, rows, listing, in_side);
+}
+
+int mincut_sides_between(uint32_t n, size_t m, const uint32_t *u, const uint32_t *v, const uint64_t *w, uint32_t a, uint32_t b, size_t rows,
+                         struct listing *listing, uint8_t *in_side) {
+    return a == b ? sides(n, m, u, v, w, 0, UINT64_MAX, 0, rows, listing, in_side) : sides(n, m, u, v, w, 0, 0, 1u << a | 1u << b, rows, listing, in_side);
 }

@@ -52,6 +52,17 @@ def test_most_balanced(stub):
     assert MinimumCuts(ring(4), mass=lambda v: 2 ** 63, library=stub).balanced()[0] == 2 ** 64
 
 
+def test_lists_of_sides(stub):
+    for n, edges, value, sides in random_graphs(40):
+        masses = {v: v % 3 for edge in edges for v in edge[:2]}
+        by_library, by_program = (MinimumCuts(edges, mass=masses, library=library) for library in (stub, False))
+        ends = by_library.names[0], by_library.names[-1]
+        for asked in ({}, {'least': 1}, {'least': 2}, {'parting': ends}):
+            assert by_library.sides(**asked) == by_program.sides(**asked)
+    assert MinimumCuts([(1, 2), (3, 4), (4, 5)], library=stub).sides() == [[3, 4, 5]], 'the program answers a graph in several components'
+    assert len(MinimumCuts(ring(16), library=stub).sides()) == 120
+
+
 def test_no_answer(stub):
     assert MinimumCuts([(1, 2), (3, 4), (5, 6)], library=stub).count() == 3
     with pytest.raises(mincut_graph.Disconnected) as caught:
@@ -120,6 +131,8 @@ def test_library_and_program_agree():
         by_library, by_program = MinimumCuts(edges, library=str(LIBRARY)), MinimumCuts(edges, library=False)
         assert by_library.value() == by_program.value() and by_library.count() == by_program.count()
         assert by_library.cactus() == by_program.cactus()
+        for asked in ({}, {'least': 2}, {'parting': (0, n - 1)}):
+            assert by_library.sides(**asked) == by_program.sides(**asked)
 
 
 @needs_library

@@ -1,6 +1,7 @@
 /* A few graphs and faults through mincut.h. It ends with the number of the first check that fails, or 0. */
 #include "mincut.h"
 #include <stdio.h>
+#include <string.h>
 
 #define MOST 64
 
@@ -52,6 +53,22 @@ int main(void) {
     if (mincut_balanced(4, 6, u, v, one, NULL, &balance, NULL) != MINCUT_BAD_LENGTH) return 25;
     if (mincut_raw_balanced(4, u, 6, v, 6, one, 6, mass, 3, &balance, inside, 4) != MINCUT_BAD_LENGTH || balance.balance != 77) return 26;
     if (mincut_raw_balanced(4, u, 6, v, 6, one, 6, mass, 4, &balance, inside, 3) != MINCUT_NO_ROOM || balance.balance != 77 || inside[1] != 9) return 27;
+    mincut_listing listing = {77, 77};
+    uint8_t rows[25];
+    for (int i = 0; i < 25; ++i) rows[i] = 9;
+    if (mincut_sides(4, 6, u, v, one, 5, &listing, rows) != MINCUT_NO_ROOM || listing.value != 2 || listing.sides != 6 || rows[0] != 9) return 28;
+    if (mincut_sides(4, 6, u, v, one, 0, &listing, NULL) != MINCUT_NO_ROOM || listing.sides != 6) return 29;
+    if (mincut_sides(4, 6, u, v, one, 6, &listing, rows) != MINCUT_OK || listing.sides != 6 || rows[24] != 9) return 30;
+    const uint8_t all[24] = {0, 1, 0, 0, 0, 1, 1, 0, 0, 1, 1, 1, 0, 0, 1, 0, 0, 0, 1, 1, 0, 0, 0, 1};
+    if (memcmp(rows, all, sizeof all)) return 31;
+    if (mincut_sides_between(4, 6, u, v, one, 2, 3, 2, &listing, rows) != MINCUT_NO_ROOM || listing.sides != 3 || memcmp(rows, all, sizeof all)) return 32;
+    if (mincut_sides_between(4, 6, u, v, one, 2, 2, 0, &listing, NULL) != MINCUT_OK || listing.sides != 0) return 33;
+    listing.sides = 77;
+    if (mincut_sides_between(4, 6, u, v, one, 2, 4, 6, &listing, rows) != MINCUT_BAD_VERTEX || listing.sides != 77) return 34;
+    if (mincut_sides_balanced(4, 6, u, v, one, mass, 3, 1, &listing, rows) != MINCUT_OK || listing.sides != 1 || rows[1] != 1 || rows[2] != 0) return 35;
+    if (mincut_sides_balanced(4, 6, u, v, one, vast, 3, 1, &listing, rows) != MINCUT_MASS_SUM || listing.sides != 1) return 36;
+    if (mincut_sides(4, 6, u, v, one, 6, &listing, NULL) != MINCUT_BAD_LENGTH || mincut_sides(4, 6, u, v, one, 6, NULL, rows) != MINCUT_BAD_LENGTH) return 37;
+    if (mincut_sides(2, 0, NULL, NULL, NULL, 1, &listing, rows) != MINCUT_DISCONNECTED || listing.sides != 1) return 38;
     const uint32_t a[] = {0, 1}, b[] = {1, 2};
     if (cactus(3, 2, a, b, one) != MINCUT_OK || sizes.bridges != 2 || sizes.cycles != 0) return 13;
     puts("all checks passed");

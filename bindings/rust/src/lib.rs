@@ -1,4 +1,5 @@
-//! Minimum cuts of a weighted undirected graph: their value, their number, a cactus of all of them, and a most balanced one.
+//! Minimum cuts of a weighted undirected graph: their value, their number, a cactus of all of them, a most balanced one, and lists
+//! of their sides.
 //!
 //! A graph has `n` vertices, 0 to n - 1; edge i joins `u[i]` and `v[i]` and weighs `w[i]`. Edges with the same ends are as one of
 //! the sum of their weights; loops and edges of weight 0 count for nothing. All limits are checked, and told by an [`Error`].
@@ -29,7 +30,7 @@ pub enum Error {
     TooManyVertices,
     /// There are more than 16,777,216 edges.
     TooManyEdges,
-    /// An end of an edge is n or more.
+    /// An end of an edge, or a vertex of a pair, is n or more.
     BadVertex,
     /// The weights of all edges but loops add up to more than 2^61.
     WeightSum,
@@ -37,18 +38,21 @@ pub enum Error {
     Disconnected,
     /// The masses add up to 2^64 or more.
     MassSum,
+    /// n times the number of the sides that are asked for, which is told here, is above 2^30.
+    TooManySides(u64),
 }
 
 impl fmt::Display for Error {
     fn fmt(&self, f: &mut fmt::Formatter<'_>) -> fmt::Result {
         f.write_str(match self {
+            Error::TooManySides(sides) => return write!(f, "a list of {sides} sides is too large"),
             Error::MassSum => "the masses add up to 2^64 or more",
             Error::NoCut => "the graph has fewer than two vertices",
             Error::OutOfMemory => "out of memory",
             Error::BadLength => "the slices differ in length",
             Error::TooManyVertices => "too many vertices",
             Error::TooManyEdges => "too many edges",
-            Error::BadVertex => "an end of an edge is no vertex",
+            Error::BadVertex => "an end of an edge, or a vertex of a pair, is no vertex",
             Error::WeightSum => "the weights add up to more than 2^61",
             Error::Disconnected => "the graph is not connected",
         })
@@ -149,6 +153,55 @@ struct Balance {
     balance: u64,
 }
 
+#[repr(C)]
+#[derive(Default)]
+struct Listing {
+    value: u64,
+    sides: u64,
+}
+
+/// Sides of minimum cuts, in the order of the lists of their vertices.
+#[derive(Clone, Debug, PartialEq, Eq)]
+pub struct Sides {
+    value: u64,
+    n: usize,
+    bytes: Vec<u8>,
+}
+
+impl Sides {
+    /// The value of the graph.
+    pub fn value(&self) -> u64 {
+        self.value
+    }
+
+    /// For each side a byte for each vertex: 0 for vertex 0 and all on its side, 1 for the others.
+    pub fn rows(&self) -> impl ExactSizeIterator<Item = &[u8]> {
+        self.bytes.chunks_exact(self.n)
+    }
+
+    /// The vertices of each side, which ascend; vertex 0 is in none.
+    pub fn lists(&self) -> impl ExactSizeIterator<Item = Vec<u32>> + '_ {
+        self.rows().map(|row| (0..).zip(row).filter(|(_, byte)| **byte == 1).map(|(v, _)| v).collect())
+    }
+}
+
+/// Lists sides by a call that takes a room: first by a small one, since the call tells how many they are.
+fn listed(n: u32, mut call: impl FnMut(&mut Listing, &mut [u8]) -> u32) -> Result<Sides, Error> {
+    let mut listing = Listing::default();
+    let mut bytes = vec![0; 1 << 16];
+    let mut status = call(&mut listing, &mut bytes);
+    if status == 9 {
+        bytes = vec![0; listing.sides as usize * n as usize];
+        status = call(&mut listing, &mut bytes);
+    }
+    if status == 11 {
+        return Err(Error::TooManySides(listing.sides));
+    }
+    told(status)?;
+    bytes.truncate(listing.sides as usize * n as usize);
+    Ok(Sides { value: listing.value, n: n as usize, bytes })
+}
+
 /// A minimum cut, and how evenly it parts the vertices.
 #[derive(Clone, Debug, PartialEq, Eq)]
 pub struct Balanced {
@@ -164,6 +217,14 @@ extern "C" {
     fn mincut_raw_balanced(
         n: u32, u: *const u32, u_len: usize, v: *const u32, v_len: usize, w: *const u64, w_len: usize,
         mass: *const u64, mass_len: usize, balance: *mut Balance, in_side: *mut u8, in_side_len: usize,
+    ) -> u32;
+    fn mincut_raw_sides(
+        n: u32, u: *const u32, u_len: usize, v: *const u32, v_len: usize, w: *const u64, w_len: usize,
+        mass: *const u64, mass_len: usize, least: u64, listing: *mut Listing, in_side: *mut u8, in_side_len: usize,
+    ) -> u32;
+    fn mincut_raw_sides_between(
+        n: u32, u: *const u32, u_len: usize, v: *const u32, v_len: usize, w: *const u64, w_len: usize,
+        a: u32, b: u32, listing: *mut Listing, in_side: *mut u8, in_side_len: usize,
     ) -> u32;
     fn mincut_raw_value(
         n: u32, u: *const u32, u_len: usize, v: *const u32, v_len: usize, w: *const u64, w_len: usize, value: *mut u64,
@@ -262,4 +323,52 @@ pub fn balanced(n: u32, u: &[u32], v: &[u32], w: &[u64], masses: &[u64]) -> Resu
     };
     self::told(status)?;
     Ok(Balanced { value: told.value, balance: told.balance, in_side: bytes.iter().map(|byte| *byte == 1).collect() })
+}
+
+/// All minimum cuts of a connected graph, by their sides.
+///
+/// ```
+/// // a path of four vertices with weights 1, 2, 1
+/// let sides = mincut::sides(4, &[0, 1, 2], &[1, 2, 3], &[1, 2, 1]).unwrap();
+/// assert_eq!(sides.value(), 1);
+/// assert_eq!(sides.lists().collect::<Vec<_>>(), [vec![1, 2, 3], vec![3]]);
+/// ```
+pub fn sides(n: u32, u: &[u32], v: &[u32], w: &[u64]) -> Result<Sides, Error> {
+    sides_balanced(n, u, v, w, &[], 0)
+}
+
+/// The minimum cuts of a connected graph whose balance, the lesser of the masses of their two sides, is `least` or more. `masses` has
+/// n entries, or none, for a mass of 1 each.
+///
+/// ```
+/// let sides = mincut::sides_balanced(4, &[0, 1, 2], &[1, 2, 3], &[1, 1, 1], &[], 2).unwrap();
+/// assert_eq!(sides.rows().collect::<Vec<_>>(), [[0, 0, 1, 1]]);
+/// ```
+pub fn sides_balanced(n: u32, u: &[u32], v: &[u32], w: &[u64], masses: &[u64], least: u64) -> Result<Sides, Error> {
+    listed(n, |listing, bytes| {
+        // SAFETY: the slices are lent for the call, and the export checks all that they say.
+        unsafe {
+            mincut_raw_sides(
+                n, u.as_ptr(), u.len(), v.as_ptr(), v.len(), w.as_ptr(), w.len(), masses.as_ptr(), masses.len(), least, listing,
+                bytes.as_mut_ptr(), bytes.len(),
+            )
+        }
+    })
+}
+
+/// The minimum cuts of a connected graph that separate two vertices: none where these are one vertex.
+///
+/// ```
+/// let sides = mincut::sides_between(4, &[0, 1, 2], &[1, 2, 3], &[1, 1, 1], 1, 2).unwrap();
+/// assert_eq!(sides.lists().collect::<Vec<_>>(), [[2, 3]]);
+/// ```
+pub fn sides_between(n: u32, u: &[u32], v: &[u32], w: &[u64], a: u32, b: u32) -> Result<Sides, Error> {
+    listed(n, |listing, bytes| {
+        // SAFETY: as above.
+        unsafe {
+            mincut_raw_sides_between(
+                n, u.as_ptr(), u.len(), v.as_ptr(), v.len(), w.as_ptr(), w.len(), a, b, listing, bytes.as_mut_ptr(), bytes.len(),
+            )
+        }
+    })
 }

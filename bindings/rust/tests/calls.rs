@@ -1,4 +1,4 @@
-use mincut::{balanced, cactus, count, value, Error};
+use mincut::{balanced, cactus, count, sides, sides_balanced, sides_between, value, Error};
 
 #[test]
 fn each_fault_is_told() {
@@ -14,6 +14,28 @@ fn each_fault_is_told() {
     assert_eq!(balanced(2, &[0], &[1], &[1], &[u64::MAX, 1]), Err(Error::MassSum));
     assert_eq!(balanced(u32::MAX, &[], &[], &[], &[]), Err(Error::TooManyVertices));
     assert_eq!(balanced(2, &[], &[], &[], &[]), Err(Error::Disconnected));
+    assert_eq!(sides(2, &[], &[], &[]), Err(Error::Disconnected));
+    assert_eq!(sides_between(2, &[0], &[1], &[1], 0, 2), Err(Error::BadVertex));
+    assert_eq!(sides_balanced(2, &[0], &[1], &[1], &[1], 0), Err(Error::BadLength));
+}
+
+#[test]
+fn sides_of_a_ring_are_listed() {
+    let n = 130;
+    let (u, v, w): (Vec<u32>, Vec<u32>, Vec<u64>) = ((0..n).collect(), (1..n).chain([0]).collect(), vec![1; n as usize]);
+    let all: Vec<_> = sides(n, &u, &v, &w).unwrap().lists().collect();
+    assert_eq!(all.len(), 130 * 129 / 2);
+    assert!(all.windows(2).all(|pair| pair[0] < pair[1]));
+    assert_eq!(sides_balanced(n, &u, &v, &w, &[], 65).unwrap().rows().count(), 65);
+    assert_eq!(sides_between(n, &u, &v, &w, 5, 5).unwrap().rows().count(), 0);
+    assert!(sides_between(n, &u, &v, &w, 0, 70).unwrap().lists().all(|side| side.contains(&70)));
+}
+
+#[test]
+fn a_list_that_is_too_large_is_told_by_its_number() {
+    let n = 2000;
+    let (u, v, w): (Vec<u32>, Vec<u32>, Vec<u64>) = ((0..n).collect(), (1..n).chain([0]).collect(), vec![1; n as usize]);
+    assert_eq!(sides(n, &u, &v, &w), Err(Error::TooManySides(1_999_000)));
 }
 
 #[test]

@@ -2,3 +2,5 @@ pub mod Counting
 pub mod Showing
 pub mod Room
 pub mod MassSums
+pub mod RowBytes
+pub mod Listing

@@ -1,13 +1,10 @@
 -- A most balanced minimum cut, as a caller reads it.
-use Rattle.std.specs.Prelude.{ℕ, ◌≡◌, ◌+◌, ◌<◌, List, slice_index, if◌then◌else◌}
+use Rattle.std.specs.Prelude.{ℕ, ◌≡◌, List}
 use Rattle.cut_definitions.specs.Balance.{IsBest, balance}
-use Rattle.cut_definitions.specs.Cuts.{has, mincuts, value}
+use Rattle.cut_definitions.specs.Cuts.{mincuts, value}
 use Rattle.cut_definitions.specs.Graph.{Graph}
 use Rattle.mincut_c.specs.declared.balances.Balanced.{Balanced}
-
--- a byte for each of n vertices, counted from 0: 1 where the side has the vertex, and else 0
-abbrev pub TellsSide : ℕ → List ℕ → List ℕ → Type 0
-TellsSide n side bytes = (v : ℕ) → v < n → slice_index bytes v ≡ (if has side (v + 1) then 1 else 0)
+use Rattle.mincut_c.specs.Rows.{TellsSide}
 
 -- the bytes tell a minimum cut than which none has a greater balance by the masses, by its side without the first vertex; the numbers tell its weight and its balance
 pub record HoldsBalanced (g : Graph) (masses : List ℕ) (balanced : Balanced) (bytes : List ℕ) : Type 0 where

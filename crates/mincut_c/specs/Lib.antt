@@ -1,4 +1,6 @@
 pub mod Shown
 pub mod Filled
 pub mod Statuses
+pub mod Rows
 pub mod Balanced
+pub mod Listed

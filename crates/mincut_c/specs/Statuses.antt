@@ -6,7 +6,7 @@ use Rattle.edge_arrays.specs.declared.arrays.ArrayFault.TheVariants.{OutOfMemory
 use Rattle.edge_arrays.specs.Given.{IsGiven, given}
 use Rattle.edge_arrays.specs.Faults.{Explains}
 use Rattle.mincut_c.specs.declared.status.Fault.{Fault}
-use Rattle.mincut_c.specs.declared.status.Fault.TheVariants.{Arrays, NoCut, Disconnected, NoRoom, MassCount, MassSum}
+use Rattle.mincut_c.specs.declared.status.Fault.TheVariants.{Arrays, NoCut, Disconnected, NoRoom, MassCount, MassSum, NoVertex, TooManySides}
 
 -- the number by which a call tells of a fault
 abbrev pub number_of : Fault → ℕ
@@ -21,6 +21,8 @@ number_of Disconnected = 8
 number_of NoRoom = 9
 number_of MassCount = 3
 number_of MassSum = 10
+number_of NoVertex = 6
+number_of TooManySides = 11
 
 -- the arrays give a graph that has cuts
 abbrev pub HasCuts : ℕ → List ℕ → List ℕ → List ℕ → Type 0
@@ -34,6 +36,8 @@ IsReason Disconnected n us vs ws = HasCuts n us vs ws × (value (given n us vs w
 IsReason NoRoom n us vs ws = HasCuts n us vs ws × (1 ≤ value (given n us vs ws))
 IsReason MassCount n us vs ws = ⊥
 IsReason MassSum n us vs ws = ⊥
+IsReason NoVertex n us vs ws = ⊥
+IsReason TooManySides n us vs ws = HasCuts n us vs ws × (1 ≤ value (given n us vs ws))
 
 -- the masses of n vertices by an array: 1 for each vertex where the array has no entry
 abbrev pub masses_for : ℕ → List ℕ → List ℕ
@@ -46,6 +50,11 @@ IsMassReason MassCount n masses = length (masses_for n masses) ≢ n
 IsMassReason MassSum n masses = 2 ^ 64 ≤ sum (masses_for n masses)
 IsMassReason _ n masses = ⊥
 
+-- when a fault of two vertices is told, which are to be separated
+abbrev pub IsPairReason : Fault → ℕ → ℕ → ℕ → Type 0
+IsPairReason NoVertex n a b = (n ≤ a) ⊎ (n ≤ b)
+IsPairReason _ n a b = ⊥
+
 -- a status is that of a fault that there is reason for
 pub record TellsFault (status n : ℕ) (us vs ws : List ℕ) : Type 0 where
   pub fault : Fault
@@ -57,6 +66,12 @@ pub record TellsWeighedFault (status n : ℕ) (us vs ws masses : List ℕ) : Typ
   pub fault : Fault
   pub number : status ≡ number_of fault
   pub reason : IsReason fault n us vs ws ⊎ IsMassReason fault n masses
+
+-- and of one that takes two vertices
+pub record TellsPairFault (status n : ℕ) (us vs ws : List ℕ) (a b : ℕ) : Type 0 where
+  pub fault : Fault
+  pub number : status ≡ number_of fault
+  pub reason : IsReason fault n us vs ws ⊎ IsPairReason fault n a b
 
 -- why a list of edges is not solved: memory is wanting, or its value is 0
 abbrev pub IsUnsolved : Fault → Graph → Type 0

@@ -4,12 +4,13 @@ ghost use Rattle.std.specs.Prelude.{ℕ, ◌≡◌, ◌≢◌, ◌⊎◌, ◌<�
 ghost use Rattle.cut_definitions.specs.Balance.{IsBest, balance};
 ghost use Rattle.cut_definitions.specs.Cuts.{mincuts, value};
 ghost use Rattle.edge_arrays.specs.Given.{given};
-ghost use Rattle.mincut_c.specs.Balanced.{HoldsBalanced, TellsSide};
+ghost use Rattle.mincut_c.specs.Balanced.{HoldsBalanced};
+ghost use Rattle.mincut_c.specs.Rows.{TellsSide};
 ghost use Rattle.mincut_c.specs.Statuses.{HasCuts, IsMassReason, IsReason, TellsWeighedFault, masses_for, number_of};
 
-use crate::masses::{check_masses, masses_of};
-use crate::solving::solved_of_arrays;
+use crate::rows::put_row;
 use crate::status::{Fault, NO_ROOM, OK, status_of};
+use crate::weighed::weighed_of_arrays;
 use balanced_cut::{balance_of, best};
 use std::alloc::Global;
 use vertex_set::Side;
@@ -28,13 +29,10 @@ fn put_side(side: &Side, inside: &mut [u8]) -> bool
     ensures short { IsFalse result → length inside.old < side.now.vertices }
     ensures left { IsFalse result → inside.new ≡ inside.old }
 {
-    let n = side.n();
-    if inside.len() < n as usize {
+    if inside.len() < side.n() as usize {
         return false;
     }
-    'vertices: for v in 0..n {
-        inside[v as usize] = if side.has(v + 1) { 1 } else { 0 };
-    }
+    put_row(side, 0, inside);
     true
 }
 
@@ -57,9 +55,8 @@ fn balanced_of_arrays(
     ensures known { IfErr result (λ fault. number_of fault ≢ 9) }
     ensures small { IfErr result (λ fault. number_of fault ≤ 10) }
 {
-    check_masses(n, masses)?;
-    let solved = solved_of_arrays(alloc, n, us, vs, ws)?;
-    let weights = masses_of(alloc, n, masses)?;
+    let weighed = weighed_of_arrays(alloc, n, us, vs, ws, masses)?;
+    let (solved, weights) = weighed;
     let cactus = solved.cactus;
     let side = best(alloc, &cactus, &weights)?;
     let balance = balance_of(&side, &weights) as u64;

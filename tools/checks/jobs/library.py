@@ -4,8 +4,8 @@
 
 It compiles the tests of bindings/c/tests against the library, and the shim anew under the address and undefined sanitizers; runs them,
 the small ones under valgrind and helgrind where these are there; makes each allocation of a call fail in turn; runs --calls random
-graphs with faults in them in-process; compares value, number, sides and a most balanced cut on --graphs random multigraphs with the program; compiles and runs the
-examples; and has cargo test the Rust crate. --quick leaves out valgrind and cargo.
+graphs with faults in them in-process; compares value, number, sides, lists of them and a most balanced cut on --graphs random
+multigraphs with the program; compiles and runs the examples; and has cargo test the Rust crate. --quick leaves out valgrind and cargo.
 """
 import argparse
 import ctypes
@@ -90,6 +90,10 @@ class Balance(ctypes.Structure):
     _fields_ = [('value', c_uint64), ('balance', c_uint64)]
 
 
+class Listing(ctypes.Structure):
+    _fields_ = [('value', c_uint64), ('sides', c_uint64)]
+
+
 class Sizes(ctypes.Structure):
     _fields_ = [('value', c_uint64)] + [(name, c_size_t) for name in ('nodes', 'vertices', 'bridges', 'cycles', 'members')]
 
@@ -141,6 +145,37 @@ def balanced_differs(found, value, sides, masses, n):
     return found != (value, max(map(balance_of, sides)), found[2]) or found[2] not in sides or balance_of(found[2]) != found[1]
 
 
+def listed(library, call, n, u, v, w, *asked):
+    """The value and the sides that a call lists, in its order; nothing where the graph is not connected. Short rooms are tried first."""
+    m, listing = len(u), Listing(77, 77)
+    graph = (c_uint32(n), c_size_t(m), (c_uint32 * m)(*u), (c_uint32 * m)(*v), (c_uint64 * m)(*w))
+    status = call(*graph, *asked, c_size_t(0), byref(listing), None)
+    if status == 8:
+        assert (listing.value, listing.sides) == (77, 77)
+        return None
+    count = listing.sides
+    assert status == (9 if count else 0) and count <= n * (n - 1) // 2
+    rows = (ctypes.c_uint8 * (count * n + 1))(*[7] * (count * n + 1))
+    if count:
+        assert call(*graph, *asked, c_size_t(count - 1), byref(listing), rows) == 9 and listing.sides == count and set(rows) == {7}
+    assert call(*graph, *asked, c_size_t(count), byref(listing), rows) == 0 and listing.sides == count and rows[count * n] == 7
+    assert all(byte < 2 for byte in rows[:count * n])
+    return listing.value, [tuple(i + 1 for i in range(n) if rows[k * n + i]) for k in range(count)]
+
+
+def lists_differ(library, graph, value, lists, masses, rng):
+    """Whether the lists of all sides, of those of a least balance, or of those between two vertices are not what the program lists."""
+    n = graph[0]
+    def balance_of(side):
+        inside = sum(masses[i - 1] for i in side) if masses else len(side)
+        return min(inside, (sum(masses) if masses else n) - inside)
+    least, a, b = rng.choice([0, 1, 2, 3, max(map(balance_of, lists), default=0)]), rng.randrange(n), rng.randrange(n)
+    given = (c_uint64 * n)(*masses) if masses else None
+    return (listed(library, library.mincut_sides, *graph) != (value, lists)
+            or listed(library, library.mincut_sides_balanced, *graph, given, c_uint64(least)) != (value, [s for s in lists if balance_of(s) >= least])
+            or listed(library, library.mincut_sides_between, *graph, c_uint32(a), c_uint32(b)) != (value, [s for s in lists if (a + 1 in s) != (b + 1 in s)]))
+
+
 def sides_of(nodes, bridges, cycles):
     """The sides of all cuts of a flat cactus of the library, whose vertices begin at 0."""
     n = sum(map(len, nodes))
@@ -169,13 +204,20 @@ def check_program(prefix, program, graphs):
         graph = random_arrays(rng)
         text = subprocess.run([program, 'cuts', '--workers', '1'], input=metis_text(*graph), capture_output=True, text=True, check=True).stdout
         lines = text.split('\n')
-        value, sides = int(lines[0].split()[1]), {tuple(map(int, line.split())) for line in lines[2:] if line}
+        value, in_order = int(lines[0].split()[1]), [tuple(map(int, line.split())) for line in lines[2:] if line]
+        sides = set(in_order)
         found, count, of_cactus = asked(library, *graph)
         apart += count is None
         masses = [rng.choice([0, 1, 1, 2, 1 << 40]) for _ in range(graph[0])] if rng.random() < 0.7 else None
         best = balanced(library, *graph, masses)
         if (best is None) != (count is None) or (best and balanced_differs(best, value, sides, masses, graph[0])):
             sys.exit(f'graph {number} differs in its most balanced cut: {graph} {masses}')
+        if count is None:
+            apart_too = [listed(library, library.mincut_sides, *graph), listed(library, library.mincut_sides_between, *graph, c_uint32(0), c_uint32(1))]
+            if apart_too != [None, None]:
+                sys.exit(f'graph {number} has lists though it is not connected: {graph}')
+        elif lists_differ(library, graph, value, in_order, masses, rng):
+            sys.exit(f'graph {number} differs in its lists: {graph} {masses}')
         if found != value or (count is not None and (count != len(sides) or of_cactus != sides)):
             sys.exit(f'graph {number} differs: {graph}')
     told(f'{graphs} multigraphs as the program answers, {apart} of them not connected')

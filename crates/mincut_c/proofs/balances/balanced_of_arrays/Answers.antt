@@ -10,17 +10,17 @@ use Rattle.mincut_c.proofs.balances.balanced_of_arrays.Goals as goal
 
 pub best-requires-clause-some : goal.best-requires-clause-some
 best-requires-clause-some c =
-    let s = c.in_ok-solved.ensures in
-    λ none. not_alone (given c.args.n c.args.us.now c.args.vs.now c.args.ws.now) c.in_ok-solved.solved.cactus s.given.1 s.solved.sides none
+    let s = c.in_ok-weighed.ensures in
+    λ none. not_alone (given c.args.n c.args.us.now c.args.vs.now c.args.ws.now) c.in_ok-weighed.weighed.0.cactus s.given.1 s.solved.sides none
 
 pub overflow_cast-balance : goal.overflow_cast-balance
 overflow_cast-balance c =
     let masses = masses_for c.args.n c.args.masses.now in
     let side = c.in_ok-side.side.members in
-    let is : c.balance_of-balance.result ≡ balance masses side = c.balance_of-balance.ensures ∙ ap (λ (ms : List ℕ). balance ms side) c.in_ok-weights.ensures in
-    omega (arith, is, balance_within masses side, c.in_ok-check_masses.ensures.sum)
+    let is : c.balance_of-balance.result ≡ balance masses side = c.balance_of-balance.ensures ∙ ap (λ (ms : List ℕ). balance ms side) c.in_ok-weighed.ensures.masses in
+    omega (arith, is, balance_within masses side, c.in_ok-weighed.ensures.sum)
 
 pub returns-clause-best : goal.returns-clause-best
 returns-clause-best c =
     let g = given c.args.n c.args.us.now c.args.vs.now c.args.ws.now in
-    best_as (masses_for c.args.n c.args.masses.now) c.in_ok-weights.weights c.in_ok-side.side.members (sides_of c.in_ok-solved.solved.cactus) (mincuts g) c.in_ok-weights.ensures c.in_ok-solved.ensures.solved.sides c.in_ok-side.ensures.best
+    best_as (masses_for c.args.n c.args.masses.now) c.in_ok-weighed.weighed.1 c.in_ok-side.side.members (sides_of c.in_ok-weighed.weighed.0.cactus) (mincuts g) c.in_ok-weighed.ensures.masses c.in_ok-weighed.ensures.solved.sides c.in_ok-side.ensures.best
