@@ -1,5 +1,5 @@
-/* Minimum cuts of a weighted undirected graph: their value, their number, a cactus of all of them, a most balanced one, and lists
- * of their sides.
+/* Minimum cuts of a weighted undirected graph: their value, their number, a cactus of all of them, a most balanced one, lists of
+ * their sides, and the fewest new edges that raise the value.
  *
  * Graphs. A graph has n vertices, 0 to n - 1, and m edges in three arrays of m entries: edge i joins u[i] and v[i] and weighs
  * w[i], a whole number. The edges stand in any order and each once, not once from each end. It is a multigraph: edges with the
@@ -141,10 +141,27 @@ mincut_status mincut_sides_between(uint32_t n, size_t m, const uint32_t *u, cons
 mincut_status mincut_sides_balanced(uint32_t n, size_t m, const uint32_t *u, const uint32_t *v, const uint64_t *w,
                                     const uint64_t *mass, uint64_t least, size_t rows, mincut_listing *listing, uint8_t *in_side);
 
+/* The value, how many edges raise it, and how many sets show that fewer do not. */
+typedef struct mincut_raise {
+    uint64_t value;
+    size_t edges, sets;
+} mincut_raise;
+
+/* The fewest edges of weight 1 that raise the value of a connected graph: edge k joins from[k] and to[k], the lesser vertex first, and
+ * the edges ascend. The certificate are the smallest sets of vertices that are one side of a minimum cut: no two of them share a
+ * vertex, and edges that raise the value end in each, so it takes half as many as there are sets, rounded up. set_of tells for
+ * each vertex the number of its set, from 1, or 0 where it is in none; the sets stand in the order of their least vertices.
+ *
+ * from, to and set_of have n entries each; of the first two no more than the edges are written, and the others left. The statuses
+ * are 0 to 8. With another than MINCUT_OK all outputs are left as they were. Cost: that of the cactus. */
+mincut_status mincut_augment(uint32_t n, size_t m, const uint32_t *u, const uint32_t *v, const uint64_t *w, mincut_raise *raise,
+                             uint32_t *from, uint32_t *to, uint64_t *set_of);
+
 /* The proved exports on which the calls above stand, for bindings: each array is a pointer that is not null, also where its length
- * is 0, and its length. They answer the same statuses. mincut_raw_cactus, mincut_raw_balanced and the lists of sides take any room:
- * where an array is too short the status is MINCUT_NO_ROOM, the arrays are left as they were, and all but mincut_raw_balanced tell the
- * sizes. Masses are n, or none. mincut_raw_sides lists the minimum cuts of a least balance, which are all where that is 0. */
+ * is 0, and its length. They answer the same statuses. mincut_raw_cactus, mincut_raw_balanced, mincut_raw_augment and the lists of
+ * sides take any room: where an array is too short the status is MINCUT_NO_ROOM, the arrays are left as they were, and all but
+ * mincut_raw_balanced tell the sizes. Masses are n, or none. mincut_raw_sides lists the minimum cuts of a least balance, which are
+ * all where that is 0. */
 uint32_t mincut_raw_value(uint32_t n, const uint32_t *u, size_t u_len, const uint32_t *v, size_t v_len, const uint64_t *w,
                           size_t w_len, uint64_t *value);
 uint32_t mincut_raw_value_below(uint32_t n, const uint32_t *u, size_t u_len, const uint32_t *v, size_t v_len, const uint64_t *w,
@@ -164,6 +181,9 @@ uint32_t mincut_raw_sides(uint32_t n, const uint32_t *u, size_t u_len, const uin
 uint32_t mincut_raw_sides_between(uint32_t n, const uint32_t *u, size_t u_len, const uint32_t *v, size_t v_len, const uint64_t *w,
                                   size_t w_len, uint32_t a, uint32_t b, mincut_listing *listing, uint8_t *in_side,
                                   size_t in_side_len);
+uint32_t mincut_raw_augment(uint32_t n, const uint32_t *u, size_t u_len, const uint32_t *v, size_t v_len, const uint64_t *w,
+                            size_t w_len, mincut_raise *raise, uint32_t *from, size_t from_len, uint32_t *to, size_t to_len,
+                            uint64_t *set_of, size_t set_of_len);
 
 #ifdef __cplusplus
 }

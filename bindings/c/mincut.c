@@ -65,6 +65,12 @@ mincut_status mincut_sides_balanced(uint32_t n, size_t m, const uint32_t *u, con
                                            in_side ? in_side : &none, bytes_of(rows, n));
 }
 
+mincut_status mincut_augment(uint32_t n, size_t m, const uint32_t *u, const uint32_t *v, const uint64_t *w, mincut_raise *raise,
+                             uint32_t *from, uint32_t *to, uint64_t *set_of) {
+    if (is_bad(m, u, v, w) || !raise || !from || !to || !set_of) return MINCUT_BAD_LENGTH;
+    return (mincut_status)mincut_raw_augment(n, some(u), m, some(v), m, some(w), m, raise, from, n, to, n, set_of, n);
+}
+
 void mincut_node_of(const mincut_sizes *sizes, const size_t *node_starts, const uint32_t *vertices, uint64_t *node_of) {
     for (size_t i = 0; i < sizes->nodes; ++i) {
         const size_t end = i + 1 < sizes->nodes ? node_starts[i + 1] : sizes->vertices;

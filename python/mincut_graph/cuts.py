@@ -27,7 +27,7 @@ class MinimumCuts:
     `undirected`: takes a directed graph as an undirected one, each arrow an edge.
 
     `program`, `workers` (1 to 64): the program that answers. `library`: the shared library that answers `value`, `count`, `cactus`,
-    `sides` and `balanced`; None looks for one, False goes by the program alone. `time_limit`: seconds for each call that names no other, None for no limit.
+    `sides`, `balanced` and `augment`; None looks for one, False goes by the program alone. `time_limit`: seconds for each call that names no other, None for no limit.
 
     Raises BadInput for what is no graph, UnknownName for a mass that is missing. Calls raise NoCut below two vertices, Disconnected
     where a job wants a connected graph, TimedOut, NoProgram, and Failed with the status of the program for all else. A call that is
@@ -97,7 +97,7 @@ class MinimumCuts:
 
     def augment(self, *, time_limit: Optional[float] = None) -> tuple[list[tuple[Any, Any]], list[list[Any]]]:
         """(edges, sets): as few edges of weight 1 as raise the value, and the sets each of which needs an end of one of them."""
-        _, edges, sets = Program(self.program, self.workers).augment(self.graph, self.limit(time_limit))
+        _, edges, sets = self.fastest().augment(self.graph, self.limit(time_limit))
         return [(self.names[i], self.names[j]) for i, j in edges], [self.named(found) for found in sets]
 
     def grow(self, insertions: Iterable[Sequence[Any]], *, time_limit: Optional[float] = None) -> tuple[list[tuple[int, int]], Cactus]:
@@ -126,7 +126,7 @@ class MinimumCuts:
         return self.time_limit if time_limit is None else time_limit
 
     def fastest(self) -> Union[Library, Program]:
-        """The back end for the value, the count, the cactus, lists of sides and a most balanced cut."""
+        """The back end for the value, the count, the cactus, lists of sides, a most balanced cut and an augmentation."""
         return self.library or Program(self.program, self.workers)
 
 

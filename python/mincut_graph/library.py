@@ -1,5 +1,5 @@
-"""The shared library as a back end: the calls of mincut.h by ctypes, for the value, the count, the cactus, a most balanced cut, and lists of
-sides.
+"""The shared library as a back end: the calls of mincut.h by ctypes, for the value, the count, the cactus, a most balanced cut, lists of
+sides, and augmentations.
 
 A call on a small graph without a time limit runs in this process, and an interrupt waits for its end, some milliseconds. All others run
 in a process of their own, which is ended where the call is interrupted or its time is over.
@@ -46,6 +46,10 @@ class Listing(ctypes.Structure):
     _fields_ = [('value', c_uint64), ('sides', c_uint64)]
 
 
+class Raise(ctypes.Structure):
+    _fields_ = [('value', c_uint64), ('edges', c_size_t), ('sets', c_size_t)]
+
+
 class Library:
     """Answers by the shared library; lists of vertices are lists of their places, counted from 0."""
     name = 'library'
@@ -62,6 +66,7 @@ class Library:
             rows: list[Any] = [c_size_t, POINTER(Listing), POINTER(c_uint8)]
             loaded.mincut_sides_balanced.argtypes = graph + [POINTER(c_uint64), c_uint64] + rows
             loaded.mincut_sides_between.argtypes = graph + [c_uint32, c_uint32] + rows
+            loaded.mincut_augment.argtypes = graph + [POINTER(Raise), POINTER(c_uint32), POINTER(c_uint32), POINTER(c_uint64)]
         except (OSError, AttributeError) as fault:
             raise NoProgram(f'{path} is no library of mincut ({fault})') from None
         self.path, self.loaded = path, loaded
@@ -119,6 +124,20 @@ class Library:
         checked(status, graph)
         text = bytes(rows)
         return listing.value, [[v for v, byte in enumerate(text[k * n:(k + 1) * n]) if byte] for k in range(listing.sides)]
+
+    def augment(self, graph: Graph, time_limit: Optional[float] = None) -> tuple[int, list[list[int]], list[list[int]]]:
+        """(value, edges, sets): as few edges of weight 1 as raise the value, and the sets that show that fewer do not."""
+        return alone(lambda: self.raised(graph), graph, time_limit)
+
+    def raised(self, graph: Graph) -> tuple[int, list[list[int]], list[list[int]]]:
+        n, found = len(graph.names), Raise()
+        heads, tails, set_of = (c_uint32 * n)(), (c_uint32 * n)(), (c_uint64 * n)()
+        checked(self.loaded.mincut_augment(*arrays(graph), byref(found), heads, tails, set_of), graph)
+        sets: list[list[int]] = [[] for _ in range(found.sets)]
+        for v, number in enumerate(set_of):
+            if number:
+                sets[number - 1].append(v)
+        return found.value, [[i, j] for i, j in zip(heads[:found.edges], tails[:found.edges])], sets
 
     def number(self, call: Callable[..., int], graph: Graph) -> int:
         result = c_uint64()

@@ -1,4 +1,4 @@
-/* Stands in for the shared library in tests, with the calls of mincut.h: the value, the count, a most balanced cut and lists of sides by trying all
+/* Stands in for the shared library in tests, with the calls of mincut.h: the value, the count, a most balanced cut, lists of sides and the sets of an augmentation by trying all
  * sides of up to 16 vertices, and the cactus of a ring whose edges stand in order, written down from another node than the canonical cactus begins with. A first weight
  * of 999 makes a call that does not end, one of 998 one that ends its process, one of 997 one without memory. */
 #include <stddef.h>
@@ -125,4 +125,35 @@ int mincut_sides_balanced(uint32_t n, size_t m, const uint32_t *u, const uint32_
 int mincut_sides_between(uint32_t n, size_t m, const uint32_t *u, const uint32_t *v, const uint64_t *w, uint32_t a, uint32_t b, size_t rows,
                          struct listing *listing, uint8_t *in_side) {
     return a == b ? sides(n, m, u, v, w, 0, UINT64_MAX, 0, rows, listing, in_side) : sides(n, m, u, v, w, 0, 0, 1u << a | 1u << b, rows, listing, in_side);
+}
+
+struct raise { uint64_t value; size_t edges, sets; };
+
+/* the smallest sides, of those with vertex 0 too, by trying all; the edges join them one after another, which need not raise the value */
+int mincut_augment(uint32_t n, size_t m, const uint32_t *u, const uint32_t *v, const uint64_t *w, struct raise *raise, uint32_t *from, uint32_t *to,
+                   uint64_t *set_of) {
+    uint64_t count, value;
+    const int status = best(n, m, u, v, w, &value, &count);
+    if (status || value == 0) return status ? status : 8;
+    uint32_t firsts[32];
+    *raise = (struct raise){value, 0, 0};
+    for (uint32_t i = 0; i < n; ++i) set_of[i] = 0;
+    for (uint32_t first = 0; first < n; ++first) {
+        uint32_t least = 0;
+        for (uint32_t side = 1; side < (1u << n) - 1; ++side)
+            if (side >> first & 1 && !(side & ((1u << first) - 1)) && weight_of(m, u, v, w, side) == value) {
+                int minimal = 1;
+                for (uint32_t part = (side - 1) & side; part; part = (part - 1) & side) minimal &= weight_of(m, u, v, w, part) != value;
+                if (minimal) least = side;
+            }
+        if (!least) continue;
+        firsts[raise->sets++] = first;
+        for (uint32_t i = 0; i < n; ++i)
+            if (least >> i & 1) set_of[i] = raise->sets;
+    }
+    for (; 2 * raise->edges < raise->sets; ++raise->edges) {
+        from[raise->edges] = firsts[raise->edges];
+        to[raise->edges] = firsts[raise->edges + raise->sets / 2];
+    }
+    return 0;
 }

@@ -63,6 +63,12 @@ def test_lists_of_sides(stub):
     assert len(MinimumCuts(ring(16), library=stub).sides()) == 120
 
 
+def test_augmentations(stub):
+    for n, edges, value, sides in random_graphs(20):
+        (new, sets), (other, same) = (MinimumCuts(edges, library=library).augment() for library in (stub, False))
+        assert len(new) == len(other) and sets == same
+
+
 def test_no_answer(stub):
     assert MinimumCuts([(1, 2), (3, 4), (5, 6)], library=stub).count() == 3
     with pytest.raises(mincut_graph.Disconnected) as caught:
@@ -133,6 +139,15 @@ def test_library_and_program_agree():
         assert by_library.cactus() == by_program.cactus()
         for asked in ({}, {'least': 2}, {'parting': (0, n - 1)}):
             assert by_library.sides(**asked) == by_program.sides(**asked)
+
+
+@needs_library
+@needs_program
+def test_library_raises_the_value():
+    for n, edges, value, sides in random_graphs(100):
+        (new, sets), (other, same) = (MinimumCuts(edges, library=library).augment() for library in (str(LIBRARY), False))
+        assert len(new) == len(other) and sets == same
+        assert MinimumCuts(edges + [(*ends, 1) for ends in new], library=False).value() > value
 
 
 @needs_library

@@ -69,6 +69,17 @@ int main(void) {
     if (mincut_sides_balanced(4, 6, u, v, one, vast, 3, 1, &listing, rows) != MINCUT_MASS_SUM || listing.sides != 1) return 36;
     if (mincut_sides(4, 6, u, v, one, 6, &listing, NULL) != MINCUT_BAD_LENGTH || mincut_sides(4, 6, u, v, one, 6, NULL, rows) != MINCUT_BAD_LENGTH) return 37;
     if (mincut_sides(2, 0, NULL, NULL, NULL, 1, &listing, rows) != MINCUT_DISCONNECTED || listing.sides != 1) return 38;
+    mincut_raise raise = {77, 77, 77};
+    uint32_t from[5] = {9, 9, 9, 9, 9}, to[5] = {9, 9, 9, 9, 9};
+    uint64_t set_of[5] = {9, 9, 9, 9, 9};
+    if (mincut_augment(4, 6, u, v, one, &raise, from, to, set_of) != MINCUT_OK || raise.value != 2 || raise.edges != 2 || raise.sets != 4) return 39;
+    for (uint64_t i = 0; i < 4; ++i)
+        if (set_of[i] != i + 1) return 40;
+    if (from[0] != 0 || to[0] != 2 || from[1] != 1 || to[1] != 3 || from[2] != 9 || to[2] != 9 || set_of[4] != 9) return 41;
+    raise.edges = 77, from[0] = 9;
+    if (mincut_raw_augment(4, u, 6, v, 6, one, 6, &raise, from, 1, to, 2, set_of, 4) != MINCUT_NO_ROOM || raise.edges != 2 || from[0] != 9) return 42;
+    if (mincut_augment(2, 0, NULL, NULL, NULL, &raise, from, to, set_of) != MINCUT_DISCONNECTED || raise.sets != 4 || from[0] != 9) return 43;
+    if (mincut_augment(4, 6, u, v, one, &raise, from, NULL, set_of) != MINCUT_BAD_LENGTH) return 44;
     const uint32_t a[] = {0, 1}, b[] = {1, 2};
     if (cactus(3, 2, a, b, one) != MINCUT_OK || sizes.bridges != 2 || sizes.cycles != 0) return 13;
     puts("all checks passed");

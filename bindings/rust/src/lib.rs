@@ -1,5 +1,5 @@
-//! Minimum cuts of a weighted undirected graph: their value, their number, a cactus of all of them, a most balanced one, and lists
-//! of their sides.
+//! Minimum cuts of a weighted undirected graph: their value, their number, a cactus of all of them, a most balanced one, lists of
+//! their sides, and the fewest new edges that raise the value.
 //!
 //! A graph has `n` vertices, 0 to n - 1; edge i joins `u[i]` and `v[i]` and weighs `w[i]`. Edges with the same ends are as one of
 //! the sum of their weights; loops and edges of weight 0 count for nothing. All limits are checked, and told by an [`Error`].
@@ -185,6 +185,25 @@ impl Sides {
     }
 }
 
+#[repr(C)]
+#[derive(Default)]
+struct Raise {
+    value: u64,
+    edges: usize,
+    sets: usize,
+}
+
+/// The fewest edges of weight 1 that raise the value, and the sets that show that fewer do not.
+#[derive(Clone, Debug, PartialEq, Eq)]
+pub struct Augmentation {
+    /// The value of the graph.
+    pub value: u64,
+    /// The two ends of each edge, the lesser first.
+    pub edges: Vec<(u32, u32)>,
+    /// For each vertex the number of its set, from 1, or 0 where it is in none. Each set is one side of a minimum cut.
+    pub set_of: Vec<u64>,
+}
+
 /// Lists sides by a call that takes a room: first by a small one, since the call tells how many they are.
 fn listed(n: u32, mut call: impl FnMut(&mut Listing, &mut [u8]) -> u32) -> Result<Sides, Error> {
     let mut listing = Listing::default();
@@ -225,6 +244,10 @@ extern "C" {
     fn mincut_raw_sides_between(
         n: u32, u: *const u32, u_len: usize, v: *const u32, v_len: usize, w: *const u64, w_len: usize,
         a: u32, b: u32, listing: *mut Listing, in_side: *mut u8, in_side_len: usize,
+    ) -> u32;
+    fn mincut_raw_augment(
+        n: u32, u: *const u32, u_len: usize, v: *const u32, v_len: usize, w: *const u64, w_len: usize, raise: *mut Raise,
+        from: *mut u32, from_len: usize, to: *mut u32, to_len: usize, set_of: *mut u64, set_of_len: usize,
     ) -> u32;
     fn mincut_raw_value(
         n: u32, u: *const u32, u_len: usize, v: *const u32, v_len: usize, w: *const u64, w_len: usize, value: *mut u64,
@@ -371,4 +394,27 @@ pub fn sides_between(n: u32, u: &[u32], v: &[u32], w: &[u64], a: u32, b: u32) ->
             )
         }
     })
+}
+
+/// The fewest edges of weight 1 that raise the value of a connected graph.
+///
+/// ```
+/// // a path of three vertices
+/// let found = mincut::augment(3, &[0, 1], &[1, 2], &[1, 1]).unwrap();
+/// assert_eq!((found.value, found.edges), (1, vec![(0, 2)]));
+/// assert_eq!(found.set_of, [1, 0, 2]);
+/// ```
+pub fn augment(n: u32, u: &[u32], v: &[u32], w: &[u64]) -> Result<Augmentation, Error> {
+    // a graph above the limit is refused whatever the room
+    let room = if n > 4_194_304 { 0 } else { n as usize };
+    let (mut from, mut to, mut set_of, mut raise) = (vec![0; room], vec![0; room], vec![0; room], Raise::default());
+    // SAFETY: as above; the outputs are different vectors.
+    let status = unsafe {
+        mincut_raw_augment(
+            n, u.as_ptr(), u.len(), v.as_ptr(), v.len(), w.as_ptr(), w.len(), &mut raise, from.as_mut_ptr(), from.len(),
+            to.as_mut_ptr(), to.len(), set_of.as_mut_ptr(), set_of.len(),
+        )
+    };
+    told(status)?;
+    Ok(Augmentation { value: raise.value, edges: from.into_iter().zip(to).take(raise.edges).collect(), set_of })
 }

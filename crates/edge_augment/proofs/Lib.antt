@@ -11,3 +11,4 @@ pub mod Walked
 pub mod Opposite
 pub mod Sorted
 pub mod Planned
+pub mod Raises

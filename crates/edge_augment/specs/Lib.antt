@@ -3,3 +3,4 @@ pub mod NewEdges
 pub mod Laws
 pub mod Augmentations
 pub mod Walks
+pub mod Raises

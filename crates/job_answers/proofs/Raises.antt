@@ -1,79 +1,19 @@
 -- The edges that the canonical cactus of a graph gives raise its value, and no fewer do.
-use Rattle.std.proofs.Common.{◌≡◌, ℕ, ◌≤◌, List, get_or, refl, sym, ◌∙◌, subst}
-use Rattle.std.specs.Prelude.{◌<◌}
-use Rattle.std.specs.List.{All, Contains}
-use Rattle.std.proofs.lemmas.List.Elements.{All-contains, All-weaker}
-use Rattle.std.proofs.lemmas.List.{get_or_default}
-use Rattle.cut_definitions.proofs.ChainLists.{first_parts_side}
-use Rattle.edge_augment.proofs.Raising.{raising}
-use Rattle.edge_augment.specs.NewEdges.{IsParted}
-use Rattle.cut_definitions.specs.Graph.{Graph}
-use Rattle.cut_definitions.specs.Cuts.{has, mincuts, side_of, IsAscendingWithin}
-use Rattle.rooted_cactus.specs.Rooted.{Rooted, sides_of}
-use Rattle.edge_augment.specs.Augmentations.{Augmentation, IsAugmentation, IsLeast, LawOfAugmentation}
-use Rattle.edge_augment.specs.Laws as ends
-use Rattle.job_answers.specs.Jobs.{IsAugmentText, IsCactusOf, IsCutSet, IsLeastRaise, IsMinimalCutSet, IsVertex}
-use Rattle.answer_pages.specs.Augmenting.{augment_text}
+use Rattle.std.proofs.Common.{◌≡◌, ℕ, ◌≤◌, refl}
 use Rattle.cut_definitions.specs.Cuts.{value}
+use Rattle.cut_definitions.specs.Graph.{Graph}
+use Rattle.rooted_cactus.specs.Rooted.{Rooted}
+use Rattle.edge_augment.specs.Augmentations.{Augmentation, IsAugmentation, IsLeast, LawOfAugmentation}
+use Rattle.edge_augment.proofs.Raises.{least_raise}
+use Rattle.answer_pages.specs.Augmenting.{augment_text}
+use Rattle.job_answers.specs.Jobs.{IsAugmentText, IsCactusOf}
 
-All-each : (P : List ℕ → Type 0) (xs : List (List ℕ)) → ((x : List ℕ) → Contains xs x → P x) → All P xs
-All-each P xs each i d lt = each (get_or xs i d) (i, lt, get_or_default xs i (get_or xs i d) d lt)
-
--- pairs of vertices that part the side of a set part the set
-parted_set : (n : ℕ) (pairs : List (ℕ × ℕ)) (set : List ℕ) → All (λ p. IsVertex n p.0 × IsVertex n p.1) pairs → IsParted pairs (has (side_of n (has set))) → IsParted pairs (has set)
-parted_set n pairs set within (p, there, parts_side) =
-    let v : IsVertex n p.0 × IsVertex n p.1 = All-contains (λ q. IsVertex n q.0 × IsVertex n q.1) pairs p within there in
-    (p, there, sym (first_parts_side n (has set) p.0 p.1 v.0.0 v.0.1 v.1.0 v.1.1) ∙ parts_side)
-
--- a set of the cactus is one of the graph, and the other way round
-module _ (g : Graph) (c : Rooted) (of_graph : IsCactusOf g c) where
-  set_to : (set : List ℕ) → ends.IsCutSet c.vertices c.root set → IsCutSet g set
-  set_to set is = record {
-    ascending = subst (λ (n : ℕ). IsAscendingWithin 1 n set) of_graph.over is.ascending;
-    is_cut = (of_graph.sides (side_of g.vertices (has set))).0 (subst (λ (n : ℕ). Contains (sides_of c) (side_of n (has set))) of_graph.over is.is_side);
-  }
-
-  set_from : (set : List ℕ) → IsCutSet g set → ends.IsCutSet c.vertices c.root set
-  set_from set is = record {
-    ascending = subst (λ (n : ℕ). IsAscendingWithin 1 n set) (sym of_graph.over) is.ascending;
-    is_side = (of_graph.sides (side_of c.vertices (has set))).1 (subst (λ (n : ℕ). Contains (mincuts g) (side_of n (has set))) (sym of_graph.over) is.is_cut);
-  }
-
-  minimal_to : (set : List ℕ) → ends.IsMinimalSet c.vertices c.root set → IsMinimalCutSet g set
-  minimal_to set is = record {
-    is_set = set_to set is.is_set;
-    none_within = λ other at within. is.none_within other (set_from other at) within;
-  }
-
-  minimal_from : (set : List ℕ) → IsMinimalCutSet g set → ends.IsMinimalSet c.vertices c.root set
-  minimal_from set is = record {
-    is_set = set_from set is.is_set;
-    none_within = λ other at within. is.none_within other (set_to other at) within;
-  }
-
-  pub least_raise : (plan : Augmentation) → LawOfAugmentation → 2 ≤ g.vertices → IsAugmentation c plan → IsLeast c plan → IsLeastRaise g plan
-  least_raise plan law two is least =
-      let raises = law g c plan two of_graph.over (λ side. ((of_graph.sides side).1, (of_graph.sides side).0)) least in
-      record {
-        sets = λ set. (λ at. minimal_to set ((is.sets set).0 at), λ at. (is.sets set).1 (minimal_from set at));
-        pairs = subst (λ (n : ℕ). All (λ p. IsVertex n p.0 × IsVertex n p.1) plan.edges) of_graph.over
-            (All-weaker (λ e. IsVertex c.vertices e.0 × IsVertex c.vertices e.1 × (e.0 < e.1)) (λ e. IsVertex c.vertices e.0 × IsVertex c.vertices e.1) (λ e h. (h.0, h.1)) plan.edges least.within);
-        parted = λ side at. least.parted side ((of_graph.sides side).1 at);
-        number = least.number;
-        raised = raises.0;
-        fewest = raises.1;
-        disjoint = least.disjoint;
-        needed = λ pairs within more. All-each (λ (set : List ℕ). IsParted pairs (has set)) plan.sets (λ set there.
-            let cut = (minimal_to set ((is.sets set).0 there)).is_set.is_cut in
-            parted_set g.vertices pairs set within ((raising g pairs two).0 more (side_of g.vertices (has set)) cut));
-      }
-
-  pub raise_text : (plan : Augmentation) (v : ℕ) → LawOfAugmentation → 2 ≤ g.vertices → IsAugmentation c plan → IsLeast c plan → v ≡ value g → IsAugmentText g (augment_text v plan)
-  raise_text plan v law two is least same = record {
-    plan = plan;
-    least = least_raise plan law two is least;
-    cactus = c;
-    of_graph = of_graph;
-    of_cactus = is;
-    text_is = rw same refl;
-  }
+pub raise_text : (g : Graph) (c : Rooted) → IsCactusOf g c → (plan : Augmentation) (v : ℕ) → LawOfAugmentation → 2 ≤ g.vertices → IsAugmentation c plan → IsLeast c plan → v ≡ value g → IsAugmentText g (augment_text v plan)
+raise_text g c of_graph plan v law two is least same = record {
+  plan = plan;
+  least = least_raise g c of_graph.over of_graph.sides plan law two is least;
+  cactus = c;
+  of_graph = of_graph;
+  of_cactus = is;
+  text_is = rw same refl;
+}

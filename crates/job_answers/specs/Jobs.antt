@@ -1,9 +1,9 @@
 -- What the jobs answer for a graph.
-use Rattle.std.specs.Prelude.{ℕ, ◌≡◌, ◌⊎◌, ◌<◌, ◌≤◌, ◌+◌, ◌-◌, ◌*◌, ◌/◌, ◌^◌, ◌↔◌, ⊤, true, List, ◌∷◌, ◌++◌, Option, Some, length, nat_le}
-use Rattle.std.specs.List.{All, AllPairs, Contains, filter}
+use Rattle.std.specs.Prelude.{ℕ, ◌≡◌, ◌⊎◌, ◌<◌, ◌≤◌, ◌+◌, ◌-◌, ◌*◌, ◌^◌, ⊤, true, List, ◌∷◌, ◌++◌, Option, Some, length, nat_le}
+use Rattle.std.specs.List.{All, filter}
 use Rattle.cut_definitions.specs.Graph.{Graph}
 use Rattle.cut_definitions.specs.Weight.{parts}
-use Rattle.cut_definitions.specs.Cuts.{has, value, mincuts, side_of, IsAscendingWithin}
+use Rattle.cut_definitions.specs.Cuts.{has, value, mincuts}
 use Rattle.cut_definitions.specs.Balance.{IsBest, balance, mass}
 use Rattle.cut_definitions.specs.Components.{IsConnected, HasComponents}
 use Rattle.flat_cactus.specs.Flat.{Flat}
@@ -15,8 +15,7 @@ use Rattle.cactus_printing.specs.Text.{cactus_text}
 use Rattle.canonical_cactus.specs.Canonical.{is_canonical}
 use Rattle.canonical_cactus.specs.FirstBest.{IsFirstBest}
 use Rattle.edge_augment.specs.Augmentations.{Augmentation, IsAugmentation}
-use Rattle.edge_augment.specs.Laws.{AreDisjoint, IsSublist}
-use Rattle.edge_augment.specs.NewEdges.{with_unit_edges, IsParted}
+use Rattle.edge_augment.specs.Raises.{IsLeastRaise}
 use Rattle.program_words.specs.declared.command.Command.{Command}
 use Rattle.program_words.specs.declared.command.Job.{Job}
 use Rattle.program_words.specs.declared.command.Job.TheVariants.{Value, Cactus, Cuts, Part, Count, Balanced, Augment, Grow, Trial}
@@ -56,33 +55,8 @@ pub record IsBalancedText (masses : List ℕ) (g : Graph) (text : List ℕ) : Ty
   pub first : IsConnected g → IsFirstBest masses (mincuts g) side
   pub text_is : text ≡ balanced_text (value g) (balance masses side) side
 
--- an ascending list of vertices that is one side of a minimum cut or the other; it may have vertex 1
-pub record IsCutSet (g : Graph) (set : List ℕ) : Type 0 where
-  pub ascending : IsAscendingWithin 1 g.vertices set
-  pub is_cut : Contains (mincuts g) (side_of g.vertices (has set))
-
--- such a set that has no other within it
-pub record IsMinimalCutSet (g : Graph) (set : List ℕ) : Type 0 where
-  pub is_set : IsCutSet g set
-  pub none_within : (other : List ℕ) → IsCutSet g other → IsSublist other set → other ≡ set
-
 abbrev pub IsVertex : ℕ → ℕ → Type 0
 IsVertex n v = (1 ≤ v) × (v ≤ n)
-
--- pairs of vertices of a graph
-abbrev pub AreVertexPairs : Graph → List (ℕ × ℕ) → Type 0
-AreVertexPairs g pairs = All (λ p. IsVertex g.vertices p.0 × IsVertex g.vertices p.1) pairs
-
--- the sets are the minimal ones, and no two share a vertex; the edges, of which there are half as many, rounded up, have exactly one end in some side of each minimum cut; they raise the value, and no fewer unit edges do; whatever unit edges raise it, each set has one end of some of them in it alone
-pub record IsLeastRaise (g : Graph) (plan : Augmentation) : Type 0 where
-  pub sets : (set : List ℕ) → Contains plan.sets set ↔ IsMinimalCutSet g set
-  pub disjoint : AllPairs AreDisjoint plan.sets
-  pub pairs : AreVertexPairs g plan.edges
-  pub parted : (side : List ℕ) → Contains (mincuts g) side → IsParted plan.edges (has side)
-  pub number : length plan.edges ≡ length plan.sets - length plan.sets / 2
-  pub raised : value g < value (with_unit_edges g plan.edges)
-  pub fewest : (pairs : List (ℕ × ℕ)) → AreVertexPairs g pairs → value g < value (with_unit_edges g pairs) → length plan.edges ≤ length pairs
-  pub needed : (pairs : List (ℕ × ℕ)) → AreVertexPairs g pairs → value g < value (with_unit_edges g pairs) → All (λ set. IsParted pairs (has set)) plan.sets
 
 -- the text of the augmentation that the canonical cactus gives: its edges and sets, each list ascending
 pub record IsAugmentText (g : Graph) (text : List ℕ) : Type 0 where

@@ -4,3 +4,5 @@ pub mod Room
 pub mod MassSums
 pub mod RowBytes
 pub mod Listing
+pub mod SetNumbers
+pub mod FewSets

@@ -4,3 +4,4 @@ pub mod Statuses
 pub mod Rows
 pub mod Balanced
 pub mod Listed
+pub mod Raised

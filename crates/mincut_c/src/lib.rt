@@ -3,6 +3,7 @@
 //! Nothing is asked of the arrays but that they are there: what is no graph is answered by a status.
 #![tactic(auto)]
 
+mod augments;
 mod balances;
 mod below;
 mod cactuses;

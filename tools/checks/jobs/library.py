@@ -4,7 +4,7 @@
 
 It compiles the tests of bindings/c/tests against the library, and the shim anew under the address and undefined sanitizers; runs them,
 the small ones under valgrind and helgrind where these are there; makes each allocation of a call fail in turn; runs --calls random
-graphs with faults in them in-process; compares value, number, sides, lists of them and a most balanced cut on --graphs random
+graphs with faults in them in-process; compares value, number, sides, lists of them, a most balanced cut and an augmentation on --graphs random
 multigraphs with the program; compiles and runs the examples; and has cargo test the Rust crate. --quick leaves out valgrind and cargo.
 """
 import argparse
@@ -94,6 +94,10 @@ class Listing(ctypes.Structure):
     _fields_ = [('value', c_uint64), ('sides', c_uint64)]
 
 
+class Raise(ctypes.Structure):
+    _fields_ = [('value', c_uint64), ('edges', c_size_t), ('sets', c_size_t)]
+
+
 class Sizes(ctypes.Structure):
     _fields_ = [('value', c_uint64)] + [(name, c_size_t) for name in ('nodes', 'vertices', 'bridges', 'cycles', 'members')]
 
@@ -176,6 +180,22 @@ def lists_differ(library, graph, value, lists, masses, rng):
             or listed(library, library.mincut_sides_between, *graph, c_uint32(a), c_uint32(b)) != (value, [s for s in lists if (a + 1 in s) != (b + 1 in s)]))
 
 
+def raise_differs(library, program, graph, text, value, sides):
+    """Whether the new edges do not cross each minimum cut, or are more than those of the program, or other sets are told."""
+    n, u, v, w = graph
+    m, raised = len(u), Raise()
+    heads, tails, set_of = (c_uint32 * n)(), (c_uint32 * n)(), (c_uint64 * n)()
+    assert library.mincut_augment(c_uint32(n), c_size_t(m), (c_uint32 * m)(*u), (c_uint32 * m)(*v), (c_uint64 * m)(*w), byref(raised), heads,
+                                  tails, set_of) == 0
+    lines = [line.split() for line in subprocess.run([program, 'augment', '--workers', '1'], input=text, capture_output=True, text=True,
+                                                     check=True).stdout.splitlines()]
+    sets = [[int(x) for x in line[1:]] for line in lines if line[0] == 'set']
+    edges = [(heads[k] + 1, tails[k] + 1) for k in range(raised.edges)]
+    return ((raised.value, raised.edges) != (value, sum(line[0] == 'edge' for line in lines))
+            or [[i + 1 for i in range(n) if set_of[i] == k + 1] for k in range(raised.sets)] != sets or sum(map(len, sets)) != sum(map(bool, set_of))
+            or not all(any((a in side) != (b in side) for a, b in edges) for side in sides))
+
+
 def sides_of(nodes, bridges, cycles):
     """The sides of all cuts of a flat cactus of the library, whose vertices begin at 0."""
     n = sum(map(len, nodes))
@@ -202,7 +222,8 @@ def check_program(prefix, program, graphs):
     library, rng, apart = ctypes.CDLL(f'{prefix}/lib/libmincut.so'), random.Random(5), 0
     for number in range(graphs):
         graph = random_arrays(rng)
-        text = subprocess.run([program, 'cuts', '--workers', '1'], input=metis_text(*graph), capture_output=True, text=True, check=True).stdout
+        given = metis_text(*graph)
+        text = subprocess.run([program, 'cuts', '--workers', '1'], input=given, capture_output=True, text=True, check=True).stdout
         lines = text.split('\n')
         value, in_order = int(lines[0].split()[1]), [tuple(map(int, line.split())) for line in lines[2:] if line]
         sides = set(in_order)
@@ -218,6 +239,8 @@ def check_program(prefix, program, graphs):
                 sys.exit(f'graph {number} has lists though it is not connected: {graph}')
         elif lists_differ(library, graph, value, in_order, masses, rng):
             sys.exit(f'graph {number} differs in its lists: {graph} {masses}')
+        elif raise_differs(library, program, graph, given, value, sides):
+            sys.exit(f'graph {number} differs in its augmentation: {graph}')
         if found != value or (count is not None and (count != len(sides) or of_cactus != sides)):
             sys.exit(f'graph {number} differs: {graph}')
     told(f'{graphs} multigraphs as the program answers, {apart} of them not connected')
