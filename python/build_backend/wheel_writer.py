@@ -91,16 +91,11 @@ def build_editable(wheel_directory, config_settings=None, metadata_directory=Non
     return write_wheel(wheel_directory, {f'{PACKAGE}.pth': f'{HERE}\n'.encode()})
 
 
-def kept(member):
-    """What goes into an archive: no compiled files, and no link out of this folder."""
-    return None if '__pycache__' in member.name or member.issym() else member
-
-
 def build_sdist(sdist_directory, config_settings=None):
     name = f'{base_name()}.tar.gz'
     with tarfile.open(Path(sdist_directory) / name, 'w:gz', format=tarfile.PAX_FORMAT) as archive:
         for entry in ('pyproject.toml', 'README.md', 'build_backend', PACKAGE, 'tests'):
-            archive.add(HERE / entry, f'{base_name()}/{entry}', filter=kept)
+            archive.add(HERE / entry, f'{base_name()}/{entry}', filter=lambda member: None if '__pycache__' in member.name else member)
         content = metadata().encode()
         member = tarfile.TarInfo(f'{base_name()}/PKG-INFO')
         member.size = len(content)

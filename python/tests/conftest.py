@@ -1,6 +1,6 @@
 """What the tests share. The program is the one that the variable MINCUT names, or the one that the repository has built; where neither is
 there, tools/plain_mincut.py stands in, which has the same texts and takes graphs of up to 16 vertices. The library is likewise that of
-MINCUT_LIBRARY, or of the repository. The folder `checks` is a link to that of tools/: the search through all cuts is taken from there."""
+MINCUT_LIBRARY, or of the repository. The search through all cuts is that of tools/checks."""
 import os
 import random
 from pathlib import Path
