@@ -11,7 +11,7 @@
  *
  * Checks. Lengths, limits, vertices, sums and rooms are checked inside, and what does not fit is answered by a status. Only the
  * pointers are taken at their word: an array has the entries that its length tells, is aligned, and no output array overlaps with
- * another array. An array of length 0 may be null.
+ * another array. Arrays of edges may be null if m is 0, in_side of a list if rows is 0, and mass always; other pointers never.
  *
  * Threads and memory. A call touches only its arrays and the heap, keeps nothing, and starts no thread; calls from several threads
  * may run side by side, on output arrays of their own. Memory comes from malloc, realloc and free of the program, is in proportion
@@ -30,14 +30,15 @@ extern "C" {
 /* 10000 * major + 100 * minor + patch, of this header */
 #define MINCUT_VERSION 300u
 
-/* Several faults may be there at once: masses and the two vertices of a pair are looked at first, then the lengths of the arrays, then n,
- * then m, then the edges in turn, then whether there are two vertices, whether the graph is connected, how many sides a list has, and
- * what there is room for. MINCUT_OUT_OF_MEMORY may come in place of any of the last. */
+/* Several faults may be there at once: null pointers are looked at first, then masses and the two vertices of a pair, then the lengths
+ * of the arrays (raw exports), then n, then m, then the edges in turn, then whether there are two vertices, whether the graph is
+ * connected, how many sides a list has, and what there is room for. MINCUT_OUT_OF_MEMORY may come in place of any of the last. */
 typedef enum mincut_status {
     MINCUT_OK = 0,
     MINCUT_NO_CUT = 1,            /* n is 0 or 1 */
     MINCUT_OUT_OF_MEMORY = 2,
-    MINCUT_BAD_LENGTH = 3,        /* a pointer is null and its length is not 0, or arrays of one graph differ in length */
+    MINCUT_BAD_LENGTH = 3,        /* a pointer is null that may not be, or (raw exports) arrays of one graph differ in length, or masses
+                                   * are neither n nor none */
     MINCUT_TOO_MANY_VERTICES = 4, /* n is above 4,194,304 */
     MINCUT_TOO_MANY_EDGES = 5,    /* m is above 16,777,216 */
     MINCUT_BAD_VERTEX = 6,        /* an end of an edge, or a vertex of a pair, is n or more */
@@ -148,7 +149,7 @@ typedef struct mincut_raise {
 } mincut_raise;
 
 /* The fewest edges of weight 1 that raise the value of a connected graph: edge k joins from[k] and to[k], the lesser vertex first, and
- * the edges ascend. The certificate are the smallest sets of vertices that are one side of a minimum cut: no two of them share a
+ * the edges ascend. The certificate is the inclusion-minimal sets that are one side of a minimum cut: no two of them share a
  * vertex, and edges that raise the value end in each, so it takes half as many as there are sets, rounded up. set_of tells for
  * each vertex the number of its set, from 1, or 0 where it is in none; the sets stand in the order of their least vertices.
  *

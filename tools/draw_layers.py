@@ -1,10 +1,7 @@
 #!/usr/bin/env python3
-"""Draws the layers of crates.txt: the crates of each, and on which other layers they stand.
-
-usage: draw_layers.py [FILE.svg]    FILE.svg: docs/layers.svg where none is named
-"""
+"""Draws the layers of crates.txt: the crates of each, and on which other layers they stand."""
+import argparse
 import os
-import sys
 from html import escape
 
 ROOT = os.path.dirname(os.path.dirname(os.path.abspath(__file__)))
@@ -53,7 +50,9 @@ def drawn(found):
 
 
 def main():
-    target = sys.argv[1] if len(sys.argv) > 1 else f'{ROOT}/docs/layers.svg'
+    parser = argparse.ArgumentParser(description=__doc__)
+    parser.add_argument('file', nargs='?', default=f'{ROOT}/docs/layers.svg', help='the drawing; docs/layers.svg if none is named')
+    target = parser.parse_args().file
     with open(target, 'w', encoding='utf-8') as file:
         file.write(drawn(layers()))
 
