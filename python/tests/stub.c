@@ -8,6 +8,18 @@
 struct bridge { uint64_t upper, lower; };
 struct sizes { uint64_t value; size_t nodes, vertices, bridges, cycles, members; };
 
+static uint64_t weight_of(size_t m, const uint32_t *u, const uint32_t *v, const uint64_t *w, uint32_t side) {
+    uint64_t weight = 0;
+    for (size_t k = 0; k < m; ++k) weight += (side >> u[k] & 1) != (side >> v[k] & 1) ? w[k] : 0;
+    return weight;
+}
+
+static uint64_t balance_of(uint32_t n, const uint64_t *mass, uint32_t side) {
+    uint64_t inside = 0, outside = 0;
+    for (uint32_t i = 0; i < n; ++i) *(side >> i & 1 ? &inside : &outside) += mass ? mass[i] : 1;
+    return inside < outside ? inside : outside;
+}
+
 static int best(uint32_t n, size_t m, const uint32_t *u, const uint32_t *v, const uint64_t *w, uint64_t *value, uint64_t *count) {
     if (n < 2) return 1;
     if (m && w[0] == 999) sleep(60);
@@ -15,12 +27,20 @@ static int best(uint32_t n, size_t m, const uint32_t *u, const uint32_t *v, cons
     if (m && w[0] == 997) return 2;
     *value = UINT64_MAX;
     for (uint32_t side = 2; side < 1u << n; side += 2) {
-        uint64_t weight = 0;
-        for (size_t k = 0; k < m; ++k) weight += (side >> u[k] & 1) != (side >> v[k] & 1) ? w[k] : 0;
+        const uint64_t weight = weight_of(m, u, v, w, side);
         if (weight < *value) { *value = weight; *count = 0; }
         *count += weight == *value;
     }
     return 0;
+}
+
+/* the value of a connected graph, whose vertices have these masses, or 1 each, or the status by which it is refused */
+static int check(uint32_t n, size_t m, const uint32_t *u, const uint32_t *v, const uint64_t *w, const uint64_t *mass, uint64_t *value) {
+    uint64_t count, total = 0;
+    const int status = best(n, m, u, v, w, value, &count);
+    for (uint32_t i = 0; mass && i < n; total += mass[i++])
+        if (mass[i] > UINT64_MAX - total) return 10;
+    return status == 0 && *value == 0 ? 8 : status;
 }
 
 int mincut_value(uint32_t n, size_t m, const uint32_t *u, const uint32_t *v, const uint64_t *w, uint64_t *value) {
@@ -36,9 +56,8 @@ int mincut_count(uint32_t n, size_t m, const uint32_t *u, const uint32_t *v, con
 
 int mincut_cactus(uint32_t n, size_t m, const uint32_t *u, const uint32_t *v, const uint64_t *w, struct sizes *sizes, size_t *node_starts,
                   uint32_t *vertices, struct bridge *bridges, size_t *cycle_starts, uint64_t *members) {
-    uint64_t count;
-    const int status = best(n, m, u, v, w, &sizes->value, &count);
-    if (status || sizes->value == 0) return status ? status : 8;
+    const int status = check(n, m, u, v, w, 0, &sizes->value);
+    if (status) return status;
     const int ring = n > 2;
     for (uint32_t i = 0; i < n; ++i) {
         node_starts[i] = i;
@@ -57,19 +76,13 @@ struct balance { uint64_t value, balance; };
 /* by trying all sides: the first that is as balanced as any */
 int mincut_balanced(uint32_t n, size_t m, const uint32_t *u, const uint32_t *v, const uint64_t *w, const uint64_t *mass, struct balance *found,
                     uint8_t *in_side) {
-    uint64_t count, value;
-    const int status = best(n, m, u, v, w, &value, &count);
-    uint64_t total = 0;
-    for (uint32_t i = 0; mass && i < n; total += mass[i++])
-        if (mass[i] > UINT64_MAX - total) return 10;
-    if (status || value == 0) return status ? status : 8;
+    uint64_t value;
+    const int status = check(n, m, u, v, w, mass, &value);
+    if (status) return status;
     *found = (struct balance){value, 0};
     for (uint32_t side = 2; side < 1u << n; side += 2) {
-        uint64_t weight = 0, inside = 0, outside = 0;
-        for (size_t k = 0; k < m; ++k) weight += (side >> u[k] & 1) != (side >> v[k] & 1) ? w[k] : 0;
-        for (uint32_t i = 0; i < n; ++i) *(side >> i & 1 ? &inside : &outside) += mass ? mass[i] : 1;
-        const uint64_t balance = inside < outside ? inside : outside;
-        if (weight != value || (balance <= found->balance && found->balance)) continue;
+        const uint64_t balance = balance_of(n, mass, side);
+        if (weight_of(m, u, v, w, side) != value || (balance <= found->balance && found->balance)) continue;
         found->balance = balance;
         for (uint32_t i = 0; i < n; ++i) in_side[i] = side >> i & 1;
     }
@@ -77,18 +90,6 @@ int mincut_balanced(uint32_t n, size_t m, const uint32_t *u, const uint32_t *v, 
 }
 
 struct listing { uint64_t value, sides; };
-
-static uint64_t weight_of(size_t m, const uint32_t *u, const uint32_t *v, const uint64_t *w, uint32_t side) {
-    uint64_t weight = 0;
-    for (size_t k = 0; k < m; ++k) weight += (side >> u[k] & 1) != (side >> v[k] & 1) ? w[k] : 0;
-    return weight;
-}
-
-static uint64_t balance_of(uint32_t n, const uint64_t *mass, uint32_t side) {
-    uint64_t inside = 0, outside = 0;
-    for (uint32_t i = 0; i < n; ++i) *(side >> i & 1 ? &inside : &outside) += mass ? mass[i] : 1;
-    return inside < outside ? inside : outside;
-}
 
 /* all sides with some vertices from one on, in the order of lists; those that are asked for are counted, and told where rows is not null */
 static void list(uint32_t n, size_t m, const uint32_t *u, const uint32_t *v, const uint64_t *w, const uint64_t *mass, uint64_t least, uint32_t pair,
@@ -103,12 +104,9 @@ static void list(uint32_t n, size_t m, const uint32_t *u, const uint32_t *v, con
 
 static int sides(uint32_t n, size_t m, const uint32_t *u, const uint32_t *v, const uint64_t *w, const uint64_t *mass, uint64_t least, uint32_t pair,
                  size_t rows, struct listing *listing, uint8_t *in_side) {
-    uint64_t count, value;
-    const int status = best(n, m, u, v, w, &value, &count);
-    uint64_t total = 0;
-    for (uint32_t i = 0; mass && i < n; total += mass[i++])
-        if (mass[i] > UINT64_MAX - total) return 10;
-    if (status || value == 0) return status ? status : 8;
+    uint64_t value;
+    const int status = check(n, m, u, v, w, mass, &value);
+    if (status) return status;
     *listing = (struct listing){value, 0};
     list(n, m, u, v, w, mass, least, pair, 0, 1, listing, 0);
     if (listing->sides > rows) return 9;
@@ -132,9 +130,9 @@ struct raise { uint64_t value; size_t edges, sets; };
 /* the smallest sides, of those with vertex 0 too, by trying all; the edges join them one after another, which need not raise the value */
 int mincut_augment(uint32_t n, size_t m, const uint32_t *u, const uint32_t *v, const uint64_t *w, struct raise *raise, uint32_t *from, uint32_t *to,
                    uint64_t *set_of) {
-    uint64_t count, value;
-    const int status = best(n, m, u, v, w, &value, &count);
-    if (status || value == 0) return status ? status : 8;
+    uint64_t value;
+    const int status = check(n, m, u, v, w, 0, &value);
+    if (status) return status;
     uint32_t firsts[32];
     *raise = (struct raise){value, 0, 0};
     for (uint32_t i = 0; i < n; ++i) set_of[i] = 0;

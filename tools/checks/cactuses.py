@@ -118,6 +118,15 @@ def read(text: bytes) -> Cactus:
     return cactus
 
 
+def first_fault(text: bytes) -> int:
+    """The line of the first fault of the text of a cactus, 0 where there is none."""
+    try:
+        read(text)
+    except Malformed as refusal:
+        return refusal.line
+    return 0
+
+
 # Its cuts
 
 def edges_of(cactus: Cactus) -> list[tuple[int, int, tuple]]:

@@ -262,15 +262,6 @@ def changed(rng: Random, text: bytes) -> tuple[str, bytes]:
     return names[0] if len(names) == 1 else 'two changes', text
 
 
-def first_fault(text: bytes) -> int:
-    """The line of the first fault, 0 where there is none."""
-    try:
-        cactuses.read(text)
-    except cactuses.Malformed as refusal:
-        return refusal.line
-    return 0
-
-
 Case = tuple[str, int, bytes]
 
 
@@ -283,7 +274,7 @@ def make_cases(count: int, seed: int, program: str) -> list[Case]:
         name = 'none'
         if k % 10:
             name, text = changed(rng, text)
-        cases.append((name, first_fault(text), text))
+        cases.append((name, cactuses.first_fault(text), text))
     return cases
 
 

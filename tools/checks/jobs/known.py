@@ -44,7 +44,7 @@ def known_texts() -> Iterator[Known]:
     yield 'sides of a cactus', cactuses.sides_of(cactuses.read(GOOD)), [(3,)]
     yield 'text of a cactus', cactuses.read(GOOD).text().encode(), GOOD
     for text, line in FAULTS:
-        yield f'fault of {text!r}', fault_line(text), line
+        yield f'fault of {text!r}', cactuses.first_fault(text), line
     for text, cactus in CANONICAL:
         graph = metis.read(text).graph
         found = canonical(graph[0], *minimum_cuts(graph))
@@ -53,15 +53,6 @@ def known_texts() -> Iterator[Known]:
         yield f'{text!r} on trust', metis.read(text, trusted=True), metis.read(text)
         yield f'{text!r} once more', metis.read(metis.text_of(graph).encode()).graph, graph
     yield 'a cycle', fault_of_canonical(cactuses.read(OTHER_WAY)), 'cycle [0, 1, 2, 3] goes the other way'
-
-
-def fault_line(text: bytes) -> int:
-    """The line of the first fault of the text of a cactus, 0 where there is none."""
-    try:
-        cactuses.read(text)
-    except cactuses.Malformed as refusal:
-        return refusal.line
-    return 0
 
 
 def add_options(parser: argparse.ArgumentParser) -> None:
