@@ -4,7 +4,8 @@
     apt-get install g++ pkg-config liblemon-dev libboost-graph-dev libigraph-dev python3-networkx python3-matplotlib    # once
     python3 bench/figures.py [--program PATH] [--families ring,grid,..] [--sizes 100,1000,..,1000000]
                      [--files GRAPH ..] [--jobs value,count,cactus] [--peers lemon-ni,..] [--repetitions 3] [--long 1]
-                     [--limit 10] [--memory MB] [--workers N] [--checked 100000] [--note TEXT] [--folder docs] [--save FILE.json]
+                     [--limit 10] [--memory MB] [--workers N] [--checked 100000] [--library PREFIX] [--note TEXT] [--folder docs]
+                     [--save FILE.json]
     bench/figures.py --load FILE.json        # only writes the page again
 
 PATH is the built program, as crates/mincut/out/mincut; without `--program` it is ./mincut. The Python that runs it should have
@@ -40,6 +41,7 @@ PEERS_FOLDER = os.path.join(HERE, 'peers')
 COMPILING = ['-O3', '-march=native', '-DNDEBUG', '-std=c++17']
 CLOCK = 20           # a run that takes so many times the limit by the clock is ended too
 STEADY = 0.02        # seconds; shorter times are not carried on to larger graphs
+IN_PROCESS = ((50, 100, 4_000), (200, 1_000, 1_000), (1_000, 5_000, 200))    # vertices, edges, and how many calls are timed
 
 
 class Peer:
@@ -230,6 +232,21 @@ def measure(options, peers, folder):
     return records, differing
 
 
+# Calls in one process
+
+def library_calls(prefix, folder):
+    """The sizes, and {name of a call: its microseconds at each}, of the C library in that folder and of its peers."""
+    binary = os.path.join(folder, 'library')
+    flags = shlex.split(output_of(['pkg-config', '--cflags', '--libs', 'igraph']))
+    subprocess.run(['g++', '-O2', '-std=c++17', os.path.join(HERE, 'library.cpp'), f'-I{prefix}/include', f'{prefix}/lib/libmincut.a', *flags, '-o', binary], check=True)
+    calls = {}
+    for size in IN_PROCESS:
+        done = subprocess.run([binary, *map(str, size)], stdout=subprocess.PIPE, text=True, check=True)
+        for name, microseconds in re.findall(r'^(.*?) +([\d.]+) us a call', done.stdout, re.M):
+            calls.setdefault(name, []).append(float(microseconds))
+    return {'sizes': IN_PROCESS, 'microseconds': calls}
+
+
 # The machine
 
 def processor_name():
@@ -293,6 +310,7 @@ def read_options():
     parser.add_argument('--workers', type=int, default=0, help='workers of the program; its own number where it is 0')
     parser.add_argument('--checked', type=int, default=100_000, help='most edges of a graph at which the whole text is checked')
     parser.add_argument('--seed', type=int, default=1)
+    parser.add_argument('--library', help='where ./library installed the C library, to time its calls')
     parser.add_argument('--note', default='', help='a sentence on the program that was measured, for the page')
     parser.add_argument('--folder', default=os.path.join(running.TOP, 'docs'), help='where FIGURES.md and the plots go')
     parser.add_argument('--save', help='a file for all that was measured')
@@ -321,6 +339,7 @@ def main():
             told = {'about': circumstances(options, peers)}
             start = time.monotonic()
             told['records'], differing = measure(options, peers, folder)
+            told['calls'] = library_calls(options.library, folder) if options.library else {}
         told['about'].update(differing=differing, minutes=(time.monotonic() - start) / 60, load_after=f'{os.getloadavg()[0]:.1f}')
         if options.save:
             with open(options.save, 'w') as out:

@@ -316,6 +316,16 @@ def job_lines(job, answer, records, titles):
                     *growth_table(records, titles)]
 
 
+def call_lines(calls):
+    """The section on the C library, where its calls were timed."""
+    if not calls:
+        return []
+    return ['## Calls in one process', '', 'Microseconds of the processor for one call of the C library (`docs/LIBRARY.md`), of LEMON and of igraph, by '
+            '`bench/library.cpp`: 100 random connected graphs in turn, with weights 1 to 20, the least of five runs. Each call builds its graph from arrays.', '',
+            *table([''] + [f'{n:,} vertices, {m:,} edges' for n, m, _ in calls['sizes']],
+                   [[f'`{name}`'] + [f'{figure:,.1f}' for figure in figures] for name, figures in calls['microseconds'].items()])]
+
+
 def write(told, titles, folder):
     """Writes the page and its plots into the folder; `titles` has a title for each contender."""
     records = told['records']
@@ -324,5 +334,6 @@ def write(told, titles, folder):
         some = [record for record in records if record['job'] == job]
         if some:
             lines += job_lines(job, answer, some, titles)
+    lines += call_lines(told.get('calls'))
     with open(os.path.join(folder, 'FIGURES.md'), 'w') as out:
         out.write('\n'.join(lines))
