@@ -153,7 +153,7 @@ def wrong_answers(record, graph, out_file, options):
     if facts is None:
         return []
     if m <= options.checked:
-        return solve.apart(solve.check_answer, record['job'], out_file, file, m, facts)[1]
+        return solve.apart(solve.check_answer, [record['job']], out_file, file, facts)[1]
     return [f'{word} is {number} and not {facts[word]}' for word, number in record['answer'].items() if facts.get(word, number) != number]
 
 

@@ -34,6 +34,16 @@ def ring_of_rings(n: int, rng: Random) -> Made:
     return k * k, edges, {'value': 2, 'count': (k + 1) * k * (k - 1) // 2, 'shape': (k * k, 0, k + 1), 'balance': k * (k // 2)}
 
 
+def chain_of_rings(n: int, rng: Random) -> Made:
+    """Rings of four vertices, each with a vertex in common with the next and the opposite one with the last, numbered at random: a
+    cactus of one cycle below the other."""
+    k = max(4, n // 3)
+    n, edges = 3 * k + 1, []
+    for first in range(1, n, 3):
+        edges += ring_edges([first, first + 1, first + 3, first + 2])
+    return n, shuffled(n, edges, rng), {'value': 2, 'count': 6 * k, 'shape': (n, 0, k), 'balance': n // 2}
+
+
 def squares(n: int, rng: Random) -> Made:
     """The graph of the job `trial`: rings of four vertices, joined to a ring at opposite corners; each edge weighs 2."""
     k = max(4, n // 4)
@@ -302,6 +312,7 @@ def hypercube(n: int, rng: Random) -> Made:
 FAMILIES: dict[str, tuple[Callable[[int, Random], Made], Callable[[int], int]]] = {
     'ring': (ring, lambda m: m),
     'ring_of_rings': (ring_of_rings, lambda m: m),
+    'chain_of_rings': (chain_of_rings, lambda m: m * 3 // 4),
     'squares': (squares, lambda m: m * 4 // 5),
     'grid': (grid, lambda m: m // 2),
     'torus': (torus, lambda m: m // 2),
