@@ -13,10 +13,8 @@ differs is kept. One program runs at a time, at little cost for each: runs with 
 import argparse
 import os
 import re
-import resource
 import signal
 import tempfile
-import time
 from collections import Counter
 from collections.abc import Callable, Iterator
 from random import Random
@@ -223,7 +221,7 @@ def add_options(parser: argparse.ArgumentParser) -> None:
 
 
 def main(options: argparse.Namespace) -> int:
-    runner, since = Runner(running.ready(options.program)), time.monotonic()
+    runner, before = Runner(running.ready(options.program)), os.times()
     names, wrong = Counter(), []
     for k, (seed, job, text, is_judged) in enumerate(cases(options), 1):
         answer = runner.run(job, text)
@@ -233,10 +231,9 @@ def main(options: argparse.Namespace) -> int:
         if found is not None:
             wrong.append(f'DIFFERS seed {seed}, {kept(options.keep, seed, text)}: {found}')
         if k % REPORTED == 0:
-            print(f'{k} files in {time.monotonic() - since:.0f} s, {len(wrong)} differ', flush=True)
+            print(f'{k} files in {os.times().elapsed - before.elapsed:.0f} s, {len(wrong)} differ', flush=True)
     for name, count in sorted(names.items()):
         print(f'{count:7d} {name}')
-    own, programs = (resource.getrusage(who) for who in (resource.RUSAGE_SELF, resource.RUSAGE_CHILDREN))
-    print(f'{time.monotonic() - since:.0f} s by the clock; of the processor {programs.ru_utime + programs.ru_stime:.0f} s in the program, '
-          f'{own.ru_utime + own.ru_stime:.0f} s here')
+    own, own_system, programs, their_system, clock = (after - first for after, first in zip(os.times(), before))
+    print(f'{clock:.0f} s by the clock; of the processor {programs + their_system:.0f} s in the program, {own + own_system:.0f} s here')
     return running.tell_end(options.job, f'{options.count} files', wrong)
