@@ -116,54 +116,76 @@ def copied(room, names, lines):
 
 
 @contextlib.contextmanager
-def in_turn(say):
-    """Waits while another run here builds the program."""
-    os.makedirs(OUT, exist_ok=True)
-    with open(f'{ROOT}/crates/{PROGRAM}/out/building', 'w', encoding='utf-8') as lock:
+def in_turn(say, what, out):
+    """Waits while another run here builds the same in that folder."""
+    os.makedirs(out, exist_ok=True)
+    with open(f'{out}/building', 'w', encoding='utf-8') as lock:
         try:
             fcntl.flock(lock, fcntl.LOCK_EX | fcntl.LOCK_NB)
         except BlockingIOError:
-            say('another run is proving the program; waiting for it')
+            say(f'another run is proving {what}; waiting for it')
             fcntl.flock(lock, fcntl.LOCK_EX)
         yield
 
 
 @contextlib.contextmanager
-def gate_over(room, log, words):
-    """The toolchain's gate over the folder, in a session of its own, which ends with this process."""
-    gate = subprocess.Popen(words, cwd=room, stdin=subprocess.DEVNULL, stdout=log, stderr=subprocess.STDOUT, start_new_session=True)
+def job_in(folder, log, words):
+    """A command of the toolchain in the folder, in a session of its own, which ends with this process."""
+    job = subprocess.Popen(words, cwd=folder, stdin=subprocess.DEVNULL, stdout=log, stderr=subprocess.STDOUT, start_new_session=True)
     try:
-        yield gate
+        yield job
     finally:
         for number in (signal.SIGINT, signal.SIGKILL):
             with contextlib.suppress(ProcessLookupError):
-                os.killpg(gate.pid, number)
+                os.killpg(job.pid, number)
             with contextlib.suppress(subprocess.TimeoutExpired):
-                gate.wait(10)
+                job.wait(10)
 
 
-def proved(room, watch, say, words):
-    """Runs the gate there, tells how far it is, and answers whether all passed, with what it printed."""
-    with open(f'{room}/.git/log', 'w+b') as log, gate_over(room, log, words) as gate:
-        printed, place, told_at = '', 0, time.monotonic()
-        say(f'proving and building the program, which is made of {len(watch.names)} crates; {watch.left()}')
+def followed(folder, words, watch, tell):
+    """Runs the command there to its end. About each second the watch looks at it, and `tell` gets what it printed meanwhile and whether it
+    has ended. Answers whether it passed, and all that it printed."""
+    with tempfile.NamedTemporaryFile() as log, open(log.name, 'rb') as reading, job_in(folder, log, words) as job:
+        printed = ''
         while True:
-            ended = gate.poll() is not None
-            log.seek(place)
-            new = log.read().decode('utf-8', 'replace')
-            place = log.seek(0, os.SEEK_END)
+            ended = job.poll() is not None
+            new = reading.read().decode('utf-8', 'replace')
             printed += new
-            watch.look(gate.pid)
-            kept = [name for name in re.findall(r'^rt: (\w+) is kept', new, re.M) if watch.keep(name)]
-            done = [name for name in re.findall(r'^rt: (\w+) proved', new, re.M) if watch.end(name)]
-            if kept:
-                say(f'proved by an earlier run here, which is taken up: {len(kept)} ({", ".join(kept)})')
-            if done or not ended and time.monotonic() - told_at >= PAUSE:
-                say(f'{watch.told(done)}; {watch.left()}')
-                told_at = time.monotonic()
+            watch.look(job.pid)
+            tell(new, ended)
             if ended:
-                return gate.returncode == 0, printed
+                return job.returncode == 0, printed
             time.sleep(1)
+
+
+def proved(room, what, watch, say, words):
+    """Runs the gate there, tells how far it is, and answers whether all passed, with what it printed."""
+    told_at = time.monotonic()
+
+    def tell(new, ended):
+        nonlocal told_at
+        kept = [name for name in re.findall(r'^rt: (\w+) is kept', new, re.M) if watch.keep(name)]
+        done = [name for name in re.findall(r'^rt: (\w+) proved', new, re.M) if watch.end(name)]
+        if kept:
+            say(f'proved by an earlier run here, which is taken up: {len(kept)} ({", ".join(kept)})')
+        if done or not ended and time.monotonic() - told_at >= PAUSE:
+            say(f'{watch.told(done)}; {watch.left()}')
+            told_at = time.monotonic()
+
+    say(f'proving and building {what}, which is made of {len(watch.names)} crates; {watch.left()}')
+    return followed(room, words, watch, tell)
+
+
+def passed(room, what, names, lines, say, words=('rt', 'ci'), after=()):
+    """Copies the crates to the folder and has the gate prove them there. Answers what was watched, or None where they did not pass, once
+    it has shown why. The crates in `after` are proved once more when the gate has passed."""
+    watch = Watch(names, {name: lines[name][1] for name in names}, Costs.read(COSTS), after)
+    copied(room, names, lines)
+    is_well, printed = proved(room, what, watch, say, words)
+    if is_well:
+        return watch
+    print(printed, file=sys.stderr)
+    return None
 
 
 def build_now(say, measures):
@@ -171,12 +193,9 @@ def build_now(say, measures):
     since, lines = time.time_ns(), lines_of_crates()
     names = crates_below(PROGRAM, lines, [])
     total = sum_of(names, lines)
-    watch = Watch(names, {name: lines[name][1] for name in names}, Costs.read(COSTS))
     with tempfile.TemporaryDirectory(prefix='mincut-build-') as room:
-        copied(room, names, lines)
-        passed, printed = proved(room, watch, say, ['rt', 'ci', '--anew'] if measures else ['rt', 'ci'])
-        if not passed:
-            print(printed, file=sys.stderr)
+        watch = passed(room, 'the program', names, lines, say, ['rt', 'ci', '--anew'] if measures else ['rt', 'ci'])
+        if not watch:
             say("the program was not built; above stands what 'rt ci' printed")
             return False
         shutil.copy(f'{room}/crates/{PROGRAM}/out/{PROGRAM}', f'{BUILT}.new')
@@ -190,7 +209,7 @@ def build_now(say, measures):
 
 def build(say, measures=False):
     """Whether the program is built now; it is proved and built where it was not."""
-    with in_turn(say):
+    with in_turn(say, 'the program', OUT):
         return not measures and is_current() or build_now(say, measures)
 
 

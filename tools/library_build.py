@@ -4,24 +4,23 @@
 usage: library_build.py [PREFIX]
 
 It builds out/libmincut.a and out/libmincut.so, and copies them to PREFIX/lib, the header to PREFIX/include, and a pkg-config file to
-PREFIX/lib/pkgconfig where a folder is named. The toolchain's `rt lib` proves the
-crates one after another in this checkout, and leaves alone what it proved before; progress goes to standard error. It takes a C
-compiler, ld, ar and objcopy. The status is 0 where the library was built, 1 where it was not, 2 for wrong words, and 130 after an
-interrupt; what was proved is kept, and the next run goes on from there.
+PREFIX/lib/pkgconfig where a folder is named. As for the program, the toolchain's gate proves the crates side by side in a copy, and what
+was proved before on this machine is taken up. In that copy `rt lib` then makes the archive, and proves the topmost crate once more for
+it. Progress goes to standard error. It takes a C compiler, ld, ar and objcopy. The status is 0 where the library was built, 1 where it
+was not, 2 for wrong words, and 130 after an interrupt; what was proved is kept, and the next run goes on from there.
 """
+import contextlib
 import hashlib
 import os
 import re
-import selectors
 import shutil
-import signal
 import subprocess
 import sys
 import tempfile
 import time
 
-from first_build import COSTS, PAUSE, crates_below, lines_of_crates, sum_of
-from proving_time import Costs, loop_seconds, minutes
+from first_build import PAUSE, crates_below, followed, in_turn, lines_of_crates, passed, sum_of
+from proving_time import Watch, minutes
 
 ROOT = os.path.dirname(os.path.dirname(os.path.abspath(__file__)))
 CRATE = 'mincut_c'
@@ -30,6 +29,10 @@ HEADER = f'{ROOT}/include/mincut.h'
 OUT = f'{ROOT}/out'
 LIBRARIES = ('libmincut.a', 'libmincut.so')
 MADE_OF = f'{OUT}/libmincut.made_of'
+# The proved exports alone, as `rt lib` made them.
+ARCHIVE = f'{OUT}/lib{CRATE}.a'
+ARCHIVE_MADE_OF = f'{OUT}/lib{CRATE}.made_of'
+STAMPS = f'{ROOT}/tools/library_stamps.py'
 TOOLS = ('rt', 'ld', 'ar', 'objcopy')
 # Rattle compiles for these processors by default.
 FLAGS = ('-O2', '-fPIC', '-Wall', '-Wextra')
@@ -51,37 +54,6 @@ def run(*words, **more):
     return done.stdout
 
 
-class Progress:
-    """Which crate the toolchain works on, and by the measured costs how long the rest takes."""
-
-    def __init__(self, names):
-        self.costs, self.left, self.at = Costs.read(COSTS), list(names), None
-        self.begun = self.told = time.monotonic()
-        # the proof of one crate uses about two processors
-        self.ratio = loop_seconds() / self.costs.loop / min(2, len(os.sched_getaffinity(0)))
-
-    def read(self, line):
-        found = re.match(r'rt: chose --jobs \d+ for (\w+)', line)
-        if found and found[1] in self.left:
-            while self.left[0] != found[1]:
-                self.left.pop(0)
-            if not self.at:
-                say(f'crates of the library have to be proved first, one after another; about {self.rest()} at most')
-            self.at = found[1]
-            self.tell(f'proving {self.at}')
-
-    def rest(self):
-        return minutes(sum(self.costs.of(name) for name in self.left) * self.ratio)
-
-    def tell(self, text):
-        self.told = time.monotonic()
-        say(f'{text}; about {self.rest()} more at most')
-
-    def wait(self):
-        if self.at and time.monotonic() - self.told >= PAUSE:
-            self.tell(f'still proving {self.at}')
-
-
 def made_of(names, lines):
     """A checksum of all that the library is made of."""
     total = hashlib.sha256(sum_of(names, lines).encode())
@@ -91,48 +63,70 @@ def made_of(names, lines):
     return total.hexdigest()
 
 
-def is_current(total):
-    """Whether both libraries were built of the files as they stand."""
+def is_current(made, note, total):
+    """Whether these files are there and, by the note, were made of what has that checksum."""
     try:
-        with open(MADE_OF, encoding='utf-8') as file:
-            return file.read().strip() == total and all(os.path.isfile(f'{OUT}/{name}') for name in LIBRARIES)
+        with open(note, encoding='utf-8') as file:
+            return file.read().strip() == total and all(map(os.path.isfile, made))
     except FileNotFoundError:
         return False
 
 
-def prove(names):
-    """Has the toolchain prove the crates, and answers where the archive is."""
-    archive = f'{ROOT}/crates/{CRATE}/out/lib{CRATE}.a'
-    printed, progress = [], Progress(names)
-    job = subprocess.Popen(['rt', 'lib'], cwd=f'{ROOT}/crates/{CRATE}', stdin=subprocess.DEVNULL, stdout=subprocess.PIPE,
-                           stderr=subprocess.STDOUT, text=True, start_new_session=True)
-    try:
-        with selectors.DefaultSelector() as ready:
-            ready.register(job.stdout, selectors.EVENT_READ)
-            while True:
-                if not ready.select(5):
-                    progress.wait()
-                    continue
-                line = job.stdout.readline()
-                if not line:
-                    break
-                printed.append(line)
-                progress.read(line)
-        job.wait()
-    finally:
-        if job.poll() is None:
-            os.killpg(job.pid, signal.SIGINT)
-            job.wait()
-    if job.returncode != 0 or not os.path.isfile(archive):
-        raise BuildFault(f"'rt lib' did not build {CRATE}:\n{''.join(printed)}")
-    if progress.at:
-        say(f'proved in {minutes(time.monotonic() - progress.begun)}')
-    return archive
+@contextlib.contextmanager
+def noted(note, total):
+    """Notes of what files are made; while they are written there is no note."""
+    with contextlib.suppress(FileNotFoundError):
+        os.remove(note)
+    yield
+    with open(note, 'w', encoding='utf-8') as file:
+        file.write(f'{total}\n')
 
 
 def kit():
     """The folder of the toolchain."""
     return os.path.dirname(run('rt', 'doc').strip())
+
+
+def are_taken(room):
+    """Whether `rt lib` takes there what the gate proved."""
+    try:
+        run(sys.executable, STAMPS, kit(), room)
+        return True
+    except BuildFault:
+        return False
+
+
+def archived(folder, names, why, earlier):
+    """Makes the archive in the folder, for which `rt lib` proves these crates one after another, and answers where it is."""
+    watch = Watch(names, {name: names[at - 1:at] for at, name in enumerate(names)}, earlier.measured)
+    watch.first_ratio, told_at = earlier.ratio(), time.monotonic()
+
+    def tell(_, ended):
+        nonlocal told_at
+        if not ended and time.monotonic() - told_at >= PAUSE:
+            say(f'working on {", ".join(watch.running) or CRATE}; {watch.left()}')
+            told_at = time.monotonic()
+
+    say(f'{why}; {watch.left()}')
+    is_well, printed = followed(folder, ['rt', 'lib'], watch, tell)
+    archive = f'{folder}/out/lib{CRATE}.a'
+    if not is_well or not os.path.isfile(archive):
+        raise BuildFault(f"'rt lib' did not build {CRATE}:\n{printed}")
+    return archive
+
+
+def proved(room, names, lines):
+    """Has the toolchain prove the crates in a copy in the folder, and answers where the archive is that it made there."""
+    watch = passed(room, 'the library', names, lines, say, after=(CRATE,))
+    if not watch:
+        raise BuildFault("it was not built; above stands what 'rt ci' printed")
+    if are_taken(room):
+        again, why = [CRATE], f"all proved; 'rt lib' makes the archive, and proves {CRATE} once more for it"
+    else:
+        again, why = names, "all proved; 'rt lib', which makes the archive, does not take that here, and proves all once more, one after another"
+    archive = archived(f'{room}/crates/{CRATE}', again, why, watch)
+    say(f'proved and built in {minutes(time.monotonic() - watch.begun)}')
+    return archive
 
 
 def exported():
@@ -181,21 +175,32 @@ def install(prefix):
     say(file.name)
 
 
+def build_now(names, lines, total):
+    """Builds both libraries, over the archive of an earlier run where the crates and the toolchain are the same."""
+    of_crates = f'{sum_of(names, lines)} {run("rt", "version").strip()}'
+    with tempfile.TemporaryDirectory(prefix='mincut-library-') as room:
+        if not is_current([ARCHIVE], ARCHIVE_MADE_OF, of_crates):
+            made = proved(room, names, lines)
+            with noted(ARCHIVE_MADE_OF, of_crates):
+                shutil.copy(made, ARCHIVE)
+        link(ARCHIVE, room)
+        with noted(MADE_OF, total):
+            for name in LIBRARIES:
+                put(f'{room}/{name}', OUT)
+
+
 def build(prefix):
     missing = [name for name in (*TOOLS, os.environ.get('CC', 'cc')) if not shutil.which(name)]
     if missing:
         raise BuildFault(f'not on the path: {", ".join(missing)}')
     lines = lines_of_crates()
     names = crates_below(CRATE, lines, [])
-    total = made_of(names, lines)
-    if not is_current(total):
-        archive = prove(names)
-        with tempfile.TemporaryDirectory(prefix='mincut-library-') as room:
-            link(archive, room)
-            for name in LIBRARIES:
-                put(f'{room}/{name}', OUT)
-        with open(MADE_OF, 'w', encoding='utf-8') as file:
-            file.write(f'{total}\n')
+    total, made = made_of(names, lines), [f'{OUT}/{name}' for name in LIBRARIES]
+    if not is_current(made, MADE_OF, total):
+        with in_turn(say, 'the library', OUT):
+            # another run may have built it meanwhile
+            if not is_current(made, MADE_OF, total):
+                build_now(names, lines, total)
     if prefix:
         install(os.path.abspath(prefix))
 

@@ -1,5 +1,5 @@
 """How long a proof of the program takes on this machine: by the processor time that each crate took where it was measured, and by
-what the crates that are done took here. It is imported by first_build.py."""
+what the crates that are done took here. It is imported by first_build.py and library_build.py."""
 import heapq
 import os
 import time
@@ -58,10 +58,10 @@ class Costs:
 
 
 class Watch:
-    """What the gate has done, and by that, how long the rest takes."""
+    """What the gate has done, and by that, how long the rest takes, with the crates in `after`, which are proved once more after it."""
 
-    def __init__(self, names, uses, costs):
-        self.names, self.uses, self.measured = names, uses, costs
+    def __init__(self, names, uses, costs, after=()):
+        self.names, self.uses, self.measured, self.after = names, uses, costs, after
         self.begun, self.times, self.running = time.monotonic(), {}, []
         self.done, self.kept = set(), set()
         self.first_ratio = loop_seconds() / costs.loop
@@ -131,7 +131,7 @@ class Watch:
             else:
                 now, ended = heapq.heappop(busy)
                 open_names.remove(ended)
-        return now
+        return now + ratio * sum(map(self.measured.of, self.after))
 
     def left(self):
         return f'about {minutes(self.seconds_left())} more'

@@ -1,5 +1,7 @@
 #!/usr/bin/env python3
-"""Tests of ./mincut on a fresh checkout, with a toolchain that only plays: it 'proves' a crate in an instant. usage: test_first_run.py"""
+"""Tests of ./mincut and ./library on a fresh checkout, with a toolchain that only plays: it 'proves' a crate in an instant.
+
+usage: test_first_run.py"""
 import os
 import shutil
 import signal
@@ -15,7 +17,7 @@ GRAPH = b'2 1\n2\n1\n'
 
 # It keeps what it 'proved' beside itself, as the toolchain does, and can be told to be slow at a crate, or to fail.
 PLAYED = r'''#!/usr/bin/env python3
-import os, sys, time
+import os, subprocess, sys, time
 at = os.path.dirname(os.path.abspath(__file__))
 def told(name):
     path = os.path.join(at, name)
@@ -25,9 +27,17 @@ if sys.argv[1] == 'try':
     sys.stdout.write('looked at %d bytes for %s\n' % (len(sys.stdin.read()), ' '.join(sys.argv[3:])))
     sys.stderr.write('a line of the program\nchecked: ended status=7\nrun=ended status=7 runners=1 races=unchecked proved=no\n')
     sys.exit(7)
+if sys.argv[1] in ('doc', 'version'):
+    print(at + '/START-HERE.md')
+    sys.exit()
+if sys.argv[1] == 'lib':
+    os.makedirs('out', exist_ok=True)
+    open(os.path.join(at, 'stamped'), 'w').write('\n'.join(name for name in os.listdir('..') if os.path.exists('../' + name + '/out/rlib/stamp')) + '\n')
+    sys.exit(subprocess.call(['ar', 'rcs', 'out/libmincut_c.a']))
 kept = told('kept')
 for line in open('crates.txt'):
     name = line.split(':')[0].split()[0]
+    os.makedirs('crates/' + name + '/out/rlib/' + name + '.rlib')
     if name in kept:
         print('rt: %s is kept: an earlier run on this machine proved the same files' % name, flush=True)
         continue
@@ -46,8 +56,25 @@ with open(out + '/mincut', 'w') as file:
 os.chmod(out + '/mincut', 0o755)
 '''
 
+# The module by which it knows the libraries that it has proved.
+MODULE = r'''import os
+class Crate:
+    def __init__(self, folder):
+        self.rlib = folder + '/out/rlib/' + os.path.basename(folder) + '.rlib'
+    def makes_rlib(self):
+        return not self.rlib.endswith('mincut_c.rlib')
+    def stamp(self):
+        return self.rlib
+    def is_built(self):
+        return open(os.path.dirname(self.rlib) + '/stamp').read() == self.rlib
+def crates_below(top):
+    return [Crate(top + '/crates/' + line.split(':')[0].split()[0]) for line in open(top + '/crates.txt')]
+'''
 
-class FirstRun(unittest.TestCase):
+
+class Played(unittest.TestCase):
+    script = 'mincut'
+
     def setUp(self):
         self.room = tempfile.TemporaryDirectory()
         self.addCleanup(self.room.cleanup)
@@ -78,12 +105,30 @@ class FirstRun(unittest.TestCase):
 
     def start(self, *words, path=None, **how):
         env = {**os.environ, 'PATH': path or f'{self.kit}:/usr/bin:/bin'}
-        return subprocess.Popen([f'{self.top}/mincut', *words], env=env, stdout=subprocess.PIPE, stderr=subprocess.PIPE, **how)
+        return subprocess.Popen([f'{self.top}/{self.script}', *words], env=env, stdout=subprocess.PIPE, stderr=subprocess.PIPE, **how)
 
-    def mincut(self, *words, given=GRAPH, path=None):
+    def run_script(self, *words, given=b'', path=None):
         child = self.start(*words, path=path, stdin=subprocess.PIPE)
         out, err = child.communicate(given, timeout=100)
         return child.returncode, out.decode(), err.decode()
+
+    def interrupted_at(self, *words):
+        """Starts the script, interrupts it where the crate vertex_set is proved, and answers how many crates were proved before."""
+        self.tell('slow', 'vertex_set')
+        child = self.start(*words, stdin=subprocess.DEVNULL)
+        while 'cut_definitions' not in self.kept():
+            time.sleep(0.1)
+        time.sleep(1)
+        child.send_signal(signal.SIGINT)
+        self.assertIn(b'interrupted', child.communicate(timeout=30)[1])
+        self.assertEqual(child.returncode, 130)
+        self.tell('slow', '')
+        return len(self.kept())
+
+
+class FirstRun(Played):
+    def mincut(self, *words, given=GRAPH, path=None):
+        return self.run_script(*words, given=given, path=path)
 
     def test_a_look_comes_first_and_the_proved_answer_alone_on_standard_output(self):
         status, out, err = self.mincut('value')
@@ -113,18 +158,10 @@ class FirstRun(unittest.TestCase):
         self.assertEqual(self.calls().count('ci'), 3)
 
     def test_an_interrupted_run_is_taken_up(self):
-        self.tell('slow', 'vertex_set')
-        child = self.start('--build', stdin=subprocess.DEVNULL)
-        while 'outside' not in self.kept() or 'cut_definitions' not in self.kept():
-            time.sleep(0.1)
-        child.send_signal(signal.SIGINT)
-        self.assertIn(b'interrupted', child.communicate(timeout=30)[1])
-        self.assertEqual(child.returncode, 130)
-        self.tell('slow', '')
-        kept = self.kept()
+        kept = self.interrupted_at('--build')
         status, _, err = self.mincut('--build')
         self.assertEqual(status, 0)
-        self.assertIn(f'taken up: {len(kept)} (', err)
+        self.assertIn(f'taken up: {kept} (', err)
 
     def test_without_the_toolchain_one_line_says_where_to_look(self):
         os.remove(f'{self.kit}/rt')
@@ -151,6 +188,60 @@ class FirstRun(unittest.TestCase):
             ran = subprocess.run(['sh', '-c', f'./mincut value {given}'], cwd=self.top, env=env, stdout=subprocess.PIPE, stderr=subprocess.PIPE, timeout=100)
             self.assertEqual((ran.returncode, ran.stdout[:13]), (3, b'proved value\n'))
             self.assertIn(b'wc: ', ran.stderr)
+
+
+@unittest.skipUnless(all(map(shutil.which, ('cc', 'ld', 'ar', 'objcopy'))), 'a C compiler and binutils are needed')
+class Library(Played):
+    script = 'library'
+
+    def setUp(self):
+        super().setUp()
+        for folder in ('bin', 'c'):
+            os.mkdir(f'{self.kit}/{folder}')
+        self.tell('bin/rtlib.py', MODULE)
+        subprocess.run(['ar', 'rcs', f'{self.kit}/c/liblibc_c.a'], check=True)
+
+    def work(self):
+        """The calls of the toolchain that prove something."""
+        return [call for call in self.calls() if call not in ('doc', 'version')]
+
+    def test_the_gate_proves_all_and_the_archive_is_made_over_that(self):
+        prefix = f'{self.room.name}/prefix'
+        status, out, err = self.run_script(prefix)
+        self.assertEqual((status, out), (0, ''))
+        self.assertNotIn('one after another', err)
+        self.assertEqual(sorted(self.told('stamped')), sorted(set(self.kept()) - {'mincut_c'}))
+        for name in ('lib/libmincut.a', 'lib/libmincut.so', 'lib/pkgconfig/mincut.pc', 'include/mincut.h'):
+            self.assertTrue(os.path.isfile(f'{prefix}/{name}'))
+        self.assertEqual(self.work(), ['ci', 'lib'])
+
+    def test_what_is_built_is_built_again_only_where_its_files_changed(self):
+        for path, work in ((None, ['ci', 'lib']), (None, []), ('bindings/c/mincut.c', []), ('crates/edge_arrays/src/lib.rt', ['ci', 'lib'])):
+            if path:
+                with open(f'{self.top}/{path}', 'a', encoding='utf-8') as file:
+                    file.write('\n// changed\n')
+            status, _, err = self.run_script()
+            self.assertEqual((status, self.work(), 'libmincut.so' in err), (0, work, bool(path or work)))
+            self.tell('calls', '')
+
+    def test_an_interrupted_run_is_taken_up(self):
+        kept = self.interrupted_at()
+        status, _, err = self.run_script()
+        self.assertEqual(status, 0)
+        self.assertIn(f'taken up: {kept} (', err)
+
+    def test_where_the_toolchain_has_no_such_module_it_proves_again(self):
+        os.remove(f'{self.kit}/bin/rtlib.py')
+        status, _, err = self.run_script()
+        self.assertEqual(status, 0)
+        self.assertIn('one after another', err)
+        self.assertEqual(self.told('stamped'), [''])
+
+    def test_a_failed_proof_is_told(self):
+        self.tell('fails', 'vertex_set')
+        status, _, err = self.run_script()
+        self.assertEqual((status, self.work()), (1, ['ci']))
+        self.assertIn('vertex_set NOT PROVED', err)
 
 
 if __name__ == '__main__':
