@@ -7,7 +7,7 @@ use Rattle.std.proofs.lemmas.Bool.Decides.{eqb_tells}
 use Rattle.std.proofs.lemmas.List.{length_push}
 use Rattle.std.proofs.lemmas.List.Sums.{sum_by_push, sum_by-take-le}
 use Rattle.std.proofs.lemmas.List.FromFn.{sum_by-map-range_with_len_more, take-map-range_with_len}
-use Rattle.std.proofs.lemmas.List.Elements.{All-push, All-nil}
+use Rattle.std.proofs.lemmas.List.Elements.{All-push}
 use Rattle.cut_definitions.specs.declared.edge_list.Edge.{Edge}
 use Rattle.cut_definitions.specs.Graph.{IsEdgeWithin}
 use Rattle.cut_definitions.specs.Weight.{VertexSet, parts, weight}
@@ -22,9 +22,6 @@ pub record IsCollected (n : ℕ) (us vs ws : List ℕ) (count : ℕ) (edges : Li
   pub weights : (s : VertexSet) → sum_by (term (parts s)) edges ≡ sum_by (term (parts s)) (map (entry us vs ws) (range_with_len 0 count))
   pub ends : (i : ℕ) → i < count → HasEnds n us vs i
   pub sum : sum_by free_weight (map (entry us vs ws) (range_with_len 0 count)) ≡ total
-
-pub collected_none : (n : ℕ) (us vs ws : List ℕ) → IsCollected n us vs ws 0 [] 0
-collected_none n us vs ws = record { within = All-nil (IsEdgeWithin n); few = omega arith; total_is = refl; bounded = omega arith; weights = λ s. refl; ends = λ i l. absurd (omega (arith, l)); sum = refl }
 
 parts_none : (s : VertexSet) (u : ℕ) → parts s u u ≡ false
 parts_none s u = elim (s u) as (λ b. (if b then not b else b) ≡ false) [ true ↦ refl | false ↦ refl ]
