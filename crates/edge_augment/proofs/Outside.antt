@@ -1,20 +1,18 @@
 -- Each cut has the set of an end node inside and that of another outside.
-use Rattle.std.proofs.Common.{◌≡◌, ℕ, ◌≤◌, ◌⊎◌, inl, inr, false, List, [], ◌∷◌, ◌++◌, map, length, refl, ◌∙◌, subst, arith}
+use Rattle.std.proofs.Common.{◌≡◌, ℕ, ◌⊎◌, inl, inr, false, List, [], ◌∷◌, ◌++◌, map, refl, ◌∙◌, subst}
 use Rattle.std.specs.List.{Contains, flat_map}
 use Rattle.std.proofs.lemmas.Bool.{or_left}
 use Rattle.std.proofs.lemmas.List.Elements.{Contains-append_left, Contains-append_right, Contains-append_cases}
 use Rattle.cut_definitions.specs.Weight.{VertexSet}
 use Rattle.cut_definitions.specs.Cuts.{has}
 use Rattle.cut_definitions.proofs.Lists.{Contains-here, Contains-there, Contains-cons_cases, Contains-nil}
-use Rattle.rooted_cactus.specs.Sides.{part, block_part, all_of, belows, all_cuts}
+use Rattle.rooted_cactus.specs.Sides.{block_part, all_cuts}
 use Rattle.rooted_cactus.specs.Entered.{entered_block, in_order}
-use Rattle.rooted_cactus.specs.declared.tree.Node.{Node}
 use Rattle.rooted_cactus.specs.declared.tree.Block.{Block}
 use Rattle.rooted_cactus.proofs.Segments.{has_append_at}
 use Rattle.edge_augment.specs.Ends.{block_leaves, ends_of}
 use Rattle.rooted_cactus.proofs.Sets.{IsIn, HasOne, Apart}
 use Rattle.rooted_cactus.proofs.Clean.{IsClean, clean_apart, clean_right}
-use Rattle.rooted_cactus.proofs.Cycles.{cycle_cuts, cycle_whole}
 use Rattle.rooted_cactus.proofs.Views.{each}
 use Rattle.rooted_cactus.proofs.Within.{Lists, of_lists, of_left, block_within, block_below, blocks_within}
 use Rattle.edge_augment.proofs.OwnCuts.{BlockOwn, block_own, own_blocks}
@@ -73,10 +71,6 @@ ends_full own (b ∷ []) one f l c = elim (Contains-cons_cases own (block_leaves
 ends_full own (b ∷ (c ∷ cs)) one f l h = leaves_full (b ∷ (c ∷ cs)) f l h
 
 -- ---- each is a cut, or that of a root with one block
-whole_of : (xs : List Node) → 2 ≤ length xs → Contains (cycle_cuts (map part xs)) (all_of (belows (map part xs)))
-whole_of [] k = absurd (omega (arith, k))
-whole_of (x ∷ xs) k = cycle_whole (part x) (map part xs)
-
 abbrev pub IsRootEnd : List ℕ → List Block → List ℕ → Type 0
 IsRootEnd own bs l = (own ≡ l) × (b : Block) × (bs ≡ b ∷ [])
 

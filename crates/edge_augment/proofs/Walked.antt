@@ -1,5 +1,5 @@
 -- The end nodes that a walk through a tree has passed, and those that are still to be entered.
-use Rattle.std.proofs.Common.{◌≡◌, ℕ, ◌==◌, Bool, true, false, List, [], ◌∷◌, ◌++◌, length, map, refl, ap, ◌∙◌, sym, arith}
+use Rattle.std.proofs.Common.{◌≡◌, ℕ, ◌==◌, Bool, false, List, [], ◌∷◌, ◌++◌, length, map, refl, ap, ◌∙◌, sym, arith}
 use Rattle.std.specs.List.{flat_map}
 use Rattle.std.specs.Borrow.{Bor}
 use Rattle.std.proofs.lemmas.Bool.Decides.{nat_tests}
@@ -33,9 +33,6 @@ leaves_push xs x = waiting_both xs (x ∷ [])
 -- ---- a node, and what is below it
 left_out : (b : Bool) (own : List ℕ) (rest : Lists) → b ≡ false → alone_if b own ++ rest ≡ rest
 left_out b own rest e = ap (λ c. alone_if c own ++ rest) e
-
-taken_in : (b : Bool) (own : List ℕ) (rest : Lists) → b ≡ true → alone_if b own ++ rest ≡ own ∷ rest
-taken_in b own rest e = ap (λ c. alone_if c own ++ rest) e
 
 leaves_by_blocks : (own : List ℕ) (bs : List Block) → leaves_of own (map block_leaves bs) ≡ alone_if (length bs == 0) own ++ flat_map block_leaves bs
 leaves_by_blocks own [] = refl

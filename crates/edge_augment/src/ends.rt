@@ -1,6 +1,6 @@
 //! The end nodes of a tree: those that lie in exactly one block.
 
-ghost use Rattle.std.specs.Prelude.{◌≡◌, [], ◌∷◌, ◌++◌, OnOk, IfOk, slice_index};
+ghost use Rattle.std.specs.Prelude.{◌≡◌, ◌++◌, OnOk, IfOk, slice_index};
 ghost use Rattle.std.specs.List.{flat_map};
 ghost use Rattle.rooted_cactus.specs.Entered.{entered, entered_block, waiting};
 ghost use Rattle.rooted_cactus.specs.Trees.{blocks_in, nodes_in, vertices};
