@@ -164,6 +164,30 @@ balanced_number c masses order before bs ms least w =
     sym (length-map heavy (side_at c.vertices order)) ∙ sym (all_different (map (side_at c.vertices order) heavy) (balanced_differ c masses order before bs ms least w))
     ∙ ap length (balanced_all c masses order before bs ms least w)
 
+-- the same of lists that were lent: their number
+pub counted_lent : (c : Rooted) (masses order before : List ℕ) (bs : List Border) (ms : List Bool) (least : ℕ) → AreWeighed c masses order before bs ms →
+    (lent_before : List ℕ) (lent_bs : List Border) (lent_ms : List Bool) (cuts : ℕ) → lent_before ≡ before → lent_bs ≡ bs → lent_ms ≡ ms →
+    cuts ≡ length (filter (is_heavy lent_before least) (ranges_kept lent_bs lent_ms)) → cuts ≡ length (different (filter (is_balanced masses least) (sides_of c)))
+counted_lent c masses order before bs ms least w lent_before lent_bs lent_ms cuts same_before same_bs same_ms is =
+    is ∙ ap (λ l. length (filter (is_heavy lent_before least) (ranges_kept l lent_ms))) same_bs
+    ∙ ap (λ l. length (filter (is_heavy lent_before least) (ranges_kept bs l))) same_ms
+    ∙ ap (λ l. length (filter (is_heavy l least) (ranges_kept bs ms))) same_before
+    ∙ balanced_number c masses order before bs ms least w
+
+-- and that they are different, and all
+pub gathered_lent : (c : Rooted) (masses order before : List ℕ) (bs : List Border) (ms : List Bool) (least : ℕ) → AreWeighed c masses order before bs ms →
+    (n : ℕ) (lent_order lent_before : List ℕ) (lent_bs : List Border) (lent_ms : List Bool) (sides : List (List ℕ)) → n ≡ c.vertices → lent_order ≡ order → lent_before ≡ before → lent_bs ≡ bs → lent_ms ≡ ms →
+    sides ≡ map (side_at n lent_order) (filter (is_heavy lent_before least) (ranges_kept lent_bs lent_ms)) →
+    AreDifferent sides × (different sides ≡ different (filter (is_balanced masses least) (sides_of c)))
+gathered_lent c masses order before bs ms least w n lent_order lent_before lent_bs lent_ms sides same_n same_order same_before same_bs same_ms is =
+    let gathered : sides ≡ map (side_at c.vertices order) (filter (is_heavy before least) (ranges_kept bs ms)) =
+    is ∙ ap (λ k. map (side_at k lent_order) (filter (is_heavy lent_before least) (ranges_kept lent_bs lent_ms))) same_n
+    ∙ ap (λ l. map (side_at c.vertices l) (filter (is_heavy lent_before least) (ranges_kept lent_bs lent_ms))) same_order
+    ∙ ap (λ l. map (side_at c.vertices order) (filter (is_heavy lent_before least) (ranges_kept l lent_ms))) same_bs
+    ∙ ap (λ l. map (side_at c.vertices order) (filter (is_heavy lent_before least) (ranges_kept bs l))) same_ms
+    ∙ ap (λ l. map (side_at c.vertices order) (filter (is_heavy l least) (ranges_kept bs ms))) same_before in
+    (subst AreDifferent (sym gathered) (balanced_differ c masses order before bs ms least w), ap different gathered ∙ balanced_all c masses order before bs ms least w)
+
 -- a walk gives few sides
 pub kept_small : (c : Rooted) (masses order before : List ℕ) (bs : List Border) (ms : List Bool) → AreWeighed c masses order before bs ms → length (ranges_kept bs ms) < 2 ^ 62
 kept_small c masses order before bs ms w =

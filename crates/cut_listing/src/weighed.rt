@@ -8,15 +8,12 @@
 ghost use Rattle.std.specs.Prelude.{◌≡◌, ◌+◌, ◌-◌, ◌<◌, ◌≤◌, ◌^◌, ◌++◌, true, IfErr, IfOk, OnOk, length, map, max};
 ghost use Rattle.std.specs.List.{All, filter};
 ghost use Rattle.rooted_cactus.specs.Borders.{border_at};
-ghost use Rattle.rooted_cactus.specs.Different.{AreDifferent};
 ghost use Rattle.rooted_cactus.specs.Normal.{is_normal};
 ghost use Rattle.rooted_cactus.specs.Places.{IsVertex, side_at};
 ghost use Rattle.cactus_walk.specs.Repeats.{mark_at, passed_over, ranges_kept};
-ghost use Rattle.rooted_cactus.specs.Rooted.{sides_of};
 ghost use Rattle.cactus_walk.specs.Walking.{AreBorders, AreChained};
-ghost use Rattle.cut_listing.specs.Asks.{is_balanced};
 ghost use Rattle.cut_listing.specs.Bands.{AreEnds, AreRising, AreShort, IsShort, is_heavy, mass_at, ranges_of};
-ghost use Rattle.cut_listing.specs.Listings.{IsList, IsRefusal, different, members_of};
+ghost use Rattle.cut_listing.specs.Listings.{IsList, IsRefusal, members_of};
 
 use crate::ask::Ask;
 use crate::limit::is_too_large;
@@ -42,6 +39,14 @@ impl Band {
     {
         self.to.saturating_sub(self.from)
     }
+}
+
+/// Where the sides of a cactus lie: the number of the vertices, these in the order of entering, and the borders of the blocks.
+#[derive(Clone, Copy)]
+struct Layout<'a> {
+    n: u32,
+    order: &'a [u32],
+    borders: &'a [Border],
 }
 
 /// The first border from one on up to which the ranges from another have a mass or more; the end of the block where none
@@ -136,22 +141,26 @@ fn side_between(
 fn add_sides(
     alloc: Global,
     found: &mut Vec<Side>,
-    n: u32,
-    order: &[u32],
-    borders: &[Border],
+    layout: Layout<'_>,
     start: usize,
     band: Band,
 ) -> Result<(), NoMemory>
-    requires vertices { All (IsVertex n) order.now }
-    requires borders { AreBorders (length order.now) borders.now }
-    requires start { start < length borders.now }
-    requires band { band.to ≤ length borders.now }
-    requires found { All (λ s. s.vertices ≡ n) found.old.items }
-    ensures found { OnOk result (All (λ s. s.vertices ≡ n) found.new.items) }
-    ensures added { OnOk result (members_of found.new.items ≡ members_of found.old.items ++ map (side_at n order.now) (ranges_of borders.now start band.from band.to)) }
+    requires vertices { All (IsVertex layout.n) layout.order.now }
+    requires borders { AreBorders (length layout.order.now) layout.borders.now }
+    requires start { start < length layout.borders.now }
+    requires band { band.to ≤ length layout.borders.now }
+    requires found { All (λ s. s.vertices ≡ layout.n) found.old.items }
+    ensures found { OnOk result (All (λ s. s.vertices ≡ layout.entry.n) found.new.items) }
+    ensures added { OnOk result (members_of found.new.items ≡ members_of found.old.items ++ map (side_at layout.entry.n layout.entry.order.now) (ranges_of layout.entry.borders.now start band.from band.to)) }
 {
     'ends: for end in band.from..band.to {
-        let side = side_between(alloc, n, order, borders[start], borders[end])?;
+        let side = side_between(
+            alloc,
+            layout.n,
+            layout.order,
+            layout.borders[start],
+            layout.borders[end],
+        )?;
         found.push(side)?;
     }
     Ok(())
@@ -160,84 +169,28 @@ fn add_sides(
 /// The sides at the ranges that have the least balance.
 fn gather_bands(
     alloc: Global,
-    n: u32,
-    order: &[u32],
-    borders: &[Border],
+    layout: Layout<'_>,
     repeats: &[bool],
     before: &[u128],
     least: u64,
 ) -> Result<Vec<Side>, NoMemory>
-    requires vertices { All (IsVertex n) order.now }
-    requires long { length before.now ≡ length order.now + 1 }
-    requires borders { AreBorders (length order.now) borders.now }
-    requires chained { AreChained borders.now }
-    requires repeats { length repeats.now ≡ length borders.now }
+    requires vertices { All (IsVertex layout.n) layout.order.now }
+    requires long { length before.now ≡ length layout.order.now + 1 }
+    requires borders { AreBorders (length layout.order.now) layout.borders.now }
+    requires chained { AreChained layout.borders.now }
+    requires repeats { length repeats.now ≡ length layout.borders.now }
     requires before { AreRising before.now }
-    ensures over_n { IfOk result (λ v. All (λ s. s.vertices ≡ n) v.items) }
-    ensures sides { IfOk result (λ v. members_of v.items ≡ map (side_at n order.now) (filter (is_heavy before.now least) (ranges_kept borders.now repeats.now))) }
+    ensures over_n { IfOk result (λ v. All (λ s. s.vertices ≡ layout.entry.n) v.items) }
+    ensures sides { IfOk result (λ v. members_of v.items ≡ map (side_at layout.entry.n layout.entry.order.now) (filter (is_heavy before.now least) (ranges_kept layout.entry.borders.now repeats.now))) }
 {
     let mut ends = Band { from: 0, to: 0 };
     let mut found = Vec::new(alloc);
-    'starts: for start in 0..borders.len() {
-        ends = move_ends(borders, before, least, start, ends);
+    'starts: for start in 0..layout.borders.len() {
+        ends = move_ends(layout.borders, before, least, start, ends);
         let band = kept_band(repeats, start, ends);
-        add_sides(alloc, &mut found, n, order, borders, start, band)?;
+        add_sides(alloc, &mut found, layout, start, band)?;
     }
     Ok(found)
-}
-
-/// The number of the different sides of a cactus whose balance is at least a number.
-///
-/// One step for each vertex and each node, in loops. It takes memory in proportion to these, and is refused only where that
-/// is wanting.
-fn number_of_balanced(
-    alloc: Global,
-    cactus: &Cactus,
-    weights: &VertexWeights,
-    least: u64,
-) -> Result<u64, NoMemory>
-    requires normal { is_normal cactus.now.root ≡ true }
-    requires masses { length weights.now ≡ cactus.now.vertices }
-    ensures { IfOk result (λ k. k ≡ length (different (filter (is_balanced weights.now least) (sides_of cactus.now)))) }
-{
-    // known by these calls: the vertices are few, and the cactus has them all
-    let _few = weights.len();
-    let _root = cactus.root();
-    let places = kept_places(alloc, cactus)?;
-    let before = masses_before(alloc, &places.order, weights)?;
-    Ok(count_bands(&places.borders, &places.repeats, &before, least))
-}
-
-/// The different sides of a cactus whose balance is at least a number, in the order of the tree.
-///
-/// As `number_of_balanced`, and for each side n/64 steps and one for each of its vertices.
-fn balanced_sides(
-    alloc: Global,
-    cactus: &Cactus,
-    weights: &VertexWeights,
-    least: u64,
-) -> Result<Vec<Side>, NoMemory>
-    requires normal { is_normal cactus.now.root ≡ true }
-    requires masses { length weights.now ≡ cactus.now.vertices }
-    ensures over_n { IfOk result (λ v. All (λ s. s.vertices ≡ cactus.now.vertices) v.items) }
-    ensures differ { IfOk result (λ v. AreDifferent (members_of v.items)) }
-    ensures same { IfOk result (λ v. different (members_of v.items) ≡ different (filter (is_balanced weights.now least) (sides_of cactus.now))) }
-{
-    // known by these calls: the vertices are few, and the cactus has them all
-    let _few = weights.len();
-    let _root = cactus.root();
-    let n = cactus.n();
-    let places = kept_places(alloc, cactus)?;
-    let before = masses_before(alloc, &places.order, weights)?;
-    gather_bands(
-        alloc,
-        n,
-        &places.order,
-        &places.borders,
-        &places.repeats,
-        &before,
-        least,
-    )
 }
 
 /// The different sides of the cuts of a cactus whose balance is at least a number, in the order of lists, a side that another
@@ -245,9 +198,9 @@ fn balanced_sides(
 ///
 /// The cactus is normal. The listing is refused as too large exactly where the number of these sides times n is above 2^30,
 /// with the two factors, and for want of memory. The number is found first, with one step for each node and vertex; so where
-/// it is too large, or there is none, no side is gathered. Else time: the same steps again, n/64 steps for each of the c sides
-/// and one for each of its vertices, and O(c log c) comparisons of n/64 steps. Memory: in proportion to the nodes and vertices,
-/// and n/8 bytes and a constant for each of these sides.
+/// it is too large, or there is none, no side is gathered. Else time: one step more for each node and vertex, n/64 steps for
+/// each of the c sides and one for each of its vertices, and O(c log c) comparisons of n/64 steps. Memory: in proportion to the
+/// nodes and vertices, and n/8 bytes and a constant for each of these sides.
 pub fn list_balanced(
     alloc: Global,
     cactus: &Cactus,
@@ -259,15 +212,25 @@ pub fn list_balanced(
     ensures list { IfOk result (λ v. IsList (2 ^ 30) cactus.now.vertices (Ask.Least least weights.entry) cactus.now v.items) }
     ensures refusal { IfErr result (IsRefusal (2 ^ 30) cactus.now.vertices (Ask.Least least weights.entry) cactus.now) }
 {
+    // known by these calls: the vertices are few, and the cactus has them all
+    let _few = weights.len();
+    let _root = cactus.root();
     let n = cactus.n();
-    let cuts = number_of_balanced(alloc, cactus, weights, least)?;
+    let places = kept_places(alloc, cactus)?;
+    let before = masses_before(alloc, &places.order, weights)?;
+    let cuts = count_bands(&places.borders, &places.repeats, &before, least);
     if is_too_large(cuts, n) {
         return Err(ListRefusal::TooLarge { cuts, n });
     }
     if cuts == 0 {
         return Ok(Vec::new(alloc));
     }
-    let mut sides = balanced_sides(alloc, cactus, weights, least)?;
+    let layout = Layout {
+        n,
+        order: &places.order,
+        borders: &places.borders,
+    };
+    let mut sides = gather_bands(alloc, layout, &places.repeats, &before, least)?;
     sort_sides(&mut sides, n);
     Ok(sides)
 }

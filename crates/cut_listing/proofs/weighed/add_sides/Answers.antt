@@ -12,14 +12,14 @@ use Rattle.cut_listing.proofs.Bands.{band_more}
 use Rattle.cut_listing.proofs.weighed.add_sides.Goals as goal
 
 pub side_between-requires-clause-to : goal.side_between-requires-clause-to
-side_between-requires-clause-to c = place_within (length c.args.order.now) c.args.borders.now c.ends.end c.requires.borders (omega (arith, c.ends-test.true, c.requires.band))
+side_between-requires-clause-to c = place_within (length c.args.layout.order.now) c.args.layout.borders.now c.ends.end c.requires.borders (omega (arith, c.ends-test.true, c.requires.band))
 
 pub ends-preserved : goal.ends-preserved
 ends-preserved c =
-    let bs = c.args.borders.now in
+    let bs = c.args.layout.borders.now in
     let start = c.args.start in
     let end = c.ends.end in
-    let side = side_at c.args.n c.args.order.now in
+    let side = side_at c.args.layout.n c.args.layout.order.now in
     let found = c.ends.found.items in
     let new = c.in_ok-side.side in
     let before = ranges_of bs start c.args.band.from end in
@@ -27,8 +27,8 @@ ends-preserved c =
     record {
       last = refl;
       bounded = omega (arith, c.ends-test.true);
-      over_n = subst (All (λ (s : VertexList). s.vertices ≡ c.args.n)) (sym c.in_ok-push.ensures.items)
-          (All-append (λ (s : VertexList). s.vertices ≡ c.args.n) found (new ∷ []) c.ends.invariant.over_n (All-cons (λ (s : VertexList). s.vertices ≡ c.args.n) new [] c.in_ok-side.ensures.n (All-nil (λ (s : VertexList). s.vertices ≡ c.args.n))));
+      over_n = subst (All (λ (s : VertexList). s.vertices ≡ c.args.layout.n)) (sym c.in_ok-push.ensures.items)
+          (All-append (λ (s : VertexList). s.vertices ≡ c.args.layout.n) found (new ∷ []) c.ends.invariant.over_n (All-cons (λ (s : VertexList). s.vertices ≡ c.args.layout.n) new [] c.in_ok-side.ensures.n (All-nil (λ (s : VertexList). s.vertices ≡ c.args.layout.n))));
       added = ap members_of c.in_ok-push.ensures.items ∙ map-append (λ (s : VertexList). s.members) found (new ∷ [])
           ∙ ap (λ m. members_of found ++ m ∷ []) c.in_ok-side.ensures.side
           ∙ ap (λ l. l ++ side (range_between bs start end) ∷ []) c.ends.invariant.added

@@ -9,6 +9,6 @@ abbrev pub invariant-ends : goal.invariant-ends
 invariant-ends l = record {
   last : l.end-end ≡ l.fn.band.to;
   bounded : l.end ≤ max l.fn.band.from l.end-end;
-  over_n : All (λ s. s.vertices ≡ l.n) l.found.items;
-  added : members_of l.found.items ≡ members_of l.initial.found.items ++ map (side_at l.n l.order) (ranges_of l.borders l.start l.fn.band.from l.end);
+  over_n : All (λ s. s.vertices ≡ l.layout.n) l.found.items;
+  added : members_of l.found.items ≡ members_of l.initial.found.items ++ map (side_at l.layout.n l.layout.order.now) (ranges_of l.layout.borders.now l.start l.fn.band.from l.end);
 }

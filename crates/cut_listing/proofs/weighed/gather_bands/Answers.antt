@@ -13,20 +13,20 @@ use Rattle.cut_listing.proofs.weighed.gather_bands.Goals as goal
 pub add_sides-requires-clause-band : goal.add_sides-requires-clause-band
 add_sides-requires-clause-band c =
     let before = c.args.before.now in
-    let bs = c.args.borders.now in
-    let fit : AreBorders (length before - 1) bs = subst (λ k. AreBorders k bs) (let e : length c.args.order.now ≡ length before - 1 = omega (arith, c.requires.long) in e) c.requires.borders in
+    let bs = c.args.layout.borders.now in
+    let fit : AreBorders (length before - 1) bs = subst (λ k. AreBorders k bs) (let e : length c.args.layout.order.now ≡ length before - 1 = omega (arith, c.requires.long) in e) c.requires.borders in
     let within = band_within before bs c.args.least c.starts.start c.move_ends-ends.result.from c.move_ends-ends.result.to fit c.starts-test.true c.move_ends-ends.ensures in
     omega (arith, within, c.kept_band-band.ensures.to)
 
 pub starts-preserved : goal.starts-preserved
 starts-preserved c =
     let before = c.args.before.now in
-    let bs = c.args.borders.now in
+    let bs = c.args.layout.borders.now in
     let ms = c.args.repeats.now in
     let least = c.args.least in
     let start = c.starts.start in
-    let fit : AreBorders (length before - 1) bs = subst (λ k. AreBorders k bs) (let e : length c.args.order.now ≡ length before - 1 = omega (arith, c.requires.long) in e) c.requires.borders in
-    let side = side_at c.args.n c.args.order.now in
+    let fit : AreBorders (length before - 1) bs = subst (λ k. AreBorders k bs) (let e : length c.args.layout.order.now ≡ length before - 1 = omega (arith, c.requires.long) in e) c.requires.borders in
+    let side = side_at c.args.layout.n c.args.layout.order.now in
     let rest = filter (is_heavy before least) (ranges_kept (drop (start + 1) bs) (drop (start + 1) ms)) in
     let kept = c.kept_band-band.result.from in
     let to = c.kept_band-band.result.to in
@@ -47,8 +47,8 @@ pub returns-clause-sides : goal.returns-clause-sides
 returns-clause-sides c =
     let ms = c.args.repeats.now in
     let start = c.starts.start in
-    let side = side_at c.args.n c.args.order.now in
+    let side = side_at c.args.layout.n c.args.layout.order.now in
     let found = members_of c.starts.found.items in
     sym (append-nil found)
-    ∙ ap (λ bs. found ++ map side (filter (is_heavy c.args.before.now c.args.least) (ranges_kept bs (drop start ms)))) (sym (drop_all start c.args.borders.now c.starts-test.false))
+    ∙ ap (λ bs. found ++ map side (filter (is_heavy c.args.before.now c.args.least) (ranges_kept bs (drop start ms)))) (sym (drop_all start c.args.layout.borders.now c.starts-test.false))
     ∙ c.starts.invariant.gathered
