@@ -105,14 +105,19 @@ def is_current():
     return True
 
 
-def copied(room, names, lines):
-    """Copies what the program is made of to the folder, as the top of a repository."""
-    os.mkdir(f'{room}/.git')
-    shutil.copyfile(f'{ROOT}/HANDLES', f'{room}/HANDLES')
-    with open(f'{room}/crates.txt', 'w', encoding='utf-8') as file:
+def added(room, names, lines):
+    """Adds crates to a copy."""
+    with open(f'{room}/crates.txt', 'a', encoding='utf-8') as file:
         file.writelines(lines[name][0] for name in names)
     for name in names:
         shutil.copytree(f'{ROOT}/crates/{name}', f'{room}/crates/{name}', ignore=shutil.ignore_patterns('out', 'must-fail'))
+
+
+def copied(room, names, lines):
+    """Copies these crates to the folder, as the top of a repository."""
+    os.mkdir(f'{room}/.git')
+    shutil.copyfile(f'{ROOT}/HANDLES', f'{room}/HANDLES')
+    added(room, names, lines)
 
 
 @contextlib.contextmanager
@@ -172,13 +177,13 @@ def proved(room, what, watch, say, words):
             say(f'{watch.told(done)}; {watch.left()}')
             told_at = time.monotonic()
 
-    say(f'proving and building {what}, which is made of {len(watch.names)} crates; {watch.left()}')
+    say(f'proving and building {what}, which is made of {len(watch.names) + len(watch.after)} crates; {watch.left()}')
     return followed(room, words, watch, tell)
 
 
 def passed(room, what, names, lines, say, words=('rt', 'ci'), after=()):
     """Copies the crates to the folder and has the gate prove them there. Answers what was watched, or None where they did not pass, once
-    it has shown why. The crates in `after` are proved once more when the gate has passed."""
+    it has shown why. The crates in `after` are proved when the gate has passed."""
     watch = Watch(names, {name: lines[name][1] for name in names}, Costs.read(COSTS), after)
     copied(room, names, lines)
     is_well, printed = proved(room, what, watch, say, words)

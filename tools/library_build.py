@@ -5,8 +5,8 @@ usage: library_build.py [PREFIX]
 
 It builds out/libmincut.a and out/libmincut.so, and copies them to PREFIX/lib, the header to PREFIX/include, and a pkg-config file to
 PREFIX/lib/pkgconfig where a folder is named. As for the program, the toolchain's gate proves the crates side by side in a copy, and what
-was proved before on this machine is taken up. In that copy `rt lib` then makes the archive, and proves the topmost crate once more for
-it. Progress goes to standard error. It takes a C compiler, ld, ar and objcopy. The status is 0 where the library was built, 1 where it
+was proved before on this machine is taken up. In that copy `rt lib` then proves the topmost crate, that of the exports, and makes the
+archive of it. Progress goes to standard error. It takes a C compiler, ld, ar and objcopy. The status is 0 where the library was built, 1 where it
 was not, 2 for wrong words, and 130 after an interrupt; what was proved is kept, and the next run goes on from there.
 """
 import contextlib
@@ -19,7 +19,7 @@ import sys
 import tempfile
 import time
 
-from first_build import PAUSE, crates_below, followed, in_turn, lines_of_crates, passed, sum_of
+from first_build import PAUSE, added, crates_below, followed, in_turn, lines_of_crates, passed, sum_of
 from proving_time import Watch, minutes
 
 ROOT = os.path.dirname(os.path.dirname(os.path.abspath(__file__)))
@@ -117,14 +117,16 @@ def archived(folder, names, why, earlier):
 
 def proved(room, names, lines):
     """Has the toolchain prove the crates in a copy in the folder, and answers where the archive is that it made there."""
-    watch = passed(room, 'the library', names, lines, say, after=(CRATE,))
+    watch = passed(room, 'the library', names[:-1], lines, say, after=(CRATE,))
     if not watch:
         raise BuildFault("it was not built; above stands what 'rt ci' printed")
-    if are_taken(room):
-        again, why = [CRATE], f"all proved; 'rt lib' makes the archive, and proves {CRATE} once more for it"
+    is_taken = are_taken(room)
+    added(room, [CRATE], lines)
+    if is_taken:
+        left, why = [CRATE], f"all below is proved; 'rt lib' proves {CRATE} and makes the archive"
     else:
-        again, why = names, "all proved; 'rt lib', which makes the archive, does not take that here, and proves all once more, one after another"
-    archive = archived(f'{room}/crates/{CRATE}', again, why, watch)
+        left, why = names, "all below is proved, but 'rt lib', which makes the archive, does not take that here, and proves all, one after another"
+    archive = archived(f'{room}/crates/{CRATE}', left, why, watch)
     say(f'proved and built in {minutes(time.monotonic() - watch.begun)}')
     return archive
 

@@ -58,7 +58,7 @@ class Costs:
 
 
 class Watch:
-    """What the gate has done, and by that, how long the rest takes, with the crates in `after`, which are proved once more after it."""
+    """What the gate has done, and by that, how long the rest takes, with the crates in `after`, which are proved when it has passed."""
 
     def __init__(self, names, uses, costs, after=()):
         self.names, self.uses, self.measured, self.after = names, uses, costs, after
