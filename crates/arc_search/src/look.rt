@@ -1,6 +1,6 @@
 //! How far the arcs of a vertex on the path lead back into the path, and where they first lead to a new vertex.
 
-ghost use Rattle.std.specs.Prelude.{◌≡◌, ◌==◌, ◌&&◌, ◌+◌, ◌-◌, ◌<◌, ◌≤◌, length};
+ghost use Rattle.std.specs.Prelude.{◌≡◌, ◌==◌, ◌&&◌, ◌<◌, ◌≤◌, length};
 ghost use Rattle.weighted_graph.specs.Rows.{arc_at};
 ghost use Rattle.arc_search.specs.Marks.{mark_of};
 ghost use Rattle.arc_search.specs.Paths.{arcs_in_rows, IsAscending, IsLook, IsJoin};
@@ -48,24 +48,23 @@ fn join(borders: &[u32], depth: usize, mark: u32) -> usize
 pub fn look<A: StepArcs>(
     arcs: &A,
     v: u32,
-    from: usize,
+    from: Seen,
     part_of: &[u32],
     marks: &[u32],
     borders: &[u32],
-    depth: usize,
 ) -> Seen
     requires can { A.can_search arcs.now }
     requires from_one { 1 ≤ v }
     requires to_n { v ≤ A.vertices arcs.now }
     requires parts { length part_of.now ≡ A.vertices arcs.now }
     requires marks { length marks.now ≡ A.vertices arcs.now }
-    requires within { depth ≤ length borders.now }
-    requires ascending { IsAscending borders.now depth }
-    ensures { IsLook (arcs_in_rows (A.rows arcs.now) (A.open_at arcs.now)) v from part_of.now marks.now borders.now depth result.place result.depth }
+    requires within { from.depth ≤ length borders.now }
+    requires ascending { IsAscending borders.now from.depth }
+    ensures { IsLook (arcs_in_rows (A.rows arcs.now) (A.open_at arcs.now)) v from.place part_of.now marks.now borders.now from.depth result.place result.depth }
 {
     let row = arcs.row(v);
-    let mut depth = depth;
-    let mut place = from;
+    let mut depth = from.depth;
+    let mut place = from.place;
     while place < row.len() {
         let arc = row[place];
         if leads_on(arcs, v, place, arc, part_of) {

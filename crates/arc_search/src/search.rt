@@ -1,6 +1,6 @@
 //! Searches that can be stopped and taken up again.
 
-ghost use Rattle.std.specs.Prelude.{◌≡◌, ◌+◌, ◌-◌, ◌<◌, ◌≤◌, ℕ, Bool, List, IfOk, IsTrue, IsFalse, true, false, take, length, slice_index};
+ghost use Rattle.std.specs.Prelude.{◌≡◌, ◌+◌, ◌<◌, ◌≤◌, ℕ, Bool, List, IfOk, IsTrue, IsFalse, true, false, take, length, slice_index};
 ghost use Rattle.cut_definitions.specs.Weight.{VertexSet};
 ghost use Rattle.weighted_graph.specs.Searches.{is_seen};
 ghost use Rattle.weighted_graph.specs.Rows.{arc_at};

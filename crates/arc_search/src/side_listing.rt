@@ -65,6 +65,13 @@ pub fn unmark(marks: &mut [bool], vertices: &[u32])
     }
 }
 
+/// The regions of a graph: the label of each vertex.
+#[derive(Clone, Copy)]
+struct Regions<'a> {
+    graph: &'a Graph,
+    labels: &'a [u32],
+}
+
 /// Puts a vertex at the border, unless it is outside the region, listed or there already.
 fn put(
     labels: &[u32],
@@ -93,53 +100,51 @@ fn put(
 
 /// The same for all ends of the row of a vertex, and its region.
 fn put_ends(
-    graph: &Graph,
-    labels: &[u32],
+    regions: Regions<'_>,
     turns: &[u32],
     border: &mut Vec<u32>,
     at_border: &mut [bool],
     v: u32,
 ) -> Result<(), NoMemory>
-    requires to_n { v ≤ graph.now.vertices }
-    requires labels { length labels.now ≡ graph.now.vertices + 1 }
-    requires turns { length turns.now ≡ graph.now.vertices + 1 }
-    requires border { IsBorder graph.now.vertices border.old.items at_border.old }
-    ensures border { OnOk result (IsBorder graph.now.vertices border.new.items at_border.new) }
+    requires to_n { v ≤ regions.graph.now.vertices }
+    requires labels { length regions.labels.now ≡ regions.graph.now.vertices + 1 }
+    requires turns { length turns.now ≡ regions.graph.now.vertices + 1 }
+    requires border { IsBorder regions.graph.now.vertices border.old.items at_border.old }
+    ensures border { OnOk result (IsBorder regions.entry.graph.now.vertices border.new.items at_border.new) }
     ensures more { OnOk result (HasMore border.old.items border.new.items) }
     ensures stays { OnOk result (StaysAtBorder at_border.old at_border.new) }
-    ensures met { OnOk result (IsRowMet graph.now labels.now turns.now at_border.new v) }
+    ensures met { OnOk result (IsRowMet regions.entry.graph.now regions.entry.labels.now turns.now at_border.new v) }
 {
-    let region = labels[v as usize];
-    let row = graph.row(v);
+    let region = regions.labels[v as usize];
+    let row = regions.graph.row(v);
     for arc in row {
-        put(labels, region, turns, border, at_border, arc.to)?;
+        put(regions.labels, region, turns, border, at_border, arc.to)?;
     }
     Ok(())
 }
 
 /// Puts vertices on the list, and the ends of their rows at the border.
 fn list_all(
-    graph: &Graph,
-    labels: &[u32],
+    regions: Regions<'_>,
     turns: &[u32],
     list: &mut Vec<u32>,
     border: &mut Vec<u32>,
     at_border: &mut [bool],
     found: &[u32],
 ) -> Result<(), NoMemory>
-    requires labels { length labels.now ≡ graph.now.vertices + 1 }
-    requires turns { length turns.now ≡ graph.now.vertices + 1 }
-    requires border { IsBorder graph.now.vertices border.old.items at_border.old }
-    requires within { All (IsVertex graph.now.vertices) found.now }
+    requires labels { length regions.labels.now ≡ regions.graph.now.vertices + 1 }
+    requires turns { length turns.now ≡ regions.graph.now.vertices + 1 }
+    requires border { IsBorder regions.graph.now.vertices border.old.items at_border.old }
+    requires within { All (IsVertex regions.graph.now.vertices) found.now }
     ensures list { OnOk result (list.new.items ≡ list.old.items ++ found.now) }
-    ensures border { OnOk result (IsBorder graph.now.vertices border.new.items at_border.new) }
+    ensures border { OnOk result (IsBorder regions.entry.graph.now.vertices border.new.items at_border.new) }
     ensures more { OnOk result (HasMore border.old.items border.new.items) }
     ensures stays { OnOk result (StaysAtBorder at_border.old at_border.new) }
-    ensures met { OnOk result (All (IsRowMet graph.now labels.now turns.now at_border.new) found.now) }
+    ensures met { OnOk result (All (IsRowMet regions.entry.graph.now regions.entry.labels.now turns.now at_border.new) found.now) }
 {
     for v in found {
         list.push(*v)?;
-        put_ends(graph, labels, turns, border, at_border, *v)?;
+        put_ends(regions, turns, border, at_border, *v)?;
     }
     Ok(())
 }
@@ -254,8 +259,7 @@ impl Listing {
         self.count = 1;
         let at_border = self.at_border.as_mut_slice();
         list_all(
-            graph,
-            labels,
+            Regions { graph, labels },
             turns,
             &mut self.list,
             &mut self.border,
@@ -308,8 +312,7 @@ impl Listing {
         self.count = take_parts(arcs, self.count, turns, marks, memory, found);
         let at_border = self.at_border.as_mut_slice();
         list_all(
-            graph,
-            labels,
+            Regions { graph, labels },
             turns,
             &mut self.list,
             &mut self.border,

@@ -1,10 +1,10 @@
 //! The path-based search from one vertex, which gives parts to all that it reaches and that had none.
 
-ghost use Rattle.std.specs.Prelude.{◌≡◌, ◌≢◌, ◌+◌, ◌<◌, ◌≤◌, length};
+ghost use Rattle.std.specs.Prelude.{◌≡◌, ◌≢◌, ◌≤◌, length};
 ghost use Rattle.arc_search.specs.Marks.{mark_of};
 ghost use Rattle.arc_search.specs.Split.{IsToSplit, IsSplitOff};
 
-use crate::look::look;
+use crate::look::{Seen, look};
 use crate::path::{begin_set, number, put};
 use crate::path_memory::PathMemory;
 use crate::step_arcs::StepArcs;
@@ -52,7 +52,11 @@ pub fn walk<A: StepArcs>(
     let mut current = 0;
     while height > 0 {
         let v = stack[current];
-        let seen = look(arcs, v, next[current], part_of, marks, borders, depth);
+        let from = Seen {
+            place: next[current],
+            depth,
+        };
+        let seen = look(arcs, v, from, part_of, marks, borders);
         next[current] = seen.place;
         depth = seen.depth;
         let row = arcs.row(v);

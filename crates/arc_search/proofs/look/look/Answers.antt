@@ -53,12 +53,12 @@ loop-place-preserved g c =
     record {
       looking = elim c.if-leads_on.branch [
         | then-leads_on+else-mark-eq0 w ↦
-            subst (λ (left : ℕ). IsLooking arcs v c.args.from part_of marks borders c.args.depth (place + 1) left) (sym w.depth-is)
-            (IsLooking-row rows open_at v c.args.from part_of marks borders c.args.depth place c.loop-place.depth w.join-depth.result c.row-row.result.now
+            subst (λ (left : ℕ). IsLooking arcs v c.args.from.place part_of marks borders c.args.from.depth (place + 1) left) (sym w.depth-is)
+            (IsLooking-row rows open_at v c.args.from.place part_of marks borders c.args.from.depth place c.loop-place.depth w.join-depth.result c.row-row.result.now
             c.row-row.ensures c.loop-place.invariant.looking c.loop-place-test.true (sym c.leads_on.ensures ∙ w.if-leads_on.true) w.if-mark-eq0.false w.join-depth.ensures)
         | else-leads_on w ↦
-            subst (λ (left : ℕ). IsLooking arcs v c.args.from part_of marks borders c.args.depth (place + 1) left) (sym w.depth-is)
-            (IsLooking-skip arcs v c.args.from part_of marks borders c.args.depth place c.loop-place.depth c.loop-place.invariant.looking
+            subst (λ (left : ℕ). IsLooking arcs v c.args.from.place part_of marks borders c.args.from.depth (place + 1) left) (sym w.depth-is)
+            (IsLooking-skip arcs v c.args.from.place part_of marks borders c.args.from.depth place c.loop-place.depth c.loop-place.invariant.looking
             (LeadsOn-not rows open_at v place part_of c.row-row.result.now c.row-row.ensures (sym c.leads_on.ensures ∙ w.if-leads_on.false)))
       ];
       within = λ h. omega (arith, c.loop-place-test.true);

@@ -9,8 +9,8 @@ use Rattle.arc_search.proofs.side_listing.list_all.Goals as goal
 
 pub loop-v-preserved : goal.loop-v-preserved
 loop-v-preserved c =
-    let g = c.args.graph.now in
-    let labels = c.args.labels.now in
+    let g = c.args.regions.graph.now in
+    let labels = c.args.regions.labels.now in
     let turns = c.args.turns.now in
     let found = c.args.found.now in
     let k = c.loop-v.v-index in
@@ -33,4 +33,4 @@ returns-clause-list c =
 
 pub returns-clause-met : goal.returns-clause-met
 returns-clause-met c =
-    subst (All (IsRowMet c.args.graph.now c.args.labels.now c.args.turns.now c.loop-v.at_border)) (take_all c.loop-v.v-index c.args.found.now c.loop-v-test.false) c.loop-v.invariant.met
+    subst (All (IsRowMet c.args.regions.graph.now c.args.regions.labels.now c.args.turns.now c.loop-v.at_border)) (take_all c.loop-v.v-index c.args.found.now c.loop-v-test.false) c.loop-v.invariant.met
