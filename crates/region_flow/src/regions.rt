@@ -1,15 +1,15 @@
 //! The flow, its regions, and the memory for searches.
 
-ghost use Rattle.std.specs.Prelude.{◌≡◌, ◌≢◌, ◌↔◌, ◌+◌, ◌-◌, ◌^◌, ◌<◌, ◌≤◌, ◌⊎◌, ℕ, None, IfOk, IfSome, length, slice_index, slice_set};
+ghost use Rattle.std.specs.Prelude.{◌≡◌, ◌≢◌, ◌↔◌, ◌-◌, ◌^◌, ◌<◌, ◌≤◌, ◌⊎◌, ℕ, None, IfOk, IfSome, length, slice_index, slice_set};
 ghost use Rattle.residual_arcs.specs.Outcome.{IfBest};
 ghost use Rattle.region_flow.specs.Regions.{RegionState, IsRegionFlow};
 ghost use Rattle.cut_definitions.specs.Regions.{IsOpenAt};
 ghost use Rattle.region_flow.specs.Inflow.{IsStopReached, ShowsLeast};
 ghost use Rattle.region_flow.specs.CutOff.{MayBeCutOff, relabelled};
 
-use crate::cutting::cut_off;
+use crate::cutting::{Residual, cut_off};
 use crate::searching::{search, search_past};
-use crate::task::Task;
+use crate::task::{Detour, Task};
 use crate::tree::{SearchTree, clear};
 use cut_definitions::NoMemory;
 use residual_arcs::Outcome;
@@ -143,15 +143,13 @@ impl RegionFlow {
         ensures found { self.new.found ≡ self.old.found }
         ensures fed { (v : ℕ) → 1 ≤ slice_index self.new.labels v → (slice_index self.new.feed v ≡ slice_index self.old.feed v) ⊎ IsOpenAt graph.now self.new.labels v }
     {
-        cut_off(
+        let residual = Residual {
             graph,
-            self.labels.as_mut_slice(),
-            self.feed.as_mut_slice(),
-            self.toward.as_slice(),
-            moved,
-            region,
-            fresh,
-        );
+            toward: self.toward.as_slice(),
+        };
+        let labels = self.labels.as_mut_slice();
+        let feed = self.feed.as_mut_slice();
+        cut_off(residual, labels, feed, moved, region, fresh);
     }
 
     /// One search from `t`: it brings `t` something, or finds the least set around `t` whose weight is least.
@@ -250,10 +248,15 @@ impl RegionFlow {
             labels: self.labels.as_slice(),
             stop,
         };
+        let detour = Detour {
+            task,
+            past: t,
+            most,
+        };
         let feed = self.feed.as_mut_slice();
         let toward = self.toward.as_mut_slice();
         let tree = &mut self.tree;
-        search_past(task, feed, toward, tree, v, t, most);
+        search_past(detour, feed, toward, tree, v);
         clear(tree.marks.as_mut_slice(), tree.order.as_slice());
     }
 }

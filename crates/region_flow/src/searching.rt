@@ -8,7 +8,7 @@ ghost use Rattle.region_flow.specs.Regions.{IsFlowIn};
 ghost use Rattle.region_flow.specs.Tree.{IsTreeIn, IsReady, IsCalmIn, IsFollowed, IsPath, IsUsedUp, ExtendsTree, StaysCalm, IsExpandedCalmly, IsSearchedCalmly, KeepsUnfound, IsPassed};
 
 use crate::pulling::{is_used_up, pull};
-use crate::task::Task;
+use crate::task::{Detour, Task};
 use crate::tree::{Link, Places, SearchTree, leads_on};
 use weighted_graph::Arc;
 
@@ -161,100 +161,96 @@ pub fn search(
     work
 }
 
-/// Follows an arc as `visit` does, unless it leads to `t`.
+/// Follows an arc as `visit` does, unless it leads to the vertex that is passed.
 fn visit_past(
-    task: Task<'_>,
+    detour: Detour<'_>,
     feed: &mut [u64],
     toward: &mut [u64],
     tree: &mut SearchTree,
     place: u32,
     arc: &Arc,
-    t: u32,
 ) -> bool
-    requires edge_list { IsEdgeList task.graph.now }
-    requires flow { IsFlowIn task.graph.now task.labels.now feed.old toward.old }
-    requires outside { 1 ≤ slice_index task.labels.now (slice_index tree.old.order.items 0) }
-    requires tree { IsTreeIn task.graph.now task.labels.now tree.old }
+    requires edge_list { IsEdgeList detour.task.graph.now }
+    requires flow { IsFlowIn detour.task.graph.now detour.task.labels.now feed.old toward.old }
+    requires outside { 1 ≤ slice_index detour.task.labels.now (slice_index tree.old.order.items 0) }
+    requires tree { IsTreeIn detour.task.graph.now detour.task.labels.now tree.old }
     requires place { place < length tree.old.order.items }
-    requires arc { IsArcAt task.graph.now (slice_index tree.old.order.items place) arc.now }
-    requires wanting { slice_index feed.old (slice_index tree.old.order.items 0) < task.stop }
-    ensures flow { IsFlowIn task.entry.graph.now task.entry.labels.now feed.new toward.new }
-    ensures tree { IsTreeIn task.entry.graph.now task.entry.labels.now tree.new }
+    requires arc { IsArcAt detour.task.graph.now (slice_index tree.old.order.items place) arc.now }
+    requires wanting { slice_index feed.old (slice_index tree.old.order.items 0) < detour.task.stop }
+    ensures flow { IsFlowIn detour.entry.task.graph.now detour.entry.task.labels.now feed.new toward.new }
+    ensures tree { IsTreeIn detour.entry.task.graph.now detour.entry.task.labels.now tree.new }
     ensures extends { ExtendsTree tree.old tree.new }
     ensures others { (v : ℕ) → v ≢ slice_index tree.old.order.items 0 → slice_index feed.new v ≤ slice_index feed.old v }
-    ensures passed { order_mark tree.old.marks.items t ≡ 0 → IsPassed t feed.old feed.new tree.new }
+    ensures passed { order_mark tree.old.marks.items detour.entry.past ≡ 0 → IsPassed detour.entry.past feed.old feed.new tree.new }
     ensures still { IsFalse result → feed.new ≡ feed.old }
 {
-    if arc.to == t {
+    if arc.to == detour.past {
         return false;
     }
-    visit(task, feed, toward, tree, place, arc)
+    visit(detour.task, feed, toward, tree, place, arc)
 }
 
-/// The same as `expand`, but it passes over the arcs to `t`.
+/// The same as `expand`, but it passes over the arcs to the vertex that is passed.
 fn expand_past(
-    task: Task<'_>,
+    detour: Detour<'_>,
     feed: &mut [u64],
     toward: &mut [u64],
     tree: &mut SearchTree,
     place: u32,
-    t: u32,
 )
-    requires flow { IsFlowIn task.graph.now task.labels.now feed.old toward.old }
-    requires outside { 1 ≤ slice_index task.labels.now (slice_index tree.old.order.items 0) }
-    requires tree { IsTreeIn task.graph.now task.labels.now tree.old }
+    requires flow { IsFlowIn detour.task.graph.now detour.task.labels.now feed.old toward.old }
+    requires outside { 1 ≤ slice_index detour.task.labels.now (slice_index tree.old.order.items 0) }
+    requires tree { IsTreeIn detour.task.graph.now detour.task.labels.now tree.old }
     requires place { place < length tree.old.order.items }
-    requires wanting { slice_index feed.old (slice_index tree.old.order.items 0) < task.stop }
-    ensures flow { IsFlowIn task.entry.graph.now task.entry.labels.now feed.new toward.new }
-    ensures tree { IsTreeIn task.entry.graph.now task.entry.labels.now tree.new }
+    requires wanting { slice_index feed.old (slice_index tree.old.order.items 0) < detour.task.stop }
+    ensures flow { IsFlowIn detour.entry.task.graph.now detour.entry.task.labels.now feed.new toward.new }
+    ensures tree { IsTreeIn detour.entry.task.graph.now detour.entry.task.labels.now tree.new }
     ensures extends { ExtendsTree tree.old tree.new }
     ensures others { (v : ℕ) → v ≢ slice_index tree.old.order.items 0 → slice_index feed.new v ≤ slice_index feed.old v }
-    ensures passed { order_mark tree.old.marks.items t ≡ 0 → IsPassed t feed.old feed.new tree.new }
+    ensures passed { order_mark tree.old.marks.items detour.entry.past ≡ 0 → IsPassed detour.entry.past feed.old feed.new tree.new }
 {
     let v = tree.places().order[place as usize];
-    let row = task.graph.row(v);
-    if is_used_up(task, toward, tree.places(), place) {
+    let row = detour.task.graph.row(v);
+    if is_used_up(detour.task, toward, tree.places(), place) {
         return;
     }
     for arc in row {
-        if visit_past(task, feed, toward, tree, place, arc, t)
-            && is_done(task, feed, toward, tree.places(), place)
+        if visit_past(detour, feed, toward, tree, place, arc)
+            && is_done(detour.task, feed, toward, tree.places(), place)
         {
             return;
         }
     }
 }
 
-/// Searches from a vertex, inside its region, as `search` does, but never comes to `t`, so that what `t` is fed stays. It ends
-/// once the vertex is fed the stop, or where the rows that it went along are longer than `most`.
+/// Searches from a vertex, inside its region, as `search` does, but never comes to the one that is passed, so that what this is
+/// fed stays. It ends once the vertex is fed the stop, or where the rows that it went along are longer than `most`.
 pub fn search_past(
-    task: Task<'_>,
+    detour: Detour<'_>,
     feed: &mut [u64],
     toward: &mut [u64],
     tree: &mut SearchTree,
     root: u32,
-    t: u32,
-    most: usize,
 )
-    requires flow { IsFlowIn task.graph.now task.labels.now feed.old toward.old }
-    requires ready { IsReady (task.graph.now.vertices + 1) tree.old }
-    requires to_n { root ≤ task.graph.now.vertices }
-    requires outside { 1 ≤ slice_index task.labels.now root }
-    ensures flow { IsFlowIn task.entry.graph.now task.entry.labels.now feed.new toward.new }
-    ensures tree { IsTreeIn task.entry.graph.now task.entry.labels.now tree.new }
+    requires flow { IsFlowIn detour.task.graph.now detour.task.labels.now feed.old toward.old }
+    requires ready { IsReady (detour.task.graph.now.vertices + 1) tree.old }
+    requires to_n { root ≤ detour.task.graph.now.vertices }
+    requires outside { 1 ≤ slice_index detour.task.labels.now root }
+    ensures flow { IsFlowIn detour.entry.task.graph.now detour.entry.task.labels.now feed.new toward.new }
+    ensures tree { IsTreeIn detour.entry.task.graph.now detour.entry.task.labels.now tree.new }
     ensures others { (v : ℕ) → v ≢ root → slice_index feed.new v ≤ slice_index feed.old v }
-    ensures kept { t ≢ root → slice_index feed.new t ≡ slice_index feed.old t }
+    ensures kept { detour.entry.past ≢ root → slice_index feed.new detour.entry.past ≡ slice_index feed.old detour.entry.past }
 {
     tree.plant(root);
     let mut work = 0usize;
     let mut place = 0;
     'places: while (place as usize) < tree.order.len()
-        && feed[root as usize] < task.stop
-        && work <= most
+        && feed[root as usize] < detour.task.stop
+        && work <= detour.most
     {
         let v = tree.places().order[place as usize];
-        work = work.saturating_add(task.graph.row(v).len());
-        expand_past(task, feed, toward, tree, place, t);
+        work = work.saturating_add(detour.task.graph.row(v).len());
+        expand_past(detour, feed, toward, tree, place);
         place += 1;
     }
 }

@@ -8,12 +8,12 @@ use Rattle.region_flow.proofs.searching.expand_past.Goals.{else-visit_past-via-t
 pub visit_past-requires-clause-arc : goal.visit_past-requires-clause-arc
 visit_past-requires-clause-arc c =
     rw (c.loop-arc.invariant.extends.order_kept c.args.place c.requires.place)
-    (rw c.places.ensures.order at (row_arc c.args.task.graph.now c.row-row.result.now _ c.loop-arc.arc-index c.row-row.ensures.value c.loop-arc-test.true))
+    (rw c.places.ensures.order at (row_arc c.args.detour.task.graph.now c.row-row.result.now _ c.loop-arc.arc-index c.row-row.ensures.value c.loop-arc-test.true))
 
 pub is_used_up-requires-clause-path : goal.is_used_up-requires-clause-path
 is_used_up-requires-clause-path c =
     rw (c.places-2.ensures.order, c.places-2.ensures.links)
-    (path_of c.args.task.graph.now c.args.task.labels.now _ _ _ _ c.args.place c.requires.tree.tree c.requires.place c.requires.outside)
+    (path_of c.args.detour.task.graph.now c.args.detour.task.labels.now _ _ _ _ c.args.place c.requires.tree.tree c.requires.place c.requires.outside)
 
 pub is_done-requires-clause-path : goal.is_done-requires-clause-path
 is_done-requires-clause-path c =
@@ -21,7 +21,7 @@ is_done-requires-clause-path c =
     let step = c.visit_past.ensures in
     let root = step.extends.order_kept 0 inv.tree.tree.some ∙ inv.extends.order_kept 0 c.requires.tree.tree.some in
     rw (c.places-then-visit_past.ensures.order, c.places-then-visit_past.ensures.links)
-    (path_of c.args.task.graph.now c.args.task.labels.now _ _ _ _ c.args.place step.tree.tree (omega (arith, inv.extends.more, step.extends.more, c.requires.place)) (rw root c.requires.outside))
+    (path_of c.args.detour.task.graph.now c.args.detour.task.labels.now _ _ _ _ c.args.place step.tree.tree (omega (arith, inv.extends.more, step.extends.more, c.requires.place)) (rw root c.requires.outside))
 
 pub returns-then-is_done-clause-extends : goal.returns-then-is_done-clause-extends
 returns-then-is_done-clause-extends c = extends_more _ _ _ _ _ _ _ _ _ c.loop-arc.invariant.extends c.visit_past.ensures.extends

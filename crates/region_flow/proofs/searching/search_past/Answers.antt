@@ -7,9 +7,9 @@ use Rattle.region_flow.proofs.searching.search_past.Goals as goal
 
 pub places-init : goal.places-init
 places-init c =
-    let one = one_from_outside c.args.task.labels.now c.args.root c.requires.flow.nobody c.requires.outside in
+    let one = one_from_outside c.args.detour.task.labels.now c.args.root c.requires.flow.nobody c.requires.outside in
     let plant = c.plant.ensures in
-    let tree = planted c.args.task.graph.now c.args.task.labels.now c.args.tree.now c.args.root c.plant.new.self c.requires.ready one c.requires.to_n
+    let tree = planted c.args.detour.task.graph.now c.args.detour.task.labels.now c.args.tree.now c.args.root c.plant.new.self c.requires.ready one c.requires.to_n
     plant.marks plant.order plant.links plant.order_room plant.links_room in
     record {
       flow = c.requires.flow;
@@ -17,7 +17,7 @@ places-init c =
       first = tree.first;
       within = omega arith;
       passed = λ ne. record {
-        unfound = ap (λ (xs : List ℕ). get_or xs c.args.t 0) plant.marks ∙ get_or-set_other c.args.tree.now.marks.items c.args.root c.args.t 1 0 ne ∙ c.requires.ready.unmarked c.args.t;
+        unfound = ap (λ (xs : List ℕ). get_or xs c.args.detour.past 0) plant.marks ∙ get_or-set_other c.args.tree.now.marks.items c.args.root c.args.detour.past 1 0 ne ∙ c.requires.ready.unmarked c.args.detour.past;
         kept = refl;
       };
       others = λ v ne. omega arith;

@@ -19,12 +19,12 @@ returns-clause-flow c =
 pub returns-clause-labels : goal.returns-clause-labels
 returns-clause-labels c =
     let labels = with_items_is c.self.inside.labels c.cut_off.new.labels (omega arith) in
-    let before = c.as_mut_slice.ensures.value ∙ ap (λ (f : RegionState). f.labels) c.self.view_is in
+    let before = c.as_mut_slice-labels.ensures.value ∙ ap (λ (f : RegionState). f.labels) c.self.view_is in
     rw labels (rw before at c.cut_off.ensures.labels)
 
 pub returns-clause-fed : goal.returns-clause-fed
 returns-clause-fed c =
     let labels = with_items_is c.self.inside.labels c.cut_off.new.labels (omega arith) in
     let feed = with_items_is c.self.inside.feed c.cut_off.new.feed (omega arith) in
-    let before = c.as_mut_slice-2.ensures.value ∙ ap (λ (f : RegionState). f.feed) c.self.view_is in
+    let before = c.as_mut_slice-feed.ensures.value ∙ ap (λ (f : RegionState). f.feed) c.self.view_is in
     rw (labels, feed) (rw before at c.cut_off.ensures.fed)
