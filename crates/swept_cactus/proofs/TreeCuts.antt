@@ -1,15 +1,13 @@
 -- The sides of a finished tree, as lists, are the minimum cuts, also through the normal form.
-use Rattle.std.proofs.Common.{◌≡◌, ℕ, zero, suc, ◌<◌, ◌≤◌, ⊎_elim, List, length, map, get_or, sym, ◌∙◌, subst, arith}
+use Rattle.std.proofs.Common.{◌≡◌, ℕ, ◌<◌, ◌≤◌, List, length, get_or, sym, ◌∙◌, subst, arith}
 use Rattle.std.specs.Prelude.{◌↔◌}
 use Rattle.std.specs.List.{All, Contains, filter, range_with_len}
-use Rattle.std.proofs.lemmas.Bool.{cases_lt}
 use Rattle.std.proofs.lemmas.List.Elements.{Contains-get_or}
 use Rattle.cut_definitions.specs.Graph.{Graph, IsGraph}
-use Rattle.cut_definitions.specs.Weight.{VertexSet, weight}
-use Rattle.cut_definitions.specs.Cuts.{has, sides, least, value, mincuts}
-use Rattle.cut_definitions.specs.Components.{IsConnected}
-use Rattle.cut_definitions.proofs.Bridge.{has_low, side_of-has, IsCut-has, IsMinimumCut-from_mincuts, Contains-mincuts_side_of, value-le_cut}
-use Rattle.cut_definitions.proofs.Values.{value_is_weight, IsSide-from_mincuts}
+use Rattle.cut_definitions.specs.Weight.{VertexSet}
+use Rattle.cut_definitions.specs.Cuts.{has, sides, mincuts}
+use Rattle.cut_definitions.proofs.Bridge.{has_low, side_of-has, IsMinimumCut-from_mincuts, Contains-mincuts_side_of}
+use Rattle.cut_definitions.proofs.Values.{IsSide-from_mincuts}
 use Rattle.cut_definitions.proofs.Lists.{Contains-from_map}
 use Rattle.cut_definitions.proofs.ListLaws.{some_long}
 use Rattle.rooted_cactus.specs.Rooted.{Rooted, sides_of}

@@ -1,8 +1,8 @@
-//! The cactus of all minimum cuts of a connected graph whose value is given, by one worker who starts no thread.
+//! The cactus of all minimum cuts of a connected graph whose value is given, from the tree of these cuts.
 //!
-//! `cactus_by_tree` makes the cactus of the tree of the minimum cuts and brings it to its normal form. `solve_alone` has that
-//! tree made without a runtime: read off the graph where the graph is a tree whose edges all have the value, and else by a
-//! sweep over the regions of a flow.
+//! `cactus_by_tree` makes the cactus of the tree and brings it to its normal form; the solver goes by it too, with any number of
+//! workers. `solve_alone` has the tree made by one worker, without a runtime and a thread: read off the graph where that is a
+//! tree whose edges all have the value, and else by a sweep over the regions of a flow.
 #![tactic(auto)]
 
 mod alone;
