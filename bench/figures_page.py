@@ -12,6 +12,7 @@ SHORT = 0.02         # seconds; shorter runs are mostly the start of a program, 
 MUCH = 30e6          # bytes; less is mostly that of the start of a program
 COLOURS = {'program': '#c8553d', 'lemon-ni': '#2f6f9f', 'lemon-ho': '#5b8c5a', 'boost': '#8a6bb1', 'igraph': '#b98b2d', 'networkx': '#7a7f85',
            'igraph-count': '#b98b2d', 'value': '#2f6f9f', 'count': '#b98b2d', 'cactus': '#c8553d'}
+PLOTTED = ('ring', 'ring_of_rings', 'grid', 'torus', 'prism', 'tree', 'regular', 'random_sparse', 'random_dense', 'ring_of_cliques', 'network', 'network_dual')
 JOBS = {'value': 'the least weight of a cut', 'count': 'the number of all minimum cuts', 'cactus': 'all minimum cuts at once'}
 
 
@@ -281,21 +282,22 @@ def write_plots(records, titles, folder):
     plots = pyplot()
     if plots is None or not records:
         return []
-    value = [record for record in records if record['job'] == 'value']
-    own = [record for record in records if record['contender'] == 'program']
+    shown = [record for record in records if record['family'] in PLOTTED] or records
+    value = [record for record in shown if record['job'] == 'value']
+    own = [record for record in shown if record['contender'] == 'program']
     lines = []
     if value:
         names = contenders_in(value)
         for what, unit, name in (('cpu', 'seconds of the processor', 'figures-value.svg'), ('peak', 'MB', 'figures-memory.svg')):
             plot_families(plots, value, lambda family: [(name, points_of(value, family, name, what)) for name in names], titles, unit,
                           os.path.join(folder, name))
-        lines += ['The job `value` beside its peers, processor time of whole runs; both axes are logarithmic:', '', '![The job value beside its peers, processor time](figures-value.svg)', '',
+        lines += ['The job `value` beside its peers on some of the kinds, processor time of whole runs; both axes are logarithmic:', '', '![The job value beside its peers, processor time](figures-value.svg)', '',
                   'The same, peak memory:', '', '![The job value beside its peers, peak memory](figures-memory.svg)', '']
     if own:
         by_job = {job: [record for record in own if record['job'] == job] for job in JOBS}
         plot_families(plots, own, lambda family: [(job, points_of(by_job[job], family, 'program')) for job in JOBS], {}, 'seconds of the processor',
                       os.path.join(folder, 'figures-jobs.svg'))
-        lines += ['The jobs of mincut, processor time of whole runs:', '', '![The jobs of mincut, processor time](figures-jobs.svg)', '']
+        lines += ['The jobs of mincut on these kinds, processor time of whole runs:', '', '![The jobs of mincut, processor time](figures-jobs.svg)', '']
     return lines
 
 

@@ -6,16 +6,18 @@
 
 One graph is a random tree with further random edges, the other a torus of 2,048 by 2,048 vertices, each joined to its eight
 neighbours. Each job reads the file on its standard input and writes to a file; the run of the least processor time counts. The table
-that is printed has processor time, elapsed time and peak memory, and the first lines of each answer stand below it. PATH is the built
+that is printed has processor time, elapsed time, peak memory, and the first bytes of each answer. PATH is the built
 program, crates/mincut/out/mincut where none is given. The files, 260 MB each, go to FOLDER, or to a folder that is removed.
 """
 import argparse
 import os
 import sys
 import tempfile
-import time
 
 import numpy
+
+import solve
+from checks import running
 
 VERTICES = 4_194_304
 EDGES = 16_777_216
@@ -45,8 +47,12 @@ def mesh():
     return numpy.tile(vertex, len(steps)), numpy.concatenate(ends)
 
 
-def write(path, one, other):
-    """Writes the graph in METIS format, the neighbours of each vertex ascending."""
+GRAPHS = {'random': lambda: random_graph(1), 'mesh': mesh}
+
+
+def write(path, name):
+    """Writes the graph of that name in METIS format, the neighbours of each vertex ascending."""
+    one, other = GRAPHS[name]()
     start = numpy.concatenate([one, other])
     end = numpy.concatenate([other, one])
     order = numpy.argsort(start * VERTICES + end, kind='stable')
@@ -59,28 +65,18 @@ def write(path, one, other):
             out.writelines(' '.join(map(str, neighbours[places[v]:places[v + 1]])) + '\n' for v in rows)
 
 
-def run(command, path, out_path):
-    """(status, processor seconds, elapsed seconds, peak memory in MB) of one run."""
-    since = time.monotonic()
-    with open(path, 'rb') as source, open(out_path, 'wb') as out:
-        files = [(os.POSIX_SPAWN_DUP2, source.fileno(), 0), (os.POSIX_SPAWN_DUP2, out.fileno(), 1)]
-        process = os.posix_spawn(command[0], command, os.environ, file_actions=files)
-        _, status, used = os.wait4(process, 0)
-    elapsed = time.monotonic() - since
-    return os.waitstatus_to_exitcode(status), used.ru_utime + used.ru_stime, elapsed, used.ru_maxrss * 1_024 / 1e6
-
-
 def measured(options, path, out_path):
-    """{job: (processor seconds, elapsed seconds, MB, first lines)} for a file."""
+    """{job: (processor seconds, elapsed seconds, MB, where the answer begins)} for a file."""
     found = {}
     for job in options.jobs.split(','):
         command = [options.program, job] + (['--workers', options.workers] if options.workers else [])
-        runs = [run(command, path, out_path) for _ in range(options.repetitions)]
-        if any(status for status, *_ in runs):
-            sys.exit(f'{job} ended with status {runs[0][0]}')
+        runs = [running.run_measured(command, path, out_path) for _ in range(options.repetitions)]
+        if any(run.status for run in runs):
+            sys.exit(f'{job} ended with status {runs[0].status}')
+        best = min(runs, key=lambda run: run.cpu)
         with open(out_path, encoding='ascii') as out:
-            head = out.readline().strip() + ' / ' + out.readline().strip()
-        found[job] = min(runs, key=lambda it: it[1])[1:] + (head,)
+            head = out.read(40).rstrip().replace('\n', ' / ')
+        found[job] = best.cpu, best.wall, best.peak / 1e6, head
     return found
 
 
@@ -101,10 +97,10 @@ def main():
     with tempfile.TemporaryDirectory(prefix='mincut-largest-') as own:
         folder = options.folder or own
         print('| Job | Graph | processor, s | elapsed, s | MB | Output begins |\n| --- | --- | --: | --: | --: | --- |')
-        for name, made in (('random', lambda: random_graph(1)), ('mesh', mesh)):
+        for name in GRAPHS:
             path = os.path.join(folder, f'{name}.graph')
             if not os.path.exists(path):
-                write(path, *made())
+                solve.apart(write, path, name)
             show(name, measured(options, path, os.path.join(own, 'out')))
     return 0
 
