@@ -281,7 +281,7 @@ def circumstances(options, peers):
             'system': f'{platform.system()} {platform.release()}', 'load': f'{os.getloadavg()[0]:.1f}', 'versions': versions,
             'program': output_of([options.program, '--version']), 'compiler': output_of(['g++', '--version']).split('\n')[0],
             'command': options.command, 'repetitions': options.repetitions, 'long': options.long, 'limit': options.limit,
-            'memory': options.memory, 'workers': options.workers, 'checked': options.checked, 'note': options.note}
+            'memory': options.memory, 'tunables': os.environ.get('GLIBC_TUNABLES', ''), 'workers': options.workers, 'checked': options.checked, 'note': options.note}
 
 
 def command_of(words):

@@ -202,11 +202,12 @@ def about_lines(about, records):
     beside = ', so other work ran beside' if max(float(about['load']), float(about['load_after'])) >= BUSY else ''
     workers = f'{about["workers"]} workers' if about['workers'] else 'its own number of workers, 4'
     return ['# Figures', '', 'mincut beside the libraries that a Debian machine can install, on graphs of known kinds: processor time, time by the clock, memory, '
-            'and growth. `bench/figures.py` wrote this page and its plots in one run.', '',
+            'and growth. `bench/figures.py` wrote this page and its plots.', '',
             f'- **When and where**: {about["date"]}, {about["minutes"]:.0f} minutes; {about["machine"]}; {about["system"]}.',
             f'- **The load** was {about["load"]} at the start and {about["load_after"]} at the end{beside}. Compare processor time: '
             'time by the clock has waiting in it where others run too, and processor time is longer than on an idle machine, since they fill the caches and the memory bus.',
-            f'- **mincut**: `{about["program"]}` with the crates of commit {about["commit"]} and {workers}.' + (f' {about["note"]}' if about.get('note') else ''),
+            f'- **mincut**: `{about["program"]}` with the crates of commit {about["commit"]} and {workers}.' + (f' All ran with `GLIBC_TUNABLES={about["tunables"]}`.' if about.get('tunables') else '')
+            + (f' {about["note"]}' if about.get('note') else ''),
             f'- **Peers**: {versions or "none"}. Those in C++ are small programs of `bench/peers`, built by {about["compiler"]} with `{about["flags"]}`.',
             f'- **Command**: `{about["command"]}`.',
             f'- **What is timed**: one process from its start to its end, which reads a METIS file on standard input and prints the answer; user and system time of '
@@ -221,7 +222,8 @@ def about_lines(about, records):
             '- **Memory**: the most that was resident; 1 MB is 10^6 bytes.',
             f'- **Short runs**: less than {SHORT} s is mostly the start of a program{start_of_python}. Short runs stand in '
             'the tables, and are not compared.', '',
-            'The kinds are those of `bench/solve.py`. The graphs of a kind have about as many edges as the command says, or 100, 1,000, 10,000, 100,000 and 1,000,000. '
+            'The kinds are those of `bench/solve.py`. The graphs of a kind have about as many edges as `--sizes` in the command says, or 100, 1,000, 10,000, 100,000 and 1,000,000; '
+            'a hypercube has as many vertices as a power of two, so up to half as many. '
             'Weights are 1 where nothing else is said.', '', *kind_lines(records), '']
 
 

@@ -289,7 +289,7 @@ def petersen_scattered(n: int, rng: Random) -> Made:
 
 
 def regular(n: int, rng: Random) -> Made:
-    """Two rings through all vertices, each in an order of its own at random."""
+    """Two rings through all vertices, each in an order of its own at random, so each vertex has degree four."""
     n = max(n, 8)
     table = {}
     for _ in range(2):
