@@ -13,6 +13,7 @@ differs is kept. One program runs at a time, at little cost for each: runs with 
 import argparse
 import os
 import re
+import select
 import signal
 import tempfile
 from collections import Counter
@@ -39,21 +40,18 @@ class Runner:
         self.program = program
         self.source, self.out, self.err = (os.memfd_create(name) for name in ('in', 'out', 'err'))
         self.actions = [(os.POSIX_SPAWN_DUP2, stream, number) for number, stream in enumerate((self.source, self.out, self.err))]
-        self.child = 0
-        signal.signal(signal.SIGALRM, self.end_child)
-
-    def end_child(self, *_: object) -> None:
-        os.kill(self.child, signal.SIGKILL)
 
     def run(self, job: str, text: bytes) -> tuple[int, bytes, bytes]:
         """(status, or the signal below 0; standard output; standard error)"""
         os.ftruncate(self.source, 0)
         os.pwrite(self.source, text, 0)
         os.lseek(self.source, 0, os.SEEK_SET)
-        self.child = os.posix_spawn(self.program, [self.program, job], {}, file_actions=self.actions)
-        signal.alarm(LONGEST)
-        _, ended = os.waitpid(self.child, 0)
-        signal.alarm(0)
+        child = os.posix_spawn(self.program, [self.program, job], {}, file_actions=self.actions)
+        handle = os.pidfd_open(child)
+        if not select.select([handle], [], [], LONGEST)[0]:
+            os.kill(child, signal.SIGKILL)
+        os.close(handle)
+        _, ended = os.waitpid(child, 0)
         return os.waitstatus_to_exitcode(ended), taken(self.out), taken(self.err)
 
 
