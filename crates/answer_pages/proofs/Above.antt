@@ -9,9 +9,9 @@ use Rattle.cut_definitions.specs.Cuts.{has, IsAscendingWithin}
 use Rattle.cut_definitions.proofs.Bridge.{has_low, has_first_of}
 use Rattle.cut_definitions.proofs.Ascending.{has_other}
 use Rattle.vertex_set.specs.Side.{VertexList, IsNextFrom}
-use Rattle.cactus_printing.specs.Text.{spaced}
-use Rattle.cactus_printing.specs.Puts.{IsSplit, Puts}
-use Rattle.cactus_printing.proofs.Putting.{puts_as, puts_after, puts_failed}
+use Rattle.answer_pages.specs.Text.{spaced}
+use Rattle.answer_pages.specs.Puts.{IsSplit, Puts}
+use Rattle.answer_pages.proofs.Putting.{puts_as, puts_after, puts_failed}
 use Rattle.answer_pages.specs.Listings.{above}
 
 above_kept : (k x : ℕ) (xs : List ℕ) → k < x → above k (x ∷ xs) ≡ x ∷ above k xs

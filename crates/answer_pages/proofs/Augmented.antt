@@ -2,7 +2,7 @@
 use Rattle.std.proofs.Common.{◌≡◌, ℕ, List, [], ◌∷◌, ◌++◌, length, ap, ◌∙◌, append_assoc}
 use Rattle.std.specs.Prelude.{codes}
 use Rattle.std.specs.List.{flat_map}
-use Rattle.cactus_printing.specs.Text.{line}
+use Rattle.answer_pages.specs.Text.{line}
 use Rattle.edge_augment.specs.Augmentations.{Augmentation}
 use Rattle.answer_pages.specs.Augmenting.{edge_line, set_line, augment_text}
 

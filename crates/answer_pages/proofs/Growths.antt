@@ -4,8 +4,8 @@ use Rattle.std.specs.Prelude.{Option, Result, Ok, Err, OnOk, OnErr}
 use Rattle.std.specs.Io.KnownBytes.{Appends}
 use Rattle.std.proofs.lemmas.List.{take_more, take-append-drop, length-take}
 use Rattle.outside.specs.Faults.{HasCause, AppendsPrefix}
-use Rattle.cactus_printing.specs.Puts.{IsSplit, Puts}
-use Rattle.cactus_printing.proofs.Putting.{all_taken}
+use Rattle.answer_pages.specs.Puts.{IsSplit, Puts}
+use Rattle.answer_pages.proofs.Putting.{all_taken}
 use Rattle.answer_pages.specs.declared.growth_pages.Step.{Step}
 use Rattle.answer_pages.specs.Growing.{step_line, step_lines}
 

@@ -1,3 +1,5 @@
+pub mod Putting
+pub mod Lines
 mod Above
 mod Augmented
 mod Growths

@@ -1,7 +1,7 @@
 -- The text of an augmentation.
 use Rattle.std.specs.Prelude.{ℕ, List, [], ◌∷◌, ◌++◌, length, codes}
 use Rattle.std.specs.List.{flat_map}
-use Rattle.cactus_printing.specs.Text.{line}
+use Rattle.answer_pages.specs.Text.{line}
 use Rattle.edge_augment.specs.Augmentations.{Augmentation}
 
 -- a new edge: its two vertices

@@ -1,7 +1,7 @@
 -- The text of a growth: its steps, and the cactus at its end.
 use Rattle.std.specs.Prelude.{ℕ, ◌+◌, List, [], ◌∷◌, ◌++◌, codes}
 use Rattle.flat_cactus.specs.Flat.{Flat}
-use Rattle.cactus_printing.specs.Text.{spaced, cactus_text}
+use Rattle.answer_pages.specs.Text.{spaced, cactus_text}
 use Rattle.answer_pages.specs.declared.growth_pages.Step.{Step}
 
 -- a step: its number, the value, and the number of the minimum cuts

@@ -1,3 +1,5 @@
+pub mod Text
+pub mod Puts
 pub mod Listings
 pub mod Augmenting
 pub mod Growing

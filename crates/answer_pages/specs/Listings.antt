@@ -2,7 +2,7 @@
 use Rattle.std.specs.Prelude.{ℕ, List, [], ◌∷◌, ◌++◌, length, codes, ltb}
 use Rattle.std.specs.List.{filter, flat_map}
 use Rattle.std.specs.Fmt.{decimal}
-use Rattle.cactus_printing.specs.Text.{spaced, line}
+use Rattle.answer_pages.specs.Text.{spaced, line}
 
 -- the members above a vertex
 abbrev pub above : ℕ → List ℕ → List ℕ

@@ -4,30 +4,15 @@ ghost use Rattle.std.specs.Prelude.{◌≡◌, ◌≤◌, ◌++◌, [], OnOk, On
 ghost use Rattle.std.specs.Io.KnownBytes.{Appends};
 ghost use Rattle.std.specs.List.{flat_map};
 ghost use Rattle.outside.specs.Faults.{HasCause, AppendsPrefix, Rose};
-ghost use Rattle.cactus_printing.specs.Puts.{Puts};
-ghost use Rattle.cactus_printing.specs.Text.{line};
+ghost use Rattle.answer_pages.specs.Puts.{Puts};
+ghost use Rattle.answer_pages.specs.Text.{line};
 ghost use Rattle.answer_pages.specs.Augmenting.{edge_line, set_line, augment_text};
 
-use crate::pages::put_count;
-use cactus_printing::{Page, PrintRefusal};
+use crate::printing::put_line;
+use crate::{Page, PrintRefusal};
 use edge_augment::Plan;
 use outside::{Sink, SinkFailed};
 use std::alloc::Global;
-
-/// Puts a line: a word and vertices.
-fn put_vertices<K: Sink>(
-    page: &mut Page,
-    sink: &mut K,
-    word: &[u8],
-    vertices: &[u32],
-) -> Result<(), SinkFailed>
-    requires { length word.now ≤ 40 }
-    ensures { Puts (page.old ++ line word.now vertices.now) (K.taken sink.old) (K.taken sink.new) (K.faults sink.old) (K.faults sink.new) page.new result }
-{
-    page.put(sink, word)?;
-    page.put_numbers(sink, vertices)?;
-    page.put(sink, b"\n")
-}
 
 /// Puts the lines of new edges.
 fn put_edges<K: Sink>(page: &mut Page, sink: &mut K, edges: &[(u32, u32)]) -> Result<(), SinkFailed>
@@ -35,7 +20,7 @@ fn put_edges<K: Sink>(page: &mut Page, sink: &mut K, edges: &[(u32, u32)]) -> Re
 {
     'each_edge: for i in 0..edges.len() {
         let (lesser, greater) = edges[i];
-        put_vertices(page, sink, b"edge", &[lesser, greater])?;
+        put_line(page, sink, b"edge", &[lesser, greater])?;
     }
     Ok(())
 }
@@ -45,7 +30,7 @@ fn put_sets<K: Sink>(page: &mut Page, sink: &mut K, plan: &Plan) -> Result<(), S
     ensures { Puts (page.old ++ flat_map set_line plan.now.sets) (K.taken sink.old) (K.taken sink.new) (K.faults sink.old) (K.faults sink.new) page.new result }
 {
     'each_set: for i in 0..plan.sets() {
-        put_vertices(page, sink, b"set", plan.set(i))?;
+        put_line(page, sink, b"set", plan.set(i))?;
     }
     Ok(())
 }
@@ -60,10 +45,10 @@ fn put_augmentation<K: Sink>(
     ensures { Puts (page.old ++ augment_text value plan.now) (K.taken sink.old) (K.taken sink.new) (K.faults sink.old) (K.faults sink.new) page.new result }
 {
     let edges = plan.edges();
-    put_count(page, sink, b"value", value as u128)?;
-    put_count(page, sink, b"edges", edges.len() as u128)?;
+    put_line(page, sink, b"value", &[value as u128])?;
+    put_line(page, sink, b"edges", &[edges.len() as u128])?;
     put_edges(page, sink, edges)?;
-    put_count(page, sink, b"sets", plan.sets() as u128)?;
+    put_line(page, sink, b"sets", &[plan.sets() as u128])?;
     put_sets(page, sink, plan)
 }
 

@@ -4,11 +4,11 @@ ghost use Rattle.std.specs.Prelude.{◌≡◌, ◌≤◌, ◌+◌, ◌^◌, ◌�
 ghost use Rattle.std.specs.Io.KnownBytes.{Appends};
 ghost use Rattle.outside.specs.Faults.{HasCause, AppendsPrefix, Rose};
 ghost use Rattle.flat_cactus.specs.Flattened.{flat_of};
-ghost use Rattle.cactus_printing.specs.Puts.{Puts};
-ghost use Rattle.cactus_printing.specs.Text.{spaced};
+ghost use Rattle.answer_pages.specs.Puts.{Puts};
+ghost use Rattle.answer_pages.specs.Text.{spaced};
 ghost use Rattle.answer_pages.specs.Growing.{step_line, step_lines, growth_text};
 
-use cactus_printing::{Page, PrintRefusal, print_flat};
+use crate::{Page, PrintRefusal, print_flat};
 use flat_cactus::{FlatCactus, flatten};
 use outside::{Sink, SinkFailed};
 use rooted_cactus::Cactus;

@@ -4,11 +4,12 @@ ghost use Rattle.std.specs.Prelude.{◌≡◌, ◌≤◌, ◌∷◌, ◌++◌, [
 ghost use Rattle.std.specs.Io.KnownBytes.{Appends};
 ghost use Rattle.std.specs.List.{flat_map};
 ghost use Rattle.outside.specs.Faults.{HasCause, AppendsPrefix, Rose};
-ghost use Rattle.cactus_printing.specs.Puts.{Puts};
-ghost use Rattle.cactus_printing.specs.Text.{spaced, line};
+ghost use Rattle.answer_pages.specs.Puts.{Puts};
+ghost use Rattle.answer_pages.specs.Text.{spaced, line};
 ghost use Rattle.answer_pages.specs.Listings.{above, side_line, listing_text, balanced_text};
 
-use cactus_printing::{Page, PrintRefusal};
+use crate::printing::put_line;
+use crate::{Page, PrintRefusal};
 use itoa::Buffer;
 use outside::{Sink, SinkFailed};
 use std::alloc::Global;
@@ -79,21 +80,6 @@ fn put_sides<K: Sink>(page: &mut Page, sink: &mut K, sides: &[Side]) -> Result<(
     Ok(())
 }
 
-/// Puts a line: a word and a number.
-pub(crate) fn put_count<K: Sink>(
-    page: &mut Page,
-    sink: &mut K,
-    word: &[u8],
-    number: u128,
-) -> Result<(), SinkFailed>
-    requires { length word.now ≤ 40 }
-    ensures { Puts (page.old ++ line word.now (number ∷ [])) (K.taken sink.old) (K.taken sink.new) (K.faults sink.old) (K.faults sink.new) page.new result }
-{
-    page.put(sink, word)?;
-    page.put_numbers(sink, &[number])?;
-    page.put(sink, b"\n")
-}
-
 /// Puts the line of a side behind the word for one.
 fn put_worded_side<K: Sink>(page: &mut Page, sink: &mut K, side: &Side) -> Result<(), SinkFailed>
     ensures { Puts (page.old ++ line (codes "side") side.now.members) (K.taken sink.old) (K.taken sink.new) (K.faults sink.old) (K.faults sink.new) page.new result }
@@ -112,8 +98,8 @@ fn put_listing<K: Sink>(
 ) -> Result<(), SinkFailed>
     ensures { Puts (page.old ++ listing_text value (map (λ s. s.members) sides.now)) (K.taken sink.old) (K.taken sink.new) (K.faults sink.old) (K.faults sink.new) page.new result }
 {
-    put_count(page, sink, b"value", value as u128)?;
-    put_count(page, sink, b"cuts", sides.len() as u128)?;
+    put_line(page, sink, b"value", &[value as u128])?;
+    put_line(page, sink, b"cuts", &[sides.len() as u128])?;
     put_sides(page, sink, sides)
 }
 
@@ -127,8 +113,8 @@ fn put_balanced<K: Sink>(
 ) -> Result<(), SinkFailed>
     ensures { Puts (page.old ++ balanced_text value balance side.now.members) (K.taken sink.old) (K.taken sink.new) (K.faults sink.old) (K.faults sink.new) page.new result }
 {
-    put_count(page, sink, b"value", value as u128)?;
-    put_count(page, sink, b"balance", balance)?;
+    put_line(page, sink, b"value", &[value as u128])?;
+    put_line(page, sink, b"balance", &[balance])?;
     put_worded_side(page, sink, side)
 }
 

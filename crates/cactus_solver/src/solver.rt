@@ -17,7 +17,7 @@ use region_sweep::tree_by_workers;
 use rooted_cactus::Solved;
 use std::alloc::Global;
 use std::thread::Threads;
-use swept_cactus::cactus_by_tree;
+use region_sweep::cactus_by_tree;
 use weighted_graph::Graph;
 
 /// The tree of the minimum cuts of a graph whose value is given: read off the graph where it is a tree whose edges all have

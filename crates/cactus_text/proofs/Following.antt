@@ -6,7 +6,7 @@ use Rattle.std.specs.Char.{digit_value}
 use Rattle.std.specs.Str.Parse.{AllDigits}
 use Rattle.std.proofs.lemmas.Fmt.{decimal_is_IsNumeral, decimal_injective}
 use Rattle.std.proofs.lemmas.List.{take_at, drop_at, get_or-append-add}
-use Rattle.cactus_printing.specs.Text.{spaced, line}
+use Rattle.answer_pages.specs.Text.{spaced, line}
 use Rattle.cactus_text.specs.Reading.{numbers_of}
 use Rattle.cactus_text.specs.Scanned.{IsRest, IsLeading, TakesNumber, Follows, IsWord}
 use Rattle.cactus_text.proofs.Numbers.{numbers_line, numbers_some}

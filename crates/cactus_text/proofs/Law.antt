@@ -4,7 +4,7 @@ use Rattle.std.specs.Prelude.{codes, nat_lt, nat_le, Option, Some, None, Ok, ifâ
 use Rattle.std.proofs.lemmas.Bool.{lt-ltb, le-ltb, le-leb}
 use Rattle.flat_cactus.specs.Flat.{Flat}
 use Rattle.cactus_text.specs.declared.reading.Counts.{Counts}
-use Rattle.cactus_printing.specs.Text.{line, node_lines, bridge_lines, cycle_lines, first_line, cactus_text}
+use Rattle.answer_pages.specs.Text.{line, node_lines, bridge_lines, cycle_lines, first_line, cactus_text}
 use Rattle.cactus_text.specs.Reading.{lines, numbers_of, is_node, is_cycle, is_whole, no_node, counts_of, file_of, stated_by, with_value, with_node, with_bridge, with_cycle, with_line, stated, plus_node, plus_bridge, plus_cycle}
 use Rattle.cactus_text.specs.Scanned.{AreSmall, IsPlain, IsWord}
 use Rattle.cactus_text.proofs.Numbers.{numbers_line}

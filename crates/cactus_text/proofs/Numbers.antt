@@ -11,7 +11,7 @@ use Rattle.std.proofs.lemmas.Fmt.{decimal_is_IsNumeral}
 use Rattle.std.proofs.lemmas.List.{take_at}
 use Rattle.std.proofs.lemmas.Slice.Eq.{bytes_eq-Decides}
 use Rattle.cut_definitions.proofs.Bools.{and_first, and_second}
-use Rattle.cactus_printing.specs.Text.{spaced, line}
+use Rattle.answer_pages.specs.Text.{spaced, line}
 use Rattle.cactus_text.specs.Reading.{with_front, words, values, numbers_of}
 use Rattle.cactus_text.specs.Scanned.{AreSmall, IsWord}
 

@@ -5,7 +5,7 @@ use Rattle.std.specs.Fmt.{decimal}
 use Rattle.std.specs.Char.{digit_value}
 use Rattle.std.specs.Str.Parse.{AllDigits}
 use Rattle.std.proofs.lemmas.Fmt.{decimal_is_IsNumeral}
-use Rattle.cactus_printing.specs.Text.{spaced, line}
+use Rattle.answer_pages.specs.Text.{spaced, line}
 use Rattle.cactus_text.specs.Reading.{lines, with_front}
 use Rattle.cactus_text.specs.Scanned.{AreSmall, IsPlain}
 use Rattle.cactus_text.proofs.Splitting.{lines_step}

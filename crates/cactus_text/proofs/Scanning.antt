@@ -9,7 +9,7 @@ use Rattle.std.proofs.lemmas.Fmt.{decimal_is_IsNumeral, decimal-digits_value, de
 use Rattle.std.proofs.lemmas.List.{get_or-take, get_or-append-add, length-take, length-take-le, take_at}
 use Rattle.std.proofs.lemmas.Str.Parse.{digits_value-take-le, numerals_by_value, tells_digits}
 use Rattle.cactus_text.specs.Scanned.{IsLeading, IsRest}
-use Rattle.cactus_printing.specs.Text.{spaced}
+use Rattle.answer_pages.specs.Text.{spaced}
 
 digit_among : (ds : List ℕ) (i : ℕ) → AllDigits 10 ds → i < length ds → digit_value (get_or ds i 0) < 10
 digit_among [] i h l = absurd (omega (arith, l))

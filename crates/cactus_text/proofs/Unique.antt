@@ -8,7 +8,7 @@ use Rattle.cut_definitions.specs.Cuts.{has}
 use Rattle.flat_cactus.specs.Flat.{Flat}
 use Rattle.flat_cactus.specs.FlatCuts.{IsWellFormed}
 use Rattle.cactus_text.specs.declared.reading.Counts.{Counts}
-use Rattle.cactus_printing.specs.Text.{line, node_lines, bridge_lines, cycle_lines, cactus_text, first_line}
+use Rattle.answer_pages.specs.Text.{line, node_lines, bridge_lines, cycle_lines, cactus_text, first_line}
 use Rattle.cactus_text.specs.Reading.{ascends, lines, with_front, is_cycle, is_node, is_placed, is_complete, is_tree, is_whole, no_node, with_node, with_bridge, with_cycle, with_line, numbers_of, plus_node, plus_bridge, plus_cycle, stated, stated_by, with_value, counts_of, file_of, Stated}
 use Rattle.cactus_text.specs.TextLaws.{LawOfStated, LawOfUniqueText}
 use Rattle.cactus_text.proofs.Numbers.{numbers_some}

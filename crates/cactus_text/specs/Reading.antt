@@ -6,7 +6,7 @@ use Rattle.std.specs.Str.Parse.{digits_value}
 use Rattle.cut_definitions.specs.Cuts.{has}
 use Rattle.flat_cactus.specs.Flat.{Flat}
 use Rattle.flat_cactus.specs.FlatCuts.{all_edges}
-use Rattle.cactus_printing.specs.Text.{line}
+use Rattle.answer_pages.specs.Text.{line}
 use Rattle.cactus_text.specs.declared.reading.Counts.{Counts}
 
 abbrev pub with_front : ℕ → List (List ℕ) → List (List ℕ)

@@ -2,7 +2,7 @@
 use Rattle.std.specs.Prelude.{◌≡◌, ◌≢◌, ◌<◌, ◌≤◌, ◌^◌, ⊤, ℕ, List, [], ◌∷◌, ◌++◌, length, take, slice_index}
 use Rattle.std.specs.Char.{digit_value}
 use Rattle.std.specs.Fmt.{decimal}
-use Rattle.cactus_printing.specs.Text.{spaced}
+use Rattle.answer_pages.specs.Text.{spaced}
 use Rattle.cactus_text.specs.Reading.{words}
 
 -- each number is below 2^64

@@ -5,7 +5,7 @@ use Rattle.rooted_cactus.specs.Rooted.{IsCactus}
 use Rattle.flat_cactus.specs.Flat.{Flat}
 use Rattle.flat_cactus.specs.FlatCuts.{IsWellFormed}
 use Rattle.flat_cactus.specs.Flattened.{flat_of}
-use Rattle.cactus_printing.specs.Text.{cactus_text}
+use Rattle.answer_pages.specs.Text.{cactus_text}
 use Rattle.cactus_text.specs.Reading.{Stated, lines, file_of}
 
 -- the text states this value and this flat cactus

@@ -10,5 +10,5 @@ mod scan;
 mod sets;
 mod tree;
 
-pub use cactus_printing::{Page, PrintRefusal, print, print_flat};
+pub use answer_pages::{Page, PrintRefusal, print, print_flat};
 pub use reading::{CactusFile, TextRefusal, read};

@@ -15,7 +15,7 @@ use Rattle.flat_cactus.specs.FlatCuts.{HasSides}
 use Rattle.flat_cactus.specs.Flattened.{flat_of}
 use Rattle.flat_cactus.specs.FlatLaws.{LawOfFlatForm, LawOfFlatSides}
 use Rattle.cut_definitions.specs.Members.{SameMembers}
-use Rattle.cactus_printing.specs.Text.{cactus_text, line}
+use Rattle.answer_pages.specs.Text.{cactus_text, line}
 use Rattle.job_answers.specs.Jobs.{AsksCuts, StandsFor, IsCactusOf, IsCactusText, IsTextFor, IsListed, IsListWithin, IsInRange, IsAnswerOf, IsStopFor, IsWithin, KeepsLimit, asked_cuts}
 use Rattle.job_answers.specs.Asked.{IsListReply, IsListStop, cuts_for}
 use Rattle.answer_pages.specs.Listings.{listing_text, count_text}

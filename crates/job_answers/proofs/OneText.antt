@@ -13,7 +13,7 @@ use Rattle.rooted_cactus.specs.Different.{HaveSameSides}
 use Rattle.flat_cactus.specs.Flattened.{flat_of}
 use Rattle.rooted_cactus.specs.Rooted.{Rooted, IsCactus}
 use Rattle.rooted_cactus.specs.declared.tree.Node.{Node}
-use Rattle.cactus_printing.specs.Text.{cactus_text}
+use Rattle.answer_pages.specs.Text.{cactus_text}
 use Rattle.canonical_cactus.specs.Canonical.{is_canonical}
 use Rattle.canonical_cactus.specs.FirstBest.{IsNoLater}
 use Rattle.canonical_cactus.specs.Laws.{over}

@@ -11,7 +11,7 @@ use Rattle.flat_cactus.specs.FlatCuts.{IsWellFormed, HasSides}
 use Rattle.flat_cactus.specs.Flattened.{flat_of}
 use Rattle.rooted_cactus.specs.Rooted.{Rooted, IsCactus, sides_of}
 use Rattle.cut_definitions.specs.Members.{SameMembers}
-use Rattle.cactus_printing.specs.Text.{cactus_text}
+use Rattle.answer_pages.specs.Text.{cactus_text}
 use Rattle.canonical_cactus.specs.Canonical.{is_canonical}
 use Rattle.canonical_cactus.specs.FirstBest.{IsFirstBest}
 use Rattle.edge_augment.specs.Augmentations.{Augmentation, IsAugmentation}

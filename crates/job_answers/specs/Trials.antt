@@ -3,7 +3,7 @@ use Rattle.std.specs.Prelude.{ℕ, ◌≡◌, List, [], ◌∷◌, ◌++◌, len
 use Rattle.cut_definitions.specs.Graph.{Graph}
 use Rattle.cut_definitions.specs.Cuts.{value, mincuts}
 use Rattle.cut_definitions.specs.Balance.{balance, IsBest}
-use Rattle.cactus_printing.specs.Text.{line}
+use Rattle.answer_pages.specs.Text.{line}
 use Rattle.graph_maker.specs.Made.{made_graph}
 
 -- the numbers of vertices and edges, the value, the number of minimum cuts and the greatest balance of one

@@ -1,7 +1,7 @@
 -- What there is to write to `out`.
 use Rattle.std.specs.Prelude.{ℕ, ◌≤◌, ◌^◌, ⊤, List, string_bytes}
 use Rattle.flat_cactus.specs.Flattened.{flat_of}
-use Rattle.cactus_printing.specs.Text.{cactus_text}
+use Rattle.answer_pages.specs.Text.{cactus_text}
 use Rattle.job_replies.specs.declared.reply.Reply.{Reply}
 use Rattle.job_replies.specs.declared.reply.Reply.TheVariants.{Text, Cactus, Listing, Balanced, Growth, Augmentation}
 use Rattle.cut_listing.specs.Listings.{members_of}

@@ -6,7 +6,7 @@ ghost use Rattle.job_replies.specs.Replies.{IsPrintable};
 
 use crate::reply::{Reply, write_reply};
 use crate::telling::tell;
-use cactus_printing::PrintRefusal;
+use answer_pages::PrintRefusal;
 use outside::Sink;
 use std::alloc::Global;
 use stop_lines::{Status, Stop};

@@ -5,7 +5,7 @@ ghost use Rattle.job_answers.specs.Answers.{Wrote, Failed};
 ghost use Rattle.job_replies.specs.Replies.{text_of, IsPrintable, TakesMemory};
 
 use answer_pages::{Step, print_augmentation, print_balanced, print_growth, print_listing};
-use cactus_printing::{PrintRefusal, print};
+use answer_pages::{PrintRefusal, print};
 use edge_augment::Plan;
 use outside::{Sink, write_whole};
 use rooted_cactus::Solved;

@@ -10,7 +10,7 @@ use crate::dense::are_light;
 use crate::front::Front;
 use cut_definitions::NoMemory;
 use region_flow::RegionFlow;
-use residual_arcs::Outcome;
+use region_flow::Outcome;
 use std::alloc::Global;
 use weighted_graph::Graph;
 

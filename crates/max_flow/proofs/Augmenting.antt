@@ -9,13 +9,13 @@ use Rattle.cut_definitions.proofs.Running.{weight-le_total}
 use Rattle.cut_definitions.proofs.Numbers.{positive_yes}
 use Rattle.cut_definitions.proofs.Bools.{counted_sum}
 use Rattle.max_flow.specs.declared.search.Step.{Step}
-use Rattle.residual_arcs.specs.Residual.{out, counted, IsResidual, IsFlow, IsLeastBetween}
-use Rattle.residual_arcs.specs.Closed.{IsSourceSide}
-use Rattle.residual_arcs.specs.Marks.{order_mark}
+use Rattle.region_flow.specs.Residual.{out, counted, IsResidual, IsFlow, IsLeastBetween}
+use Rattle.region_flow.specs.Closed.{IsSourceSide}
+use Rattle.region_flow.specs.Marks.{order_mark}
 use Rattle.max_flow.specs.Tree.{seen, IsSearched}
-use Rattle.residual_arcs.specs.Outcome.{IsStopReached}
-use Rattle.residual_arcs.proofs.Balance.{weight-parting, IsLeastBetween-from_closed}
-use Rattle.residual_arcs.proofs.Closed.{out_none-from_closed}
+use Rattle.region_flow.specs.Outcome.{IsStopReached}
+use Rattle.region_flow.proofs.Balance.{weight-parting, IsLeastBetween-from_closed}
+use Rattle.region_flow.proofs.Closed.{out_none-from_closed}
 use Rattle.max_flow.proofs.Trees.{seen_least, seen_closed}
 
 -- ---- the flow of nothing

@@ -9,7 +9,7 @@ use Rattle.cut_definitions.specs.Scan.{single}
 use Rattle.cut_definitions.proofs.Bridge.{has_within, has_low, IsAscendingWithin-filter}
 use Rattle.cut_definitions.proofs.Ascending.{has_high}
 use Rattle.vertex_set.specs.Side.{VertexList, listed}
-use Rattle.residual_arcs.specs.Marks.{order_mark}
+use Rattle.region_flow.specs.Marks.{order_mark}
 use Rattle.max_flow.specs.Tree.{seen}
 
 -- a vertex that is put in

@@ -17,13 +17,13 @@ use Rattle.weighted_graph.specs.declared.graph.Arc.{Arc}
 use Rattle.weighted_graph.specs.Rows.{row_of}
 use Rattle.weighted_graph.specs.RowLaws.{IsArcAt}
 use Rattle.weighted_graph.proofs.RowLaws.{degree-le, weight_to_is}
-use Rattle.residual_arcs.specs.Residual.{out, IsResidual}
-use Rattle.residual_arcs.specs.Closed.{residual_on}
+use Rattle.region_flow.specs.Residual.{out, IsResidual}
+use Rattle.region_flow.specs.Closed.{residual_on}
 use Rattle.max_flow.specs.Preflow.{IsPreflow, IsOutside, IsBeyond, marked}
-use Rattle.residual_arcs.specs.Held.{held}
-use Rattle.residual_arcs.proofs.Balance.{out-start}
-use Rattle.residual_arcs.proofs.Closed.{IsArcFrom, arc_from, All-row}
-use Rattle.residual_arcs.proofs.Sending.{drawn_balance, held-none, held-one, held-set, held-two, sent, sent_once}
+use Rattle.region_flow.specs.Held.{held}
+use Rattle.region_flow.proofs.Balance.{out-start}
+use Rattle.region_flow.proofs.Closed.{IsArcFrom, arc_from, All-row}
+use Rattle.region_flow.proofs.Sending.{drawn_balance, held-none, held-one, held-set, held-two, sent, sent_once}
 
 -- ---- what a set holds
 

@@ -6,11 +6,11 @@ use Rattle.cut_definitions.specs.declared.edge_list.Edge.{Edge}
 use Rattle.cut_definitions.specs.Graph.{Graph, IsGraph}
 use Rattle.cut_definitions.specs.Weight.{VertexSet}
 use Rattle.max_flow.specs.declared.search.Step.{Step}
-use Rattle.residual_arcs.specs.Residual.{out, counted, edge_of, IsResidual}
+use Rattle.region_flow.specs.Residual.{out, counted, edge_of, IsResidual}
 use Rattle.max_flow.specs.Tree.{step_at, IsMarking, IsListed, IsTree, IsPath}
-use Rattle.residual_arcs.specs.Marks.{order_mark}
-use Rattle.residual_arcs.specs.Closed.{IsAlong}
-use Rattle.residual_arcs.proofs.Sending.{carried, narrower_path, pushed_once}
+use Rattle.region_flow.specs.Marks.{order_mark}
+use Rattle.region_flow.specs.Closed.{IsAlong}
+use Rattle.region_flow.proofs.Sending.{carried, narrower_path, pushed_once}
 
 -- ---- the path to a vertex of the tree
 

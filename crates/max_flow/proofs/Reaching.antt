@@ -9,11 +9,11 @@ use Rattle.cut_definitions.specs.Graph.{Graph, IsGraph}
 use Rattle.weighted_graph.specs.declared.graph.Arc.{Arc}
 use Rattle.weighted_graph.specs.Rows.{row_of, no_arc}
 use Rattle.max_flow.specs.declared.search.Step.{Step}
-use Rattle.residual_arcs.specs.Residual.{edge_of}
-use Rattle.residual_arcs.specs.Closed.{residual_on, IsAlong}
+use Rattle.region_flow.specs.Residual.{edge_of}
+use Rattle.region_flow.specs.Closed.{residual_on, IsAlong}
 use Rattle.max_flow.specs.Tree.{step_at, IsTree, Reaches, Extends}
-use Rattle.residual_arcs.specs.Marks.{order_mark}
-use Rattle.residual_arcs.proofs.Closed.{IsArcFrom, All-row}
+use Rattle.region_flow.specs.Marks.{order_mark}
+use Rattle.region_flow.proofs.Closed.{IsArcFrom, All-row}
 use Rattle.max_flow.proofs.Trees.{room_left, one_more}
 
 -- an arc of a row, read by its place

@@ -11,15 +11,15 @@ use Rattle.cut_definitions.specs.Cuts.{has}
 use Rattle.vertex_set.specs.Side.{VertexList}
 use Rattle.weighted_graph.specs.declared.graph.Arc.{Arc}
 use Rattle.weighted_graph.specs.Rows.{row_of}
-use Rattle.residual_arcs.specs.declared.outcome.BestRun.{BestRun}
+use Rattle.region_flow.specs.declared.outcome.BestRun.{BestRun}
 use Rattle.max_flow.specs.declared.search.Step.{Step}
-use Rattle.residual_arcs.specs.Residual.{out, HasFirst, IsFlow}
-use Rattle.residual_arcs.specs.Closed.{residual_on, IsClosed, IsSourceSide}
+use Rattle.region_flow.specs.Residual.{out, HasFirst, IsFlow}
+use Rattle.region_flow.specs.Closed.{residual_on, IsClosed, IsSourceSide}
 use Rattle.max_flow.specs.Flow.{FlowState, HasSizesOf, IsShut, ShowsLeastCuts, residuals_at}
 use Rattle.max_flow.specs.Rows.{AreStarts, row_within, rows_within, IsLaidOut}
-use Rattle.residual_arcs.proofs.Balance.{weight-parting, least_from_closed}
-use Rattle.residual_arcs.proofs.Closed.{both_ways, out_none-from_closed, closed_from_out_none}
-use Rattle.residual_arcs.specs.Marks.{IsAllUnmarked}
+use Rattle.region_flow.proofs.Balance.{weight-parting, least_from_closed}
+use Rattle.region_flow.proofs.Closed.{both_ways, out_none-from_closed, closed_from_out_none}
+use Rattle.region_flow.specs.Marks.{IsAllUnmarked}
 use Rattle.max_flow.proofs.Augmenting.{least_between}
 use Rattle.max_flow.proofs.RowStarts.{starts_ascend}
 

@@ -7,13 +7,13 @@ use Rattle.cut_definitions.specs.Graph.{Graph, IsGraph}
 use Rattle.cut_definitions.specs.Weight.{VertexSet}
 use Rattle.cut_definitions.proofs.Numbers.{positive_yes, positive}
 use Rattle.max_flow.specs.declared.search.Step.{Step}
-use Rattle.residual_arcs.specs.Residual.{out, edge_of}
-use Rattle.residual_arcs.specs.Closed.{IsClosed, IsAlong}
+use Rattle.region_flow.specs.Residual.{out, edge_of}
+use Rattle.region_flow.specs.Closed.{IsClosed, IsAlong}
 use Rattle.max_flow.specs.Tree.{step_at, seen, IsMarking, IsTree, IsExpanded}
-use Rattle.residual_arcs.specs.Marks.{order_mark, IsAllUnmarked}
-use Rattle.residual_arcs.proofs.Balance.{leaving-none}
-use Rattle.residual_arcs.proofs.Closed.{out_none-from_closed}
-use Rattle.residual_arcs.proofs.Marks.{unmarked-all, unmarked-set}
+use Rattle.region_flow.specs.Marks.{order_mark, IsAllUnmarked}
+use Rattle.region_flow.proofs.Balance.{leaving-none}
+use Rattle.region_flow.proofs.Closed.{out_none-from_closed}
+use Rattle.region_flow.proofs.Marks.{unmarked-all, unmarked-set}
 
 -- ---- how many vertices are not marked
 

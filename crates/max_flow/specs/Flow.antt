@@ -5,9 +5,9 @@ use Rattle.cut_definitions.specs.Weight.{VertexSet, weight}
 use Rattle.cut_definitions.specs.Cuts.{has}
 use Rattle.vertex_set.specs.Side.{VertexList}
 use Rattle.weighted_graph.specs.Rows.{row_of, arc_at}
-use Rattle.residual_arcs.specs.declared.outcome.BestRun.{BestRun}
-use Rattle.residual_arcs.specs.Residual.{out, edge_of, HasFirst, IsFlow, IsLeastBetween}
-use Rattle.residual_arcs.specs.Closed.{residual_on, AddsUp}
+use Rattle.region_flow.specs.declared.outcome.BestRun.{BestRun}
+use Rattle.region_flow.specs.Residual.{out, edge_of, HasFirst, IsFlow, IsLeastBetween}
+use Rattle.region_flow.specs.Closed.{residual_on, AddsUp}
 
 -- for each edge what is left toward its greater end, for each vertex what is left on the arcs of its row,
 -- the side of the first vertex, and the last run where it answered `Best`

@@ -2,8 +2,8 @@
 use Rattle.std.specs.Prelude.{ℕ, Bool, ◌≡◌, ◌+◌, false, true, List, length, slice_index_or, IsTrue}
 use Rattle.cut_definitions.specs.Graph.{Graph}
 use Rattle.cut_definitions.specs.Weight.{VertexSet, complement, weight}
-use Rattle.residual_arcs.specs.Residual.{out, IsResidual}
-use Rattle.residual_arcs.specs.Held.{held}
+use Rattle.region_flow.specs.Residual.{out, IsResidual}
+use Rattle.region_flow.specs.Held.{held}
 
 -- for each vertex from 0 on whether it has entered the source, and how much it holds; for each edge what is left toward its greater end
 pub record PreflowState : Type 0 where

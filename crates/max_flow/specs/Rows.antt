@@ -5,7 +5,7 @@ use Rattle.cut_definitions.specs.Graph.{Graph}
 use Rattle.vertex_set.specs.Side.{VertexList}
 use Rattle.weighted_graph.specs.Rows.{row_of}
 use Rattle.max_flow.specs.declared.search.Step.{Step}
-use Rattle.residual_arcs.specs.Marks.{IsAllUnmarked}
+use Rattle.region_flow.specs.Marks.{IsAllUnmarked}
 
 -- the row of each vertex begins where that of the one before ends
 pub record AreStarts (g : Graph) (starts : List ℕ) : Type 0 where

@@ -6,9 +6,9 @@ use Rattle.cut_definitions.specs.Weight.{VertexSet}
 use Rattle.weighted_graph.specs.Rows.{row_of}
 use Rattle.max_flow.specs.declared.search.Ends.{Ends}
 use Rattle.max_flow.specs.declared.search.Step.{Step}
-use Rattle.residual_arcs.specs.Residual.{edge_of}
-use Rattle.residual_arcs.specs.Closed.{residual_on, IsAlong}
-use Rattle.residual_arcs.specs.Marks.{IsAllUnmarked, order_mark, unmarked}
+use Rattle.region_flow.specs.Residual.{edge_of}
+use Rattle.region_flow.specs.Closed.{residual_on, IsAlong}
+use Rattle.region_flow.specs.Marks.{IsAllUnmarked, order_mark, unmarked}
 
 -- the step at a place of the order
 abbrev pub step_at : List Step → ℕ → Step

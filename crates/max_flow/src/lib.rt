@@ -25,4 +25,4 @@ mod side;
 
 pub use flow::Flow;
 pub use preflow::{Beyond, Preflow};
-pub use residual_arcs::{BestRun, Outcome};
+pub use region_flow::{BestRun, Outcome};

@@ -12,11 +12,11 @@ ghost use Rattle.cut_definitions.specs.Graph.{IsEdgeList};
 ghost use Rattle.cut_definitions.specs.Weight.{VertexSet, weight, IsCut};
 ghost use Rattle.weighted_graph.specs.declared.graph.Arc.{Arc};
 ghost use Rattle.weighted_graph.specs.RowLaws.{IsArcAt};
-ghost use Rattle.residual_arcs.specs.Closed.{residual_on};
+ghost use Rattle.region_flow.specs.Closed.{residual_on};
 ghost use Rattle.max_flow.specs.Preflow.{IsPreflow, IsBeyond, source_of, marked, PreflowState};
 
 use cut_definitions::NoMemory;
-use residual_arcs::residual::{carry, residual_on, start};
+use region_flow::residual::{carry, residual_on, start};
 use std::alloc::Global;
 use std::marker::Model;
 use weighted_graph::{Arc, Graph};

@@ -3,11 +3,11 @@
 ghost use Rattle.std.specs.Prelude.{◌≡◌, ◌+◌, ◌≤◌};
 ghost use Rattle.cut_definitions.specs.Graph.{IsEdgeList};
 ghost use Rattle.cut_definitions.specs.Weight.{VertexSet};
-ghost use Rattle.residual_arcs.specs.Residual.{out, counted, IsResidual};
+ghost use Rattle.region_flow.specs.Residual.{out, counted, IsResidual};
 ghost use Rattle.max_flow.specs.Tree.{step_at, IsPath};
 
 use crate::search::Step;
-use residual_arcs::residual::carry;
+use region_flow::residual::carry;
 use weighted_graph::Graph;
 
 /// Carries an amount from the first vertex of the order to that at a place, arc by arc from its end.

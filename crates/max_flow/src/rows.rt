@@ -2,12 +2,12 @@
 
 ghost use Rattle.std.specs.Prelude.{◌≡◌, ℕ, ◌+◌, ◌<◌, ◌≤◌, length, map, slice_index, IfOk};
 ghost use Rattle.weighted_graph.specs.Rows.{row_of};
-ghost use Rattle.residual_arcs.specs.Residual.{IsResidual};
-ghost use Rattle.residual_arcs.specs.Closed.{residual_on};
+ghost use Rattle.region_flow.specs.Residual.{IsResidual};
+ghost use Rattle.region_flow.specs.Closed.{residual_on};
 ghost use Rattle.max_flow.specs.Rows.{AreStarts, row_within};
 
 use cut_definitions::NoMemory;
-use residual_arcs::residual::residual_on;
+use region_flow::residual::residual_on;
 use std::alloc::Global;
 use weighted_graph::Graph;
 

@@ -5,12 +5,12 @@
 
 ghost use Rattle.std.specs.Prelude.{◌≡◌, ◌+◌, ◌*◌, ◌<◌, ◌≤◌, ◌^◌, length, min, slice_index};
 ghost use Rattle.cut_definitions.specs.Graph.{IsEdgeList};
-ghost use Rattle.residual_arcs.specs.Residual.{IsResidual};
-ghost use Rattle.residual_arcs.specs.Closed.{residual_on};
+ghost use Rattle.region_flow.specs.Residual.{IsResidual};
+ghost use Rattle.region_flow.specs.Closed.{residual_on};
 ghost use Rattle.max_flow.specs.Tree.{step_at, IsReady, AreWithin, IsTree, IsExpanded, Reaches, Extends, IsSearched, IsListed};
-ghost use Rattle.residual_arcs.specs.Marks.{order_mark, IsAllUnmarked};
+ghost use Rattle.region_flow.specs.Marks.{order_mark, IsAllUnmarked};
 
-use residual_arcs::residual::residual_on;
+use region_flow::residual::residual_on;
 use weighted_graph::{Arc, Graph};
 
 /// The two vertices between which a flow goes.

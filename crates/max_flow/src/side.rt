@@ -2,7 +2,7 @@
 
 ghost use Rattle.std.specs.Prelude.{◌≡◌, ℕ, ◌==◌, ◌+◌, ◌≤◌, if◌then◌else◌, length};
 ghost use Rattle.cut_definitions.specs.Cuts.{has, IsAscendingWithin};
-ghost use Rattle.residual_arcs.specs.Marks.{order_mark};
+ghost use Rattle.region_flow.specs.Marks.{order_mark};
 ghost use Rattle.max_flow.specs.Tree.{seen};
 
 use vertex_set::Side;

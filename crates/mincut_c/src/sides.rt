@@ -18,7 +18,7 @@ use cut_definitions::VertexWeights;
 use cut_listing::laws::{count_of_minimum_cuts, minimum_cuts_in_order};
 use cut_listing::{ListRefusal, list_balanced, list_parting};
 use std::alloc::Global;
-use swept_cactus::Solved;
+use rooted_cactus::Solved;
 use vertex_set::Side;
 
 /// The minimum cuts of a solved graph whose balance is at least a number.

@@ -16,7 +16,8 @@ use flat_cactus::{FlatCactus, flatten};
 use least_cut::least_weight;
 use rooted_cactus::laws::few_nodes;
 use std::alloc::Global;
-use swept_cactus::{Solved, solve_alone};
+use region_sweep::solve_alone;
+use rooted_cactus::Solved;
 use weighted_graph::Graph;
 
 /// The value of a connected graph, and a cactus of its minimum cuts.

@@ -11,7 +11,7 @@ use crate::solving::solved_of_arrays;
 use crate::status::Fault;
 use cut_definitions::VertexWeights;
 use std::alloc::Global;
-use swept_cactus::Solved;
+use rooted_cactus::Solved;
 
 /// The value of the graph of the arrays and a cactus of its minimum cuts, and the masses of its vertices, which are looked at
 /// first.

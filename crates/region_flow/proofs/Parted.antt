@@ -8,8 +8,8 @@ use Rattle.cut_definitions.specs.declared.edge_list.Edge.{Edge}
 use Rattle.cut_definitions.specs.Graph.{Graph}
 use Rattle.cut_definitions.specs.Weight.{VertexSet, complement}
 use Rattle.cut_definitions.specs.Scan.{single}
-use Rattle.residual_arcs.specs.Residual.{leaving, edge_of}
-use Rattle.residual_arcs.specs.Held.{held}
+use Rattle.region_flow.specs.Residual.{leaving, edge_of}
+use Rattle.region_flow.specs.Held.{held}
 use Rattle.region_flow.specs.Sums.{sum_over}
 use Rattle.region_flow.specs.Regions.{is_within, entering, HasLabel, IsFlowIn}
 use Rattle.cut_definitions.specs.Regions.{IsOpenAt}

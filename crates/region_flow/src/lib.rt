@@ -12,16 +12,24 @@
 //! Contracts see a `RegionState`: for each vertex its label and its feed, for each edge what is left, and what the last
 //! search found. `IsRegionFlow` says what it is worth, for every set inside a region.
 //!
+//! What each edge can still carry stands in `residual`, for this flow and all others: one number for each edge, which is what
+//! can still go from its lesser end to its greater. It is read for the arcs of rows, and amounts are carried along edges. What
+//! sets of vertices let out and hold, and what an amount that is sent along an arc changes of both, is stated here once;
+//! `outcome` says what a run of a flow answers.
+//!
 //! Only `new` takes memory: 8 bytes for each edge and 44 for each vertex, of which 28 are not touched before a search gets
 //! that far. A search touches only what it reaches.
 #![tactic(auto)]
 
 mod cutting;
 pub mod laws;
+pub mod outcome;
 mod pulling;
 pub mod regions;
+pub mod residual;
 mod searching;
 mod task;
 mod tree;
 
+pub use outcome::{BestRun, Outcome};
 pub use regions::RegionFlow;

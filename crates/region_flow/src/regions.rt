@@ -1,7 +1,7 @@
 //! The flow, its regions, and the memory for searches.
 
 ghost use Rattle.std.specs.Prelude.{◌≡◌, ◌≢◌, ◌↔◌, ◌-◌, ◌^◌, ◌<◌, ◌≤◌, ◌⊎◌, ℕ, None, IfOk, IfSome, length, slice_index, slice_set};
-ghost use Rattle.residual_arcs.specs.Outcome.{IfBest};
+ghost use Rattle.region_flow.specs.Outcome.{IfBest};
 ghost use Rattle.region_flow.specs.Regions.{RegionState, IsRegionFlow};
 ghost use Rattle.cut_definitions.specs.Regions.{IsOpenAt};
 ghost use Rattle.region_flow.specs.Inflow.{IsStopReached, ShowsLeast};
@@ -12,8 +12,8 @@ use crate::searching::{search, search_past};
 use crate::task::{Detour, Task};
 use crate::tree::{SearchTree, clear};
 use cut_definitions::NoMemory;
-use residual_arcs::Outcome;
-use residual_arcs::residual::start;
+use crate::Outcome;
+use crate::residual::start;
 use std::alloc::Global;
 use std::marker::Model;
 use weighted_graph::Graph;

@@ -3,7 +3,7 @@
 ghost use Rattle.std.specs.Prelude.{◌≡◌, ◌≢◌, ◌↔◌, ◌+◌, ◌<◌, ◌≤◌, ◌⊎◌, ℕ, IsTrue, IsFalse, length, slice_index};
 ghost use Rattle.cut_definitions.specs.Graph.{IsEdgeList};
 ghost use Rattle.weighted_graph.specs.RowLaws.{IsArcAt};
-ghost use Rattle.residual_arcs.specs.Marks.{order_mark};
+ghost use Rattle.region_flow.specs.Marks.{order_mark};
 ghost use Rattle.region_flow.specs.Regions.{IsFlowIn};
 ghost use Rattle.region_flow.specs.Tree.{IsTreeIn, IsReady, IsCalmIn, IsFollowed, IsPath, IsUsedUp, ExtendsTree, StaysCalm, IsExpandedCalmly, IsSearchedCalmly, KeepsUnfound, IsPassed};
 

@@ -5,7 +5,7 @@ use Rattle.cut_definitions.specs.Graph.{Graph, IsGraph}
 use Rattle.cut_definitions.specs.Weight.{VertexSet}
 use Rattle.weighted_graph.specs.declared.graph.Arc.{Arc}
 use Rattle.weighted_graph.specs.Rows.{row_of}
-use Rattle.residual_arcs.specs.Closed.{residual_on}
+use Rattle.region_flow.specs.Closed.{residual_on}
 use Rattle.arc_search.specs.declared.direction.Direction.{Direction}
 use Rattle.arc_search.specs.declared.direction.Direction.TheVariants.{Along, Against}
 use Rattle.arc_search.specs.Closed.{IsClosed}

@@ -1,3 +1,4 @@
+pub mod TreeCuts
 pub mod RegionLaws
 pub mod Hanging
 pub mod Splitting

@@ -1,7 +1,7 @@
 -- What the surplus of the next vertex is, by what became of the flow to the last one.
 use Rattle.std.specs.Prelude.{◌≡◌, ◌≤◌, ◌<◌, ◌+◌, ◌*◌, ◌-◌, ◌^◌, min}
-use Rattle.residual_arcs.specs.declared.outcome.Outcome
-use Rattle.residual_arcs.specs.declared.outcome.Outcome.TheVariants.{AtLeast, Best}
+use Rattle.region_flow.specs.declared.outcome.Outcome
+use Rattle.region_flow.specs.declared.outcome.Outcome.TheVariants.{AtLeast, Best}
 use Rattle.region_sweep.specs.declared.surplus.Surplus.{Surplus}
 
 -- where the vertex could not get it, 1 again, and twice as many are wanted; else twice as much once as many got it as are wanted

@@ -1,4 +1,4 @@
-//! The tree of the minimum cuts of a graph whose value is known, by a sweep over the regions of a flow.
+//! The tree of the minimum cuts of a graph whose value is known, by a sweep over the regions of a flow, and its cactus.
 //!
 //! Vertex 1 has entered the source, and all others are one region, in the root of a tree. A vertex that an edge joins to the
 //! outside of its region is the next to enter. Before it does, the sets around it inside its region that weigh the value are
@@ -7,9 +7,15 @@
 //! the minimum cuts. The graph of a part is built only where several workers are to share the work: of two or more large
 //! parts that are listed at once each is then made a graph in which one vertex stands for all else, these are solved side by
 //! side, and their trees are grafted on the tree. The source that grows is that of Hao and Orlin (1994).
+//!
+//! `cactus_by_tree` makes the cactus of the tree and brings it to its normal form; the solver goes by it with any number of
+//! workers. `solve_alone` has the tree made by one worker, without a runtime and a thread: read off the graph where that is a
+//! tree whose edges all have the value, and else by the sweep.
 #![tactic(auto)]
 
 mod across;
+mod alone;
+mod finishing;
 mod regroup;
 mod shares;
 mod sharing;
@@ -18,4 +24,6 @@ mod surplus;
 mod sweep;
 mod weights;
 
+pub use alone::solve_alone;
+pub use finishing::cactus_by_tree;
 pub use sweep::{tree_by_workers, tree_of};

@@ -3,7 +3,7 @@
 ghost use Rattle.std.specs.Prelude.{◌≡◌, ◌≤◌, ◌+◌, ◌*◌, ◌-◌, ◌^◌, min};
 ghost use Rattle.region_sweep.specs.Surplus.{HasNext};
 
-use residual_arcs::Outcome;
+use region_flow::Outcome;
 
 /// How much more than the value the next vertex is to be fed that enters alone: 1 at first.
 ///

@@ -1,7 +1,7 @@
 -- The edges so far were put, and no write failed.
 use Rattle.std.proofs.Common.{◌≡◌, ◌++◌, take}
 use Rattle.std.specs.List.{flat_map}
-use Rattle.cactus_printing.specs.Puts.{IsSplit}
+use Rattle.answer_pages.specs.Puts.{IsSplit}
 use Rattle.answer_pages.specs.Augmenting.{edge_line}
 use Rattle.answer_pages.proofs.augment_pages.put_edges.Given as goal
 

@@ -1,7 +1,7 @@
 -- The sets so far were put, and no write failed.
 use Rattle.std.proofs.Common.{◌≡◌, ◌++◌, take}
 use Rattle.std.specs.List.{flat_map}
-use Rattle.cactus_printing.specs.Puts.{IsSplit}
+use Rattle.answer_pages.specs.Puts.{IsSplit}
 use Rattle.answer_pages.specs.Augmenting.{set_line}
 use Rattle.answer_pages.proofs.augment_pages.put_sets.Given as goal
 

@@ -1,5 +1,5 @@
 use Rattle.std.proofs.lemmas.Result.{err_from_is_err_and}
-use Rattle.cactus_printing.proofs.Putting.{all_taken}
+use Rattle.answer_pages.proofs.Putting.{all_taken}
 use Rattle.answer_pages.specs.Augmenting.{augment_text}
 use Rattle.answer_pages.proofs.Above.{flushed, not_flushed}
 use Rattle.answer_pages.proofs.augment_pages.write_augmentation.Goals as goal

@@ -1,7 +1,7 @@
 use Rattle.std.proofs.Common.{◌∷◌, [], append_assoc}
 use Rattle.std.proofs.lemmas.Result.{err_from_is_err_and}
-use Rattle.cactus_printing.specs.Text.{spaced}
-use Rattle.cactus_printing.proofs.Putting.{puts_as, puts_after, puts_failed}
+use Rattle.answer_pages.specs.Text.{spaced}
+use Rattle.answer_pages.proofs.Putting.{puts_as, puts_after, puts_failed}
 use Rattle.answer_pages.proofs.growth_pages.put_entry.Goals as goal
 
 pub returns-in_err-put : goal.returns-in_err-put

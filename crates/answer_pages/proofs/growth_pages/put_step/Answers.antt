@@ -1,8 +1,8 @@
 use Rattle.std.proofs.Common.{◌++◌, ◌∷◌, [], ◌∙◌}
 use Rattle.std.specs.Prelude.{codes}
 use Rattle.std.proofs.lemmas.Result.{err_from_is_err_and}
-use Rattle.cactus_printing.specs.Text.{spaced}
-use Rattle.cactus_printing.proofs.Putting.{split_then, puts_as, puts_after, puts_failed}
+use Rattle.answer_pages.specs.Text.{spaced}
+use Rattle.answer_pages.proofs.Putting.{split_then, puts_as, puts_after, puts_failed}
 use Rattle.answer_pages.proofs.Growths.{entry_first, entry_second, entry_parts}
 use Rattle.answer_pages.proofs.growth_pages.put_step.Goals as goal
 

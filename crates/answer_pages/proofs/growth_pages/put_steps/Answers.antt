@@ -1,7 +1,7 @@
 use Rattle.std.proofs.Common.{◌+◌, ◌∙◌, ◌≡◌, ◌<◌, length, get_or, drop, arith}
 use Rattle.std.proofs.lemmas.List.{get_or_default}
 use Rattle.std.proofs.lemmas.Result.{err_from_is_err_and}
-use Rattle.cactus_printing.proofs.Putting.{split_then, split_as, puts_as, puts_after, puts_failed}
+use Rattle.answer_pages.proofs.Putting.{split_then, split_as, puts_as, puts_after, puts_failed}
 use Rattle.answer_pages.specs.declared.growth_pages.Step.{Step}
 use Rattle.answer_pages.specs.Growing.{step_line, step_lines}
 use Rattle.answer_pages.proofs.Growths.{step_put, steps_put}

@@ -1,6 +1,6 @@
 -- The steps so far were put, and no write failed.
 use Rattle.std.proofs.Common.{◌≡◌, ◌++◌, take}
-use Rattle.cactus_printing.specs.Puts.{IsSplit}
+use Rattle.answer_pages.specs.Puts.{IsSplit}
 use Rattle.answer_pages.specs.Growing.{step_lines}
 use Rattle.answer_pages.proofs.growth_pages.put_steps.Given as goal
 

@@ -1,7 +1,7 @@
 use Rattle.std.proofs.Common.{ℕ, List, ◌++◌, ap, sym}
 use Rattle.std.proofs.lemmas.Result.{err_from_is_err_and}
-use Rattle.cactus_printing.specs.Text.{cactus_text}
-use Rattle.cactus_printing.proofs.Putting.{puts_as, puts_after, puts_failed}
+use Rattle.answer_pages.specs.Text.{cactus_text}
+use Rattle.answer_pages.proofs.Putting.{puts_as, puts_after, puts_failed}
 use Rattle.answer_pages.specs.Growing.{step_lines}
 use Rattle.answer_pages.proofs.Growths.{puts_whole, all_written}
 use Rattle.answer_pages.proofs.growth_pages.write_growth.Goals as goal

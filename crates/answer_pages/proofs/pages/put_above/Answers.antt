@@ -1,8 +1,8 @@
 use Rattle.std.proofs.Common.{◌≡◌, ◌∷◌, ◌++◌, [], ◌∙◌, ap}
 use Rattle.std.proofs.lemmas.Result.{err_from_is_err_and}
 use Rattle.std.specs.Fmt.{decimal}
-use Rattle.cactus_printing.specs.Text.{spaced}
-use Rattle.cactus_printing.proofs.Putting.{split_then, split_as, puts_as, puts_after, puts_failed}
+use Rattle.answer_pages.specs.Text.{spaced}
+use Rattle.answer_pages.proofs.Putting.{split_then, split_as, puts_as, puts_after, puts_failed}
 use Rattle.answer_pages.specs.Listings.{above}
 use Rattle.answer_pages.proofs.Above.{member_put, members_further, members_put}
 use Rattle.answer_pages.proofs.pages.put_above.Goals as goal

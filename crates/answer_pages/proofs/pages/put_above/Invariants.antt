@@ -1,7 +1,7 @@
 -- The members up to the last were put, and no write failed.
 use Rattle.std.proofs.Common.{◌≡◌, ◌++◌, ℕ, List, length}
-use Rattle.cactus_printing.specs.Text.{spaced}
-use Rattle.cactus_printing.specs.Puts.{IsSplit}
+use Rattle.answer_pages.specs.Text.{spaced}
+use Rattle.answer_pages.specs.Puts.{IsSplit}
 use Rattle.answer_pages.specs.Listings.{above}
 use Rattle.answer_pages.proofs.pages.put_above.Given as goal
 

@@ -3,7 +3,7 @@ use Rattle.std.proofs.lemmas.Result.{err_from_is_err_and}
 use Rattle.std.proofs.lemmas.List.Folds.{flat_map-map}
 use Rattle.std.specs.List.{flat_map}
 use Rattle.vertex_set.specs.Side.{VertexList}
-use Rattle.cactus_printing.proofs.Putting.{split_then, split_as, puts_as, puts_ok, puts_after, puts_failed, entry_put, entries_put, all_put}
+use Rattle.answer_pages.proofs.Putting.{split_then, split_as, puts_as, puts_ok, puts_after, puts_failed, entry_put, entries_put, all_put}
 use Rattle.answer_pages.specs.Listings.{side_line}
 use Rattle.answer_pages.proofs.pages.put_sides.Goals as goal
 

@@ -2,7 +2,7 @@
 use Rattle.std.proofs.Common.{◌≡◌, ◌++◌, take}
 use Rattle.std.specs.List.{flat_map}
 use Rattle.vertex_set.specs.Side.{VertexList}
-use Rattle.cactus_printing.specs.Puts.{IsSplit}
+use Rattle.answer_pages.specs.Puts.{IsSplit}
 use Rattle.answer_pages.specs.Listings.{side_line}
 use Rattle.answer_pages.proofs.pages.put_sides.Given as goal
 

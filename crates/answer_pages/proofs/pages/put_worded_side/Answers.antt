@@ -1,8 +1,8 @@
 use Rattle.std.proofs.Common.{◌++◌, ◌∷◌, [], ℕ, List, ◌∙◌, ap}
 use Rattle.std.specs.Prelude.{codes}
 use Rattle.std.proofs.lemmas.Result.{err_from_is_err_and}
-use Rattle.cactus_printing.specs.Text.{spaced}
-use Rattle.cactus_printing.proofs.Putting.{split_then, puts_as, puts_after, puts_failed, line_word, three_parts}
+use Rattle.answer_pages.specs.Text.{spaced}
+use Rattle.answer_pages.proofs.Putting.{split_then, puts_as, puts_after, puts_failed, line_word, three_parts}
 use Rattle.answer_pages.specs.Listings.{above}
 use Rattle.answer_pages.proofs.pages.put_worded_side.Goals as goal
 

@@ -1,7 +1,7 @@
 use Rattle.std.proofs.Common.{map}
 use Rattle.vertex_set.specs.Side.{VertexList}
 use Rattle.std.proofs.lemmas.Result.{err_from_is_err_and}
-use Rattle.cactus_printing.proofs.Putting.{all_taken}
+use Rattle.answer_pages.proofs.Putting.{all_taken}
 use Rattle.answer_pages.specs.Listings.{listing_text}
 use Rattle.answer_pages.proofs.Above.{flushed, not_flushed}
 use Rattle.answer_pages.proofs.pages.write_listing.Goals as goal

@@ -1,7 +1,7 @@
 -- As for a graph with rows.
 use Rattle.std.proofs.Common.{◌∙◌, arith}
 use Rattle.rooted_cactus.specs.Rooted.{sides_of}
-use Rattle.swept_cactus.proofs.TreeCuts.{finished, no_empty_side, same_through}
+use Rattle.region_sweep.proofs.TreeCuts.{finished, no_empty_side, same_through}
 use Rattle.node_tree.specs.Finished.{arrays_of}
 use Rattle.cactus_solver.proofs.by_list.solved_by_classes.Goals as goal
 

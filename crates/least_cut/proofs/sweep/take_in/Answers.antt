@@ -1,7 +1,7 @@
 -- The vertex entered, after a flow into it told what sets around it weigh.
 use Rattle.std.proofs.Common.{List, ℕ, set, ◌∙◌, ap, subst, arith}
-use Rattle.residual_arcs.specs.Outcome.{IfBest}
-use Rattle.residual_arcs.specs.declared.outcome.Outcome.{Outcome}
+use Rattle.region_flow.specs.Outcome.{IfBest}
+use Rattle.region_flow.specs.declared.outcome.Outcome.{Outcome}
 use Rattle.region_flow.specs.Inflow.{IsStopReached, ShowsLeast}
 use Rattle.least_cut.proofs.Sweeping.{swept_at_least, swept_best}
 use Rattle.least_cut.proofs.sweep.take_in.Goals as goal

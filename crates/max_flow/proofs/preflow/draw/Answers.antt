@@ -1,9 +1,9 @@
 -- What is moved keeps the preflow.
 use Rattle.std.proofs.Common.{◌-◌, get_or, refl, arith}
-use Rattle.residual_arcs.proofs.Closed.{arc_from}
+use Rattle.region_flow.proofs.Closed.{arc_from}
 use Rattle.max_flow.proofs.Preflows.{preflow_drawn, held_small}
-use Rattle.residual_arcs.proofs.Sending.{arc_back, small_set}
-use Rattle.residual_arcs.proofs.Starting.{edge_weight_small}
+use Rattle.region_flow.proofs.Sending.{arc_back, small_set}
+use Rattle.region_flow.proofs.Starting.{edge_weight_small}
 use Rattle.max_flow.proofs.preflow.draw.Goals as goal
 
 pub send-requires-clause-fits : goal.send-requires-clause-fits

@@ -1,5 +1,5 @@
 -- No edge weighs more than the whole graph may.
-use Rattle.residual_arcs.proofs.Starting.{edge_weight_small}
+use Rattle.region_flow.proofs.Starting.{edge_weight_small}
 use Rattle.max_flow.proofs.preflow.draw_by.Goals as goal
 
 pub residual_on-requires-clause-small : goal.residual_on-requires-clause-small

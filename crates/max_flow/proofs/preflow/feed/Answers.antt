@@ -1,8 +1,8 @@
 -- What is sent from the source keeps the preflow.
 use Rattle.std.proofs.Common.{arith}
-use Rattle.residual_arcs.proofs.Closed.{arc_from}
+use Rattle.region_flow.proofs.Closed.{arc_from}
 use Rattle.max_flow.proofs.Preflows.{preflow_fed, held_small}
-use Rattle.residual_arcs.proofs.Starting.{edge_weight_small}
+use Rattle.region_flow.proofs.Starting.{edge_weight_small}
 use Rattle.max_flow.proofs.preflow.feed.Goals as goal
 
 pub send-requires-clause-fits : goal.send-requires-clause-fits

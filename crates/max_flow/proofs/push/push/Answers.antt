@@ -2,9 +2,9 @@
 use Rattle.std.proofs.Common.{◌≡◌, eqb, get_or, set, ◌∙◌, ap}
 use Rattle.std.proofs.lemmas.List.{get_or_read}
 use Rattle.cut_definitions.specs.declared.edge_list.Edge.{Edge}
-use Rattle.residual_arcs.specs.Residual.{edge_of}
+use Rattle.region_flow.specs.Residual.{edge_of}
 use Rattle.max_flow.specs.Tree.{step_at}
-use Rattle.residual_arcs.proofs.Sending.{carried}
+use Rattle.region_flow.proofs.Sending.{carried}
 use Rattle.max_flow.proofs.Pushing.{push_more}
 use Rattle.max_flow.proofs.push.push.Goals as goal
 

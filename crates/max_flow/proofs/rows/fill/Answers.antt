@@ -3,7 +3,7 @@ use Rattle.std.proofs.Common.{◌≡◌, ◌<◌, ◌≤◌, ⊎_elim, length, g
 use Rattle.std.proofs.lemmas.Bool.{cases_lt}
 use Rattle.std.proofs.lemmas.List.{length-map}
 use Rattle.weighted_graph.specs.Rows.{row_of}
-use Rattle.residual_arcs.specs.Closed.{residual_on}
+use Rattle.region_flow.specs.Closed.{residual_on}
 use Rattle.max_flow.proofs.RowStarts.{starts_ascend, row_within-put_same, row_within-put_later}
 use Rattle.max_flow.proofs.rows.fill.Goals as goal
 

@@ -1,7 +1,7 @@
 -- The rows so far are written.
 use Rattle.std.proofs.Common.{◌≡◌, ℕ, ◌<◌, map}
 use Rattle.weighted_graph.specs.Rows.{row_of}
-use Rattle.residual_arcs.specs.Closed.{residual_on}
+use Rattle.region_flow.specs.Closed.{residual_on}
 use Rattle.max_flow.specs.Rows.{row_within}
 use Rattle.max_flow.proofs.rows.fill.Given as goal
 

@@ -1,7 +1,7 @@
 -- Each arc of the row has its edge and a number that fits.
 use Rattle.std.proofs.Common.{arith}
 use Rattle.max_flow.proofs.Reaching.{arc_facts}
-use Rattle.residual_arcs.proofs.Starting.{edge_weight_small}
+use Rattle.region_flow.proofs.Starting.{edge_weight_small}
 use Rattle.max_flow.proofs.rows.fill_row.Goals as goal
 
 pub residual_on-requires-clause-edge : goal.residual_on-requires-clause-edge

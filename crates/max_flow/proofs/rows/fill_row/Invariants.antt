@@ -1,6 +1,6 @@
 -- The arcs so far are written.
 use Rattle.std.proofs.Common.{◌≡◌, map, take}
-use Rattle.residual_arcs.specs.Closed.{residual_on}
+use Rattle.region_flow.specs.Closed.{residual_on}
 use Rattle.max_flow.proofs.rows.fill_row.Given as goal
 
 abbrev pub invariant-loop-k : goal.invariant-loop-k

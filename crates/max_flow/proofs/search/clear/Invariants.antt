@@ -1,6 +1,6 @@
 -- A mark that is left is that of a later step.
 use Rattle.std.proofs.Common.{ℕ, ◌≡◌, ◌<◌}
-use Rattle.residual_arcs.specs.Marks.{order_mark}
+use Rattle.region_flow.specs.Marks.{order_mark}
 use Rattle.max_flow.proofs.search.clear.Given as goal
 
 abbrev pub invariant-loop-j : goal.invariant-loop-j

@@ -5,12 +5,12 @@ use Rattle.std.proofs.lemmas.List.{take_all}
 use Rattle.std.proofs.lemmas.List.Elements.{All-more, All-weaker, All-same}
 use Rattle.weighted_graph.specs.declared.graph.Arc.{Arc}
 use Rattle.weighted_graph.specs.Rows.{row_of, no_arc}
-use Rattle.residual_arcs.specs.Closed.{residual_on}
+use Rattle.region_flow.specs.Closed.{residual_on}
 use Rattle.max_flow.specs.Tree.{step_at}
-use Rattle.residual_arcs.specs.Marks.{order_mark}
+use Rattle.region_flow.specs.Marks.{order_mark}
 use Rattle.max_flow.proofs.Trees.{room_left}
 use Rattle.max_flow.proofs.Reaching.{arc_facts, bottleneck_some, follows, bottleneck_at_most, bottleneck_is_some, bottleneck_unmarked}
-use Rattle.residual_arcs.proofs.Starting.{edge_weight_small}
+use Rattle.region_flow.proofs.Starting.{edge_weight_small}
 use Rattle.max_flow.proofs.search.expand.Goals as goal
 
 pub bottleneck_along-requires-clause-edge : goal.bottleneck_along-requires-clause-edge

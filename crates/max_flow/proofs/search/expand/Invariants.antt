@@ -1,8 +1,8 @@
 -- The tree so far, and that every arc so far is followed.
 use Rattle.std.proofs.Common.{◌<◌, take}
 use Rattle.std.specs.List.{All}
-use Rattle.residual_arcs.specs.Closed.{residual_on}
-use Rattle.residual_arcs.specs.Marks.{order_mark}
+use Rattle.region_flow.specs.Closed.{residual_on}
+use Rattle.region_flow.specs.Marks.{order_mark}
 use Rattle.max_flow.specs.Tree.{Extends}
 use Rattle.max_flow.proofs.search.expand.Given as goal
 

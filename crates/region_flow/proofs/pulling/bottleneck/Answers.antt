@@ -1,6 +1,6 @@
 -- One arc more, and at the end the root.
 use Rattle.std.proofs.Common.{◌≡◌, ℕ, ◌≤◌, subst, arith}
-use Rattle.residual_arcs.proofs.Starting.{edge_weight_small}
+use Rattle.region_flow.proofs.Starting.{edge_weight_small}
 use Rattle.region_flow.specs.Tree.{IsWide, wide_root, wide_more}
 use Rattle.region_flow.proofs.pulling.bottleneck.Goals as goal
 

@@ -1,6 +1,6 @@
 -- The tree so far.
 use Rattle.std.proofs.Common.{ℕ, ◌≡◌, ◌≢◌, ◌<◌, ◌≤◌, get_or}
-use Rattle.residual_arcs.specs.Marks.{order_mark}
+use Rattle.region_flow.specs.Marks.{order_mark}
 use Rattle.region_flow.specs.Regions.{IsFlowIn}
 use Rattle.region_flow.specs.Tree.{IsTreeIn, ExtendsTree, IsPassed}
 use Rattle.region_flow.proofs.searching.expand_past.Given as goal

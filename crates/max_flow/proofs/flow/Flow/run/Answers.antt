@@ -2,11 +2,11 @@
 use Rattle.std.proofs.Common.{refl, sym, subst, arith}
 use Rattle.std.specs.Prelude.{Option, IfSome}
 use Rattle.cut_definitions.specs.Cuts.{has}
-use Rattle.residual_arcs.specs.declared.outcome.BestRun.{BestRun}
-use Rattle.residual_arcs.specs.Residual.{IsFlow}
-use Rattle.residual_arcs.specs.Closed.{IsSourceSide}
+use Rattle.region_flow.specs.declared.outcome.BestRun.{BestRun}
+use Rattle.region_flow.specs.Residual.{IsFlow}
+use Rattle.region_flow.specs.Closed.{IsSourceSide}
 use Rattle.max_flow.specs.Flow.{ShowsLeastCuts}
-use Rattle.residual_arcs.proofs.Starting.{flow_of_nothing}
+use Rattle.region_flow.proofs.Starting.{flow_of_nothing}
 use Rattle.max_flow.proofs.Augmenting.{flow_more, flow_small, stop_reached, stop_not_reached}
 use Rattle.max_flow.proofs.Showing.{shows}
 use Rattle.max_flow.proofs.flow.Flow.run.Goals as goal

@@ -1,7 +1,7 @@
 -- The flow so far.
 use Rattle.std.proofs.Common.{◌≡◌, ◌-◌, None}
 use Rattle.max_flow.specs.Flow.{HasSizesOf}
-use Rattle.residual_arcs.specs.Residual.{IsFlow}
+use Rattle.region_flow.specs.Residual.{IsFlow}
 use Rattle.max_flow.proofs.flow.Flow.run.Given as goal
 
 abbrev pub invariant-loop-amount : goal.invariant-loop-amount

@@ -1,7 +1,7 @@
 -- Nothing is held at the start.
 use Rattle.std.proofs.Common.{◌≡◌, ◌+◌, replicate, ◌∙◌, arith}
 use Rattle.std.proofs.lemmas.List.{with_items_is}
-use Rattle.residual_arcs.proofs.Starting.{flow_of_nothing}
+use Rattle.region_flow.proofs.Starting.{flow_of_nothing}
 use Rattle.max_flow.proofs.Preflows.{preflow_start}
 use Rattle.max_flow.proofs.preflow.Preflow.new.Goals as goal
 

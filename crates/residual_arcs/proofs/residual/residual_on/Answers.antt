@@ -1,5 +1,0 @@
-use Rattle.std.proofs.Common.{rules}
-use Rattle.residual_arcs.proofs.residual.residual_on.Goals as goal
-
-pub returns-else-v-arc : goal.returns-else-v-arc
-returns-else-v-arc c = search rules
