@@ -1,11 +1,10 @@
 //! The text of an augmentation, line by line through one page.
 
-ghost use Rattle.std.specs.Prelude.{◌≡◌, ◌≤◌, ◌++◌, [], OnOk, OnErr, IsErrOf, length};
+ghost use Rattle.std.specs.Prelude.{◌≡◌, ◌++◌, [], OnOk, OnErr, IsErrOf};
 ghost use Rattle.std.specs.Io.KnownBytes.{Appends};
 ghost use Rattle.std.specs.List.{flat_map};
 ghost use Rattle.outside.specs.Faults.{HasCause, AppendsPrefix, Rose};
 ghost use Rattle.answer_pages.specs.Puts.{Puts};
-ghost use Rattle.answer_pages.specs.Text.{line};
 ghost use Rattle.answer_pages.specs.Augmenting.{edge_line, set_line, augment_text};
 
 use crate::printing::put_line;

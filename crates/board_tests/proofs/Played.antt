@@ -1,6 +1,5 @@
 -- What stays the same while events are played.
-use Rattle.std.proofs.Common.{◌≡◌, ℕ, List, [], ◌∷◌, refl, sym, ◌∙◌, ap, inl, inr}
-use Rattle.cut_definitions.specs.Graph.{Graph}
+use Rattle.std.proofs.Common.{◌≡◌, ℕ, List, [], ◌∷◌, refl, ◌∙◌, ap, inl, inr}
 use Rattle.scan_core.specs.declared.event.Event.{Event}
 use Rattle.scan_core.specs.Machine.{Machine, Move, loads, lowers, looks, marks, splits, joins, takes, after}
 use Rattle.scan_core.specs.Shown.{CoreView, Goes, HasGone, move_of}

@@ -1,15 +1,14 @@
 -- What is known of the uneven triangle by hand.
-use Rattle.std.proofs.Common.{◌≡◌, ℕ, zero, suc, ◌<◌, true, false, List, [], ◌∷◌, length, get_or, refl, sym, subst, arith}
+use Rattle.std.proofs.Common.{◌≡◌, ℕ, zero, suc, true, List, [], ◌∷◌, refl, sym, subst, arith}
 use Rattle.std.specs.Prelude.{IsTrue}
 use Rattle.std.specs.List.{Any}
 use Rattle.std.proofs.lemmas.Bool.{false≢true}
-use Rattle.cut_definitions.specs.declared.edge_list.Edge.{Edge}
 use Rattle.cut_definitions.specs.Graph.{Graph}
-use Rattle.cut_definitions.specs.Weight.{parts, weight}
+use Rattle.cut_definitions.specs.Weight.{parts}
 use Rattle.cut_definitions.specs.Cuts.{has, sides, value, mincuts}
 use Rattle.cut_definitions.specs.Safe.{IsFair}
 use Rattle.weighted_graph.specs.RowLaws.{edge_at}
-use Rattle.scan_core.specs.Shown.{IsParted, ArePartedEdges}
+use Rattle.scan_core.specs.Shown.{ArePartedEdges}
 
 abbrev pub uneven : Graph
 uneven = record { vertices = 3; edges = record { u = 1; v = 2; w = 5 } ∷ (record { u = 1; v = 3; w = 1 } ∷ (record { u = 2; v = 3; w = 4 } ∷ [])) }

@@ -1,6 +1,6 @@
 //! Events of the machine.
 
-ghost use Rattle.std.specs.Prelude.{◌≡◌, ◌<◌, ◌≤◌, [], ◌∷◌, length, IfOk};
+ghost use Rattle.std.specs.Prelude.{◌≡◌, [], ◌∷◌, IfOk};
 ghost use Rattle.scan_core.specs.Machine.{opening_machine};
 ghost use Rattle.scan_core.specs.Shown.{Shows};
 

@@ -1,7 +1,7 @@
 //! The join of the nodes of a chain, from its far end.
 
-ghost use Rattle.std.specs.Prelude.{◌≡◌, ◌+◌, ◌-◌, ◌<◌, ◌≤◌, [], ◌∷◌, ◌++◌, length, map, slice_index_or, take, drop, OnOk, IfOk};
-ghost use Rattle.rooted_cactus.specs.Trees.{nodes_in, blocks, vertices};
+ghost use Rattle.std.specs.Prelude.{◌≡◌, ◌<◌, ◌≤◌, [], ◌∷◌, ◌++◌, length, map, slice_index_or, take, drop, OnOk, IfOk};
+ghost use Rattle.rooted_cactus.specs.Trees.{nodes_in, vertices};
 ghost use Rattle.rooted_cactus.specs.Sides.{part, block_part, all_of, belows, with_below, bridge_of, cycle_of};
 ghost use Rattle.cactus_merge.specs.Joined.{joined_cuts, SameSets, IsRuns, IsFarEnd, bridges, held, block_held, IsWide, IsWideBlock};
 ghost use Rattle.std.specs.List.{All, flat_map};

@@ -1,7 +1,7 @@
 //! The node of a part: the root of its cactus, with the vertices of the graph.
 
 ghost use Rattle.std.specs.Prelude.{List, ◌≡◌, ℕ, ◌≤◌, ◌<◌, ◌∷◌, ◌++◌, length, map, take, drop, IfOk, ◌==◌, nat_lt, if◌then◌else◌};
-ghost use Rattle.rooted_cactus.specs.Trees.{blocks, vertices};
+ghost use Rattle.rooted_cactus.specs.Trees.{vertices};
 ghost use Rattle.rooted_cactus.specs.Rooted.{IsCactus};
 ghost use Rattle.rooted_cactus.specs.Widths.{widths};
 ghost use Rattle.rooted_cactus.specs.Entered.{entered, renamed};

@@ -1,6 +1,6 @@
 //! The parts of a chain with their cactuses, and the cactus of the whole.
 
-ghost use Rattle.std.specs.Prelude.{◌≡◌, ◌<◌, length, IfOk};
+ghost use Rattle.std.specs.Prelude.{◌≡◌, length, IfOk};
 ghost use Rattle.rooted_cactus.specs.Rooted.{sides_of};
 ghost use Rattle.cut_definitions.specs.Members.{SameMembers};
 ghost use Rattle.cactus_merge.specs.Assembled.{ArePartsOf, AreNodesOf, assembled_sides};

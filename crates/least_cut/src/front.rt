@@ -1,6 +1,6 @@
 //! The vertices outside the source, in the order in which they are to enter.
 
-ghost use Rattle.std.specs.Prelude.{◌≡◌, ℕ, ◌+◌, ◌*◌, ◌<◌, ◌≤◌, ◌^◌, IfOk, IfSome, IfNone, MatchOption, length, slice_index};
+ghost use Rattle.std.specs.Prelude.{◌≡◌, ℕ, ◌+◌, ◌≤◌, IfOk, IfSome, length, slice_index};
 ghost use Rattle.least_cut.specs.Front.{FrontState, IsPassed, IsOutsideAt};
 
 use cut_definitions::NoMemory;

@@ -1,6 +1,6 @@
 //! What is left on the arcs of each row, one row after another.
 
-ghost use Rattle.std.specs.Prelude.{◌≡◌, ℕ, ◌+◌, ◌<◌, ◌≤◌, length, map, slice_index, IfOk};
+ghost use Rattle.std.specs.Prelude.{◌≡◌, ℕ, ◌+◌, ◌≤◌, length, map, slice_index, IfOk};
 ghost use Rattle.weighted_graph.specs.Rows.{row_of};
 ghost use Rattle.region_flow.specs.Residual.{IsResidual};
 ghost use Rattle.region_flow.specs.Closed.{residual_on};

@@ -3,7 +3,7 @@
 //! A search goes by breadth, so the path that it finds to a vertex has as few arcs as any. It touches only what it
 //! reaches: the marks that it leaves are taken away along its own steps.
 
-ghost use Rattle.std.specs.Prelude.{◌≡◌, ◌+◌, ◌*◌, ◌<◌, ◌≤◌, ◌^◌, length, min, slice_index};
+ghost use Rattle.std.specs.Prelude.{◌≡◌, ◌*◌, ◌<◌, ◌≤◌, ◌^◌, length, min, slice_index};
 ghost use Rattle.cut_definitions.specs.Graph.{IsEdgeList};
 ghost use Rattle.region_flow.specs.Residual.{IsResidual};
 ghost use Rattle.region_flow.specs.Closed.{residual_on};

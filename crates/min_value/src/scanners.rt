@@ -1,6 +1,6 @@
 //! How many workers scan a graph side by side.
 
-ghost use Rattle.std.specs.Prelude.{◌≡◌, ◌≤◌, ◌⊎◌};
+ghost use Rattle.std.specs.Prelude.{◌≡◌, ◌≤◌};
 ghost use Rattle.std.specs.List.{sum_by};
 ghost use Rattle.cut_definitions.specs.declared.edge_list.Edge.{Edge};
 

@@ -1,6 +1,6 @@
 //! Contraction by scans alone, for graphs on which flows look far.
 
-ghost use Rattle.std.specs.Prelude.{◌≡◌, ◌*◌, ◌≤◌, ◌^◌, ℕ, IfOk, length, min};
+ghost use Rattle.std.specs.Prelude.{◌≡◌, ◌≤◌, ◌^◌, ℕ, IfOk, length, min};
 ghost use Rattle.cut_definitions.specs.Cuts.{has, value};
 ghost use Rattle.weighted_graph.specs.Marks.{MarksAreSafe};
 ghost use Rattle.capped_scan.specs.Scan.{StandsFor};

@@ -1,6 +1,6 @@
 //! The value of a graph.
 
-ghost use Rattle.std.specs.Prelude.{◌≡◌, ◌≤◌, IfOk, min};
+ghost use Rattle.std.specs.Prelude.{◌≡◌, ◌≤◌, IfOk};
 ghost use Rattle.cut_definitions.specs.Cuts.{value};
 ghost use Rattle.cut_definitions.specs.Safe.{IsFair};
 ghost use Rattle.forest_contraction.specs.Left.{IsLesser};

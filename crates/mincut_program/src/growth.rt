@@ -3,7 +3,7 @@
 //! The cactus of all minimum cuts is kept from step to step: an insertion leaves just the cuts that do not part its two
 //! vertices, as long as there is one, and then the value stays. Where none is left the graph is solved anew.
 
-ghost use Rattle.std.specs.Prelude.{◌≡◌, ◌≤◌, ◌+◌, IfOk, IfErr};
+ghost use Rattle.std.specs.Prelude.{◌≡◌, ◌≤◌, IfOk, IfErr};
 ghost use Rattle.std.specs.List.{All};
 ghost use Rattle.cut_definitions.specs.Components.{IsConnected};
 ghost use Rattle.cut_definitions.specs.Graph.{IsEdgeList};

@@ -1,5 +1,4 @@
 ghost use Rattle.std.specs.Prelude.{◌≡◌, ◌≤◌, ◌+◌, ◌++◌, length};
-ghost use Rattle.std.specs.Fmt.{decimal};
 ghost use Rattle.arrayvec.specs.ArrayString.{array_string_len};
 ghost use Rattle.stop_lines.specs.declared.stop.Stop.TheVariants.{NoMemory};
 ghost use Rattle.stop_lines.specs.Stops.{stop_of, line_of, kind_name_of, status_of};

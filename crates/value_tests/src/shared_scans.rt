@@ -1,6 +1,6 @@
 //! Two workers who scan a graph at the same time, each a part that the other does not reach.
 
-ghost use Rattle.std.specs.Prelude.{◌≡◌, ◌<◌, ◌≤◌, length};
+ghost use Rattle.std.specs.Prelude.{◌≡◌, ◌<◌, length};
 
 use crate::graphs::edges_of;
 use crate::rounds::degree_of;

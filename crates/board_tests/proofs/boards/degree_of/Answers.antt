@@ -1,10 +1,8 @@
-use Rattle.std.proofs.Common.{◌≡◌, ◌≢◌, ◌≤◌, ℕ, true, not, ap, sym, subst, refl, arith}
-use Rattle.std.specs.Prelude.{◌==◌}
+use Rattle.std.proofs.Common.{◌≡◌, ◌≢◌, ◌≤◌, ℕ, not, ap, sym, subst, refl, arith}
 use Rattle.std.proofs.lemmas.Bool.{eq-eqb, ne_eqb}
 use mathlib.Core.Logic.{dite}
 use native.Mathlib.Decide.{ℕ_discrete}
-use Rattle.cut_definitions.specs.Graph.{Graph, IsGraph}
-use Rattle.cut_definitions.specs.Weight.{IsCut, HasVertex, complement, weight}
+use Rattle.cut_definitions.specs.Weight.{IsCut, HasVertex, complement}
 use Rattle.cut_definitions.specs.Scan.{single}
 use Rattle.cut_definitions.specs.Safe.{IsFair}
 use Rattle.cut_definitions.proofs.SafeLaws.{IsFair-weight}

@@ -1,5 +1,4 @@
 -- The bound of classes that are tied is above the value.
-use Rattle.std.proofs.Common.{arith}
 use Rattle.cactus_solver.proofs.ByClasses.{tied_at_value}
 use Rattle.cactus_solver.proofs.list_classes.classes_of.Goals as goal
 
