@@ -13,11 +13,10 @@ use cut_definitions::NoMemory;
 use min_value::{Kernel, reduce, value as least_weight};
 use node_tree::{HomedTree, tree_of_branches};
 use outside::Gate;
-use region_sweep::tree_by_workers;
+use region_sweep::{cactus_by_tree, tree_by_workers};
 use rooted_cactus::Solved;
 use std::alloc::Global;
 use std::thread::Threads;
-use region_sweep::cactus_by_tree;
 use weighted_graph::Graph;
 
 /// The tree of the minimum cuts of a graph whose value is given: read off the graph where it is a tree whose edges all have

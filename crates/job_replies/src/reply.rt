@@ -4,8 +4,9 @@ ghost use Rattle.std.specs.Prelude.{◌≡◌, ◌≢◌, Err, IsErrOf, OnOk};
 ghost use Rattle.job_answers.specs.Answers.{Wrote, Failed};
 ghost use Rattle.job_replies.specs.Replies.{text_of, IsPrintable, TakesMemory};
 
-use answer_pages::{Step, print_augmentation, print_balanced, print_growth, print_listing};
-use answer_pages::{PrintRefusal, print};
+use answer_pages::{
+    PrintRefusal, Step, print, print_augmentation, print_balanced, print_growth, print_listing,
+};
 use edge_augment::Plan;
 use outside::{Sink, write_whole};
 use rooted_cactus::Solved;

@@ -9,8 +9,7 @@ ghost use Rattle.least_cut.specs.Sweep.{HasDegrees, HasEvenDegrees, IsSwept, Tel
 use crate::dense::are_light;
 use crate::front::Front;
 use cut_definitions::NoMemory;
-use region_flow::RegionFlow;
-use region_flow::Outcome;
+use region_flow::{Outcome, RegionFlow};
 use std::alloc::Global;
 use weighted_graph::Graph;
 

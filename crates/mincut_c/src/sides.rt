@@ -17,8 +17,8 @@ use crate::weighed::weighed_of_arrays;
 use cut_definitions::VertexWeights;
 use cut_listing::laws::{count_of_minimum_cuts, minimum_cuts_in_order};
 use cut_listing::{ListRefusal, list_balanced, list_parting};
-use std::alloc::Global;
 use rooted_cactus::Solved;
+use std::alloc::Global;
 use vertex_set::Side;
 
 /// The minimum cuts of a solved graph whose balance is at least a number.

@@ -14,10 +14,10 @@ use edge_arrays::list_of_arrays;
 use flat_cactus::laws::{flat_form, flat_sides};
 use flat_cactus::{FlatCactus, flatten};
 use least_cut::least_weight;
-use rooted_cactus::laws::few_nodes;
-use std::alloc::Global;
 use region_sweep::solve_alone;
 use rooted_cactus::Solved;
+use rooted_cactus::laws::few_nodes;
+use std::alloc::Global;
 use weighted_graph::Graph;
 
 /// The value of a connected graph, and a cactus of its minimum cuts.

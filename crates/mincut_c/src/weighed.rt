@@ -10,8 +10,8 @@ use crate::masses::{check_masses, masses_of};
 use crate::solving::solved_of_arrays;
 use crate::status::Fault;
 use cut_definitions::VertexWeights;
-use std::alloc::Global;
 use rooted_cactus::Solved;
+use std::alloc::Global;
 
 /// The value of the graph of the arrays and a cactus of its minimum cuts, and the masses of its vertices, which are looked at
 /// first.

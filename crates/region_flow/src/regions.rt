@@ -7,13 +7,13 @@ ghost use Rattle.cut_definitions.specs.Regions.{IsOpenAt};
 ghost use Rattle.region_flow.specs.Inflow.{IsStopReached, ShowsLeast};
 ghost use Rattle.region_flow.specs.CutOff.{MayBeCutOff, relabelled};
 
+use crate::Outcome;
 use crate::cutting::{Residual, cut_off};
+use crate::residual::start;
 use crate::searching::{search, search_past};
 use crate::task::{Detour, Task};
 use crate::tree::{SearchTree, clear};
 use cut_definitions::NoMemory;
-use crate::Outcome;
-use crate::residual::start;
 use std::alloc::Global;
 use std::marker::Model;
 use weighted_graph::Graph;

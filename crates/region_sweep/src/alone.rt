@@ -7,9 +7,9 @@ ghost use Rattle.node_tree.specs.Finished.{IsFinished};
 ghost use Rattle.rooted_cactus.specs.Solving.{IsSolved};
 
 use crate::finishing::cactus_by_tree;
+use crate::tree_of;
 use cut_definitions::NoMemory;
 use node_tree::{HomedTree, tree_of_branches};
-use crate::tree_of;
 use rooted_cactus::Solved;
 use std::alloc::Global;
 use weighted_graph::Graph;
