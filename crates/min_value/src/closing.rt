@@ -15,7 +15,7 @@ use capped_scan::Scan;
 use cut_definitions::NoMemory;
 use mark_board::Marks;
 use outside::Gate;
-use round_workers::{mark_links, scan_round};
+use round_workers::{Threshold, mark_links, scan_round};
 use std::alloc::Global;
 use std::thread::Threads;
 use weighted_graph::Graph;
@@ -106,7 +106,11 @@ fn marks_of_workers<R: Threads + Sync, G: Gate>(
     ensures safe { IfOk result (λ found. IfSome found (λ marks. MarksAreSafe graph.now (has marks.marked) value 1)) }
     ensures some { IfOk result (λ found. IfSome found (λ marks. SomeIsMarked marks)) }
 {
-    let (_low, marks) = scan_round(rt, alloc, graph, value, 1, workers, gate)?;
+    let threshold = Threshold {
+        bound: value,
+        slack: 1,
+    };
+    let (_low, marks) = scan_round(rt, alloc, graph, threshold, workers, gate)?;
     if !is_some_marked(graph, &marks) {
         return Ok(None);
     }

@@ -14,7 +14,7 @@ use least_cut::least_weight_below;
 use mark_board::Marks;
 use outside::Gate;
 use round_contract::{classes_of_marks, contracted_list};
-use round_workers::{lowered, mark_links, scan_round};
+use round_workers::{Threshold, lowered, mark_links, scan_round};
 use std::alloc::Global;
 use std::thread::Threads;
 use weighted_graph::Graph;
@@ -114,8 +114,11 @@ fn scan_by_workers<R: Threads + Sync, G: Gate>(
     requires workers { (1 ≤ workers) × (workers ≤ 64) }
     ensures { IfOk result (λ s. IsShrunk graph.now bound s.best s.smaller) }
 {
-    let opening = least_degree(graph);
-    let (low, marks) = scan_round(rt, alloc, graph, opening, 0, workers, gate)?;
+    let opening = Threshold {
+        bound: least_degree(graph),
+        slack: 0,
+    };
+    let (low, marks) = scan_round(rt, alloc, graph, opening, workers, gate)?;
     let shrunk = contract_marked(rt, alloc, graph, low.min(bound), &marks, workers)?;
     Ok(shrunk)
 }

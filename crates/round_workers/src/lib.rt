@@ -13,9 +13,11 @@ mod one_round;
 mod roots;
 mod scanning;
 mod shares;
+mod threshold;
 mod working;
 
 pub use linking::mark_links;
 pub use lowering::lowered;
 pub use one_round::{round, scan_round};
 pub use roots::is_dense;
+pub use threshold::Threshold;

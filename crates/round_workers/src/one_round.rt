@@ -1,6 +1,6 @@
 //! One round.
 
-ghost use Rattle.std.specs.Prelude.{◌≡◌, ◌+◌, ◌/◌, ◌<◌, ◌≤◌, IfOk, length, true};
+ghost use Rattle.std.specs.Prelude.{◌≡◌, ◌+◌, ◌≤◌, IfOk, length, true};
 ghost use Rattle.cut_definitions.specs.Safe.{IsFair};
 ghost use Rattle.cut_definitions.specs.Cuts.{has};
 ghost use Rattle.weighted_graph.specs.Marks.{MarksAreSafe};
@@ -8,6 +8,7 @@ ghost use Rattle.round_workers.specs.Round.{CertifiedAreMarked};
 ghost use Rattle.round_workers.specs.Seats.{HasSeen, HasAll};
 
 use crate::certifying::mark_certified;
+use crate::threshold::Threshold;
 use crate::working::{Task, join_workers, race, workers_for};
 use cut_definitions::NoMemory;
 use mark_board::{Board, BoardSeat, Marks};
@@ -113,39 +114,37 @@ pub fn round<R: Threads + Sync, G: Gate>(
 /// Marks edges that may be contracted by scans alone, and lowers a bound: a round as `round`, in which no edge is tested by a
 /// certificate, so that it costs little on a large graph (after Henzinger, Noe and Schulz, 2020).
 ///
-/// The bound is the weight of some cut; the slack is 0 where only the value is to be kept, and 1 where all minimum cuts are.
-/// The answered bound is the weight of some cut, and each mark is safe for it and the slack. There are 1 to 64 workers, each of
-/// which runs, so the caller sees that the graph is worth them. Each passes the gate with its number, and scans from a vertex of
-/// its own what no other worker takes, until no vertex that waits touches what it scanned; they share the bound, the marks and
-/// the taken vertices, and none waits for another. In a dense graph each looks first for vertices that are far from each other,
-/// one for each cluster: where there are as many as workers or fewer, each has a cluster and stays in it, and else the first
-/// worker scans alone. All together go along each row about once: O(m log n), and O(n) for each worker, in a dense graph
-/// O(n log n) for each worker, of each worker. It takes O(m) memory, and O(n) for each worker, which that
-/// takes in its own thread, and is refused only where that is wanting.
+/// The bound of the threshold is the weight of some cut, and so is the answered one, and each mark is safe for that and the
+/// slack. There are 1 to 64 workers, each of which runs, so the caller sees that the graph is worth them. Each passes the gate
+/// with its number, and scans from a vertex of its own what no other worker takes, until no vertex that waits touches what it
+/// scanned; they share the bound, the marks and the taken vertices, and none waits for another. In a dense graph each looks
+/// first for vertices that are far from each other, one for each cluster: where there are as many as workers or fewer, each has
+/// a cluster and stays in it, and else the first worker scans alone. All together go along each row about once: O(m log n), and
+/// O(n) for each worker, in a dense graph O(n log n) for each worker, of each worker. It takes O(m) memory, and O(n) for each
+/// worker, which that takes in its own thread, and is refused only where that is wanting.
 pub fn scan_round<R: Threads + Sync, G: Gate>(
     rt: &R,
     alloc: Global,
     graph: &Graph,
-    bound: u64,
-    slack: u64,
+    threshold: Threshold,
     workers: u32,
     gate: &G,
 ) -> Result<(u64, Marks), NoMemory>
     requires enough { 2 ≤ graph.now.vertices }
-    requires fair { IsFair graph.now bound }
-    requires slack { slack ≤ 1 }
+    requires fair { IsFair graph.now threshold.bound }
+    requires slack { threshold.slack ≤ 1 }
     requires workers { (1 ≤ workers) × (workers ≤ 64) }
     ensures fair { IfOk result (λ r. IsFair graph.now r.0) }
-    ensures at_most { IfOk result (λ r. r.0 ≤ bound) }
+    ensures at_most { IfOk result (λ r. r.0 ≤ threshold.bound) }
     ensures edges { IfOk result (λ r. r.1.edges ≡ length graph.now.edges) }
-    ensures safe { IfOk result (λ r. MarksAreSafe graph.now (has r.1.marked) r.0 slack) }
+    ensures safe { IfOk result (λ r. MarksAreSafe graph.now (has r.1.marked) r.0 threshold.slack) }
 {
     let task = Task {
         alloc,
         shares: workers as usize,
-        slack,
+        slack: threshold.slack,
         certifies: false,
     };
-    let (board, seat) = run_workers(rt, graph, bound, task, gate)?;
+    let (board, seat) = run_workers(rt, graph, threshold.bound, task, gate)?;
     Ok(board.close(seat))
 }

@@ -1,6 +1,6 @@
 //! Scans by workers, which lower the bound of a board and mark by links.
 
-ghost use Rattle.std.specs.Prelude.{◌≡◌, ◌+◌, ◌<◌, ◌≤◌, ◌⊎◌, ◌∷◌, true, false, length, Contains};
+ghost use Rattle.std.specs.Prelude.{◌≡◌, ◌<◌, ◌≤◌, ◌⊎◌, ◌∷◌, true, false, length, Contains};
 ghost use Rattle.cut_definitions.specs.Safe.{IsFair};
 ghost use Rattle.scan_core.specs.Machine.{IsSafeEdge};
 ghost use Rattle.capped_scan.specs.Scan.{StandsFor, IsChoice};
@@ -9,6 +9,7 @@ ghost use Rattle.round_workers.specs.Seats.{HasSeen, IsLater, AreWon};
 
 use crate::lowering::lowered;
 use crate::roots::Start;
+use crate::threshold::Threshold;
 use capped_scan::{Scan, Scanned};
 use mark_board::{Board, BoardSeat};
 use weighted_graph::Graph;
@@ -20,18 +21,17 @@ fn lower_to(
     seat: &mut BoardSeat,
     graph: &Graph,
     low: u64,
-    bound: u64,
-    slack: u64,
+    threshold: Threshold,
 ) -> u64
-    requires seen { HasSeen board.now graph.now slack bound seat.old }
+    requires seen { HasSeen board.now graph.now threshold.slack threshold.bound seat.old }
     requires fair { IsFair graph.now low }
-    ensures seen { HasSeen board.now graph.now slack result seat.new }
+    ensures seen { HasSeen board.now graph.now threshold.slack result seat.new }
     ensures later { IsLater seat.old seat.new }
 {
-    if low < bound {
+    if low < threshold.bound {
         board.lower(seat, low)
     } else {
-        bound
+        threshold.bound
     }
 }
 
@@ -55,20 +55,19 @@ fn mark_links_on_board(
     graph: &Graph,
     scan: &Scan,
     vertex: u32,
-    bound: u64,
-    slack: u64,
+    threshold: Threshold,
 )
-    requires seen { HasSeen board.now graph.now slack bound seat.old }
-    requires slack { slack ≤ 1 }
+    requires seen { HasSeen board.now graph.now threshold.slack threshold.bound seat.old }
+    requires slack { threshold.slack ≤ 1 }
     requires stands { StandsFor scan.now graph.now }
     requires latest { IsLatest scan.now vertex }
     requires from_one { 1 ≤ vertex }
     requires to_n { vertex ≤ graph.now.vertices }
-    ensures seen { HasSeen board.now graph.now slack bound seat.new }
+    ensures seen { HasSeen board.now graph.now threshold.slack threshold.bound seat.new }
     ensures later { IsLater seat.old seat.new }
 {
     for arc in graph.row(vertex) {
-        if scan.link(graph, arc.to) >= bound + slack {
+        if scan.link(graph, arc.to) >= threshold.bound + threshold.slack {
             mark_once(board, seat, arc.edge as usize);
         }
     }
@@ -82,22 +81,25 @@ fn take_in(
     graph: &Graph,
     scan: &Scan,
     next: Scanned,
-    bound: u64,
-    slack: u64,
+    threshold: Threshold,
 ) -> u64
-    requires seen { HasSeen board.now graph.now slack bound seat.old }
-    requires slack { slack ≤ 1 }
+    requires seen { HasSeen board.now graph.now threshold.slack threshold.bound seat.old }
+    requires slack { threshold.slack ≤ 1 }
     requires stands { StandsFor scan.now graph.now }
     requires latest { IsLatest scan.now next.vertex }
     requires from_one { 1 ≤ next.vertex }
     requires to_n { next.vertex ≤ graph.now.vertices }
     requires fair { next.all ≡ false → IsFair graph.now next.prefix_weight }
-    ensures seen { HasSeen board.now graph.now slack result seat.new }
+    ensures seen { HasSeen board.now graph.now threshold.slack result seat.new }
     ensures later { IsLater seat.old seat.new }
 {
-    let low = lowered(next, bound);
-    let seen = lower_to(board, seat, graph, low, bound, slack);
-    mark_links_on_board(board, seat, graph, scan, next.vertex, seen, slack);
+    let low = lowered(next, threshold.bound);
+    let seen = lower_to(board, seat, graph, low, threshold);
+    let fallen = Threshold {
+        bound: seen,
+        ..threshold
+    };
+    mark_links_on_board(board, seat, graph, scan, next.vertex, fallen);
     seen
 }
 
@@ -107,13 +109,12 @@ fn take_vertex(
     seat: &mut BoardSeat,
     graph: &Graph,
     vertex: u32,
-    bound: u64,
-    slack: u64,
+    threshold: Threshold,
 ) -> bool
-    requires seen { HasSeen board.now graph.now slack bound seat.old }
+    requires seen { HasSeen board.now graph.now threshold.slack threshold.bound seat.old }
     requires from_one { 1 ≤ vertex }
     requires to_n { vertex ≤ graph.now.vertices }
-    ensures seen { HasSeen board.now graph.now slack bound seat.new }
+    ensures seen { HasSeen board.now graph.now threshold.slack threshold.bound seat.new }
     ensures later { IsLater seat.old seat.new }
     ensures won { result ≡ true → Contains seat.new.won vertex }
 {
@@ -128,29 +129,28 @@ fn scan_or_drop(
     graph: &Graph,
     scan: &mut Scan,
     vertex: u32,
-    bound: u64,
-    slack: u64,
+    threshold: Threshold,
 ) -> u64
-    requires seen { HasSeen board.now graph.now slack bound seat.old }
-    requires slack { slack ≤ 1 }
+    requires seen { HasSeen board.now graph.now threshold.slack threshold.bound seat.old }
+    requires slack { threshold.slack ≤ 1 }
     requires stands { StandsFor scan.old graph.now }
     requires choice { IsChoice scan.old vertex }
     requires won { AreWon scan.old seat.old }
-    ensures seen { HasSeen board.now graph.now slack result seat.new }
+    ensures seen { HasSeen board.now graph.now threshold.slack result seat.new }
     ensures later { IsLater seat.old seat.new }
     ensures stands { StandsFor scan.new graph.now }
     ensures won { AreWon scan.new seat.new }
 {
     // known by this call: the graph is an edge list
     let _n = graph.n();
-    if !take_vertex(board, seat, graph, vertex, bound, slack) {
+    if !take_vertex(board, seat, graph, vertex, threshold) {
         scan.drop_vertex(vertex);
-        return bound;
+        return threshold.bound;
     }
     let Some(next) = scan.next(graph) else {
-        return bound;
+        return threshold.bound;
     };
-    take_in(board, seat, graph, scan, next, bound, slack)
+    take_in(board, seat, graph, scan, next, threshold)
 }
 
 /// Whether a link is so much less than the greatest one before it that a scan which met links near to the bound leaves its
@@ -169,30 +169,35 @@ pub(crate) fn scan_on_board(
     graph: &Graph,
     scan: &mut Scan,
     start: Start,
-    bound: u64,
-    slack: u64,
+    threshold: Threshold,
 )
-    requires seen { HasSeen board.now graph.now slack bound seat.old }
-    requires slack { slack ≤ 1 }
+    requires seen { HasSeen board.now graph.now threshold.slack threshold.bound seat.old }
+    requires slack { threshold.slack ≤ 1 }
     requires stands { StandsFor scan.old graph.now }
     requires root_from_one { 1 ≤ start.root }
     requires root_to_n { start.root ≤ graph.now.vertices }
-    ensures seen { HasSeen board.now graph.now slack seat.new.seen seat.new }
+    ensures seen { HasSeen board.now graph.now threshold.slack seat.new.seen seat.new }
     ensures later { IsLater seat.old seat.new }
     ensures won { AreWon scan.new seat.new }
 {
-    scan.start(start.root, bound + slack);
-    let mut seen = bound;
+    scan.start(start.root, threshold.bound + threshold.slack);
+    let mut seen = threshold.bound;
     let mut greatest = 0;
     for turn in 0..graph.n() {
         let Some(vertex) = scan.peek(graph) else {
             return;
         };
         let link = scan.link(graph, vertex);
-        if turn > 0 && (link == 0 || start.stays && leaves_cluster(link, greatest, bound)) {
+        if turn > 0
+            && (link == 0 || start.stays && leaves_cluster(link, greatest, threshold.bound))
+        {
             return;
         }
         greatest = greatest.max(link);
-        seen = scan_or_drop(board, seat, graph, scan, vertex, seen, slack);
+        let fallen = Threshold {
+            bound: seen,
+            ..threshold
+        };
+        seen = scan_or_drop(board, seat, graph, scan, vertex, fallen);
     }
 }

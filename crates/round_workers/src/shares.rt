@@ -6,6 +6,7 @@ ghost use Rattle.round_workers.specs.Round.{IsCertified};
 ghost use Rattle.round_workers.specs.Seats.{HasSeen, IsLater, HasTested};
 
 use crate::certifying::is_certified;
+use crate::threshold::Threshold;
 use mark_board::{Board, BoardSeat};
 use weighted_graph::Graph;
 
@@ -15,17 +16,16 @@ fn mark_if_certified(
     seat: &mut BoardSeat,
     graph: &Graph,
     edge: usize,
-    bound: u64,
-    slack: u64,
+    threshold: Threshold,
 )
-    requires seen { HasSeen board.now graph.now slack bound seat.old }
-    requires slack { slack ≤ 1 }
+    requires seen { HasSeen board.now graph.now threshold.slack threshold.bound seat.old }
+    requires slack { threshold.slack ≤ 1 }
     requires edge { edge < length graph.now.edges }
-    ensures seen { HasSeen board.now graph.now slack bound seat.new }
+    ensures seen { HasSeen board.now graph.now threshold.slack threshold.bound seat.new }
     ensures later { IsLater seat.old seat.new }
-    ensures marked { IsCertified graph.now (edge_at graph.now edge) (bound + slack) → Contains seat.new.own edge }
+    ensures marked { IsCertified graph.now (edge_at graph.now edge) (threshold.bound + threshold.slack) → Contains seat.new.own edge }
 {
-    if is_certified(graph, edge, bound, slack) {
+    if is_certified(graph, edge, threshold.bound, threshold.slack) {
         board.mark(seat, edge);
     }
 }
@@ -38,23 +38,22 @@ pub(crate) fn mark_share(
     graph: &Graph,
     share: usize,
     shares: usize,
-    bound: u64,
-    slack: u64,
+    threshold: Threshold,
 )
-    requires seen { HasSeen board.now graph.now slack bound seat.old }
-    requires slack { slack ≤ 1 }
+    requires seen { HasSeen board.now graph.now threshold.slack threshold.bound seat.old }
+    requires slack { threshold.slack ≤ 1 }
     requires share { share < shares }
     requires shares { shares ≤ 64 }
-    ensures seen { HasSeen board.now graph.now slack bound seat.new }
+    ensures seen { HasSeen board.now graph.now threshold.slack threshold.bound seat.new }
     ensures later { IsLater seat.old seat.new }
-    ensures tested { HasTested graph.now (bound + slack) share shares (length graph.now.edges) seat.new }
+    ensures tested { HasTested graph.now (threshold.bound + threshold.slack) share shares (length graph.now.edges) seat.new }
 {
     // known by this call: the graph is an edge list, so a step goes not past the greatest number
     let _n = graph.n();
     let edges = graph.edges();
     let mut edge = share;
     'share: while edge < edges {
-        mark_if_certified(board, seat, graph, edge, bound, slack);
+        mark_if_certified(board, seat, graph, edge, threshold);
         edge += shares;
     }
 }

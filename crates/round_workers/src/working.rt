@@ -6,6 +6,7 @@ ghost use Rattle.round_workers.specs.Seats.{HasSeen, HasAll, HasTested, IsLater,
 use crate::roots::start_of;
 use crate::scanning::scan_on_board;
 use crate::shares::mark_share;
+use crate::threshold::Threshold;
 use capped_scan::Scan;
 use cut_definitions::NoMemory;
 use mark_board::{Board, BoardSeat};
@@ -67,7 +68,11 @@ fn certify(board: &Board, seat: &mut BoardSeat, graph: &Graph, share: usize, tas
     ensures tested { task.certifies ≡ true → HasTested graph.now (bound + task.slack) share task.shares (length graph.now.edges) seat.new }
 {
     if task.certifies {
-        mark_share(board, seat, graph, share, task.shares, bound, task.slack);
+        let threshold = Threshold {
+            bound,
+            slack: task.slack,
+        };
+        mark_share(board, seat, graph, share, task.shares, threshold);
     }
 }
 
@@ -95,7 +100,11 @@ fn scan_own(
         scan.start(1, 0);
         return Ok(scan);
     };
-    scan_on_board(board, seat, graph, &mut scan, start, bound, task.slack);
+    let threshold = Threshold {
+        bound,
+        slack: task.slack,
+    };
+    scan_on_board(board, seat, graph, &mut scan, start, threshold);
     Ok(scan)
 }
 

@@ -7,7 +7,7 @@ use crate::rounds::degree_of;
 use cut_definitions::{EdgeList, NoMemory};
 use mark_board::Marks;
 use outside::Gate;
-use round_workers::scan_round;
+use round_workers::{Threshold, scan_round};
 use std::alloc::Global;
 use std::sync::atomic::{AtomicU64, Ordering};
 use std::test::Fail;
@@ -96,12 +96,15 @@ fn marks_both_pairs<R: Threads + Sync>(
         return Ok(false);
     }
     let graph = Graph::build(alloc, list)?;
-    let opening = degree_of(&graph, 1);
+    let opening = Threshold {
+        bound: degree_of(&graph, 1),
+        slack: 1,
+    };
     let gate = PairGate {
         came: AtomicU64::new(0),
         met: AtomicU64::new(0),
     };
-    let (bound, marks) = scan_round(rt, alloc, &graph, opening, 1, 2, &gate)?;
+    let (bound, marks) = scan_round(rt, alloc, &graph, opening, 2, &gate)?;
     let met = gate.met.load(Ordering::SeqCst) == 2;
     let first = marks_between(&graph, &marks, 0, 2 * SIZE);
     let second = marks_between(&graph, &marks, 2 * SIZE, VERTICES);

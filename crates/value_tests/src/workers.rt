@@ -9,7 +9,7 @@ use mark_board::Marks;
 use metis_reader::Reader;
 use min_value::{reduce, value};
 use outside::{Gate, OpenGate};
-use round_workers::scan_round;
+use round_workers::{Threshold, scan_round};
 use std::alloc::Global;
 use std::sync::atomic::{AtomicU64, Ordering};
 use std::test::Fail;
@@ -110,14 +110,17 @@ fn marked_blocks(graph: &Graph, marks: &Marks) -> u32
 fn marks_each_block<R: Threads + Sync>(rt: &R, alloc: Global, graph: &Graph) -> bool
     requires { 2 ≤ graph.now.vertices }
 {
-    let opening = degree_of(graph, 1);
+    let opening = Threshold {
+        bound: degree_of(graph, 1),
+        slack: 0,
+    };
     let gate = meeting_gate();
-    let Ok(answer) = scan_round(rt, alloc, graph, opening, 0, 2, &gate) else {
+    let Ok(answer) = scan_round(rt, alloc, graph, opening, 2, &gate) else {
         return false;
     };
     let (bound, marks) = answer;
     let met = gate.met.load(Ordering::SeqCst) == 1;
-    met && opening == 7 && bound <= 2 && marked_blocks(graph, &marks) == 64
+    met && opening.bound == 7 && bound <= 2 && marked_blocks(graph, &marks) == 64
 }
 
 /// Whether two workers reduce a chain of 100 blocks to a vertex for each, and run at the same time.

@@ -12,5 +12,5 @@ pub returns-clause-safe : goal.returns-clause-safe
 returns-clause-safe g c =
     let seated = c.in_ok-board.ensures.seated in
     let marked = has c.close.result.1.marked in
-    subst (λ (k : Graph). MarksAreSafe k marked c.close.result.0 c.args.slack) seated.graph
+    subst (λ (k : Graph). MarksAreSafe k marked c.close.result.0 c.args.threshold.slack) seated.graph
     (subst (λ (k : ℕ). MarksAreSafe c.in_ok-board.board.graph marked c.close.result.0 k) seated.slack_is c.close.ensures.safe)

@@ -9,7 +9,7 @@ use Rattle.weighted_graph.proofs.Searched.{row_within}
 use Rattle.round_workers.proofs.Marking.{arc_safe, read_row}
 use Rattle.round_workers.proofs.Seats.{gaining, later_both, later_gaining, seen_gaining, may_mark}
 use Rattle.round_workers.proofs.scanning.mark_links_on_board.Goals as goal
-use Rattle.round_workers.proofs.scanning.mark_links_on_board.Goals.{then-link-bound, else-link-bound}
+use Rattle.round_workers.proofs.scanning.mark_links_on_board.Goals.{then-link-threshold, else-link-threshold}
 
 pub link-requires-clause-from_one : goal.link-requires-clause-from_one
 link-requires-clause-from_one c =
@@ -39,10 +39,10 @@ mark_once-requires-clause-safe c =
     let row = c.row-arc-items.result.now in
     let i = c.loop-arc.arc-index in
     let arc = get_or row i no_arc in
-    let bound = c.args.bound in
-    let slack = c.args.slack in
+    let bound = c.args.threshold.bound in
+    let slack = c.args.threshold.slack in
     let a = read_row (IsArcAt g x) row (row_of g x) e.value (law_of_rows g ok x).arcs i c.loop-arc-test.true in
-    let reaches = c.if-link-bound.true in
+    let reaches = c.if-link-threshold.true in
     let safe = safe_from_cuts g ok bound slack x arc.to (λ set least parted. let low = c.link.ensures.lower x c.requires.latest.before set c.requires.latest.order_is parted in omega arith) in
     may_mark c.args.board.now g slack bound arc.edge c.loop-arc.seat c.loop-arc.invariant.seen (arc_safe g bound slack x arc a safe)
 
@@ -51,13 +51,13 @@ loop-arc-preserved c =
     let edge = (get_or c.row-arc-items.result.now c.loop-arc.arc-index no_arc).edge in
     let seat = c.loop-arc.seat in
     let inv = c.loop-arc.invariant in
-    elim c.if-link-bound.branch [
-      | then-link-bound w ↦ rw w.seat-is (elim w.mark_once.ensures [
+    elim c.if-link-threshold.branch [
+      | then-link-threshold w ↦ rw w.seat-is (elim w.mark_once.ensures [
         | inl same ↦ rw same inv
         | inr more ↦ rw more (record {
-          seen = seen_gaining c.args.board.now c.args.graph.now c.args.slack c.args.bound edge seat inv.seen;
+          seen = seen_gaining c.args.board.now c.args.graph.now c.args.threshold.slack c.args.threshold.bound edge seat inv.seen;
           later = later_both c.args.seat.now seat (gaining seat edge) inv.later (later_gaining seat edge);
         })
       ])
-      | else-link-bound w ↦ rw w.seat-is inv
+      | else-link-threshold w ↦ rw w.seat-is inv
     ]

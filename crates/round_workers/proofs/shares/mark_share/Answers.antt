@@ -13,7 +13,7 @@ share-init c = record {
   later = later_same c.args.seat.now;
   place = mod-eq_of_lt c.requires.share;
   within = omega (arith, c.requires.share);
-  tested = starts_share c.args.graph.now (c.args.bound + c.args.slack) c.args.share c.args.shares c.args.seat.now c.requires.share;
+  tested = starts_share c.args.graph.now (c.args.threshold.bound + c.args.threshold.slack) c.args.share c.args.shares c.args.seat.now c.requires.share;
 }
 
 pub share-preserved : goal.share-preserved
@@ -25,6 +25,6 @@ share-preserved c =
       later = later_both c.args.seat.now c.share.seat c.mark_if_certified.new.seat inv.later e.later;
       place = next_place c.args.share c.args.shares c.share.edge inv.place;
       within = omega (arith, c.share-test.true, c.edges-edges.ensures);
-      tested = tested_step c.args.graph.now (c.args.bound + c.args.slack) c.args.share c.args.shares c.share.edge c.share.seat c.mark_if_certified.new.seat
+      tested = tested_step c.args.graph.now (c.args.threshold.bound + c.args.threshold.slack) c.args.share c.args.shares c.share.edge c.share.seat c.mark_if_certified.new.seat
           c.requires.share inv.place e.later inv.tested e.marked;
     }

@@ -4,11 +4,11 @@ use Rattle.round_workers.proofs.shares.mark_share.Given as goal
 
 abbrev pub invariant-share : goal.invariant-share
 invariant-share l = record {
-  seen : HasSeen l.board l.graph l.slack l.bound l.seat;
+  seen : HasSeen l.board l.graph l.threshold.slack l.threshold.bound l.seat;
   later : IsLater l.fn.seat l.seat;
   place : l.edge % l.shares ≡ l.share;
   within : l.edge < length l.graph.edges + l.shares;
-  tested : HasTested l.graph (l.bound + l.slack) l.share l.shares l.edge l.seat;
+  tested : HasTested l.graph (l.threshold.bound + l.threshold.slack) l.share l.shares l.edge l.seat;
 }
 
 abbrev pub decreases-share : goal.decreases-share
