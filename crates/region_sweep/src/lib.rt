@@ -10,6 +10,7 @@
 #![tactic(auto)]
 
 mod across;
+mod parted_region;
 mod regroup;
 mod shares;
 mod sharing;
