@@ -1,6 +1,6 @@
 //! What is left between the lists of the two sides.
 
-ghost use Rattle.std.specs.Prelude.{◌≡◌, ◌+◌, ◌<◌, ◌≤◌, ◌⊎◌, ℕ, true, false, None, IfOk, IfSome, OnOk, IsTrue, IsFalse, length, slice_get, slice_index};
+ghost use Rattle.std.specs.Prelude.{◌≡◌, ◌+◌, ◌<◌, ◌≤◌, ◌⊎◌, ℕ, None, IfOk, IfSome, OnOk, IsTrue, IsFalse, length, slice_get, slice_index};
 ghost use Rattle.std.specs.List.{Contains};
 ghost use Rattle.region_flow.specs.Regions.{IsRegionFlow};
 ghost use Rattle.region_parts.specs.declared.side.Side.TheVariants.{Outer};

@@ -1,6 +1,6 @@
 //! The search from the hub of what is left between two lists.
 
-ghost use Rattle.std.specs.Prelude.{◌≡◌, ◌+◌, ◌<◌, ◌≤◌, ◌^◌, ℕ, List, IfOk, IsTrue, take, length, slice_index, true, false};
+ghost use Rattle.std.specs.Prelude.{◌≡◌, ◌+◌, ◌<◌, ◌≤◌, ◌^◌, ℕ, List, IfOk, IsTrue, take, length, slice_index, true};
 ghost use Rattle.cut_definitions.specs.Graph.{IsGraph, Graph};
 ghost use Rattle.region_flow.specs.Regions.{IsRegionFlow, RegionState};
 ghost use Rattle.region_parts.specs.declared.side.Side.{Side};

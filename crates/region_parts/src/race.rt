@@ -33,40 +33,41 @@ pub enum Race {
     HubEnded,
 }
 
+/// What a search from beside the list of a side goes by: the turns in that list, and which vertices are good.
+#[derive(Clone, Copy)]
+pub struct NearTask<'a> {
+    pub region: Region<'a>,
+    pub side: Side,
+    pub own: &'a [u32],
+    pub good: &'a [bool],
+}
+
 /// Lets a search of a side go on for about so many steps. What is good, or was met by the search of the hub, halts it.
-fn go_near(
-    near: &mut Search,
-    met: &[bool],
-    region: Region<'_>,
-    side: Side,
-    own: &[u32],
-    good: &[bool],
-    steps: usize,
-) -> Reached
-    requires graph { IsGraph region.graph.now }
-    requires flow { IsRegionFlow region.graph.now region.flow.now }
-    requires own { length own.now ≡ region.graph.now.vertices + 1 }
-    requires good { length good.now ≡ region.graph.now.vertices + 1 }
-    requires met { length met.now ≡ region.graph.now.vertices + 1 }
-    requires near { (starts : VertexSet) × IsSearch region.graph.now.vertices (goes_from side region.graph.now region.flow.now) (stops side region.flow.now region.t) own.now starts near.old }
+fn go_near(near: &mut Search, met: &[bool], task: NearTask<'_>, steps: usize) -> Reached
+    requires graph { IsGraph task.region.graph.now }
+    requires flow { IsRegionFlow task.region.graph.now task.region.flow.now }
+    requires own { length task.own.now ≡ task.region.graph.now.vertices + 1 }
+    requires good { length task.good.now ≡ task.region.graph.now.vertices + 1 }
+    requires met { length met.now ≡ task.region.graph.now.vertices + 1 }
+    requires near { (starts : VertexSet) × IsSearch task.region.graph.now.vertices (goes_from task.side task.region.graph.now task.region.flow.now) (stops task.side task.region.flow.now task.region.t) task.own.now starts near.old }
     ensures near { (starts : VertexSet) →
-        IsSearch region.entry.graph.now.vertices (goes_from side region.entry.graph.now region.entry.flow.now) (stops side region.entry.flow.now region.entry.t) own.now starts near.old →
-        IsSearch region.entry.graph.now.vertices (goes_from side region.entry.graph.now region.entry.flow.now) (stops side region.entry.flow.now region.entry.t) own.now starts near.new }
+        IsSearch task.entry.region.graph.now.vertices (goes_from task.entry.side task.entry.region.graph.now task.entry.region.flow.now) (stops task.entry.side task.entry.region.flow.now task.entry.region.t) task.entry.own.now starts near.old →
+        IsSearch task.entry.region.graph.now.vertices (goes_from task.entry.side task.entry.region.graph.now task.entry.region.flow.now) (stops task.entry.side task.entry.region.flow.now task.entry.region.t) task.entry.own.now starts near.new }
     ensures kept { GoesOn near.old near.new }
-    ensures halted { result ≡ Reached.Halted → (1 ≤ near.new.count) × ((stops side region.entry.flow.now region.entry.t (slice_index near.new.order (near.new.count - 1)) ≡ true)
-        ⊎ ((is_seen good.now (slice_index near.new.order (near.new.count - 1)) ≡ true) ⊎ (is_seen met.now (slice_index near.new.order (near.new.count - 1)) ≡ true))) }
-    ensures ended { result ≡ Reached.Ended → (near.new.place ≡ near.new.count) × IsQuiet (stops side region.entry.flow.now region.entry.t) near.new }
+    ensures halted { result ≡ Reached.Halted → (1 ≤ near.new.count) × ((stops task.entry.side task.entry.region.flow.now task.entry.region.t (slice_index near.new.order (near.new.count - 1)) ≡ true)
+        ⊎ ((is_seen task.entry.good.now (slice_index near.new.order (near.new.count - 1)) ≡ true) ⊎ (is_seen met.now (slice_index near.new.order (near.new.count - 1)) ≡ true))) }
+    ensures ended { result ≡ Reached.Ended → (near.new.place ≡ near.new.count) × IsQuiet (stops task.entry.side task.entry.region.flow.now task.entry.region.t) near.new }
     ensures paused { result ≡ Reached.Paused → near.old.place < near.new.place }
 {
     let halts = NearHalts {
-        side,
-        flow: region.flow,
-        t: region.t,
-        good,
+        side: task.side,
+        flow: task.region.flow,
+        t: task.region.t,
+        good: task.good,
         met,
     };
-    let arcs = region.arcs(side);
-    near.advance(&arcs, &halts, own, steps)
+    let arcs = task.region.arcs(task.side);
+    near.advance(&arcs, &halts, task.own, steps)
 }
 
 /// Lets a search of a side, from beside its list, and that of the hub, from the other side, go on in turn, each a few steps
@@ -78,46 +79,43 @@ fn go_near(
 pub fn run_race(
     near: &mut Search,
     hub: &mut HubSearch,
-    region: Region<'_>,
+    task: NearTask<'_>,
     fronts: &mut Fronts,
-    side: Side,
-    own: &[u32],
     other: &[u32],
-    good: &[bool],
 ) -> Race
-    requires graph { IsGraph region.graph.now }
-    requires flow { IsRegionFlow region.graph.now region.flow.now }
-    requires to_n { region.t ≤ region.graph.now.vertices }
-    requires outside { 1 ≤ slice_index region.flow.now.labels region.t }
-    requires own { length own.now ≡ region.graph.now.vertices + 1 }
-    requires other { length other.now ≡ region.graph.now.vertices + 1 }
-    requires good { length good.now ≡ region.graph.now.vertices + 1 }
-    requires vertices { fronts.old.vertices ≡ region.graph.now.vertices }
-    requires from_outside { hub.old.hub ≡ Outside → (side ≡ Side.Inner) × ((v : ℕ) → slice_index other.now v ≡ 0) }
-    requires near { (starts : VertexSet) × IsSearch region.graph.now.vertices (goes_from side region.graph.now region.flow.now) (stops side region.flow.now region.t) own.now starts near.old }
-    requires hub { IsHubSearch (other_side side) region.graph.now region.flow.now region.t other.now hub.old }
+    requires graph { IsGraph task.region.graph.now }
+    requires flow { IsRegionFlow task.region.graph.now task.region.flow.now }
+    requires to_n { task.region.t ≤ task.region.graph.now.vertices }
+    requires outside { 1 ≤ slice_index task.region.flow.now.labels task.region.t }
+    requires own { length task.own.now ≡ task.region.graph.now.vertices + 1 }
+    requires other { length other.now ≡ task.region.graph.now.vertices + 1 }
+    requires good { length task.good.now ≡ task.region.graph.now.vertices + 1 }
+    requires vertices { fronts.old.vertices ≡ task.region.graph.now.vertices }
+    requires from_outside { hub.old.hub ≡ Outside → (task.side ≡ Side.Inner) × ((v : ℕ) → slice_index other.now v ≡ 0) }
+    requires near { (starts : VertexSet) × IsSearch task.region.graph.now.vertices (goes_from task.side task.region.graph.now task.region.flow.now) (stops task.side task.region.flow.now task.region.t) task.own.now starts near.old }
+    requires hub { IsHubSearch (other_side task.side) task.region.graph.now task.region.flow.now task.region.t other.now hub.old }
     ensures near { (starts : VertexSet) →
-        IsSearch region.entry.graph.now.vertices (goes_from side region.entry.graph.now region.entry.flow.now) (stops side region.entry.flow.now region.entry.t) own.now starts near.old →
-        IsSearch region.entry.graph.now.vertices (goes_from side region.entry.graph.now region.entry.flow.now) (stops side region.entry.flow.now region.entry.t) own.now starts near.new }
+        IsSearch task.entry.region.graph.now.vertices (goes_from task.entry.side task.entry.region.graph.now task.entry.region.flow.now) (stops task.entry.side task.entry.region.flow.now task.entry.region.t) task.entry.own.now starts near.old →
+        IsSearch task.entry.region.graph.now.vertices (goes_from task.entry.side task.entry.region.graph.now task.entry.region.flow.now) (stops task.entry.side task.entry.region.flow.now task.entry.region.t) task.entry.own.now starts near.new }
     ensures kept { GoesOn near.old near.new }
-    ensures hub { IsHubSearch (other_side side) region.entry.graph.now region.entry.flow.now region.entry.t other.now hub.new }
+    ensures hub { IsHubSearch (other_side task.entry.side) task.entry.region.graph.now task.entry.region.flow.now task.entry.region.t other.now hub.new }
     ensures hub_goes_on { HubGoesOn hub.old hub.new }
-    ensures fronts { KeepsFrontsFor region.entry.flow.now.labels hub.old.hub fronts.old fronts.new }
-    ensures begun { HaveBegun region.entry.flow.now region.entry.t (list_at fronts.old.lists (slice_index region.entry.flow.now.labels region.entry.t)) hub.old →
-        HaveBegun region.entry.flow.now region.entry.t (list_at fronts.new.lists (slice_index region.entry.flow.now.labels region.entry.t)) hub.new }
-    ensures met { result ≡ Race.Met → (1 ≤ near.new.count) × ((stops side region.entry.flow.now region.entry.t (slice_index near.new.order (near.new.count - 1)) ≡ true)
-        ⊎ ((is_seen good.now (slice_index near.new.order (near.new.count - 1)) ≡ true) ⊎ (is_seen hub.new.search.seen (slice_index near.new.order (near.new.count - 1)) ≡ true))) }
-    ensures ended { result ≡ Race.Ended → (near.new.place ≡ near.new.count) × IsQuiet (stops side region.entry.flow.now region.entry.t) near.new }
-    ensures hub_ended { result ≡ Race.HubEnded → HasAll (list_at fronts.new.lists (slice_index region.entry.flow.now.labels region.entry.t)) hub.new }
+    ensures fronts { KeepsFrontsFor task.entry.region.flow.now.labels hub.old.hub fronts.old fronts.new }
+    ensures begun { HaveBegun task.entry.region.flow.now task.entry.region.t (list_at fronts.old.lists (slice_index task.entry.region.flow.now.labels task.entry.region.t)) hub.old →
+        HaveBegun task.entry.region.flow.now task.entry.region.t (list_at fronts.new.lists (slice_index task.entry.region.flow.now.labels task.entry.region.t)) hub.new }
+    ensures met { result ≡ Race.Met → (1 ≤ near.new.count) × ((stops task.entry.side task.entry.region.flow.now task.entry.region.t (slice_index near.new.order (near.new.count - 1)) ≡ true)
+        ⊎ ((is_seen task.entry.good.now (slice_index near.new.order (near.new.count - 1)) ≡ true) ⊎ (is_seen hub.new.search.seen (slice_index near.new.order (near.new.count - 1)) ≡ true))) }
+    ensures ended { result ≡ Race.Ended → (near.new.place ≡ near.new.count) × IsQuiet (stops task.entry.side task.entry.region.flow.now task.entry.region.t) near.new }
+    ensures hub_ended { result ≡ Race.HubEnded → HasAll (list_at fronts.new.lists (slice_index task.entry.region.flow.now.labels task.entry.region.t)) hub.new }
 {
     let mut steps = FIRST_STEP;
     loop {
-        match go_near(near, hub.seen(), region, side, own, good, steps) {
+        match go_near(near, hub.seen(), task, steps) {
             Reached::Halted => return Race::Met,
             Reached::Ended => return Race::Ended,
             Reached::Paused => {}
         }
-        if hub.advance(region, fronts, side.other(), other) {
+        if hub.advance(task.region, fronts, task.side.other(), other) {
             return Race::HubEnded;
         }
         steps = steps.saturating_mul(2).min(STEP);

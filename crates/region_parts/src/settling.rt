@@ -14,7 +14,7 @@ ghost use Rattle.region_parts.specs.Settling.{IsBeside, HasMet};
 ghost use Rattle.region_parts.specs.Sided.{stops};
 ghost use Rattle.region_parts.specs.Split.{half_of, AreAtFront, GoesOnSettling, IsSearching, IsSettledIn};
 
-use crate::race::{Race, run_race};
+use crate::race::{NearTask, Race, run_race};
 use crate::region::Region;
 use crate::side::Side;
 use crate::splitter::Splitter;
@@ -67,26 +67,36 @@ impl Splitter {
         ensures hub_ended { result ≡ Race.HubEnded → HasAll (list_at fronts.new.lists (slice_index region.entry.flow.now.labels region.entry.t)) self.new.hub }
     {
         match side {
-            Side::Inner => run_race(
-                &mut self.near,
-                &mut self.hub,
-                region,
-                fronts,
-                side,
-                self.inner.turns(),
-                self.outer.turns(),
-                self.good.as_slice(),
-            ),
-            Side::Outer => run_race(
-                &mut self.near,
-                &mut self.hub,
-                region,
-                fronts,
-                side,
-                self.outer.turns(),
-                self.inner.turns(),
-                self.good.as_slice(),
-            ),
+            Side::Inner => {
+                let task = NearTask {
+                    region,
+                    side,
+                    own: self.inner.turns(),
+                    good: self.good.as_slice(),
+                };
+                run_race(
+                    &mut self.near,
+                    &mut self.hub,
+                    task,
+                    fronts,
+                    self.outer.turns(),
+                )
+            }
+            Side::Outer => {
+                let task = NearTask {
+                    region,
+                    side,
+                    own: self.outer.turns(),
+                    good: self.good.as_slice(),
+                };
+                run_race(
+                    &mut self.near,
+                    &mut self.hub,
+                    task,
+                    fronts,
+                    self.inner.turns(),
+                )
+            }
         }
     }
 

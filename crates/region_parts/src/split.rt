@@ -27,7 +27,7 @@ ghost use Rattle.region_parts.specs.Split.{AreAtFront, IsBetween, IsReady, outer
 
 use crate::between::Between;
 use crate::hub::Hub;
-use crate::race::{Race, run_race};
+use crate::race::{NearTask, Race, run_race};
 use crate::region::Region;
 use crate::side::Side;
 use crate::splitter::Splitter;
@@ -105,16 +105,13 @@ impl Splitter {
         let inner = self.inner.turns();
         let outer = self.outer.turns();
         let good = self.good.as_slice();
-        run_race(
-            &mut self.near,
-            &mut self.hub,
+        let task = NearTask {
             region,
-            fronts,
-            Side::Inner,
-            inner,
-            outer,
+            side: Side::Inner,
+            own: inner,
             good,
-        )
+        };
+        run_race(&mut self.near, &mut self.hub, task, fronts, outer)
     }
 
     /// Lists what was found by the search that ended, as the first part of its side. Answers false where there are no parts.

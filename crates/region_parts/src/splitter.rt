@@ -1,6 +1,6 @@
 //! What a split works with, and how it takes what searches found into the lists of the two sides.
 
-ghost use Rattle.std.specs.Prelude.{◌≡◌, ◌||◌, ◌+◌, ◌<◌, ◌≤◌, ℕ, [], true, false, nat_lt, IfOk, OnOk, length, take, slice_index};
+ghost use Rattle.std.specs.Prelude.{◌≡◌, ◌||◌, ◌<◌, ◌≤◌, ℕ, [], true, false, nat_lt, IfOk, OnOk, length, take, slice_index};
 ghost use Rattle.std.specs.List.{Contains};
 ghost use Rattle.weighted_graph.specs.Searches.{is_seen};
 ghost use Rattle.region_flow.specs.Regions.{IsRegionFlow};

@@ -1,7 +1,6 @@
 //! Open vertices that share a neighbour outside their region.
 
-ghost use Rattle.std.specs.Prelude.{◌≡◌, ◌+◌, ◌<◌, ◌≤◌, IfSome, length, slice_index};
-ghost use Rattle.cut_definitions.specs.Chain.{IsJoined};
+ghost use Rattle.std.specs.Prelude.{◌≡◌, ◌+◌, ◌≤◌, IfSome, length, slice_index};
 ghost use Rattle.cut_definitions.specs.Regions.{IsOpenAt};
 ghost use Rattle.region_sweep.specs.Across.{IsJoinedIn};
 

@@ -16,6 +16,7 @@
 mod across;
 mod alone;
 mod finishing;
+mod parted_region;
 mod regroup;
 mod shares;
 mod sharing;

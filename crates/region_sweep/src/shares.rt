@@ -1,6 +1,6 @@
 //! Regions that are solved side by side, each as a graph of its own.
 
-ghost use Rattle.std.specs.Prelude.{◌≡◌, ◌+◌, ◌^◌, ◌<◌, ◌≤◌, ℕ, None, true, false, All, IfOk, IsTrue, IsFalse, OnOk, length, slice_index, slice_index_or};
+ghost use Rattle.std.specs.Prelude.{◌≡◌, ◌+◌, ◌^◌, ◌<◌, ◌≤◌, ℕ, None, All, IfOk, IsTrue, IsFalse, OnOk, length, slice_index, slice_index_or};
 ghost use Rattle.cut_definitions.specs.Components.{IsConnected};
 ghost use Rattle.cut_definitions.specs.Contraction.{relabel};
 ghost use Rattle.cut_definitions.specs.Cuts.{value as least_value};

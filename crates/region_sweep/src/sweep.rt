@@ -13,6 +13,7 @@ ghost use Rattle.region_flow.specs.Parted.{AreLightParts};
 ghost use Rattle.region_sweep.specs.UnderWay.{IsLeastWeight, IsStarted, IsUnderWay};
 
 use crate::across::open_across;
+use crate::parted_region::PartedRegion;
 use crate::regroup::regroup;
 use crate::supply::Supply;
 use crate::surplus::Surplus;
@@ -282,18 +283,21 @@ impl Sweep {
         let node = self.homes.of_region(region);
         let later = self.later.as_mut_slice();
         let next = self.next.as_mut_slice();
-        weigh_parts(graph, &self.flow, region, &self.parts, later, next);
+        let parted = PartedRegion {
+            graph,
+            region,
+            parts: &self.parts,
+        };
+        weigh_parts(parted, &self.flow, later, next);
         let count = self.parts.count();
         let nodes = self.nodes.as_mut_slice();
         hang_parts(&mut self.tree, count, later, next, value, node, nodes)?;
         self.fresh = regroup(
-            graph,
+            parted,
             &mut self.flow,
-            &self.parts,
             &mut self.homes,
             nodes,
             t,
-            region,
             self.fresh,
         );
         put_listed(graph, &self.flow, &mut self.fronts, &self.parts)?;

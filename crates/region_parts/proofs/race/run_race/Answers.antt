@@ -33,6 +33,6 @@ loop-hub-preserved c =
       kept = goes_on_more c.args.near.now c.loop-hub.near c.go_near.new.near inv.kept step.kept;
       hub = rw c.other.ensures at next.search;
       hub_goes_on = hub_more c.args.hub.now hub c.advance.new.self inv.hub_goes_on next.goes_on;
-      fronts = fronts_more c.args.region.flow.now.labels c.args.hub.now.hub hub.hub c.args.fronts.now c.loop-hub.fronts c.advance.new.fronts inv.hub_goes_on.same inv.fronts next.fronts;
+      fronts = fronts_more c.args.task.region.flow.now.labels c.args.hub.now.hub hub.hub c.args.fronts.now c.loop-hub.fronts c.advance.new.fronts inv.hub_goes_on.same inv.fronts next.fronts;
       begun = λ h. next.begun (inv.begun h);
     }

@@ -10,22 +10,22 @@ use Rattle.region_sweep.proofs.regroup.place_parts.Goals as goal
 pub loop-before-init : goal.loop-before-init
 loop-before-init c = record {
   flow = c.requires.flow;
-  placed = none_placed c.args.parts.now.numbers c.args.flow.now.labels c.args.homes.now c.args.nodes.now c.args.fresh;
-  numbered = around c.args.graph.now.vertices c.args.flow.now.labels c.args.region c.args.t c.args.fresh c.requires.numbered c.requires.to_n c.requires.label c.requires.outside;
+  placed = none_placed c.args.parted.parts.now.numbers c.args.flow.now.labels c.args.homes.now c.args.nodes.now c.args.fresh;
+  numbered = around c.args.parted.graph.now.vertices c.args.flow.now.labels c.args.parted.region c.args.t c.args.fresh c.requires.numbered c.requires.to_n c.requires.label c.requires.outside;
   refined = refined_same c.args.flow.now.labels;
-  fed = feed_same c.args.graph.now c.args.flow.now;
+  fed = feed_same c.args.parted.graph.now c.args.flow.now;
 }
 
 pub place_part-fresh-requires-clause-list : goal.place_part-fresh-requires-clause-list
 place_part-fresh-requires-clause-list c = c.requires.listed.lists (c.loop-before.before + 1) (omega arith) (omega (arith, c.loop-before-test.true, c.count-before-end.ensures))
 
 pub place_part-fresh-requires-clause-fits : goal.place_part-fresh-requires-clause-fits
-place_part-fresh-requires-clause-fits c = around_fits c.args.graph.now.vertices c.loop-before.flow.labels c.args.region c.args.t c.loop-before.fresh c.loop-before.invariant.numbered
+place_part-fresh-requires-clause-fits c = around_fits c.args.parted.graph.now.vertices c.loop-before.flow.labels c.args.parted.region c.args.t c.loop-before.fresh c.loop-before.invariant.numbered
 
 pub loop-before-preserved : goal.loop-before-preserved
 loop-before-preserved c =
-    let n = c.args.graph.now.vertices in
-    let p = c.args.parts.now in
+    let n = c.args.parted.graph.now.vertices in
+    let p = c.args.parted.parts.now in
     let old = c.args.flow.now.labels in
     let labels = c.loop-before.flow.labels in
     let i = c.loop-before.before + 1 in
@@ -39,10 +39,10 @@ loop-before-preserved c =
       flow = c.place_part-fresh.ensures.flow;
       placed = one_placed p.numbers old labels c.place_part-fresh.new.flow.labels c.args.homes.now c.loop-before.homes c.place_part-fresh.new.homes c.args.nodes.now c.loop-before.before
           c.args.fresh c.loop-before.fresh c.place_part-fresh.result some c.requires.numbered.below placed c.place_part-fresh.ensures.placed;
-      numbered = one_numbered n p.numbers labels c.place_part-fresh.new.flow.labels c.loop-before.homes c.place_part-fresh.new.homes i node c.args.region c.args.t
+      numbered = one_numbered n p.numbers labels c.place_part-fresh.new.flow.labels c.loop-before.homes c.place_part-fresh.new.homes i node c.args.parted.region c.args.t
           c.loop-before.fresh c.place_part-fresh.result c.loop-before.invariant.numbered c.place_part-fresh.ensures.placed c.requires.listed.numbers_length (omega arith)
-          (not_first n old c.args.region c.args.t i p c.requires.listed c.requires.last) c.requires.outside
+          (not_first n old c.args.parted.region c.args.t i p c.requires.listed c.requires.last) c.requires.outside
           (omega (arith, c.requires.numbered.below c.args.t, c.requires.label, placed.more)) inside;
       refined = refined_after old labels c.place_part-fresh.new.flow.labels c.loop-before.invariant.refined c.place_part-fresh.ensures.refined;
-      fed = feed_after c.args.graph.now c.args.flow.now c.loop-before.flow c.place_part-fresh.new.flow c.loop-before.invariant.fed c.place_part-fresh.ensures.fed c.place_part-fresh.ensures.refined;
+      fed = feed_after c.args.parted.graph.now c.args.flow.now c.loop-before.flow c.place_part-fresh.new.flow c.loop-before.invariant.fed c.place_part-fresh.ensures.fed c.place_part-fresh.ensures.refined;
     }

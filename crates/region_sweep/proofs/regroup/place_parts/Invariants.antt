@@ -6,9 +6,9 @@ use Rattle.region_sweep.proofs.regroup.place_parts.Given as goal
 
 abbrev pub invariant-loop-before : goal.invariant-loop-before
 invariant-loop-before l = record {
-  flow : IsRegionFlow l.graph l.flow;
-  placed : ArePlaced l.parts.numbers l.fn.flow.labels l.flow.labels l.fn.homes l.homes l.nodes l.before l.fn.fresh l.fresh;
-  numbered : AreNumberedAround l.graph.vertices l.flow.labels l.region l.t l.fresh;
+  flow : IsRegionFlow l.parted.graph.now l.flow;
+  placed : ArePlaced l.parted.parts.now.numbers l.fn.flow.labels l.flow.labels l.fn.homes l.homes l.nodes l.before l.fn.fresh l.fresh;
+  numbered : AreNumberedAround l.parted.graph.now.vertices l.flow.labels l.parted.region l.t l.fresh;
   refined : IsRefined l.fn.flow.labels l.flow.labels;
-  fed : KeepsFeed l.graph l.fn.flow l.flow;
+  fed : KeepsFeed l.parted.graph.now l.fn.flow l.flow;
 }

@@ -8,16 +8,16 @@ use Rattle.region_sweep.proofs.regroup.regroup.Goals as goal
 
 pub put_region-requires : goal.put_region-requires
 put_region-requires c =
-    let fits = around_fits c.args.graph.now.vertices c.place_parts-next.new.flow.labels c.args.region c.args.t c.place_parts-next.result c.place_parts-next.ensures.numbered in
+    let fits = around_fits c.args.parted.graph.now.vertices c.place_parts-next.new.flow.labels c.args.parted.region c.args.t c.place_parts-next.result c.place_parts-next.ensures.numbered in
     let placed = c.place_parts-next.ensures.placed in
     omega (arith, fits, placed.more, placed.lengths.regions, c.requires.homes_regions, c.requires.numbered.below c.args.t, c.requires.label)
 
 pub returns : goal.returns
 returns c =
-    let n = c.args.graph.now.vertices in
-    let p = c.args.parts.now in
+    let n = c.args.parted.graph.now.vertices in
+    let p = c.args.parted.parts.now in
     let nodes = c.args.nodes.now in
-    let region = c.args.region in
+    let region = c.args.parted.region in
     let t = c.args.t in
     let old = c.args.flow.now.labels in
     let placed = c.place_parts-next.ensures.placed in
@@ -53,5 +53,5 @@ returns c =
       lengths = rw homes (lengths_kept n old labels new h h' nodes region t c.args.fresh next p split);
       unlisted = λ v none ne. c.enter_last.ensures.kept v ne ∙ placed.kept v (λ a. absurd (omega (arith, a.listed, none)));
       refined = refined_after old labels new c.place_parts-next.ensures.refined c.enter_last.ensures.refined;
-      fed = feed_after c.args.graph.now c.args.flow.now c.place_parts-next.new.flow c.enter_last.new.flow c.place_parts-next.ensures.fed c.enter_last.ensures.fed c.enter_last.ensures.refined;
+      fed = feed_after c.args.parted.graph.now c.args.flow.now c.place_parts-next.new.flow c.enter_last.new.flow c.place_parts-next.ensures.fed c.enter_last.ensures.fed c.enter_last.ensures.refined;
     }

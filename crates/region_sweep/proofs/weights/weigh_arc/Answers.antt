@@ -8,7 +8,7 @@ use Rattle.region_sweep.proofs.weights.weigh_arc.Goals as goal
 
 pub number-from-requires : goal.number-from-requires
 number-from-requires c =
-    let numbers = c.args.parts.now.numbers in
+    let numbers = c.args.parted.parts.now.numbers in
     ⊎_elim
     (λ (l : c.args.v < length numbers). l)
     (λ (l : length numbers ≤ c.args.v). let none = get_or_past numbers c.args.v 0 l in absurd (omega (arith, none, c.requires.listed)))
@@ -20,9 +20,9 @@ counted later here rest w a m t s h = rw (t, s) at h
 
 pub add-requires-clause-fits_later : goal.add-requires-clause-fits_later
 add-requires-clause-fits_later c =
-    let p = c.args.parts.now in
+    let p = c.args.parted.parts.now in
     let labels = c.args.flow.now.labels in
-    let region = c.args.region in
+    let region = c.args.parted.region in
     let v = c.args.v in
     let to = c.part_of-to.result in
     let number = get_or p.numbers v 0 in

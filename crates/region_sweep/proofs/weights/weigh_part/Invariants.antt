@@ -6,4 +6,4 @@ use Rattle.region_sweep.proofs.Weighing.{done_upto}
 use Rattle.region_sweep.proofs.weights.weigh_part.Given as goal
 
 abbrev pub invariant-loop-v : goal.invariant-loop-v
-invariant-loop-v l = AreWeighed l.graph (is_listed l.parts.numbers) (done_upto l.parts.numbers l.number l.part l.v-index) l.parts.count (part_in l.parts l.flow.labels l.region) l.later l.next
+invariant-loop-v l = AreWeighed l.parted.graph.now (is_listed l.parted.parts.now.numbers) (done_upto l.parted.parts.now.numbers l.number l.part l.v-index) l.parted.parts.now.count (part_in l.parted.parts.now l.flow.labels l.parted.region) l.later l.next

@@ -6,4 +6,4 @@ use Rattle.node_tree.specs.Weighed.{listed_below, AreWeighed}
 use Rattle.region_sweep.proofs.weights.weigh_parts.Given as goal
 
 abbrev pub invariant-loop-i : goal.invariant-loop-i
-invariant-loop-i l = AreWeighed l.graph (is_listed l.parts.numbers) (listed_below l.parts.numbers (l.i + 1)) l.parts.count (part_in l.parts l.flow.labels l.region) l.later l.next
+invariant-loop-i l = AreWeighed l.parted.graph.now (is_listed l.parted.parts.now.numbers) (listed_below l.parted.parts.now.numbers (l.i + 1)) l.parted.parts.now.count (part_in l.parted.parts.now l.flow.labels l.parted.region) l.later l.next

@@ -13,7 +13,7 @@ use Rattle.region_sweep.proofs.weights.weigh_row.Goals as goal
 
 pub weigh_arc-requires-clause-end : goal.weigh_arc-requires-clause-end
 weigh_arc-requires-clause-end c =
-    let g = c.args.graph.now in
+    let g = c.args.parted.graph.now in
     let k = c.loop-arc.arc-index in
     let row = c.row-row.result.now in
     let within = arc_within g c.row-row.ensures.edge_list.is_graph c.args.v (get_or row k no_arc) (row_arc g row c.args.v k c.row-row.ensures.value c.loop-arc-test.true) in
@@ -21,24 +21,24 @@ weigh_arc-requires-clause-end c =
 
 pub weigh_arc-requires-clause-fits_later : goal.weigh_arc-requires-clause-fits_later
 weigh_arc-requires-clause-fits_later c = λ i l.
-    let part = part_in c.args.parts.now c.args.flow.now.labels c.args.region in
-    let adds = arc_adds (is_listed c.args.parts.now.numbers) (one_part part i) (later_parts part (i + 1)) c.args.v in
+    let part = part_in c.args.parted.parts.now c.args.flow.now.labels c.args.parted.region in
+    let adds = arc_adds (is_listed c.args.parted.parts.now.numbers) (one_part part i) (later_parts part (i + 1)) c.args.v in
     let whole = rw (← c.row-row.ensures.value) at (c.requires.fits_later i l) in
     let more = sum_by_more_le adds c.row-row.result.now c.loop-arc.arc-index no_arc c.loop-arc-test.true in
     omega (arith, c.loop-arc.invariant.later i, more, whole)
 
 pub weigh_arc-requires-clause-fits_next : goal.weigh_arc-requires-clause-fits_next
 weigh_arc-requires-clause-fits_next c = λ i l.
-    let part = part_in c.args.parts.now c.args.flow.now.labels c.args.region in
-    let adds = arc_adds (is_listed c.args.parts.now.numbers) (one_part part i) (one_part part (i + 1)) c.args.v in
+    let part = part_in c.args.parted.parts.now c.args.flow.now.labels c.args.parted.region in
+    let adds = arc_adds (is_listed c.args.parted.parts.now.numbers) (one_part part i) (one_part part (i + 1)) c.args.v in
     let whole = rw (← c.row-row.ensures.value) at (c.requires.fits_next i l) in
     let more = sum_by_more_le adds c.row-row.result.now c.loop-arc.arc-index no_arc c.loop-arc-test.true in
     omega (arith, c.loop-arc.invariant.next i, more, whole)
 
 pub loop-arc-preserved : goal.loop-arc-preserved
 loop-arc-preserved c =
-    let part = part_in c.args.parts.now c.args.flow.now.labels c.args.region in
-    let listed = is_listed c.args.parts.now.numbers in
+    let part = part_in c.args.parted.parts.now c.args.flow.now.labels c.args.parted.region in
+    let listed = is_listed c.args.parted.parts.now.numbers in
     let row = c.row-row.result.now in
     let k = c.loop-arc.arc-index in
     let inv = c.loop-arc.invariant in
