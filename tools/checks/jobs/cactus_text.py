@@ -327,7 +327,7 @@ def compare(path: str, command: list[str]) -> int:
     return running.tell_end('cactus-text', f'{len(cases)} cases', wrong)
 
 
-CRATES = ('outside', 'cut_definitions', 'vertex_set', 'rooted_cactus', 'flat_cactus', 'cactus_printing', 'cactus_text')
+CRATES = ('outside', 'cut_definitions', 'vertex_set', 'rooted_cactus', 'flat_cactus', 'edge_augment', 'answer_pages', 'cactus_text')
 
 TRIAL = '''// Reads cases of cactus texts, and prints for each the number of the line that is refused, or 0.
 #![tactic(auto)]
