@@ -9,10 +9,11 @@ use crate::telling::tell;
 use answer_pages::PrintRefusal;
 use outside::Sink;
 use std::alloc::Global;
+use std::mem::forget;
 use stop_lines::{Status, Stop};
 
 /// Writes the reply that was found to `out`, or tells on `err` why there is none or why it is not written, and answers how
-/// that ended.
+/// that ended. The memory of the reply is left to the end of the process.
 pub fn finish<K: Sink, E: Sink>(
     alloc: Global,
     out: &mut K,
@@ -25,11 +26,16 @@ pub fn finish<K: Sink, E: Sink>(
         ⊎ IsStopped found (E.taken err.old) (E.taken err.new) (E.faults err.old) (E.faults err.new) out.old out.new result) }
 {
     match found {
-        Ok(reply) => match write_reply(alloc, out, &reply) {
-            Ok(()) => Status::Ok,
-            Err(PrintRefusal::SinkFailed) => Status::WriteFault,
-            Err(PrintRefusal::NoMemory) => tell(err, Stop::NoMemory),
-        },
+        Ok(reply) => {
+            let written = write_reply(alloc, out, &reply);
+            // the run is over: giving each node of a large cactus back would take a tenth of its time
+            forget(reply);
+            match written {
+                Ok(()) => Status::Ok,
+                Err(PrintRefusal::SinkFailed) => Status::WriteFault,
+                Err(PrintRefusal::NoMemory) => tell(err, Stop::NoMemory),
+            }
+        }
         Err(stop) => tell(err, stop),
     }
 }

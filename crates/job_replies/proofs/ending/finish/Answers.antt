@@ -7,10 +7,10 @@ use Rattle.job_replies.specs.Endings.{IsStopOf}
 use Rattle.job_replies.specs.Replies.{TakesMemory}
 use Rattle.job_replies.proofs.ending.finish.Goals as goal
 
-pub returns-in-Ok : goal.returns-in-Ok
-returns-in-Ok g c =
+pub returns-in-Err-NoMemory : goal.returns-in-Err-NoMemory
+returns-in-Err-NoMemory g c =
     let takes : TakesMemory c.in-Ok.reply = search rules in
-    let kept : c.write_reply.new.out ≡ c.args.out.now = search rules in
+    let kept : c.write_reply-written.new.out ≡ c.args.out.now = search rules in
     inr (inr (record {
       stop = NoMemory;
       stop_of = subst (λ (f : Result Reply Stop). IsStopOf f NoMemory) (sym c.in-Ok.is) (refl, takes);
