@@ -1,12 +1,9 @@
 -- What all vertices weigh together, and that no balance is more.
-use Rattle.std.proofs.Common.{◌≡◌, ℕ, zero, suc, ◌-◌, ◌^◌, ◌<◌, ◌≤◌, true, List, [], ◌∷◌, length, take, get_or, ap, ◌∙◌, subst, sym, refl, arith, add-one}
+use Rattle.std.proofs.Common.{◌≡◌, ℕ, zero, suc, ◌-◌, ◌≤◌, true, List, length, take, get_or, ap, ◌∙◌, subst, sym, refl, arith, add-one}
 use Rattle.std.specs.Prelude.{sum}
 use Rattle.std.specs.List.{sum_by}
 use Rattle.std.proofs.Math.Seq.{take-length}
 use Rattle.std.proofs.lemmas.List.Sums.{sum_by_more}
-use Rattle.std.proofs.lemmas.List.Folds.{sum_by-replicate}
-use Rattle.std.proofs.Math.ListN.{length-replicate}
-use Rattle.mincut_c.specs.Statuses.{masses_for}
 use Rattle.balanced_cut.proofs.Gathered.{all_among, held_among, mass_among}
 use Rattle.cut_definitions.specs.Balance.{IsBest, balance, mass}
 use Rattle.cut_definitions.specs.Members.{SameMembers}
@@ -42,17 +39,6 @@ whole masses =
 -- a balance is at most what all vertices weigh together
 pub balance_within : (masses side : List ℕ) → balance masses side ≤ sum masses
 balance_within masses side = omega (arith, mass-complement masses (has side), whole masses)
-
--- ---- the masses by an array
-pub masses_some : (n : ℕ) (ms : List ℕ) → (ms ≡ [] → ⊥) → masses_for n ms ≡ ms
-masses_some n [] some = absurd (some refl)
-masses_some n (m ∷ ms) some = refl
-
-pub none_many : (n : ℕ) (ms : List ℕ) → ms ≡ [] → length (masses_for n ms) ≡ n
-none_many n ms e = rw e (length-replicate n 1)
-
-pub none_sum : (n : ℕ) (ms : List ℕ) → n < 2 ^ 32 → ms ≡ [] → sum (masses_for n ms) < 2 ^ 64
-none_sum n ms h e = rw e (omega (arith, sum_by-replicate (λ (x : ℕ). x) n 1, h))
 
 -- a best side of one list is one of a list with the same members
 pub best_as : (masses ms side : List ℕ) (xs ys : List (List ℕ)) → ms ≡ masses → SameMembers xs ys → IsBest ms xs side → IsBest masses ys side

@@ -1,6 +1,5 @@
 -- Rows of bytes that are written one after another.
-use Rattle.std.proofs.Common.{◌≡◌, ℕ, ◌+◌, ◌*◌, ◌<◌, ◌≤◌, Bool, true, false, List, [], inl, inr, length, get_or, set, sym, ◌∙◌, subst, ap, arith, below_more, get_or-set_other, get_or-set_same}
-use Rattle.std.specs.Prelude.{◌≢◌, if◌then◌else◌}
+use Rattle.std.proofs.Common.{◌≡◌, ℕ, ◌+◌, ◌*◌, ◌<◌, ◌≤◌, List, [], inl, inr, length, get_or, sym, ◌∙◌, subst, ap, arith}
 use Rattle.std.proofs.Math.Nat.{add-mul, mul_comm, mul-le-mul_right}
 use Rattle.std.proofs.lemmas.Bool.{cases_lt}
 use Rattle.std.proofs.lemmas.List.{get_or-map}
@@ -8,20 +7,6 @@ use Rattle.std.proofs.lemmas.Nat.{mul-add-lt}
 use Rattle.vertex_set.specs.Side.{VertexList}
 use Rattle.cut_listing.specs.Listings.{members_of}
 use Rattle.mincut_c.specs.Rows.{byte_of}
-
-byte_in : (b : Bool) (x : ℕ) → x ≡ 1 → b ≡ true → x ≡ (if b then 1 else 0)
-byte_in b x is e = rw e is
-
-byte_out : (b : Bool) (x : ℕ) → x ≡ 0 → b ≡ false → x ≡ (if b then 1 else 0)
-byte_out b x is e = rw e is
-
--- a byte more of a row
-pub byte_more : (side bytes : List ℕ) (start k x : ℕ) → start + k < length bytes → x ≡ byte_of side k →
-    ((v : ℕ) → v < k → get_or bytes (start + v) 0 ≡ byte_of side v) → (v : ℕ) → v < k + 1 → get_or (set bytes (start + k) x) (start + v) 0 ≡ byte_of side v
-byte_more side bytes start k x there is so_far =
-    below_more _ _
-    (λ v h. let ne : start + v ≢ start + k = omega arith in rw get_or-set_other (so_far v h))
-    (rw get_or-set_same is)
 
 -- the rows of the first sides
 abbrev pub TellsRowsTo : ℕ → ℕ → List (List ℕ) → List ℕ → Type 0

@@ -5,7 +5,6 @@ use Rattle.std.specs.List.{AllPairs}
 use Rattle.std.proofs.lemmas.Bool.{cases_lt}
 use Rattle.cut_definitions.specs.Cuts.{has}
 use Rattle.edge_augment.specs.Laws.{AreDisjoint}
-use Rattle.mincut_c.specs.Raised.{TellsSets}
 
 -- the numbers of the first sets
 abbrev pub TellsSetsTo : ℕ → ℕ → List (List ℕ) → List ℕ → Type 0
@@ -36,7 +35,3 @@ set_more n k sets old new disjoint there told is = (
         subst (λ (i : ℕ). (get_or new v 0 ≡ i + 1) ↔ (has (get_or sets i []) (v + 1) ≡ true)) same (next_here (has (get_or sets k []) (v + 1)) k (get_or old v 0) (get_or new v 0) (told.0 v lt) (is v lt)))
   ],
 )
-
--- all sets
-pub all_sets : (n : ℕ) (sets : List (List ℕ)) (set_of : List ℕ) → TellsSetsTo n (length sets) sets set_of → TellsSets n sets set_of
-all_sets n sets set_of told = record { small = told.0; sets_told = λ v k lt below. told.1 v k lt below }

@@ -1,6 +1,6 @@
 //! A most balanced minimum cut.
 
-ghost use Rattle.std.specs.Prelude.{ℕ, ◌≡◌, ◌≢◌, ◌⊎◌, ◌<◌, ◌≤◌, IfOk, IfErr, IsTrue, IsFalse, length};
+ghost use Rattle.std.specs.Prelude.{◌≡◌, ◌≢◌, ◌⊎◌, ◌<◌, ◌≤◌, IfOk, IfErr, IsTrue, IsFalse, length};
 ghost use Rattle.cut_definitions.specs.Balance.{IsBest, balance};
 ghost use Rattle.cut_definitions.specs.Cuts.{mincuts, value};
 ghost use Rattle.edge_arrays.specs.Given.{given};

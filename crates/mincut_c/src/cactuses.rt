@@ -1,11 +1,11 @@
 //! The cactus of all minimum cuts, in arrays.
 
-ghost use Rattle.std.specs.Prelude.{◌≡◌, ◌≢◌, ◌≤◌, OnOk, OnErr, IfErr, length};
+ghost use Rattle.std.specs.Prelude.{◌≡◌, ◌≢◌, ◌≤◌, length};
 ghost use Rattle.edge_arrays.specs.Given.{given};
 ghost use Rattle.mincut_c.specs.Filled.{CountsCactus, HasRoomBy, HoldsCactus, IsShort};
-ghost use Rattle.mincut_c.specs.Statuses.{HasCuts, IsReason, TellsFault, number_of};
+ghost use Rattle.mincut_c.specs.Statuses.{HasCuts, TellsFault};
 
-use crate::filling::{Bridge, CactusSizes, put_flat};
+use crate::filling::{Bridge, CactusSizes, is_short, put_flat, sizes_of};
 use crate::solving::flat_of_arrays;
 use crate::status::{NO_ROOM, OK, status_of};
 use std::alloc::Global;
@@ -46,17 +46,19 @@ pub extern "C" fn mincut_raw_cactus(
     match flat_of_arrays(alloc, n, us, vs, ws) {
         Ok(found) => {
             let (least, flat) = found;
-            let has_room = put_flat(
-                &flat,
-                least,
+            *sizes = sizes_of(&flat, least);
+            if is_short(
                 sizes,
-                node_starts,
-                vertices,
-                bridges,
-                cycle_starts,
-                members,
-            );
-            if has_room { OK } else { NO_ROOM }
+                node_starts.len(),
+                vertices.len(),
+                bridges.len(),
+                cycle_starts.len(),
+                members.len(),
+            ) {
+                return NO_ROOM;
+            }
+            put_flat(&flat, node_starts, vertices, bridges, cycle_starts, members);
+            OK
         }
         Err(fault) => status_of(fault),
     }

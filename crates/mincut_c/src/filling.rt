@@ -1,7 +1,8 @@
 //! A flat cactus, put into the arrays of a caller.
 
 ghost use Rattle.std.specs.Prelude.{◌≡◌, ◌≤◌, IsTrue, IsFalse, length};
-ghost use Rattle.mincut_c.specs.Filled.{Begins, BeginsFromZero, BeginsWithBridges, Counts, HasRoom, HoldsFlat, IsShort};
+ghost use Rattle.flat_cactus.specs.Flat.{items_in};
+ghost use Rattle.mincut_c.specs.Filled.{Begins, BeginsFromZero, BeginsWithBridges, Counts, HasRoom, HoldsCycles, HoldsNodes, IsShort};
 
 use flat_cactus::FlatCactus;
 
@@ -67,7 +68,7 @@ fn put_bridges(bridges: &[(u64, u64)], out: &mut [Bridge])
 }
 
 /// Whether some array is too short for what the sizes tell.
-fn is_short(
+pub(crate) fn is_short(
     sizes: &CactusSizes,
     node_starts: usize,
     vertices: usize,
@@ -85,50 +86,50 @@ fn is_short(
         || members < sizes.members
 }
 
-/// Puts a cactus into arrays where all of them have the room, and else into none; the sizes are told in each case.
-pub(crate) fn put_flat(
-    flat: &FlatCactus,
-    least: u64,
-    sizes: &mut CactusSizes,
-    node_starts: &mut [usize],
-    vertices: &mut [u32],
-    bridges: &mut [Bridge],
-    cycle_starts: &mut [usize],
-    members: &mut [u64],
-) -> bool
-    ensures value { sizes.new.value ≡ least }
-    ensures counts { Counts flat.now sizes.new }
-    ensures held { IsTrue result → HoldsFlat flat.now sizes.new node_starts.new vertices.new bridges.new cycle_starts.new members.new }
-    ensures short { IsFalse result → IsShort sizes.new (length node_starts.old) (length vertices.old) (length bridges.old) (length cycle_starts.old) (length members.old) }
-    ensures left { IsFalse result → (node_starts.new ≡ node_starts.old) × (vertices.new ≡ vertices.old) × (bridges.new ≡ bridges.old) × (cycle_starts.new ≡ cycle_starts.old) × (members.new ≡ members.old) }
+/// The value, and how many entries of each array a cactus takes.
+pub(crate) fn sizes_of(flat: &FlatCactus, least: u64) -> CactusSizes
+    ensures value { result.value ≡ least }
+    ensures counts { Counts flat.now result }
 {
     let nodes = flat.node_lists();
     let (node_places, node_vertices) = nodes;
     let cycles = flat.cycle_lists();
     let (cycle_places, cycle_members) = cycles;
-    let pairs = flat.bridges();
-    *sizes = CactusSizes {
+    CactusSizes {
         value: least,
         nodes: node_places.len(),
         vertices: node_vertices.len(),
-        bridges: pairs.len(),
+        bridges: flat.bridges().len(),
         cycles: cycle_places.len(),
         members: cycle_members.len(),
-    };
-    if is_short(
-        sizes,
-        node_starts.len(),
-        vertices.len(),
-        bridges.len(),
-        cycle_starts.len(),
-        members.len(),
-    ) {
-        return false;
     }
+}
+
+/// Puts a cactus into arrays that have the room.
+pub(crate) fn put_flat(
+    flat: &FlatCactus,
+    node_starts: &mut [usize],
+    vertices: &mut [u32],
+    bridges: &mut [Bridge],
+    cycle_starts: &mut [usize],
+    members: &mut [u64],
+)
+    requires for_nodes { length flat.now.nodes ≤ length node_starts.old }
+    requires for_vertices { items_in flat.now.nodes ≤ length vertices.old }
+    requires for_bridges { length flat.now.bridges ≤ length bridges.old }
+    requires for_cycles { length flat.now.cycles ≤ length cycle_starts.old }
+    requires for_members { items_in flat.now.cycles ≤ length members.old }
+    ensures nodes { HoldsNodes flat.now.nodes (items_in flat.now.nodes) node_starts.new vertices.new }
+    ensures bridges { BeginsWithBridges flat.now.bridges bridges.new }
+    ensures cycles { HoldsCycles flat.now.cycles (items_in flat.now.cycles) cycle_starts.new members.new }
+{
+    let nodes = flat.node_lists();
+    let (node_places, node_vertices) = nodes;
+    let cycles = flat.cycle_lists();
+    let (cycle_places, cycle_members) = cycles;
     put_places(node_places, node_starts);
     put_vertices(node_vertices, vertices);
-    put_bridges(pairs, bridges);
+    put_bridges(flat.bridges(), bridges);
     put_places(cycle_places, cycle_starts);
     put_members(cycle_members, members);
-    true
 }

@@ -1,6 +1,6 @@
 //! The masses of the vertices, by an array.
 
-ghost use Rattle.std.specs.Prelude.{ℕ, ◌≡◌, ◌<◌, ◌≤◌, ◌^◌, IfOk, IfErr, OnOk, IsTrue, IsFalse, length, sum};
+ghost use Rattle.std.specs.Prelude.{◌≡◌, ◌<◌, ◌≤◌, ◌^◌, IfOk, IfErr, OnOk, IsTrue, IsFalse, length, sum};
 ghost use Rattle.mincut_c.specs.Statuses.{IsMassReason, masses_for, number_of};
 
 use crate::status::Fault;

@@ -1,6 +1,6 @@
 //! Lists of minimum cuts: those of a least balance, and those that separate two vertices.
 
-ghost use Rattle.std.specs.Prelude.{ℕ, ◌≡◌, ◌≢◌, ◌⊎◌, ◌*◌, ◌<◌, ◌≤◌, ◌^◌, true, IfOk, IfErr, OnOk, length};
+ghost use Rattle.std.specs.Prelude.{◌≡◌, ◌≢◌, ◌⊎◌, ◌*◌, ◌<◌, ◌≤◌, ◌^◌, true, IfOk, IfErr, OnOk, length};
 ghost use Rattle.cut_definitions.specs.Cuts.{mincuts, value};
 ghost use Rattle.cut_definitions.specs.Graph.{Graph};
 ghost use Rattle.edge_arrays.specs.Given.{given};

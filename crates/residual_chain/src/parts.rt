@@ -1,6 +1,6 @@
 //! The parts of a chain, one after another.
 
-ghost use Rattle.std.specs.Prelude.{◌≡◌, ◌+◌, ◌<◌, ◌≤◌, length, IfOk, OnOk, IsSome};
+ghost use Rattle.std.specs.Prelude.{◌≡◌, ◌≤◌, length, IfOk, OnOk, IsSome};
 ghost use Rattle.cut_definitions.specs.Chain.{IsChain, IsJoined};
 ghost use Rattle.cut_definitions.specs.Graph.{IsEdgeList};
 ghost use Rattle.residual_chain.specs.Residuals.{first_end, leads};

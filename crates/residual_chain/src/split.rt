@@ -1,6 +1,6 @@
 //! The division of all vertices without a mark into parts.
 
-ghost use Rattle.std.specs.Prelude.{◌≡◌, ◌+◌, ◌<◌, ◌≤◌, length, IsSome};
+ghost use Rattle.std.specs.Prelude.{◌≡◌, ◌≤◌, length, IsSome};
 ghost use Rattle.residual_chain.specs.Residuals.{leads};
 ghost use Rattle.residual_chain.specs.Search.{steps, IsShown};
 ghost use Rattle.arc_search.specs.Split.{IsToSplit};

@@ -1,37 +1,34 @@
-use Rattle.std.proofs.Common.{refl, subst, ℕ, List}
+use Rattle.std.proofs.Common.{subst, sym, ℕ, List, arith}
 use Rattle.mincut_c.specs.Filled.{BeginsWithBridges}
-use Rattle.mincut_c.proofs.Counting.{counted}
+use Rattle.mincut_c.proofs.Counting.{many}
 use Rattle.mincut_c.proofs.filling.put_flat.Goals as goal
 
-pub returns-then-is_short-clause-counts : goal.returns-then-is_short-clause-counts
-returns-then-is_short-clause-counts c =
-    counted c.args.flat.now c.args.least c.node_lists-nodes.result.0.now c.node_lists-nodes.result.1.now c.cycle_lists-cycles.result.0.now c.cycle_lists-cycles.result.1.now c.bridges-pairs.result.now
-    c.node_lists-nodes.ensures.cut c.node_lists-nodes.ensures.total c.bridges-pairs.ensures c.cycle_lists-cycles.ensures.cut c.cycle_lists-cycles.ensures.total
+-- as many places as nodes, and as cycles
+pub put_places-requires : goal.put_places-requires
+put_places-requires c = omega (arith, many c.node_lists-nodes.result.0.now c.node_lists-nodes.result.1.now c.args.flat.now.nodes c.node_lists-nodes.ensures.cut, c.requires.for_nodes)
 
-pub returns-clause-counts : goal.returns-clause-counts
-returns-clause-counts c =
-    counted c.args.flat.now c.args.least c.node_lists-nodes.result.0.now c.node_lists-nodes.result.1.now c.cycle_lists-cycles.result.0.now c.cycle_lists-cycles.result.1.now c.bridges-pairs.result.now
-    c.node_lists-nodes.ensures.cut c.node_lists-nodes.ensures.total c.bridges-pairs.ensures c.cycle_lists-cycles.ensures.cut c.cycle_lists-cycles.ensures.total
+pub put_places-requires-2 : goal.put_places-requires-2
+put_places-requires-2 c = omega (arith, many c.cycle_lists-cycles.result.0.now c.cycle_lists-cycles.result.1.now c.args.flat.now.cycles c.cycle_lists-cycles.ensures.cut, c.requires.for_cycles)
 
-pub returns-clause-held : goal.returns-clause-held
-returns-clause-held c = λ _. record {
-  counts = counted c.args.flat.now c.args.least c.node_lists-nodes.result.0.now c.node_lists-nodes.result.1.now c.cycle_lists-cycles.result.0.now c.cycle_lists-cycles.result.1.now c.bridges-pairs.result.now
-      c.node_lists-nodes.ensures.cut c.node_lists-nodes.ensures.total c.bridges-pairs.ensures c.cycle_lists-cycles.ensures.cut c.cycle_lists-cycles.ensures.total;
-  nodes = record {
-    places = c.node_lists-nodes.result.0.now;
-    items = c.node_lists-nodes.result.1.now;
-    cut = c.node_lists-nodes.ensures.cut;
-    counted = refl;
-    starts = c.put_places.ensures;
-    items_held = c.put_vertices.ensures;
-  };
-  bridges = subst (λ (bs : List (ℕ × ℕ)). BeginsWithBridges bs c.put_bridges.new.out) c.bridges-pairs.ensures c.put_bridges.ensures;
-  cycles = record {
-    places = c.cycle_lists-cycles.result.0.now;
-    items = c.cycle_lists-cycles.result.1.now;
-    cut = c.cycle_lists-cycles.ensures.cut;
-    counted = refl;
-    starts = c.put_places-2.ensures;
-    items_held = c.put_members.ensures;
-  };
+pub returns-clause-nodes : goal.returns-clause-nodes
+returns-clause-nodes c = record {
+  places = c.node_lists-nodes.result.0.now;
+  items = c.node_lists-nodes.result.1.now;
+  cut = c.node_lists-nodes.ensures.cut;
+  counted = sym c.node_lists-nodes.ensures.total;
+  starts = c.put_places.ensures;
+  items_held = c.put_vertices.ensures;
+}
+
+pub returns-clause-bridges : goal.returns-clause-bridges
+returns-clause-bridges c = subst (λ (bs : List (ℕ × ℕ)). BeginsWithBridges bs c.put_bridges.new.out) c.bridges.ensures c.put_bridges.ensures
+
+pub returns-clause-cycles : goal.returns-clause-cycles
+returns-clause-cycles c = record {
+  places = c.cycle_lists-cycles.result.0.now;
+  items = c.cycle_lists-cycles.result.1.now;
+  cut = c.cycle_lists-cycles.ensures.cut;
+  counted = sym c.cycle_lists-cycles.ensures.total;
+  starts = c.put_places-2.ensures;
+  items_held = c.put_members.ensures;
 }
