@@ -12,13 +12,13 @@ use cut_definitions::NoMemory;
 
 /// What lies between the parts of a chain: for each part the weight between it and all later ones, and between it and the next.
 #[derive(Clone, Copy)]
-pub struct PartWeights<'a> {
+pub struct ChainWeights<'a> {
     pub later: &'a [u64],
     pub next: &'a [u64],
 }
 
 /// How the part after an inner one hangs from it, by what lies between the parts.
-fn hanging_after(i: u32, count: u32, weights: PartWeights<'_>, value: u64) -> Hanging
+fn hanging_after(i: u32, count: u32, weights: ChainWeights<'_>, value: u64) -> Hanging
     requires from_two { 2 ≤ i }
     requires below_count { i < count }
     requires later { count < length weights.later.now }
@@ -47,7 +47,7 @@ fn hanging_after(i: u32, count: u32, weights: PartWeights<'_>, value: u64) -> Ha
 pub fn hang_parts(
     tree: &mut FlatTree,
     count: u32,
-    weights: PartWeights<'_>,
+    weights: ChainWeights<'_>,
     value: u64,
     node: usize,
     nodes: &mut [usize],
