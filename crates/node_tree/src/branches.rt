@@ -1,6 +1,6 @@
 //! A graph that is a tree, all of whose edges weigh the value: each edge is a minimum cut, and there is no other.
 
-ghost use Rattle.std.specs.Prelude.{◌≡◌, ◌↔◌, ◌∷◌, ◌+◌, ◌<◌, ◌≤◌, [], ℕ, false, IfOk, IfSome, IsTrue, OnOk, length, replicate};
+ghost use Rattle.std.specs.Prelude.{◌≡◌, ◌↔◌, ◌+◌, ◌<◌, ◌≤◌, ℕ, IfOk, IfSome, IsTrue, OnOk, length};
 ghost use Rattle.cut_definitions.specs.Components.{IsConnected};
 ghost use Rattle.cut_definitions.specs.Cuts.{value as least_value};
 ghost use Rattle.node_tree.specs.Branches.{AddsBranch, found, IsAbove, IsBranching, IsFound, IsPutAlong, IsSearch};

@@ -1,6 +1,6 @@
 //! A finished tree, and the node that each vertex is in.
 
-ghost use Rattle.std.specs.Prelude.{◌≡◌, ◌∷◌, ◌+◌, ◌<◌, [], ℕ, false, IfOk, length, map, replicate, slice_index};
+ghost use Rattle.std.specs.Prelude.{◌≡◌, ◌∷◌, ◌+◌, ◌<◌, [], false, IfOk, length, map, replicate, slice_index};
 ghost use Rattle.std.specs.List.{All};
 
 use crate::tree::FlatTree;

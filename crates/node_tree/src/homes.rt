@@ -1,6 +1,6 @@
 //! The nodes of the vertices while regions are left.
 
-ghost use Rattle.std.specs.Prelude.{◌≡◌, ◌+◌, ◌<◌, ◌≤◌, ◌^◌, ℕ, IfOk, length, slice_index, slice_set, replicate};
+ghost use Rattle.std.specs.Prelude.{◌≡◌, ◌+◌, ◌<◌, IfOk, length, slice_index, slice_set, replicate};
 ghost use Rattle.node_tree.specs.Homes.{HomesState};
 
 use cut_definitions::NoMemory;

@@ -1,6 +1,6 @@
 //! The cactus of a finished tree.
 
-ghost use Rattle.std.specs.Prelude.{ℕ, ◌≡◌, ◌↔◌, ◌+◌, ◌-◌, ◌<◌, ◌≤◌, ◌++◌, [], false, true, IfOk, IsFalse, IsTrue, OnOk, length, reverse, slice_index, take, drop};
+ghost use Rattle.std.specs.Prelude.{ℕ, ◌≡◌, ◌↔◌, ◌+◌, ◌<◌, ◌≤◌, [], true, IfOk, IsFalse, IsTrue, OnOk, length, reverse, slice_index, take, drop};
 ghost use Rattle.std.specs.List.{All, Contains, filter, range_with_len};
 ghost use Rattle.cut_definitions.specs.Weight.{VertexSet};
 ghost use Rattle.rooted_cactus.specs.Different.{HaveSameSides, HasNoEmptySide};
@@ -8,8 +8,8 @@ ghost use Rattle.rooted_cactus.specs.Normal.{is_normal};
 ghost use Rattle.rooted_cactus.specs.Trees.{blocks, nodes_in, vertices};
 ghost use Rattle.rooted_cactus.specs.Rooted.{sides_of};
 ghost use Rattle.node_tree.specs.Finished.{arrays_of};
-ghost use Rattle.node_tree.specs.Flat.{AreNodes, is_follower, sets_of};
-ghost use Rattle.node_tree.specs.Forest.{AddsBlock, AddsVertex, AreFrom, IsBlockOf, IsChangedAt, IsFilled, IsForest, IsPlaced};
+ghost use Rattle.node_tree.specs.Flat.{AreNodes, sets_of};
+ghost use Rattle.node_tree.specs.Forest.{AddsBlock, AddsVertex, AreFrom, IsBlockOf, IsChangedAt, IsFilled, IsPlaced};
 ghost use Rattle.node_tree.specs.TreeSets.{IsTreeSide};
 
 use crate::homed_tree::HomedTree;

@@ -1,6 +1,6 @@
 //! The tree of nodes, in arrays.
 
-ghost use Rattle.std.specs.Prelude.{◌≡◌, ◌+◌, ◌-◌, ◌^◌, ◌<◌, ◌≤◌, ◌++◌, ◌∷◌, [], ℕ, true, false, IfOk, OnOk, length, slice_index};
+ghost use Rattle.std.specs.Prelude.{◌≡◌, ◌+◌, ◌-◌, ◌^◌, ◌<◌, ◌≤◌, ◌∷◌, [], ℕ, true, false, IfOk, OnOk, length, slice_index};
 ghost use Rattle.node_tree.specs.Flat.{AddsAfter, AddsBelow, AddsBeyond, AddsNode, is_follower};
 ghost use Rattle.node_tree.specs.Grafted.{grafted_at, IsGrafted};
 
