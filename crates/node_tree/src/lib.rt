@@ -19,5 +19,5 @@ pub use branches::tree_of_branches;
 pub use homed_tree::HomedTree;
 pub use homes::Homes;
 pub use into_cactus::{MadeCactus, cactus_of_tree, normal_form};
-pub use part_nodes::{ChainWeights, hang_parts};
+pub use part_nodes::hang_parts;
 pub use tree::{FlatTree, grafted_at};

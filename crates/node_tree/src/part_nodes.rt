@@ -1,6 +1,6 @@
 //! The nodes of the parts of a region.
 
-ghost use Rattle.std.specs.Prelude.{◌≡◌, ◌<◌, ◌≤◌, ℕ, IfOk, length, slice_index};
+ghost use Rattle.std.specs.Prelude.{◌≡◌, ◌+◌, ◌<◌, ◌≤◌, ℕ, IfOk, length, slice_index};
 ghost use Rattle.cut_definitions.specs.Graph.{Graph};
 ghost use Rattle.cut_definitions.specs.Weight.{VertexSet};
 ghost use Rattle.node_tree.specs.Flat.{AreLinked};
@@ -10,58 +10,43 @@ use crate::kind::hanging;
 use crate::tree::{FlatTree, Hanging};
 use cut_definitions::NoMemory;
 
-/// What lies between the parts of a chain: for each part the weight between it and all later ones, and between it and the next.
-#[derive(Clone, Copy)]
-pub struct ChainWeights<'a> {
-    pub later: &'a [u64],
-    pub next: &'a [u64],
-}
-
 /// How the part after an inner one hangs from it, by what lies between the parts.
-fn hanging_after(i: u32, count: u32, weights: ChainWeights<'_>, value: u64) -> Hanging
+fn hanging_after(i: u32, count: u32, later: &[u64], next: &[u64], value: u64) -> Hanging
     requires from_two { 2 ≤ i }
     requires below_count { i < count }
-    requires later { count < length weights.later.now }
-    requires next { count < length weights.next.now }
-    requires small { AreSmall count value weights.later.now weights.next.now }
-    ensures { (g : Graph) (region : VertexSet) (t : ℕ) (part : ℕ → ℕ) → IsWeighedChain g region t count part value weights.entry.later.now weights.entry.next.now → MayHang g count part i result }
+    requires later { count < length later.now }
+    requires next { count < length next.now }
+    requires small { AreSmall count value later.now next.now }
+    ensures { (g : Graph) (region : VertexSet) (t : ℕ) (part : ℕ → ℕ) → IsWeighedChain g region t count part value later.now next.now → MayHang g count part i result }
 {
     let inner = i + 1 < count;
-    let after = if inner {
-        2 * weights.later[i as usize + 1]
-    } else {
-        0
-    };
-    hanging(
-        2 * weights.later[i as usize],
-        inner,
-        after,
-        weights.next[i as usize],
-        value,
-    )
+    let after = if inner { 2 * later[i as usize + 1] } else { 0 };
+    hanging(2 * later[i as usize], inner, after, next[i as usize], value)
 }
 
 /// Hangs a node for each part from the second on, the second below the node of the region, and writes the node of each part.
 ///
-/// Each part takes one step. Want of memory is its only refusal, and then nodes may have been hung.
+/// `later` and `next` are what `weigh_parts` wrote of a chain. Each part takes one step. Want of memory is its only refusal,
+/// and then nodes may have been hung.
 pub fn hang_parts(
     tree: &mut FlatTree,
     count: u32,
-    weights: ChainWeights<'_>,
+    later: &[u64],
+    next: &[u64],
     value: u64,
     node: usize,
     nodes: &mut [usize],
 ) -> Result<(), NoMemory>
     requires node { node < length tree.old.uppers }
     requires two { 2 ≤ count }
-    requires later { count < length weights.later.now }
-    requires next { count < length weights.next.now }
+    requires later { count < length later.now }
+    requires next { count < length next.now }
     requires nodes { count < length nodes.old }
-    requires small { AreSmall count value weights.later.now weights.next.now }
+    requires small { AreSmall count value later.now next.now }
     ensures long { length nodes.new ≡ length nodes.old }
     ensures first { IfOk result (λ _. slice_index nodes.new 1 ≡ node) }
     ensures within { IfOk result (λ _. (i : ℕ) → 1 ≤ i → i ≤ count → slice_index nodes.new i < length tree.new.uppers) }
-    ensures linked { IfOk result (λ _. (g : Graph) (region : VertexSet) (t : ℕ) (part : ℕ → ℕ) → IsWeighedChain g region t count part value weights.entry.later.now weights.entry.next.now →
+    ensures linked { IfOk result (λ _. (g : Graph) (region : VertexSet) (t : ℕ) (part : ℕ → ℕ) → IsWeighedChain g region t count part value later.now next.now →
         AreLinked g count part (λ i. slice_index nodes.new i) node tree.old tree.new) }
 {
     let _nodes = tree.len();
@@ -69,7 +54,7 @@ pub fn hang_parts(
     nodes[1] = node;
     nodes[2] = second;
     for i in 2..count {
-        let hanging = hanging_after(i, count, weights, value);
+        let hanging = hanging_after(i, count, later, next, value);
         let last = tree.hang_next(hanging)?;
         nodes[i as usize + 1] = last;
     }

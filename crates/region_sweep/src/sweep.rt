@@ -19,7 +19,7 @@ use crate::supply::Supply;
 use crate::surplus::Surplus;
 use crate::weights::weigh_parts;
 use cut_definitions::NoMemory;
-use node_tree::{ChainWeights, FlatTree, HomedTree, Homes, hang_parts};
+use node_tree::{FlatTree, HomedTree, Homes, hang_parts};
 use region_flow::RegionFlow;
 use region_fronts::{Fronts, Parts, open_beside};
 use region_parts::Splitter;
@@ -291,8 +291,7 @@ impl Sweep {
         weigh_parts(parted, &self.flow, later, next);
         let count = self.parts.count();
         let nodes = self.nodes.as_mut_slice();
-        let weights = ChainWeights { later, next };
-        hang_parts(&mut self.tree, count, weights, value, node, nodes)?;
+        hang_parts(&mut self.tree, count, later, next, value, node, nodes)?;
         self.fresh = regroup(
             parted,
             &mut self.flow,

@@ -9,7 +9,7 @@ use Rattle.node_tree.proofs.part_nodes.hanging_after.Goals.{then-inner, else-inn
 pub returns : goal.returns
 returns c = λ g region t part w.
     let inner = ltb (c.args.i + 1) c.args.count in
-    may_hang c.hanging.result g region t c.args.count part c.args.value c.args.weights.later.now c.args.weights.next.now c.args.i c.if-inner.after inner w c.requires.from_two c.requires.below_count
+    may_hang c.hanging.result g region t c.args.count part c.args.value c.args.later.now c.args.next.now c.args.i c.if-inner.after inner w c.requires.from_two c.requires.below_count
     (λ below. (
       lt-ltb (c.args.i + 1) c.args.count below,
       elim c.if-inner.branch [
