@@ -1,19 +1,23 @@
 #!/usr/bin/env python3
 """How time grows on closed bands of all kinds and on expanders, which are the slow corners of searches for cuts.
 
-    bench/bands.py [--program PATH] [--kinds WORD,..] [--jobs value,count] [--vertices 20000] [--steps 3] [--repetitions 3]
-                   [--timeout 30] [--compare COMMAND]
+    bench/bands.py [--program PATH] [--kinds WORDS ..] [--jobs value,count] [--vertices 20000] [--steps 3] [--repetitions 3]
+                   [--timeout 30] [--compare COMMAND] [--instructions]
 
-Each kind that has one of the words in its name is made with about so many vertices, then twice as many, and so on, numbered along
-where the name does not say otherwise. For each job the table has the least processor time of each step, in seconds, and the exponent
-of its growth in the number of edges, over the steps that take a fiftieth of a second or more; where the job's answer is known, it is
-compared. COMMAND is run on the same files with the first job, its input the graph. No gate runs this script. Exit status 1 where an
-answer differs or a run fails; a run that was stopped at the time limit ends its row.
+Each kind whose name has some of the words in it, such as 'torus of 4', is made with about so many vertices, then twice as many, and so
+on, numbered along where the name does not say otherwise. For each job the table has the least processor time of each step, in seconds,
+and the exponent of its growth in the number of edges, over the steps that take a fiftieth of a second or more; the values that the jobs
+print are compared. COMMAND is run on the same files, its input the graph. With --instructions millions of instructions are counted in
+place of seconds, by `valgrind`, once for each step: where these grow as the edges do and the time does not, the caches make the
+difference. No gate runs this script. Exit status 1 where values differ or a run fails; a run that was stopped at the time limit ends
+its row.
 """
 import argparse
 import os
 import random
+import re
 import shlex
+import subprocess
 import sys
 import tempfile
 
@@ -133,8 +137,19 @@ def written(kind, n, path):
     return n, len(edges)
 
 
+def instructions(command, path, out_path):
+    """Millions of instructions of one run, or a word that says why there is none."""
+    with open(path, 'rb') as source, open(out_path, 'wb') as out:
+        ran = subprocess.run(['valgrind', '--tool=callgrind', '--callgrind-out-file=/dev/null', *command], stdin=source, stdout=out,
+                             stderr=subprocess.PIPE, text=True)
+    counted = re.search(r'Collected : (\d+)', ran.stderr)
+    return int(counted[1]) / 1e6 if ran.returncode == 0 and counted else f'status {ran.returncode}'
+
+
 def least(command, path, out_path, options):
-    """The least processor time, or a word that says why there is none."""
+    """The least processor time, or what is counted in its place, or a word that says why there is none."""
+    if options.instructions:
+        return instructions(command, path, out_path)
     found = []
     for _ in range(options.repetitions):
         ran = running.run_measured(command, path, out_path, options.timeout, 0)
@@ -148,7 +163,7 @@ def least(command, path, out_path, options):
 
 def cells(found):
     """The times of one job over the steps, and their exponent."""
-    times = ', '.join(f'{time:.2f}' if isinstance(time, float) else time for _, time in found)
+    times = ', '.join((f'{time:.2f}' if time < 100 else f'{time:.0f}') if isinstance(time, float) else time for _, time in found)
     slope = solve.exponent([(edges, time) for edges, time in found if isinstance(time, float)])
     return f'{times} | {slope:.2f}' if slope is not None else f'{times} | '
 
@@ -182,18 +197,20 @@ def measured(kind, options, folder):
 def main():
     parser = argparse.ArgumentParser(description=__doc__, formatter_class=argparse.RawDescriptionHelpFormatter)
     running.add_program(parser)
-    parser.add_argument('--kinds', default='')
+    parser.add_argument('--kinds', nargs='*', default=[''])
     parser.add_argument('--jobs', default='value,count', type=lambda text: text.split(','))
     parser.add_argument('--vertices', type=int, default=20_000)
     parser.add_argument('--steps', type=int, default=3)
     parser.add_argument('--repetitions', type=int, default=3)
     parser.add_argument('--timeout', type=float, default=30)
     parser.add_argument('--compare', default='')
+    parser.add_argument('--instructions', action='store_true')
     options = parser.parse_args()
     options.program = running.ready(options.program)
-    names = [kind for kind in kinds() if any(word in kind for word in options.kinds.split(','))]
+    names = [kind for kind in kinds() if any(words in kind for words in options.kinds)]
     jobs = [*(f'`{job}`' for job in options.jobs), *(['compared'] if options.compare else [])]
-    print('| Kind | Edges | ' + ' | '.join(f'{job}, s | exponent' for job in jobs) + ' |')
+    unit = 'millions' if options.instructions else 's'
+    print('| Kind | Edges | ' + ' | '.join(f'{job}, {unit} | exponent' for job in jobs) + ' |')
     print('| --- | --- |' + ' --- | --: |' * len(jobs), flush=True)
     with tempfile.TemporaryDirectory() as folder:
         return 0 if all([measured(kind, options, folder) for kind in names]) else 1
