@@ -252,6 +252,32 @@ def heavy_edges(rng: Random, most: int) -> Graph:
     return graph_of(n, random_tree(rng, n, weigh) + random_pairs(rng, n, 0.4, weigh))
 
 
+def band(rng: Random, most: int) -> Graph:
+    """A closed band: a ring joined to itself at a distance, or two or three rings side by side with rungs; at times with one edge that is
+    heavier, or a vertex on an edge."""
+    if most < 6:
+        return ring(rng, most)
+    rings = rng.choice([some for some in (1, 1, 1, 2, 3) if 3 * some < most])
+    k = rng.randrange(5 if rings == 1 else 3, (most - 1) // rings + 1)
+    along, across = rng.choice([(1, 1), (2, 1), (3, 1), (5, 1), (1, 2)])
+    at = lambda i, v: 1 + i % rings * k + v % k
+    weights = [pair for i in range(rings) for pair in ring_of([at(i, v) for v in range(k)], along)]
+    if rings == 1:
+        distance = rng.randrange(2, k // 2 + 1)
+        weights += [((at(0, v), at(0, v + distance)), across) for v in range(k if 2 * distance < k else k // 2)]
+    else:
+        weights += [((at(i, v), at(i + 1, v)), across) for i in range(rings if rings > 2 else 1) for v in range(k)]
+    (u, v), w = weights[0]
+    change = rng.randrange(4)
+    if change == 0:
+        weights[0] = (u, v), 5 * w
+    n = rings * k
+    if change == 1:
+        n += 1
+        weights[:1] = [((u, n), w), ((v, n), w)]
+    return graph_of(n, weights)
+
+
 def two_pieces(rng: Random, most: int) -> Graph:
     """A graph and one to three vertices apart from it."""
     first = rng.choice([sparse, ring, dense])(rng, most - 3)
@@ -264,7 +290,7 @@ Maker = Callable[[Random, int], Graph]
 KINDS: dict[str, tuple[Maker, int]] = {
     'tiny': (tiny, 1), 'sparse': (sparse, 4), 'dense': (dense, 3), 'unit': (unit, 3), 'ring': (ring, 1), 'uneven ring': (uneven_ring, 1),
     'tree': (tree, 2), 'clique': (clique, 1), 'named': (named, 2), 'rings': (rings, 5), 'blocks': (blocks, 5), 'hollow': (hollow, 8),
-    'blown up': (blown_up, 4), 'heavy edges': (heavy_edges, 2), 'two pieces': (two_pieces, 1)}
+    'blown up': (blown_up, 4), 'heavy edges': (heavy_edges, 2), 'band': (band, 4), 'two pieces': (two_pieces, 1)}
 # The kinds of larger graphs, whose minimum cuts are not too many.
 LARGE: list[Maker] = [ring, tree, rings, blocks, blocks, hollow, hollow, blown_up]
 
