@@ -6,7 +6,7 @@ ghost use Rattle.cut_definitions.specs.Safe.{IsFair};
 use crate::triangle::uneven_triangle;
 use cut_definitions::NoMemory;
 use edge_certificates::heavy_edge;
-use mark_board::{Board, BoardSeat};
+use mark_board::{Board, BoardSeat, Marks};
 use weighted_graph::Graph;
 
 /// The degree of a vertex, which is the weight of a cut.
@@ -41,43 +41,62 @@ fn marks_the_heavy_edge(graph: &Graph, board: &Board, seat: &mut BoardSeat) -> b
     !before && board.is_marked(seat, 0)
 }
 
+/// Whether a new seat finds that edge 0 is marked.
+fn finds_the_mark(board: &Board, seat: &mut BoardSeat) -> bool
+    requires seat { seat.old.board ≡ board.now }
+    requires edges { 0 < length board.now.graph.edges }
+    ensures { seat.new.board ≡ board.now }
+{
+    let mut other = board.split(seat);
+    board.is_marked(&mut other, 0)
+}
+
+/// Whether just the first of three edges is marked.
+fn has_first_alone(marks: &Marks) -> bool
+    requires { marks.now.edges ≡ 3 }
+{
+    marks.has(0) && !marks.has(1) && !marks.has(2)
+}
+
 #[test]
-fn a_mark_is_kept_at_the_close(rt: HostRuntime) -> Result<(), NoMemory> {
+fn a_mark_is_found_and_kept_at_the_close(rt: HostRuntime) -> Result<(), NoMemory> {
     let graph = uneven_triangle(rt.alloc())?;
     let (board, mut seat) = Board::open(rt.alloc(), &graph, degree_of(&graph, 1), 0)?;
     let marked = marks_the_heavy_edge(&graph, &board, &mut seat);
+    let found = finds_the_mark(&board, &mut seat);
     let (bound, marks) = board.close(seat);
-    assert!(rt; marked && bound == 5 && marks.has(0) && !marks.has(1) && !marks.has(2));
+    assert!(rt; marked && found && bound == 5 && has_first_alone(&marks));
     Ok(())
 }
 
-#[test]
-fn a_new_seat_finds_the_mark_of_another(rt: HostRuntime) -> Result<(), NoMemory> {
-    let graph = uneven_triangle(rt.alloc())?;
-    let (board, mut seat) = Board::open(rt.alloc(), &graph, degree_of(&graph, 1), 0)?;
-    let marked = marks_the_heavy_edge(&graph, &board, &mut seat);
-    let mut other = board.split(&mut seat);
-    assert!(rt; marked && board.is_marked(&mut other, 0));
-    Ok(())
-}
-
-#[test]
-fn a_lowering_is_seen(rt: HostRuntime) -> Result<(), NoMemory> {
-    let graph = uneven_triangle(rt.alloc())?;
-    let (board, mut seat) = Board::open(rt.alloc(), &graph, degree_of(&graph, 1), 0)?;
-    let mut other = board.split(&mut seat);
-    let lowered = board.lower(&mut other, degree_of(&graph, 3));
-    assert!(rt; lowered == 5 && board.bound(&mut seat) == 5);
-    Ok(())
-}
-
-#[test]
-fn a_vertex_is_won_once(rt: HostRuntime) -> Result<(), NoMemory> {
-    let graph = uneven_triangle(rt.alloc())?;
-    let (board, mut seat) = Board::open(rt.alloc(), &graph, degree_of(&graph, 1), 0)?;
-    let first = board.take(&mut seat, 2);
-    let mut other = board.split(&mut seat);
+/// Whether vertex 2 is won by one of two seats alone, and vertex 3 by the other.
+fn is_won_once(board: &Board, seat: &mut BoardSeat) -> bool
+    requires seat { seat.old.board ≡ board.now }
+    requires vertices { 3 ≤ board.now.graph.vertices }
+    ensures { seat.new.board ≡ board.now }
+{
+    let first = board.take(seat, 2);
+    let mut other = board.split(seat);
     let again = board.take(&mut other, 2);
-    assert!(rt; first && !again && board.take(&mut other, 3));
+    first && !again && board.take(&mut other, 3)
+}
+
+/// Whether a seat sees that another has lowered the bound to the degree of vertex 3.
+fn sees_a_lowering(graph: &Graph, board: &Board, seat: &mut BoardSeat) -> bool
+    requires seat { seat.old.board ≡ board.now }
+    requires graph { board.now.graph ≡ graph.now }
+    requires vertices { 3 ≤ graph.now.vertices }
+{
+    let mut other = board.split(seat);
+    let lowered = board.lower(&mut other, degree_of(graph, 3));
+    lowered == 5 && board.bound(seat) == 5
+}
+
+#[test]
+fn two_seats_take_and_lower(rt: HostRuntime) -> Result<(), NoMemory> {
+    let graph = uneven_triangle(rt.alloc())?;
+    let (board, mut seat) = Board::open(rt.alloc(), &graph, degree_of(&graph, 1), 0)?;
+    let won = is_won_once(&board, &mut seat);
+    assert!(rt; won && sees_a_lowering(&graph, &board, &mut seat));
     Ok(())
 }

@@ -1,6 +1,6 @@
 //! Events of the machine.
 
-ghost use Rattle.std.specs.Prelude.{◌≡◌, [], ◌∷◌, IfOk};
+ghost use Rattle.std.specs.Prelude.{◌≡◌, [], ◌∷◌, IfOk, length};
 ghost use Rattle.scan_core.specs.Machine.{opening_machine};
 ghost use Rattle.scan_core.specs.Shown.{Shows};
 
@@ -140,39 +140,63 @@ fn replayed(core: &mut Core, graph: &Graph, events: &[Event]) -> Result<u64, NoM
     Ok(allowed)
 }
 
-/// What is left once events were played: how many were allowed, which edges are marked, whether vertex 2 is taken, and what seat
-/// 2 saw last.
-struct Played {
+/// Steps from the opening, how many of their events are replayed, and what is left of these: how many were allowed, which edges
+/// are marked, whether vertex 2 is taken, and what seat 2 saw last.
+struct Told {
+    steps: &'static [Step],
+    replayed: usize,
     allowed: u64,
     marked: [bool; 3],
     taken: bool,
     seen: u64,
 }
 
-/// Whether this is left of the events of the steps, and the bound is 5.
-fn leaves(alloc: Global, graph: &Graph, steps: &[Step], played: &Played) -> Result<bool, NoMemory>
+/// Whether this is left on the machine, and the bound is 5.
+fn has_left(core: &Core, told: &Told) -> bool
+    requires vertices { core.now.graph.vertices ≡ 3 }
+    requires edges { length core.now.graph.edges ≡ 3 }
+{
+    let marked = [core.is_marked(0), core.is_marked(1), core.is_marked(2)];
+    core.bound() == 5
+        && core.seen(2) == Some(told.seen)
+        && marked == told.marked
+        && core.is_taken(2) == told.taken
+}
+
+/// Whether this is left of the first events.
+fn leaves(alloc: Global, graph: &Graph, told: &Told) -> Result<bool, NoMemory>
     requires { graph.now ≡ record { vertices = 3; edges = record { u = 1; v = 2; w = 5 } ∷ record { u = 1; v = 3; w = 1 } ∷ record { u = 2; v = 3; w = 4 } ∷ [] } }
 {
     let mut core = open_triangle(alloc, graph)?;
-    let events = events_of(alloc, steps)?;
+    let Some(first) = told.steps.get(..told.replayed) else {
+        return Ok(false);
+    };
+    let events = events_of(alloc, first)?;
     let allowed = replayed(&mut core, graph, events.as_slice())?;
-    let marked = [core.is_marked(0), core.is_marked(1), core.is_marked(2)];
-    let seen = core.bound() == 5 && core.seen(2) == Some(played.seen);
-    Ok(
-        seen && allowed == played.allowed
-            && marked == played.marked
-            && core.is_taken(2) == played.taken,
-    )
+    Ok(allowed == told.allowed && has_left(&core, told))
 }
 
-const STALE_PLAYED: Played = Played {
+/// Whether the machine goes through the steps as told, and this is left of the first events.
+fn plays(alloc: Global, graph: &Graph, told: &Told) -> Result<bool, NoMemory>
+    requires { graph.now ≡ record { vertices = 3; edges = record { u = 1; v = 2; w = 5 } ∷ record { u = 1; v = 3; w = 1 } ∷ record { u = 2; v = 3; w = 4 } ∷ [] } }
+{
+    let mut core = open_triangle(alloc, graph)?;
+    let goes = goes(alloc, &mut core, told.steps);
+    Ok(goes && leaves(alloc, graph, told)?)
+}
+
+const STALE_TOLD: Told = Told {
+    steps: &STALE,
+    replayed: 7,
     allowed: 6,
     marked: [true, false, true],
     taken: false,
     seen: 5,
 };
 
-const JOINED_PLAYED: Played = Played {
+const JOINED_TOLD: Told = Told {
+    steps: &JOINED,
+    replayed: 11,
     allowed: 7,
     marked: [true, true, false],
     taken: true,
@@ -180,26 +204,10 @@ const JOINED_PLAYED: Played = Played {
 };
 
 #[test]
-fn a_stale_mark_is_refused(rt: HostRuntime) -> Result<(), NoMemory> {
+fn steps_are_refused_or_taken_and_events_replayed(rt: HostRuntime) -> Result<(), NoMemory> {
     let graph = uneven_triangle(rt.alloc())?;
-    let mut core = open_triangle(rt.alloc(), &graph)?;
-    assert!(rt; goes(rt.alloc(), &mut core, &STALE));
-    Ok(())
-}
-
-#[test]
-fn seats_join_and_take(rt: HostRuntime) -> Result<(), NoMemory> {
-    let graph = uneven_triangle(rt.alloc())?;
-    let mut core = open_triangle(rt.alloc(), &graph)?;
-    assert!(rt; goes(rt.alloc(), &mut core, &JOINED));
-    Ok(())
-}
-
-#[test]
-fn events_are_replayed(rt: HostRuntime) -> Result<(), NoMemory> {
-    let graph = uneven_triangle(rt.alloc())?;
-    let stale = leaves(rt.alloc(), &graph, &STALE[..7], &STALE_PLAYED);
-    let joined = leaves(rt.alloc(), &graph, &JOINED, &JOINED_PLAYED);
+    let stale = plays(rt.alloc(), &graph, &STALE_TOLD);
+    let joined = plays(rt.alloc(), &graph, &JOINED_TOLD);
     assert!(rt; stale == Ok(true) && joined == Ok(true));
     Ok(())
 }

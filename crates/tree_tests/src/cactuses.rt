@@ -1,6 +1,6 @@
 //! Cactuses, their sides, and trees that are built and taken apart.
 
-use crate::trees::{one_bridge, one_ring, ring_and_bridge};
+use crate::trees::{ONE_BRIDGE, ONE_RING, RING_AND_BRIDGE, cactus_of};
 use cactus_tree::{
     Block, Cactus, Children, CutPlaces, Node, VertexList, Walk, cut_places, next_start, put_range,
     rename_node, vertices_in_order,
@@ -20,65 +20,42 @@ pub(crate) fn has_exactly(side: &Side, vertices: &[u32]) -> bool {
     side.len() as usize == vertices.len()
 }
 
-fn is_among(side: &Side, lists: &[&[u32]]) -> bool {
+/// Whether the side is one of the lists.
+pub(crate) fn is_among(side: &Side, lists: &[&[u32]]) -> bool {
+    bit_among(side, lists) != 0
+}
+
+/// The bit at the place of the side among the lists, of which there are at most 64; 0 where it is none of them.
+fn bit_among(side: &Side, lists: &[&[u32]]) -> u64 {
+    let mut bit = 1;
     for vertices in lists {
         if has_exactly(side, vertices) {
-            return true;
+            return bit;
         }
+        bit <<= 1;
     }
-    false
+    0
 }
 
-/// Whether a side of the cactus has these vertices and no other.
-fn has_side(alloc: Global, cactus: &Cactus, vertices: &[u32]) -> Result<bool, NoMemory> {
-    let mut room = Side::empty(alloc, cactus.n())?;
-    let mut walk = Walk::new(alloc, cactus)?;
-    'sides: while walk.next(&mut room) {
-        if has_exactly(&room, vertices) {
-            return Ok(true);
-        }
-    }
-    Ok(false)
-}
-
-/// Whether each side of the cactus is among the lists.
-fn has_no_other(alloc: Global, cactus: &Cactus, lists: &[&[u32]]) -> Result<bool, NoMemory> {
-    let mut room = Side::empty(alloc, cactus.n())?;
-    let mut walk = Walk::new(alloc, cactus)?;
-    'sides: while walk.next(&mut room) {
-        if !is_among(&room, lists) {
-            return Ok(false);
-        }
-    }
-    Ok(true)
-}
-
-/// Whether a walk gives so many sides, and then says, whenever it is asked, that there is no more.
-fn gives_just(alloc: Global, cactus: &Cactus, count: u32) -> Result<bool, NoMemory> {
-    let mut room = Side::empty(alloc, cactus.n())?;
-    let mut walk = Walk::new(alloc, cactus)?;
-    'answers: for _ in 0..count {
-        if !walk.next(&mut room) {
-            return Ok(false);
-        }
-    }
-    let next = walk.next(&mut room);
-    let later = walk.next(&mut room);
-    Ok(!next && !later)
-}
-
-/// Whether the cactus has just these sides, as lists of their vertices.
+/// Whether a walk over the cactus gives just these sides, as lists of their vertices, each once, and then says, whenever
+/// it is asked, that there is no more.
 pub(crate) fn has_sides(
     alloc: Global,
     cactus: &Cactus,
     lists: &[&[u32]],
 ) -> Result<bool, NoMemory> {
-    for vertices in lists {
-        if !has_side(alloc, cactus, vertices)? {
+    let mut room = Side::empty(alloc, cactus.n())?;
+    let mut walk = Walk::new(alloc, cactus)?;
+    let mut seen = 0;
+    'sides: while walk.next(&mut room) {
+        let bit = bit_among(&room, lists);
+        if bit == 0 || seen & bit != 0 {
             return Ok(false);
         }
+        seen |= bit;
     }
-    has_no_other(alloc, cactus, lists)
+    let is_over = !walk.next(&mut room);
+    Ok(is_over && seen.count_ones() as usize == lists.len())
 }
 
 fn is_single(cactus: &Cactus) -> bool {
@@ -99,25 +76,29 @@ fn one_node_has_all_vertices(rt: HostRuntime) -> Result<(), Fail> {
     Ok(())
 }
 
+/// Whether a walk over the cactus of one node leaves the room as it is.
+fn leaves_room(alloc: Global) -> Result<bool, NoMemory> {
+    let cactus = Cactus::single(alloc, 2)?;
+    let mut room = Side::empty(alloc, 2)?;
+    room.insert(2);
+    let mut walk = Walk::new(alloc, &cactus)?;
+    Ok(!walk.next(&mut room) && has_exactly(&room, &[2]))
+}
+
 #[test]
 fn a_walk_without_sides_leaves_the_room(rt: HostRuntime) -> Result<(), Fail> {
-    let cactus = Cactus::single(rt.alloc(), 2)?;
-    let mut room = Side::empty(rt.alloc(), 2)?;
-    room.insert(2);
-    let mut walk = Walk::new(rt.alloc(), &cactus)?;
-    assert!(rt; !walk.next(&mut room) && has_exactly(&room, &[2]));
+    let holds = leaves_room(rt.alloc())?;
+    assert!(rt; holds);
     Ok(())
 }
 
 const RING: [&[u32]; 6] = [&[2], &[2, 3], &[2, 3, 4], &[3], &[3, 4], &[4]];
 
-/// Six answers that have six different sides among them give each once.
 #[test]
 fn a_walk_gives_each_side_of_a_ring_once(rt: HostRuntime) -> Result<(), Fail> {
-    let cactus = one_ring(rt.alloc())?;
-    let shown = has_sides(rt.alloc(), &cactus, &RING)?;
-    let counted = gives_just(rt.alloc(), &cactus, 6)?;
-    assert!(rt; shown && counted);
+    let cactus = cactus_of(rt.alloc(), &ONE_RING)?;
+    let holds = has_sides(rt.alloc(), &cactus, &RING)?;
+    assert!(rt; holds);
     Ok(())
 }
 
@@ -134,24 +115,26 @@ fn is_bridge_between(root: &Node, upper: &[u32], lower: &[u32]) -> bool {
     }
 }
 
-/// Whether it is the cactus of 1 and 2 with a bridge down to 3, with its only side.
-fn is_spread(alloc: Global, cactus: &Cactus) -> Result<bool, NoMemory> {
-    let shown = has_sides(alloc, cactus, &[&[3]])?;
-    Ok(
-        shown
-            && cactus.n() == 3
-            && cactus.nodes() == 2
-            && is_bridge_between(cactus.root(), &[1, 2], &[3]),
-    )
+/// The cactus of 1, with a bridge down to 2, with the vertices of the classes 1, 1 and 2 in place of these.
+fn spread_out(alloc: Global) -> Result<Cactus, Fail> {
+    let narrow = cactus_of(alloc, &ONE_BRIDGE)?;
+    if narrow.n() != 2 {
+        return Err(Fail::from("not two vertices"));
+    }
+    let cactus = narrow.spread(alloc, 3, &[1, 1, 2])?;
+    Ok(cactus)
+}
+
+/// Whether it is the cactus of 1 and 2 with a bridge down to 3.
+fn is_spread(cactus: &Cactus) -> bool {
+    cactus.n() == 3 && cactus.nodes() == 2 && is_bridge_between(cactus.root(), &[1, 2], &[3])
 }
 
 #[test]
 fn classes_are_spread(rt: HostRuntime) -> Result<(), Fail> {
-    let alloc = rt.alloc();
-    let narrow = one_bridge(alloc)?;
-    let cactus = narrow.spread(alloc, 3, &[1, 1, 2])?;
-    let holds = is_spread(alloc, &cactus)?;
-    assert!(rt; holds);
+    let cactus = spread_out(rt.alloc())?;
+    let shown = has_sides(rt.alloc(), &cactus, &[&[3]])?;
+    assert!(rt; shown && is_spread(&cactus));
     Ok(())
 }
 
@@ -166,9 +149,8 @@ fn are_ring_places(places: &CutPlaces) -> bool {
 
 #[test]
 fn the_cuts_of_a_cycle_are_ranges_between_its_borders(rt: HostRuntime) -> Result<(), Fail> {
-    let alloc = rt.alloc();
-    let cactus = one_ring(alloc)?;
-    let places = cut_places(alloc, &cactus)?;
+    let cactus = cactus_of(rt.alloc(), &ONE_RING)?;
+    let places = cut_places(rt.alloc(), &cactus)?;
     assert!(rt; are_ring_places(&places));
     Ok(())
 }
@@ -187,15 +169,19 @@ fn is_in_order(alloc: Global, root: &Node, vertices: &[u32]) -> Result<bool, NoM
     Ok(order.as_slice() == vertices)
 }
 
-#[test]
-fn the_vertices_of_a_tree_are_renamed(rt: HostRuntime) -> Result<(), Fail> {
-    let alloc = rt.alloc();
-    let cactus = ring_and_bridge(alloc)?;
-    let root = cactus.into_root();
+/// Whether the vertices of the tree stand in one order, and under other names in the other.
+fn is_renamed(alloc: Global) -> Result<bool, Fail> {
+    let root = cactus_of(alloc, &RING_AND_BRIDGE)?.into_root();
     let before = is_in_order(alloc, &root, &[1, 3, 4, 2])?;
     let root = rename_node(alloc, root, &[0, 5, 6, 7, 8])?;
     let after = is_in_order(alloc, &root, &[5, 7, 8, 6])?;
-    assert!(rt; before && after);
+    Ok(before && after)
+}
+
+#[test]
+fn the_vertices_of_a_tree_are_renamed(rt: HostRuntime) -> Result<(), Fail> {
+    let holds = is_renamed(rt.alloc())?;
+    assert!(rt; holds);
     Ok(())
 }
 
@@ -229,8 +215,7 @@ fn is_taken_apart(root: &mut Node) -> Result<bool, NoMemory> {
 
 #[test]
 fn a_tree_is_taken_apart(rt: HostRuntime) -> Result<(), Fail> {
-    let cactus = ring_and_bridge(rt.alloc())?;
-    let mut root = cactus.into_root();
+    let mut root = cactus_of(rt.alloc(), &RING_AND_BRIDGE)?.into_root();
     let holds = is_taken_apart(&mut root)?;
     assert!(rt; holds);
     Ok(())

@@ -1,75 +1,92 @@
 //! Cactuses are made normal, and their sides are counted.
 
 ghost use Rattle.std.specs.Prelude.{◌≤◌};
-ghost use Rattle.rooted_cactus.specs.Different.{HasNoEmptySide};
 
 use crate::cactuses::has_sides;
-use crate::trees::{one_ring, two_rings, two_spare};
+use crate::trees::{ONE_NODE, ONE_RING, Sketch, TWO_RINGS, TWO_SPARE, cactus_of};
 use cactus_tree::Cactus;
 use cut_definitions::NoMemory;
 use std::alloc::Global;
 use std::test::Fail;
 
-/// Whether the cactus is normal and both counts answer this number.
-fn counts(alloc: Global, cactus: &Cactus, number: u64) -> Result<bool, NoMemory>
+/// Whether the cactus is normal, with just these sides, and both counts answer their number.
+fn counts(alloc: Global, cactus: &Cactus, sides: &[&[u32]]) -> Result<bool, NoMemory>
     requires { cactus.now.vertices ≤ 4194304 }
 {
     if !cactus.is_normal() {
         return Ok(false);
     }
     let within = cactus.count_within(alloc)?;
-    Ok(cactus.count() == number && within == number)
+    let shown = has_sides(alloc, cactus, sides)?;
+    Ok(shown && within == sides.len() as u64 && cactus.count() == within)
 }
 
-/// Whether the cactus becomes one of so many nodes, with just these sides, each counted once.
-fn becomes(alloc: Global, cactus: Cactus, nodes: u64, sides: &[&[u32]]) -> Result<bool, NoMemory>
-    requires few { cactus.vertices ≤ 4194304 }
-    requires sides { HasNoEmptySide cactus }
-{
+/// A normal cactus and its sides.
+const COUNTED: &[(Sketch, &[&[u32]])] = &[
+    // one node has no side
+    (ONE_NODE, &[]),
+    (ONE_RING, RING),
+    // An empty node between two cycles counts once: 3 intervals in each cycle, less the whole lower cycle, which is an
+    // interval of the upper one.
+    (TWO_RINGS, &[&[2], &[2, 3], &[2, 3, 4], &[3], &[4]]),
+];
+
+const RING: &[&[u32]] = &[&[2], &[2, 3], &[2, 3, 4], &[3], &[3, 4], &[4]];
+
+#[test]
+fn each_side_of_a_normal_cactus_counts_once(rt: HostRuntime) -> Result<(), Fail> {
+    for (sketch, sides) in COUNTED {
+        let cactus = cactus_of(rt.alloc(), sketch)?;
+        let holds = counts(rt.alloc(), &cactus, sides)?;
+        assert!(rt; holds, "at {} sides", sides.len());
+    }
+    Ok(())
+}
+
+/// A cactus of so many nodes, whether it is normal, and the number of nodes and the sides of the normal one that it
+/// becomes.
+struct Row {
+    sketch: Sketch,
+    nodes: u64,
+    is_normal: bool,
+    left: u64,
+    sides: &'static [&'static [u32]],
+}
+
+const ROWS: &[Row] = &[
+    // a ring stays as it is
+    Row {
+        sketch: ONE_RING,
+        nodes: 4,
+        is_normal: true,
+        left: 4,
+        sides: RING,
+    },
+    // spare nodes are left out
+    Row {
+        sketch: TWO_SPARE,
+        nodes: 7,
+        is_normal: false,
+        left: 5,
+        sides: &[&[2], &[2, 3], &[3], &[4], &[4, 5], &[5]],
+    },
+];
+
+/// Whether the cactus is as the row says, and becomes a normal one of so many nodes, with just these sides, each counted
+/// once.
+fn becomes(alloc: Global, row: &Row) -> Result<bool, Fail> {
+    let cactus = cactus_of(alloc, &row.sketch)?;
+    let is_told = cactus.is_normal() == row.is_normal && cactus.nodes() == row.nodes;
     let cactus = cactus.normal(alloc)?;
-    let counted = counts(alloc, &cactus, sides.len() as u64)?;
-    let shown = has_sides(alloc, &cactus, sides)?;
-    Ok(counted && shown && cactus.nodes() == nodes)
+    let counted = counts(alloc, &cactus, row.sides)?;
+    Ok(is_told && counted && cactus.nodes() == row.left)
 }
 
 #[test]
-fn one_node_has_no_side(rt: HostRuntime) -> Result<(), Fail> {
-    let cactus = Cactus::single(rt.alloc(), 2)?;
-    let holds = counts(rt.alloc(), &cactus, 0)?;
-    assert!(rt; holds);
-    Ok(())
-}
-
-const RING: [&[u32]; 6] = [&[2], &[2, 3], &[2, 3, 4], &[3], &[3, 4], &[4]];
-
-#[test]
-fn a_ring_stays_as_it_is(rt: HostRuntime) -> Result<(), Fail> {
-    let cactus = one_ring(rt.alloc())?;
-    let before = counts(rt.alloc(), &cactus, 6)?;
-    let after = becomes(rt.alloc(), cactus, 4, &RING)?;
-    assert!(rt; before && after);
-    Ok(())
-}
-
-// 3 intervals in each cycle, less the whole lower cycle, which is an interval of the upper one.
-const TWO_RINGS: [&[u32]; 5] = [&[2], &[2, 3], &[2, 3, 4], &[3], &[4]];
-
-#[test]
-fn an_empty_node_between_two_cycles_counts_once(rt: HostRuntime) -> Result<(), Fail> {
-    let cactus = two_rings(rt.alloc())?;
-    let counted = counts(rt.alloc(), &cactus, 5)?;
-    let shown = has_sides(rt.alloc(), &cactus, &TWO_RINGS)?;
-    assert!(rt; counted && shown);
-    Ok(())
-}
-
-const TWO_SPARE: [&[u32]; 6] = [&[2], &[2, 3], &[3], &[4], &[4, 5], &[5]];
-
-#[test]
-fn spare_nodes_are_left_out(rt: HostRuntime) -> Result<(), Fail> {
-    let cactus = two_spare(rt.alloc())?;
-    let spare = !cactus.is_normal() && cactus.nodes() == 7;
-    let holds = becomes(rt.alloc(), cactus, 5, &TWO_SPARE)?;
-    assert!(rt; spare && holds);
+fn a_ring_stays_as_it_is_and_spare_nodes_are_left_out(rt: HostRuntime) -> Result<(), Fail> {
+    for row in ROWS {
+        let holds = becomes(rt.alloc(), row)?;
+        assert!(rt; holds, "at {} nodes", row.nodes);
+    }
     Ok(())
 }

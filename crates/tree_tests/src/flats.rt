@@ -1,10 +1,18 @@
 //! Flat cactuses.
 
-use crate::trees::{nested, one_ring, two_and_one};
+use crate::trees::{NESTED, ONE_RING, Sketch, TWO_AND_ONE, cactus_of};
 use cactus_tree::{FlatCactus, flatten};
 use cut_definitions::NoMemory;
 use std::alloc::Global;
 use std::test::Fail;
+
+/// The lists of a flat cactus over n vertices.
+pub(crate) struct Lists {
+    pub(crate) n: u32,
+    pub(crate) nodes: &'static [&'static [u32]],
+    pub(crate) bridges: &'static [(u64, u64)],
+    pub(crate) cycles: &'static [&'static [u64]],
+}
 
 fn has_nodes(flat: &FlatCactus, nodes: &[&[u32]]) -> bool {
     if flat.nodes() != nodes.len() {
@@ -30,65 +38,119 @@ fn has_cycles(flat: &FlatCactus, cycles: &[&[u64]]) -> bool {
     true
 }
 
-/// Whether the cactus is over n vertices and has these nodes, bridges and cycles.
-pub(crate) fn has_lists(
-    flat: &FlatCactus,
-    n: u32,
-    nodes: &[&[u32]],
-    bridges: &[(u64, u64)],
-    cycles: &[&[u64]],
-) -> bool {
-    flat.n() == n && has_nodes(flat, nodes) && flat.bridges() == bridges && has_cycles(flat, cycles)
+/// Whether the cactus has these lists.
+pub(crate) fn has_lists(flat: &FlatCactus, lists: &Lists) -> bool {
+    flat.n() == lists.n
+        && has_nodes(flat, lists.nodes)
+        && flat.bridges() == lists.bridges
+        && has_cycles(flat, lists.cycles)
 }
 
-/// Nodes with 1 and 2, with none and with 3, a bridge and a cycle of two nodes.
-fn filled(alloc: Global) -> Result<FlatCactus, NoMemory> {
-    let mut flat = FlatCactus::new(alloc, 3);
+/// Appends a node with these vertices.
+fn push_node(flat: &mut FlatCactus, vertices: &[u32]) -> Result<(), NoMemory> {
     flat.push_node()?;
-    flat.push_vertex(1)?;
-    flat.push_vertex(2)?;
-    flat.push_node()?;
-    flat.push_node()?;
-    flat.push_vertex(3)?;
-    flat.push_bridge(0, 1)?;
+    for v in vertices {
+        // known to the proof by this test: there is a node
+        if flat.nodes() > 0 {
+            flat.push_vertex(*v)?;
+        }
+    }
+    Ok(())
+}
+
+/// Appends a cycle with these nodes.
+fn push_cycle(flat: &mut FlatCactus, nodes: &[u64]) -> Result<(), NoMemory> {
     flat.push_cycle()?;
-    flat.push_member(0)?;
-    flat.push_member(2)?;
+    for node in nodes {
+        // known to the proof by this test: there is a cycle
+        if flat.cycles() > 0 {
+            flat.push_member(*node)?;
+        }
+    }
+    Ok(())
+}
+
+/// Appends these nodes.
+fn push_nodes(flat: &mut FlatCactus, nodes: &[&[u32]]) -> Result<(), NoMemory> {
+    for vertices in nodes {
+        push_node(flat, vertices)?;
+    }
+    Ok(())
+}
+
+/// Appends these bridges.
+fn push_bridges(flat: &mut FlatCactus, bridges: &[(u64, u64)]) -> Result<(), NoMemory> {
+    for (i, j) in bridges {
+        flat.push_bridge(*i, *j)?;
+    }
+    Ok(())
+}
+
+/// The flat cactus that was filled with the lists.
+pub(crate) fn filled(alloc: Global, lists: &Lists) -> Result<FlatCactus, NoMemory> {
+    let mut flat = FlatCactus::new(alloc, lists.n);
+    push_nodes(&mut flat, lists.nodes)?;
+    push_bridges(&mut flat, lists.bridges)?;
+    for nodes in lists.cycles {
+        push_cycle(&mut flat, nodes)?;
+    }
     Ok(flat)
 }
 
+/// Nodes with 1 and 2, with none and with 3, a bridge and a cycle of two nodes.
+const FILLED: Lists = Lists {
+    n: 3,
+    nodes: &[&[1, 2], &[], &[3]],
+    bridges: &[(0, 1)],
+    cycles: &[&[0, 2]],
+};
+
 #[test]
 fn a_flat_cactus_keeps_its_lists(rt: HostRuntime) -> Result<(), Fail> {
-    let flat = filled(rt.alloc())?;
-    assert!(rt; has_lists(&flat, 3, &[&[1, 2], &[], &[3]], &[(0, 1)], &[&[0, 2]]));
+    let flat = filled(rt.alloc(), &FILLED)?;
+    assert!(rt; has_lists(&flat, &FILLED));
     Ok(())
 }
 
-#[test]
-fn a_bridge_is_flattened(rt: HostRuntime) -> Result<(), Fail> {
-    let cactus = two_and_one(rt.alloc())?;
-    let flat = flatten(rt.alloc(), &cactus)?;
-    assert!(rt; has_lists(&flat, 3, &[&[1, 2], &[3]], &[(0, 1)], &[]));
-    Ok(())
-}
+const FLATTENED: &[(Sketch, Lists)] = &[
+    // a bridge
+    (
+        TWO_AND_ONE,
+        Lists {
+            n: 3,
+            nodes: &[&[1, 2], &[3]],
+            bridges: &[(0, 1)],
+            cycles: &[],
+        },
+    ),
+    // a cycle
+    (
+        ONE_RING,
+        Lists {
+            n: 4,
+            nodes: &[&[1], &[2], &[3], &[4]],
+            bridges: &[],
+            cycles: &[&[0, 1, 2, 3]],
+        },
+    ),
+    // a way, a ring and a bridge, in the order of entering
+    (
+        NESTED,
+        Lists {
+            n: 7,
+            nodes: &[&[1], &[5], &[6], &[2], &[3], &[4], &[7]],
+            bridges: &[(0, 1), (1, 2), (3, 4), (0, 6)],
+            cycles: &[&[0, 3, 5]],
+        },
+    ),
+];
 
 #[test]
-fn a_cycle_is_flattened(rt: HostRuntime) -> Result<(), Fail> {
-    let cactus = one_ring(rt.alloc())?;
-    let flat = flatten(rt.alloc(), &cactus)?;
-    assert!(rt; has_lists(&flat, 4, &[&[1], &[2], &[3], &[4]], &[], &[&[0, 1, 2, 3]]));
-    Ok(())
-}
-
-// The nodes and the bridges of the tree with a way, a ring and a bridge.
-const NESTED_NODES: [&[u32]; 7] = [&[1], &[5], &[6], &[2], &[3], &[4], &[7]];
-
-const NESTED_BRIDGES: [(u64, u64); 4] = [(0, 1), (1, 2), (3, 4), (0, 6)];
-
-#[test]
-fn a_tree_is_flattened_in_the_order_of_entering(rt: HostRuntime) -> Result<(), Fail> {
-    let cactus = nested(rt.alloc())?;
-    let flat = flatten(rt.alloc(), &cactus)?;
-    assert!(rt; has_lists(&flat, 7, &NESTED_NODES, &NESTED_BRIDGES, &[&[0, 3, 5]]));
+fn trees_are_flattened_in_the_order_of_entering(rt: HostRuntime) -> Result<(), Fail> {
+    for (sketch, lists) in FLATTENED {
+        let cactus = cactus_of(rt.alloc(), sketch)?;
+        let flat = flatten(rt.alloc(), &cactus)?;
+        assert!(rt; has_lists(&flat, lists), "at {} vertices", lists.n);
+    }
     Ok(())
 }

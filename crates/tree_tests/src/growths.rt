@@ -1,47 +1,93 @@
 //! Cactuses that grow by an edge.
 
-use crate::trees::one_ring;
+use crate::trees::{ONE_RING, cactus_of};
 use cactus_growth::{Grown, grow, is_within_limits, with_edge};
 use cactus_tree::{Block, Node};
-use cut_definitions::{Edge, EdgeList, NoMemory};
+use cut_definitions::{Edge, EdgeList};
 use std::alloc::Global;
 use std::test::Fail;
 
-/// Whether a list has at a place an edge between two vertices, of a weight.
-fn has_edge_at(list: &EdgeList, place: usize, u: u32, v: u32, w: u64) -> bool {
-    place < list.len() && list.edge(place) == Edge { u, v, w }
+/// The list with the weight of an edge added, where it is within the limits.
+fn with_added(alloc: Global, list: &EdgeList, edge: &Edge) -> Result<EdgeList, Fail> {
+    let Edge { u, v, w } = *edge;
+    let n = list.n();
+    if u < 1 || u > n || v < 1 || v > n || u == v || w < 1 || !is_within_limits(list, u, v, w) {
+        return Err(Fail::from("not within the limits"));
+    }
+    let more = with_edge(alloc, list, u, v, w)?;
+    Ok(more)
+}
+
+/// The list over n vertices to which the edges were added one after another.
+fn list_of(alloc: Global, n: u8, edges: &[Edge]) -> Result<EdgeList, Fail> {
+    let mut list = EdgeList::new(alloc, u32::from(n));
+    for edge in edges {
+        list = with_added(alloc, &list, edge)?;
+    }
+    Ok(list)
+}
+
+/// Edges that are added one after another to a list over n vertices, and those that it has then.
+struct Row {
+    n: u8,
+    added: &'static [Edge],
+    edges: &'static [Edge],
+}
+
+const ROWS: &[Row] = &[
+    // weight is added
+    Row {
+        n: 4,
+        added: &[
+            Edge { u: 1, v: 2, w: 5 },
+            Edge { u: 3, v: 4, w: 1 },
+            Edge { u: 2, v: 1, w: 3 },
+        ],
+        edges: &[Edge { u: 1, v: 2, w: 8 }, Edge { u: 3, v: 4, w: 1 }],
+    },
+    // or an edge is made
+    Row {
+        n: 4,
+        added: &[
+            Edge { u: 1, v: 2, w: 5 },
+            Edge { u: 3, v: 4, w: 1 },
+            Edge { u: 1, v: 3, w: 2 },
+        ],
+        edges: &[
+            Edge { u: 1, v: 2, w: 5 },
+            Edge { u: 1, v: 3, w: 2 },
+            Edge { u: 3, v: 4, w: 1 },
+        ],
+    },
+    // the other edges of a triangle stay
+    Row {
+        n: 3,
+        added: &[
+            Edge { u: 1, v: 2, w: 5 },
+            Edge { u: 1, v: 3, w: 1 },
+            Edge { u: 2, v: 3, w: 4 },
+            Edge { u: 1, v: 2, w: 3 },
+        ],
+        edges: &[
+            Edge { u: 1, v: 2, w: 8 },
+            Edge { u: 1, v: 3, w: 1 },
+            Edge { u: 2, v: 3, w: 4 },
+        ],
+    },
+];
+
+/// Whether a weight of 2^60 between 1 and 2 is within the limits, and one of 2^61 is not.
+fn is_limited(list: &EdgeList) -> bool {
+    list.n() >= 2 && is_within_limits(list, 1, 2, 1 << 60) && !is_within_limits(list, 1, 2, 1 << 61)
 }
 
 #[test]
-fn weight_is_added_or_an_edge_is_made(rt: HostRuntime) -> Result<(), Fail> {
-    let mut list = EdgeList::new(rt.alloc(), 4);
-    list.push(Edge { u: 1, v: 2, w: 5 })?;
-    list.push(Edge { u: 3, v: 4, w: 1 })?;
-    let more = with_edge(rt.alloc(), &list, 2, 1, 3)?;
-    let made = with_edge(rt.alloc(), &list, 1, 3, 2)?;
-    let is_added = more.len() == 2 && has_edge_at(&more, 0, 1, 2, 8);
-    let is_made = made.len() == 3 && has_edge_at(&made, 1, 1, 3, 2);
-    let fits = is_within_limits(&list, 1, 2, 1 << 60);
-    let fits_not = !is_within_limits(&list, 1, 2, 1 << 61);
-    assert!(rt; is_added && is_made && fits && fits_not);
-    Ok(())
-}
-
-/// The list 1-2 of weight 5, 1-3 of weight 1 and 2-3 of weight 4, with 3 more between 1 and 2.
-fn heavier_pair(alloc: Global) -> Result<EdgeList, NoMemory> {
-    let mut list = EdgeList::new(alloc, 3);
-    list.push(Edge { u: 1, v: 2, w: 5 })?;
-    list.push(Edge { u: 1, v: 3, w: 1 })?;
-    list.push(Edge { u: 2, v: 3, w: 4 })?;
-    with_edge(alloc, &list, 1, 2, 3)
-}
-
-#[test]
-fn the_other_edges_of_a_triangle_stay(rt: HostRuntime) -> Result<(), Fail> {
-    let list = heavier_pair(rt.alloc())?;
-    let first = has_edge_at(&list, 0, 1, 2, 8);
-    let others = has_edge_at(&list, 1, 1, 3, 1) && has_edge_at(&list, 2, 2, 3, 4);
-    assert!(rt; list.n() == 3 && list.len() == 3 && first && others);
+fn weight_is_added_or_an_edge_is_made_and_others_stay(rt: HostRuntime) -> Result<(), Fail> {
+    for row in ROWS {
+        let list = list_of(rt.alloc(), row.n, row.added)?;
+        let holds = list.n() == u32::from(row.n) && list.edges() == row.edges;
+        assert!(rt; holds && is_limited(&list), "at {} edges", row.edges.len());
+    }
     Ok(())
 }
 
@@ -62,8 +108,11 @@ fn has_two_bridges(node: &Node, own: &[u32], first: u32, second: u32) -> bool {
 }
 
 /// Whether the ring of four nodes, with 1 and 3 in one, has two bridges, and no cut once 2 and 4 are joined too.
-fn falls_into_bridges(alloc: Global) -> Result<bool, NoMemory> {
-    let ring = one_ring(alloc)?;
+fn falls_into_bridges(alloc: Global) -> Result<bool, Fail> {
+    let ring = cactus_of(alloc, &ONE_RING)?;
+    if ring.n() != 4 || ring.root().blocks.len() == 0 {
+        return Ok(false);
+    }
     match grow(alloc, ring, 1, 3)? {
         Grown::Kept(kept) => {
             let holds = has_two_bridges(kept.root(), &[1, 3], 2, 4);

@@ -6,7 +6,7 @@ ghost use Rattle.cut_listing.specs.Asks.{IsAskWithin};
 ghost use Rattle.cut_listing.specs.declared.ask.Ask.TheVariants.{Parting};
 
 use crate::cactuses::has_exactly;
-use crate::trees::{one_ring, two_rings};
+use crate::trees::{ONE_NODE, ONE_RING, Sketch, TWO_RINGS, cactus_of};
 use balanced_cut::balance_of;
 use cactus_tree::Cactus;
 use component_cuts::Components;
@@ -129,46 +129,59 @@ fn are_listed(sides: &[Side], lists: &[&[u32]]) -> bool {
     sides.len() == lists.len()
 }
 
+/// Whether the sides of the cactus that part 2 and 4 are these, in this order.
+fn parts(alloc: Global, cactus: &Cactus, lists: &[&[u32]]) -> Result<bool, Fail> {
+    if cactus.n() != 4 {
+        return Ok(false);
+    }
+    let sides = listed_parting(alloc, cactus, 2, 4)?;
+    Ok(are_listed(&sides, lists))
+}
+
 #[test]
 fn sides_that_part_two_vertices(rt: HostRuntime) -> Result<(), Fail> {
-    let cactus = one_ring(rt.alloc())?;
-    let sides = listed_parting(rt.alloc(), &cactus, 2, 4)?;
-    assert!(rt; are_listed(&sides, &[&[2], &[2, 3], &[3, 4], &[4]]));
+    let cactus = cactus_of(rt.alloc(), &ONE_RING)?;
+    let holds = parts(rt.alloc(), &cactus, &[&[2], &[2, 3], &[3, 4], &[4]])?;
+    assert!(rt; holds);
     Ok(())
 }
+
+/// A cactus and all its sides, in order.
+const LISTED: &[(Sketch, &[&[u32]])] = &[
+    // one node has no side
+    (ONE_NODE, &[]),
+    (ONE_RING, &[&[2], &[2, 3], &[2, 3, 4], &[3], &[3, 4], &[4]]),
+    // A repeat comes once: both cycles have the side 2, 3.
+    (TWO_RINGS, &[&[2], &[2, 3], &[2, 3, 4], &[3], &[4]]),
+];
 
 #[test]
-fn all_sides_of_a_ring(rt: HostRuntime) -> Result<(), Fail> {
-    let cactus = one_ring(rt.alloc())?;
-    let sides = listed_all(rt.alloc(), &cactus)?;
-    assert!(rt; are_listed(&sides, &[&[2], &[2, 3], &[2, 3, 4], &[3], &[3, 4], &[4]]));
+fn all_sides_of_a_cactus_come_once(rt: HostRuntime) -> Result<(), Fail> {
+    for (sketch, lists) in LISTED {
+        let cactus = cactus_of(rt.alloc(), sketch)?;
+        let sides = listed_all(rt.alloc(), &cactus)?;
+        assert!(rt; are_listed(&sides, lists), "at {} sides", lists.len());
+    }
     Ok(())
 }
 
-/// Both cycles have the side 2, 3.
-#[test]
-fn a_repeat_comes_once(rt: HostRuntime) -> Result<(), Fail> {
-    let cactus = two_rings(rt.alloc())?;
-    let sides = listed_all(rt.alloc(), &cactus)?;
-    assert!(rt; are_listed(&sides, &[&[2], &[2, 3], &[2, 3, 4], &[3], &[4]]));
-    Ok(())
+/// Whether the sides of the cactus of a least balance of 2 are these, in this order, where the first vertex has most of
+/// the mass.
+fn are_balanced(alloc: Global, cactus: &Cactus, lists: &[&[u32]]) -> Result<bool, Fail> {
+    if cactus.n() != 4 {
+        return Ok(false);
+    }
+    let weights = VertexWeights::from_list(vec![in alloc; 9, 1, 1, 1]?);
+    let own = VertexWeights::from_list(vec![in alloc; 9, 1, 1, 1]?);
+    let sides = listed_least(alloc, cactus, 2, &weights, own)?;
+    Ok(are_listed(&sides, lists))
 }
 
-#[test]
-fn one_node_has_no_side(rt: HostRuntime) -> Result<(), Fail> {
-    let cactus = Cactus::single(rt.alloc(), 2)?;
-    assert!(rt; listed_all(rt.alloc(), &cactus)?.is_empty());
-    Ok(())
-}
-
-/// The first vertex has most of the mass.
 #[test]
 fn sides_of_a_least_balance(rt: HostRuntime) -> Result<(), Fail> {
-    let cactus = one_ring(rt.alloc())?;
-    let weights = VertexWeights::from_list(vec![in rt.alloc(); 9, 1, 1, 1]?);
-    let own = VertexWeights::from_list(vec![in rt.alloc(); 9, 1, 1, 1]?);
-    let sides = listed_least(rt.alloc(), &cactus, 2, &weights, own)?;
-    assert!(rt; are_listed(&sides, &[&[2, 3], &[2, 3, 4], &[3, 4]]));
+    let cactus = cactus_of(rt.alloc(), &ONE_RING)?;
+    let holds = are_balanced(rt.alloc(), &cactus, &[&[2, 3], &[2, 3, 4], &[3, 4]])?;
+    assert!(rt; holds);
     Ok(())
 }
 

@@ -1,66 +1,94 @@
 //! Texts of cactuses.
 
-use crate::trees::two_and_one;
+ghost use Rattle.std.specs.Prelude.{◌≤◌};
+
+use crate::flats::{Lists, filled};
+use crate::trees::{TWO_AND_ONE, cactus_of};
 use cactus_text::{Page, TextRefusal, print, print_flat, read};
-use cactus_tree::FlatCactus;
+use cactus_tree::{Cactus, FlatCactus};
 use cut_definitions::NoMemory;
 use outside::{MemorySink, Sink, SinkFailed};
 use std::alloc::Global;
 use std::test::Fail;
 
 /// Nodes with 1 and 2, and with 3, joined by a bridge.
-fn two_nodes(alloc: Global) -> Result<FlatCactus, NoMemory> {
-    let mut flat = FlatCactus::new(alloc, 3);
-    flat.push_node()?;
-    flat.push_vertex(1)?;
-    flat.push_vertex(2)?;
-    flat.push_node()?;
-    flat.push_vertex(3)?;
-    flat.push_bridge(0, 1)?;
-    Ok(flat)
-}
+const TWO_NODES: Lists = Lists {
+    n: 3,
+    nodes: &[&[1, 2], &[3]],
+    bridges: &[(0, 1)],
+    cycles: &[],
+};
 
-const TWO_NODES: &str = "cactus 5 3 2 1 0\nnode 0 1 2\nnode 1 3\nbridge 0 1\n";
+const TWO_NODES_TEXT: &str = "cactus 5 3 2 1 0\nnode 0 1 2\nnode 1 3\nbridge 0 1\n";
 
 /// A ring of a node with a vertex and of two empty nodes.
-fn ring(alloc: Global) -> Result<FlatCactus, NoMemory> {
-    let mut flat = FlatCactus::new(alloc, 1);
-    flat.push_node()?;
-    flat.push_vertex(1)?;
-    flat.push_node()?;
-    flat.push_node()?;
-    flat.push_cycle()?;
-    flat.push_member(0)?;
-    flat.push_member(1)?;
-    flat.push_member(2)?;
-    Ok(flat)
-}
+const RING: Lists = Lists {
+    n: 1,
+    nodes: &[&[1], &[], &[]],
+    bridges: &[],
+    cycles: &[&[0, 1, 2]],
+};
 
-const FOUR_NODES: &str =
+const RING_TEXT: &str =
+    "cactus 4611686018427387904 1 3 0 1\nnode 0 1\nnode 1\nnode 2\ncycle 0 1 2\n";
+
+const FOUR_NODES_TEXT: &str =
     "cactus 2 4 4 0 1\nnode 0 1\nnode 1 2\nnode 2 3\nnode 3 4\ncycle 0 1 2 3\n";
 
-const RING: &str = "cactus 4611686018427387904 1 3 0 1\nnode 0 1\nnode 1\nnode 2\ncycle 0 1 2\n";
+/// Whether the value 5 and a cactus are printed as the text.
+fn is_printed(alloc: Global, cactus: &Cactus, text: &str) -> Result<bool, NoMemory>
+    requires { cactus.now.vertices ≤ 4194304 }
+{
+    let mut sink = MemorySink::new(alloc, 200, Vec::new(alloc))?;
+    let printed = print(alloc, cactus, 5, &mut sink).is_ok();
+    Ok(printed && sink.taken() == text.as_bytes())
+}
 
 #[test]
 fn a_cactus_is_printed(rt: HostRuntime) -> Result<(), Fail> {
-    let alloc = rt.alloc();
-    let mut sink = MemorySink::new(alloc, 200, Vec::new(alloc))?;
-    assert!(rt; print(alloc, &two_and_one(alloc)?, 5, &mut sink).is_ok());
-    assert_eq!(rt; sink.taken(), TWO_NODES.as_bytes());
+    let cactus = cactus_of(rt.alloc(), &TWO_AND_ONE)?;
+    let holds = is_printed(rt.alloc(), &cactus, TWO_NODES_TEXT)?;
+    assert!(rt; holds);
     Ok(())
 }
 
+/// A sink with room for so many bytes, in which the writes of some numbers fail, after a value and a flat cactus were
+/// printed, and whether they were printed whole.
+fn printed_into(
+    alloc: Global,
+    room: usize,
+    failing: &[u64],
+    flat: &FlatCactus,
+    value: u64,
+) -> Result<(MemorySink, bool), NoMemory> {
+    let mut sink = MemorySink::new(alloc, room, failing.to_vec(alloc)?)?;
+    let mut page = Page::new(alloc)?;
+    let whole = print_flat(&mut page, flat, value, &mut sink).is_ok();
+    Ok((sink, whole))
+}
+
+/// Whether a value and a flat cactus are printed as the text.
+fn is_flat_printed(
+    alloc: Global,
+    flat: &FlatCactus,
+    value: u64,
+    text: &str,
+) -> Result<bool, NoMemory> {
+    let (sink, whole) = printed_into(alloc, 200, &[], flat, value)?;
+    Ok(whole && sink.taken() == text.as_bytes())
+}
+
+const PRINTED: &[(Lists, u64, &str)] = &[
+    (TWO_NODES, 5, TWO_NODES_TEXT),
+    (RING, 4611686018427387904, RING_TEXT),
+];
+
 #[test]
 fn bridges_and_cycles_are_printed(rt: HostRuntime) -> Result<(), Fail> {
-    let alloc = rt.alloc();
-    for (flat, value, text) in [
-        (two_nodes(alloc)?, 5, TWO_NODES),
-        (ring(alloc)?, 4611686018427387904, RING),
-    ] {
-        let mut sink = MemorySink::new(alloc, 200, Vec::new(alloc))?;
-        let mut page = Page::new(alloc)?;
-        assert!(rt; print_flat(&mut page, &flat, value, &mut sink).is_ok());
-        assert_eq!(rt; sink.taken(), text.as_bytes());
+    for (lists, value, text) in PRINTED {
+        let flat = filled(rt.alloc(), lists)?;
+        let holds = is_flat_printed(rt.alloc(), &flat, *value, text)?;
+        assert!(rt; holds, "at {value}");
     }
     Ok(())
 }
@@ -92,56 +120,77 @@ impl Sink for Narrow {
     }
 }
 
+/// Whether a sink with so much room takes so much of the text, and fails once where that is not the whole.
+fn takes_first_part(alloc: Global, flat: &FlatCactus, room: usize) -> Result<bool, NoMemory> {
+    let mut sink = Narrow {
+        bytes: Vec::new(alloc),
+        room,
+        faults: 0,
+    };
+    let mut page = Page::new(alloc)?;
+    let printed = print_flat(&mut page, flat, 5, &mut sink).is_ok();
+    let is_whole = room == TWO_NODES_TEXT.len();
+    Ok(
+        printed == is_whole
+            && sink.faults == u64::from(!is_whole)
+            && sink.bytes.len() == room
+            && TWO_NODES_TEXT.as_bytes().starts_with(&sink.bytes),
+    )
+}
+
 #[test]
 fn a_first_part_is_taken(rt: HostRuntime) -> Result<(), Fail> {
-    let alloc = rt.alloc();
+    let flat = filled(rt.alloc(), &TWO_NODES)?;
     for room in [0, 1, 20, 47, 48] {
-        let mut sink = Narrow {
-            bytes: Vec::new(alloc),
-            room,
-            faults: 0,
-        };
-        let mut page = Page::new(alloc)?;
-        let printed = print_flat(&mut page, &two_nodes(alloc)?, 5, &mut sink);
-        assert_eq!(rt; printed.is_ok(), room == 48);
-        assert_eq!(rt; sink.faults, if room == 48 { 0 } else { 1 });
-        assert_eq!(rt; sink.bytes.as_slice(), &TWO_NODES.as_bytes()[..room]);
+        let holds = takes_first_part(rt.alloc(), &flat, room)?;
+        assert!(rt; holds, "at {room}");
     }
     Ok(())
 }
 
-#[test]
-fn a_long_text_goes_out_in_pages(rt: HostRuntime) -> Result<(), Fail> {
-    let alloc = rt.alloc();
+/// A way of 3000 bridges.
+fn long_way(alloc: Global) -> Result<FlatCactus, NoMemory> {
     let mut flat = FlatCactus::new(alloc, 1);
     for i in 0..3000 {
         flat.push_bridge(i, i + 1)?;
     }
-    let mut sink = MemorySink::new(alloc, 60000, Vec::new(alloc))?;
-    let mut page = Page::new(alloc)?;
-    assert!(rt; print_flat(&mut page, &flat, 7, &mut sink).is_ok());
-    let taken = sink.taken();
-    assert_eq!(rt; taken.len(), 48803);
-    let mut broken = MemorySink::new(alloc, 60000, [1].to_vec(alloc)?)?;
-    let mut page = Page::new(alloc)?;
-    assert!(rt; print_flat(&mut page, &flat, 7, &mut broken).is_err());
-    assert_eq!(rt; broken.taken().len(), 32766);
-    assert!(rt; taken.starts_with(broken.taken()));
+    Ok(flat)
+}
+
+/// Whether the text is printed whole, and up to the page whose write fails.
+fn goes_out_in_pages(alloc: Global, flat: &FlatCactus) -> Result<bool, NoMemory> {
+    let (whole, is_whole) = printed_into(alloc, 60000, &[], flat, 7)?;
+    let (part, is_part_whole) = printed_into(alloc, 60000, &[1], flat, 7)?;
+    Ok(
+        is_whole
+            && !is_part_whole
+            && whole.taken().len() == 48803
+            && part.taken().len() == 32766
+            && whole.taken().starts_with(part.taken()),
+    )
+}
+
+#[test]
+fn a_long_text_goes_out_in_pages(rt: HostRuntime) -> Result<(), Fail> {
+    let flat = long_way(rt.alloc())?;
+    let holds = goes_out_in_pages(rt.alloc(), &flat)?;
+    assert!(rt; holds);
     Ok(())
+}
+
+/// Whether the text is read, and what was read printed as the text.
+fn is_read(alloc: Global, text: &str) -> Result<bool, NoMemory> {
+    match read(alloc, text.as_bytes()) {
+        Ok(file) => is_flat_printed(alloc, &file.cactus, file.value, text),
+        Err(_) => Ok(false),
+    }
 }
 
 #[test]
 fn what_was_printed_is_read(rt: HostRuntime) -> Result<(), Fail> {
-    let alloc = rt.alloc();
-    for text in [TWO_NODES, RING, FOUR_NODES] {
-        let file = match read(alloc, text.as_bytes()) {
-            Ok(file) => file,
-            Err(_) => return Err(Fail::from("refused")),
-        };
-        let mut sink = MemorySink::new(alloc, 200, Vec::new(alloc))?;
-        let mut page = Page::new(alloc)?;
-        assert!(rt; print_flat(&mut page, &file.cactus, file.value, &mut sink).is_ok());
-        assert_eq!(rt; sink.taken(), text.as_bytes());
+    for text in [TWO_NODES_TEXT, RING_TEXT, FOUR_NODES_TEXT] {
+        let holds = is_read(rt.alloc(), text)?;
+        assert!(rt; holds, "at {text}");
     }
     Ok(())
 }

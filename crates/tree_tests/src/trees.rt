@@ -1,186 +1,274 @@
-//! The trees of the tests, and what their nodes and cuts are.
+//! The cactuses of the tests: each told by a sketch, which is a constant, and made by one function.
 
-ghost use Rattle.std.specs.Prelude.{◌≡◌, ◌≤◌, [], ◌∷◌, ◌++◌, IfOk, length, map};
-ghost use Rattle.std.specs.List.{flat_map};
-ghost use Rattle.rooted_cactus.specs.Entered.{entered};
-ghost use Rattle.rooted_cactus.specs.Sides.{part, bridge_of, cycle_of, with_below};
-ghost use Rattle.rooted_cactus.specs.Trees.{blocks, nodes_in};
-ghost use Rattle.rooted_cactus.specs.Widths.{widths};
+ghost use Rattle.std.specs.Prelude.{◌≡◌, ◌<◌, ◌≤◌, ◌^◌, ◌++◌, ◌∷◌, [], ℕ, true, IfOk, OnOk, length, slice_index};
+ghost use Rattle.std.specs.List.{All, flat_map};
 ghost use Rattle.rooted_cactus.specs.Different.{HasNoEmptySide};
-ghost use Rattle.tree_tests.specs.Leaves.{leaf_part, lone_part};
+ghost use Rattle.rooted_cactus.specs.Entered.{entered, entered_block};
+ghost use Rattle.rooted_cactus.specs.Trees.{nodes_in};
+ghost use Rattle.rooted_cactus.specs.Widths.{block_widths, widths};
+ghost use Rattle.tree_tests.specs.Sketches.{AreWide, lists_of, own_of};
 
-use cactus_tree::{Block, Blocks, Cactus, Children, Node, VertexList};
+use cactus_tree::{Block, Blocks, Cactus, Children, Node, VertexList, Walk};
 use cut_definitions::NoMemory;
 use std::alloc::Global;
+use std::test::Fail;
+use vertex_set::Side;
 
-fn list_of(alloc: Global, own: &[u32]) -> Result<VertexList, NoMemory>
-    ensures { IfOk result (λ l. l ≡ own.now) }
-{
-    let mut list = Vec::new(alloc);
-    list.extend_from_slice(own)?;
-    Ok(VertexList::from_vec(list))
+/// A cactus, whose nodes are numbered from 0 in the order of entering.
+pub struct Sketch {
+    /// The node of each vertex, from vertex 1 on.
+    pub homes: &'static [usize],
+    /// For each node the blocks that end with it, the lowest first: each by the number of its nodes below its upper one,
+    /// which is 1 for a bridge and 2 or more for a cycle.
+    pub ends: &'static [&'static [usize]],
 }
 
-/// A node without blocks.
-pub fn leaf(alloc: Global, own: &[u32]) -> Result<Node, NoMemory>
-    ensures entered { IfOk result (λ x. entered x ≡ own.now ∷ []) }
-    ensures widths { IfOk result (λ x. widths x ≡ []) }
-    ensures part { IfOk result (λ x. part x ≡ leaf_part own.now) }
-{
-    let vertices = list_of(alloc, own)?;
-    Ok(Node {
-        vertices,
-        blocks: Blocks::new(alloc),
-    })
-}
-
-/// Nodes without blocks, with one vertex each.
-pub fn leaves(alloc: Global, own: &[u32]) -> Result<Children, NoMemory>
-    ensures count { IfOk result (λ c. length (nodes_in c) ≡ length own.now) }
-    ensures entered { IfOk result (λ c. flat_map entered (nodes_in c) ≡ map (λ v. v ∷ []) own.now) }
-    ensures widths { IfOk result (λ c. flat_map widths (nodes_in c) ≡ []) }
-    ensures parts { IfOk result (λ c. map part (nodes_in c) ≡ map lone_part own.now) }
-{
-    let mut nodes = Children::new(alloc);
-    'each_vertex: for i in 0..own.len() {
-        let node = leaf(alloc, &[own[i]])?;
-        nodes.push(node)?;
-    }
-    Ok(nodes)
-}
-
-/// The node with a bridge more, down to a child.
-pub fn with_bridge(alloc: Global, node: Node, child: Node) -> Result<Node, NoMemory>
-    ensures entered { IfOk result (λ x. entered x ≡ entered node ++ entered child) }
-    ensures widths { IfOk result (λ x. widths x ≡ widths node ++ widths child) }
-    ensures part { IfOk result (λ x. part x ≡ with_below (part node) (bridge_of (part child))) }
-{
-    let mut node = node;
-    let child = Box::new(alloc, child)?;
-    node.blocks.push(Block::Bridge(child))?;
-    Ok(node)
-}
-
-/// The node with a cycle more, through some nodes.
-pub fn with_cycle(node: Node, ring: Children) -> Result<Node, NoMemory>
-    ensures entered { IfOk result (λ x. entered x ≡ entered node ++ flat_map entered (nodes_in ring)) }
-    ensures widths { IfOk result (λ x. widths x ≡ widths node ++ length (nodes_in ring) ∷ flat_map widths (nodes_in ring)) }
-    ensures part { IfOk result (λ x. part x ≡ with_below (part node) (cycle_of (map part (nodes_in ring)))) }
-    ensures blocks { IfOk result (λ x. 1 ≤ length (blocks x)) }
-{
-    let mut node = node;
-    node.blocks.push(Block::Cycle(ring))?;
-    Ok(node)
-}
-
-/// The two nodes of a cycle.
-pub fn pair(alloc: Global, first: Node, second: Node) -> Result<Children, NoMemory>
-    ensures count { IfOk result (λ c. length (nodes_in c) ≡ 2) }
-    ensures entered { IfOk result (λ c. flat_map entered (nodes_in c) ≡ entered first ++ entered second) }
-    ensures widths { IfOk result (λ c. flat_map widths (nodes_in c) ≡ widths first ++ widths second) }
-    ensures parts { IfOk result (λ c. map part (nodes_in c) ≡ part first ∷ part second ∷ []) }
-{
-    let mut nodes = Children::new(alloc);
-    nodes.push(first)?;
-    nodes.push(second)?;
-    Ok(nodes)
-}
+/// The cactus of 1 and 2 alone.
+pub const ONE_NODE: Sketch = Sketch {
+    homes: &[0, 0],
+    ends: &[&[]],
+};
 
 /// The cactus of 1, with a bridge down to 2.
-pub fn one_bridge(alloc: Global) -> Result<Cactus, NoMemory>
-    ensures { IfOk result (λ c. c.vertices ≡ 2) }
-{
-    let root = leaf(alloc, &[1])?;
-    let child = leaf(alloc, &[2])?;
-    let tree = with_bridge(alloc, root, child)?;
-    Ok(Cactus::from_root(2, tree))
-}
+pub const ONE_BRIDGE: Sketch = Sketch {
+    homes: &[0, 1],
+    ends: &[&[], &[1]],
+};
 
 /// The cactus of 1, with a cycle through 2, 3 and 4.
-pub fn one_ring(alloc: Global) -> Result<Cactus, NoMemory>
-    ensures n { IfOk result (λ c. c.vertices ≡ 4) }
-    ensures sides { IfOk result (λ c. HasNoEmptySide c) }
-    ensures blocks { IfOk result (λ c. 1 ≤ length (blocks c.root)) }
-{
-    let root = leaf(alloc, &[1])?;
-    let ring = leaves(alloc, &[2, 3, 4])?;
-    let tree = with_cycle(root, ring)?;
-    Ok(Cactus::from_root(4, tree))
-}
+pub const ONE_RING: Sketch = Sketch {
+    homes: &[0, 1, 2, 3],
+    ends: &[&[], &[], &[], &[3]],
+};
+
+/// The cactus of 1, with a cycle through 4, 3 and 2.
+pub const TURNED_RING: Sketch = Sketch {
+    homes: &[0, 3, 2, 1],
+    ends: &[&[], &[], &[], &[3]],
+};
+
+/// The cactus of 1, with a cycle through 2 and 3.
+pub const SMALL_RING: Sketch = Sketch {
+    homes: &[0, 1, 2],
+    ends: &[&[], &[], &[2]],
+};
+
+/// The cactus of 1, with a cycle through 3 and 2.
+pub const TURNED_TRIANGLE: Sketch = Sketch {
+    homes: &[0, 2, 1],
+    ends: &[&[], &[], &[2]],
+};
+
+/// The cactus of 1, with a cycle through 2 to 7.
+pub const LONG_RING: Sketch = Sketch {
+    homes: &[0, 1, 2, 3, 4, 5, 6],
+    ends: &[&[], &[], &[], &[], &[], &[], &[6]],
+};
 
 /// The tree of 1, with a cycle through 3 and 4 and then a bridge down to 2.
-pub fn ring_and_bridge(alloc: Global) -> Result<Cactus, NoMemory>
-    ensures { IfOk result (λ c. c.vertices ≡ 4) }
-{
-    let root = leaf(alloc, &[1])?;
-    let ring = leaves(alloc, &[3, 4])?;
-    let upper = with_cycle(root, ring)?;
-    let child = leaf(alloc, &[2])?;
-    let tree = with_bridge(alloc, upper, child)?;
-    Ok(Cactus::from_root(4, tree))
-}
+pub const RING_AND_BRIDGE: Sketch = Sketch {
+    homes: &[0, 3, 1, 2],
+    ends: &[&[], &[], &[2], &[1]],
+};
+
+/// The cactus of 1, with a bridge down to 2 and 3, and there a cycle through 4 and 5.
+pub const RING_BELOW: Sketch = Sketch {
+    homes: &[0, 1, 1, 2, 3],
+    ends: &[&[], &[], &[], &[2, 1]],
+};
+
+/// The cactus of 1, with a bridge down to 2, one from there to 3, and one from there to 4.
+pub const ONE_PATH: Sketch = Sketch {
+    homes: &[0, 1, 2, 3],
+    ends: &[&[], &[], &[], &[1, 1, 1]],
+};
 
 /// The cactus of 1 and 2, with a bridge down to 3.
-pub fn two_and_one(alloc: Global) -> Result<Cactus, NoMemory>
-    ensures { IfOk result (λ c. c.vertices ≡ 3) }
-{
-    let root = leaf(alloc, &[1, 2])?;
-    let child = leaf(alloc, &[3])?;
-    let tree = with_bridge(alloc, root, child)?;
-    Ok(Cactus::from_root(3, tree))
-}
+pub const TWO_AND_ONE: Sketch = Sketch {
+    homes: &[0, 0, 1],
+    ends: &[&[], &[1]],
+};
+
+/// The cactus of 1, with a bridge down to an empty node, and from there bridges down to 2 and to 3.
+pub const STAR: Sketch = Sketch {
+    homes: &[0, 2, 3],
+    ends: &[&[], &[], &[1], &[1, 1]],
+};
+
+/// The same, with the bridge down to 3 before that down to 2.
+pub const TURNED_STAR: Sketch = Sketch {
+    homes: &[0, 3, 2],
+    ends: &[&[], &[], &[1], &[1, 1]],
+};
 
 /// The cactus of 1, with a way of two bridges down to 5 and 6, then a cycle through 2, which has 3 below a bridge, and 4,
 /// then a bridge down to 7.
-pub fn nested(alloc: Global) -> Result<Cactus, NoMemory>
-    ensures { IfOk result (λ c. c.vertices ≡ 7) }
-{
-    let five = leaf(alloc, &[5])?;
-    let six = leaf(alloc, &[6])?;
-    let way = with_bridge(alloc, five, six)?;
-    let root = leaf(alloc, &[1])?;
-    let with_way = with_bridge(alloc, root, way)?;
-    let two = leaf(alloc, &[2])?;
-    let three = leaf(alloc, &[3])?;
-    let first = with_bridge(alloc, two, three)?;
-    let four = leaf(alloc, &[4])?;
-    let ring = pair(alloc, first, four)?;
-    let with_ring = with_cycle(with_way, ring)?;
-    let seven = leaf(alloc, &[7])?;
-    let tree = with_bridge(alloc, with_ring, seven)?;
-    Ok(Cactus::from_root(7, tree))
-}
+pub const NESTED: Sketch = Sketch {
+    homes: &[0, 3, 4, 5, 1, 2, 6],
+    ends: &[&[], &[], &[1, 1], &[], &[1], &[2], &[1]],
+};
 
 /// The cactus of 1, with a cycle through an empty node, which has a cycle through 2 and 3, and through 4.
-pub fn two_rings(alloc: Global) -> Result<Cactus, NoMemory>
-    ensures { IfOk result (λ c. c.vertices ≡ 4) }
-{
-    let empty = leaf(alloc, &[])?;
-    let lower = leaves(alloc, &[2, 3])?;
-    let between = with_cycle(empty, lower)?;
-    let four = leaf(alloc, &[4])?;
-    let upper = pair(alloc, between, four)?;
-    let root = leaf(alloc, &[1])?;
-    let tree = with_cycle(root, upper)?;
-    Ok(Cactus::from_root(4, tree))
-}
+pub const TWO_RINGS: Sketch = Sketch {
+    homes: &[0, 2, 3, 4],
+    ends: &[&[], &[], &[], &[2], &[2]],
+};
+
+/// The cactus of 1, with a cycle through 2, 3 and an empty node, and below that a cycle through 4, 5 and 6.
+pub const RINGS_AT_AN_EMPTY_NODE: Sketch = Sketch {
+    homes: &[0, 1, 2, 4, 5, 6],
+    ends: &[&[], &[], &[], &[], &[], &[], &[3, 3]],
+};
 
 /// The cactus of 1, with a bridge down to an empty node, which has a cycle through 2 and 3, and with a cycle through an
 /// empty node, which has a bridge down to 4, and through 5: both empty nodes can be spared.
-pub fn two_spare(alloc: Global) -> Result<Cactus, NoMemory>
-    ensures n { IfOk result (λ c. c.vertices ≡ 5) }
+pub const TWO_SPARE: Sketch = Sketch {
+    homes: &[0, 2, 3, 5, 6],
+    ends: &[&[], &[], &[], &[2, 1], &[], &[1], &[2]],
+};
+
+/// The vertices of a node.
+fn own_list(alloc: Global, homes: &[usize], node: usize) -> Result<VertexList, NoMemory>
+    requires { length homes.now < 2 ^ 32 }
+    ensures { IfOk result (λ l. l ≡ own_of homes.now node) }
+{
+    let mut own = VertexList::new(alloc);
+    'homes: for i in 0..homes.len() {
+        if homes[i] == node {
+            own.push(i as u32 + 1)?;
+        }
+    }
+    Ok(own)
+}
+
+/// Appends a node with its vertices.
+fn push_node(
+    alloc: Global,
+    trees: &mut Children,
+    homes: &[usize],
+    node: usize,
+) -> Result<(), NoMemory>
+    requires { length homes.now < 2 ^ 32 }
+    ensures entered { OnOk result (flat_map entered (nodes_in trees.new) ≡ flat_map entered (nodes_in trees.old) ++ own_of homes.now node ∷ []) }
+    ensures wide { OnOk result (AreWide (nodes_in trees.old) → AreWide (nodes_in trees.new)) }
+{
+    let vertices = own_list(alloc, homes, node)?;
+    let blocks = Blocks::new(alloc);
+    trees.push(Node { vertices, blocks })?;
+    Ok(())
+}
+
+/// A bridge down to the only node, or a cycle through several.
+fn block_of(alloc: Global, nodes: Children) -> Result<Block, NoMemory>
+    requires { 0 < length (nodes_in nodes) }
+    ensures entered { IfOk result (λ b. entered_block b ≡ flat_map entered (nodes_in nodes)) }
+    ensures wide { IfOk result (λ b. AreWide (nodes_in nodes) → All (λ k. 2 ≤ k) (block_widths b)) }
+{
+    let mut nodes = nodes;
+    if nodes.len() >= 2 {
+        return Ok(Block::Cycle(nodes));
+    }
+    let only = nodes.pop().unwrap();
+    let child = Box::new(alloc, only)?;
+    Ok(Block::Bridge(child))
+}
+
+/// Hangs the last trees below the one before them, as a block.
+fn close_block(alloc: Global, trees: &mut Children, count: usize) -> Result<(), Fail>
+    ensures entered { OnOk result (flat_map entered (nodes_in trees.new) ≡ flat_map entered (nodes_in trees.old)) }
+    ensures wide { OnOk result (AreWide (nodes_in trees.old) → AreWide (nodes_in trees.new)) }
+{
+    if count == 0 || count >= trees.len() {
+        return Err(Fail::from("no such block"));
+    }
+    let nodes = trees.split_off(trees.len() - count)?;
+    let block = block_of(alloc, nodes)?;
+    let mut upper = trees.pop().unwrap();
+    upper.blocks.push(block)?;
+    trees.push(upper)?;
+    Ok(())
+}
+
+/// Hangs the last trees below others, block by block.
+fn close_blocks(alloc: Global, trees: &mut Children, counts: &[usize]) -> Result<(), Fail>
+    ensures entered { OnOk result (flat_map entered (nodes_in trees.new) ≡ flat_map entered (nodes_in trees.old)) }
+    ensures wide { OnOk result (AreWide (nodes_in trees.old) → AreWide (nodes_in trees.new)) }
+{
+    'each: for i in 0..counts.len() {
+        close_block(alloc, trees, counts[i])?;
+    }
+    Ok(())
+}
+
+/// The trees that all nodes of a sketch make.
+fn trees_of(alloc: Global, sketch: &Sketch) -> Result<Children, Fail>
+    requires { length sketch.now.homes.now < 2 ^ 32 }
+    ensures entered { IfOk result (λ t. flat_map entered (nodes_in t) ≡ lists_of sketch.now.homes.now (length sketch.now.ends.now)) }
+    ensures wide { IfOk result (λ t. AreWide (nodes_in t)) }
+{
+    let mut trees = Children::new(alloc);
+    'nodes: for i in 0..sketch.ends.len() {
+        push_node(alloc, &mut trees, sketch.homes, i)?;
+        close_blocks(alloc, &mut trees, sketch.ends[i])?;
+    }
+    Ok(trees)
+}
+
+/// Whether each number is below a count.
+fn are_below(numbers: &[usize], count: usize) -> bool
+    ensures { result ≡ true → (i : ℕ) → i < length numbers.now → slice_index numbers.now i < count }
+{
+    'each: for i in 0..numbers.len() {
+        if numbers[i] >= count {
+            return false;
+        }
+    }
+    true
+}
+
+/// Whether no side of the cactus is empty.
+fn has_no_empty_side(alloc: Global, cactus: &Cactus) -> Result<bool, NoMemory>
+    ensures { IfOk result (λ b. b ≡ true → HasNoEmptySide cactus.now) }
+{
+    let mut room = Side::empty(alloc, cactus.n())?;
+    let mut walk = Walk::new(alloc, cactus)?;
+    'sides: while walk.next(&mut room) {
+        if room.len() == 0 {
+            return Ok(false);
+        }
+    }
+    Ok(true)
+}
+
+/// The root of the only tree that all nodes of a sketch make.
+fn root_of(alloc: Global, sketch: &Sketch) -> Result<Node, Fail>
+    requires { length sketch.now.homes.now < 2 ^ 32 }
+    ensures entered { IfOk result (λ x. entered x ≡ lists_of sketch.now.homes.now (length sketch.now.ends.now)) }
+    ensures wide { IfOk result (λ x. All (λ k. 2 ≤ k) (widths x)) }
+{
+    let mut trees = trees_of(alloc, sketch)?;
+    if trees.len() != 1 {
+        return Err(Fail::from("not one tree"));
+    }
+    let root = trees.pop().unwrap();
+    Ok(root)
+}
+
+/// The cactus of a sketch, none of whose sides is empty.
+pub fn cactus_of(alloc: Global, sketch: &Sketch) -> Result<Cactus, Fail>
+    ensures few { IfOk result (λ c. c.vertices ≤ 4194304) }
     ensures sides { IfOk result (λ c. HasNoEmptySide c) }
 {
-    let empty = leaf(alloc, &[])?;
-    let lower = leaves(alloc, &[2, 3])?;
-    let middle = with_cycle(empty, lower)?;
-    let root = leaf(alloc, &[1])?;
-    let upper = with_bridge(alloc, root, middle)?;
-    let spare = leaf(alloc, &[])?;
-    let four = leaf(alloc, &[4])?;
-    let chain = with_bridge(alloc, spare, four)?;
-    let five = leaf(alloc, &[5])?;
-    let ring = pair(alloc, chain, five)?;
-    let tree = with_cycle(upper, ring)?;
-    Ok(Cactus::from_root(5, tree))
+    let homes = sketch.homes;
+    if homes.is_empty() || homes.len() > 4194304 || homes[0] != 0 {
+        return Err(Fail::from("not the homes of vertices"));
+    }
+    if !are_below(homes, sketch.ends.len()) {
+        return Err(Fail::from("no such node"));
+    }
+    let cactus = Cactus::from_root(homes.len() as u32, root_of(alloc, sketch)?);
+    if !has_no_empty_side(alloc, &cactus)? {
+        return Err(Fail::from("an empty side"));
+    }
+    Ok(cactus)
 }

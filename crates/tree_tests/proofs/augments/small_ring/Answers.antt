@@ -1,9 +1,0 @@
-use Rattle.std.proofs.Common.{[], ◌∷◌, refl}
-use Rattle.rooted_cactus.proofs.Built.{is_cactus}
-use Rattle.tree_tests.proofs.augments.small_ring.Goals as goal
-
-pub from_root-requires : goal.from_root-requires
-from_root-requires c = is_cactus 3 c.in_ok-tree.tree ((1 ∷ []) ∷ (2 ∷ []) ∷ (3 ∷ []) ∷ []) (2 ∷ [])
-    (rw (c.in_ok-tree.ensures.entered, c.in_ok-root.ensures.entered, c.in_ok-ring.ensures.entered) refl)
-    (rw (c.in_ok-tree.ensures.widths, c.in_ok-root.ensures.widths, c.in_ok-ring.ensures.count, c.in_ok-ring.ensures.widths) refl)
-    refl
