@@ -1,6 +1,6 @@
 //! Scans of a graph with a cap, in which vertices can be dropped.
 
-ghost use Rattle.std.specs.Prelude.{◌≡◌, ◌↔◌, ℕ, ◌+◌, ◌*◌, ◌<◌, ◌≤◌, ◌^◌, true, false, List, ◌∷◌, None, IfOk, IfSome, IfNone, if◌then◌else◌};
+ghost use Rattle.std.specs.Prelude.{◌≡◌, ◌↔◌, ℕ, ◌≤◌, ◌^◌, true, false, List, ◌∷◌, None, IfOk, IfSome, IfNone, if◌then◌else◌};
 ghost use Rattle.std.specs.List.{sum_by};
 ghost use Rattle.cut_definitions.specs.Graph.{Graph};
 ghost use Rattle.cut_definitions.specs.Weight.{VertexSet, parts, weight};

@@ -1,7 +1,7 @@
 //! A tree of maxima over numbers, in one slice: node 1 is the root, the nodes 2 i and 2 i + 1 stand below node i, and the
 //! numbers themselves are the second half, the leaves.
 
-ghost use Rattle.std.specs.Prelude.{◌≡◌, ℕ, ◌+◌, ◌*◌, ◌/◌, ◌<◌, ◌≤◌, ◌^◌, length, slice_index};
+ghost use Rattle.std.specs.Prelude.{◌≡◌, ℕ, ◌+◌, ◌*◌, ◌<◌, ◌≤◌, ◌^◌, length, slice_index};
 ghost use Rattle.capped_scan.specs.Maxima.{IsMaxTree, IsWritten};
 
 /// Writes the inner nodes over the leaves that are there.

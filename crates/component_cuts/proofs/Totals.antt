@@ -58,9 +58,6 @@ term_in masses part_of i v e = ap (λ (b : Bool). if b then mass_of masses v els
 term_out : (masses part_of : List ℕ) (i v : ℕ) → get_or part_of v 0 ≢ i → mass_term masses (λ u. eqb (get_or part_of u 0) i) v ≡ 0
 term_out masses part_of i v ne = ap (λ (b : Bool). if b then mass_of masses v else 0) (ne_eqb (get_or part_of v 0) i ne)
 
-pub masses_start : (masses part_of : List ℕ) (count : ℕ) (sums : List ℕ) → length sums ≡ count + 1 → ((i : ℕ) → get_or sums i 0 ≡ 0) → AreMassesTo masses part_of count 0 sums
-masses_start masses part_of count sums long none = record { long = long; each = λ i le. none i }
-
 -- the next mass fits its number's sum
 pub next_small : (masses part_of : List ℕ) (count v number : ℕ) (sums : List ℕ) → AreMassesTo masses part_of count v sums → v < length masses → number ≡ get_or part_of (v + 1) 0 → number ≤ count →
     get_or sums number 0 + mass_of masses (v + 1) ≤ mass masses (λ u. true)

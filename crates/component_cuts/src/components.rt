@@ -1,6 +1,6 @@
 //! The components of a graph.
 
-ghost use Rattle.std.specs.Prelude.{◌≡◌, ◌+◌, ◌-◌, ◌*◌, ◌^◌, ◌<◌, ◌≤◌, All, length, true, IfOk, MatchOption, MatchResult};
+ghost use Rattle.std.specs.Prelude.{◌≡◌, ◌-◌, ◌*◌, ◌^◌, ◌<◌, ◌≤◌, All, length, true, IfOk, MatchOption, MatchResult};
 ghost use Rattle.cut_definitions.specs.Cuts.{has};
 ghost use Rattle.component_cuts.specs.Parts.{part_at, unions, AreComponents, IsDivision, IsNumberOfUnions, IsPart};
 ghost use Rattle.component_cuts.specs.Doubling.{members_of};

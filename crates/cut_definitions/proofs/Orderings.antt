@@ -1,12 +1,11 @@
 -- Small laws on orderings and on the order of lists of numbers.
-use Rattle.std.proofs.Common.{◌≡◌, ℕ, List, sym, ◌∙◌, ap, ◌<◌, ◌∷◌, refl, true≢false, subst, true}
+use Rattle.std.proofs.Common.{◌≡◌, ℕ, List, sym, ap, ◌<◌, ◌∷◌, refl, true≢false, subst, true}
 use Rattle.std.specs.Cmp.{nat_cmp_is, IsTotalOrder}
 use Rattle.std.specs.Cmp.Lexicographic.{slice_cmp}
 use Rattle.std.specs.Ordering.{nat_cmp, is_eq, ordering_then, is_lt}
 use Rattle.std.specs.declared.cmp.Ordering.{Ordering}
 use Rattle.std.specs.declared.cmp.Ordering.TheVariants.{Less, Equal, Greater}
-use Rattle.std.proofs.lemmas.Bool.{false≢true}
-use Rattle.std.proofs.lemmas.Cmp.{nat_list_cmp_total, eq_by_cmp_equiv, nat_cmp_total, tied_itself}
+use Rattle.std.proofs.lemmas.Cmp.{nat_cmp_total, tied_itself}
 use Rattle.std.specs.BTreeSet.{BTreeSet}
 use Rattle.std.specs.List.{Contains}
 use Rattle.std.specs.List.Sorted.{IsStrictlySortedBy}
@@ -14,10 +13,6 @@ use Rattle.std.specs.Prelude.{◌↔◌}
 use Rattle.std.proofs.lemmas.Map.Lookups.{CmpEqualImpliesEq, btree_set_from_contains}
 use Rattle.std.proofs.lemmas.Map.Views.{btree_set_contains_iff}
 use Rattle.cut_definitions.proofs.Bools.{same_tests}
-
--- no list is less than itself, and the first entries decide
-pub less_itself : (x : List ℕ) → slice_cmp nat_cmp x x ≡ Less → ⊥
-less_itself x h = false≢true (sym (ap is_eq h) ∙ (eq_by_cmp_equiv nat_list_cmp_total).refl x)
 
 pub lesser_first : (v w : ℕ) (s t : List ℕ) → v < w → slice_cmp nat_cmp (v ∷ s) (w ∷ t) ≡ Less
 lesser_first v w s t h = let e : Less ≡ nat_cmp v w = nat_cmp_is v w Less h in rw (← e) refl

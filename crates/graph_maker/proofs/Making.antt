@@ -174,10 +174,6 @@ each_in_list rings e h = by_place rings h.ring e h.is_ring h.is_edge.0 (omega (a
 
 -- The law.
 
-pub is_edge_list : (number : ℕ) → 12 ≤ number → number ≤ 100000 → IsEdgeList (made_graph number)
-unfolding made_graph
-is_edge_list number low high = edge_list_of (number / 4) (omega arith) (omega arith)
-
 pub making : LawOfMaking
 unfolding made_graph
 making number low high = record {

@@ -1,7 +1,7 @@
 //! The edges of the graph, ring by ring in ascending order.
 
-ghost use Rattle.std.specs.Prelude.{◌≡◌, ◌+◌, ◌≤◌, ◌<◌, ◌++◌, IfOk, OnOk};
-ghost use Rattle.graph_maker.specs.Made.{made_graph, at_first, behind_first, double, ring_edges};
+ghost use Rattle.std.specs.Prelude.{◌≡◌, ◌≤◌, ◌<◌, ◌++◌, IfOk, OnOk};
+ghost use Rattle.graph_maker.specs.Made.{made_graph, at_first, behind_first, double};
 
 use cut_definitions::{Edge, EdgeList, NoMemory};
 use std::alloc::Global;

@@ -5,7 +5,6 @@ use Rattle.std.specs.Int.{trailing_zeros, w64}
 use Rattle.std.proofs.lemmas.Nat.Bits.{bit_at-trailing_zeros}
 use Rattle.std.specs.List.{filter, range_with_len}
 use Rattle.std.proofs.lemmas.Bool.{cases_lt, false≢true, eqb-true}
-use Rattle.std.proofs.lemmas.List.{length-replicate}
 use mathlib.Core.Option.{some}
 use lib.ListN.{get_elem?}
 use Rattle.cut_definitions.specs.Weight.{either}
@@ -34,13 +33,6 @@ filter-none (suc m) low s h = let rest = filter-none m (low + 1) s h in let firs
 
 pub marked-none : (n : ℕ) (s : ℕ → Bool) → ((v : ℕ) → s v ≡ false) → marked_within n s ≡ record { edges = n; marked = [] }
 marked-none n s h = ap (λ (xs : List ℕ). let r : MarkList = record { edges = n; marked = xs } in r) (filter-none n 0 s h)
-
--- words of zeros are marks of which none is set
-pub zeros-are-marks : (n : ℕ) (words : List ℕ) → words ≡ replicate (n / 64 + 1) 0 → AreMarkWords n words
-zeros-are-marks n words e = record {
-  long = ap (λ (ws : List ℕ). length ws) e ∙ length-replicate {A = ℕ} (n / 64 + 1) 0;
-  within = λ v is. absurd (false≢true (sym (has_bit-zeros (n / 64 + 1) v) ∙ (ap (λ (ws : List ℕ). has_bit ws v) (sym e) ∙ is)));
-}
 
 pub marked-fresh : (n : ℕ) (words : List ℕ) → words ≡ replicate (n / 64 + 1) 0 → marked_within n (has_bit words) ≡ record { edges = n; marked = [] }
 marked-fresh n words e = marked-none n (has_bit words) (λ v. ap (λ (ws : List ℕ). has_bit ws v) e ∙ has_bit-zeros (n / 64 + 1) v)

@@ -1,6 +1,6 @@
 //! The shared board.
 
-ghost use Rattle.std.specs.Prelude.{◌≡◌, ℕ, ◌+◌, ◌<◌, ◌≤◌, ◌↔◌, [], ◌∷◌, ◌++◌, min, true, false, length, Contains, IfOk, IsTrue, if◌then◌else◌};
+ghost use Rattle.std.specs.Prelude.{◌≡◌, ℕ, ◌+◌, ◌<◌, ◌≤◌, ◌∷◌, ◌++◌, min, true, false, length, Contains, IfOk, if◌then◌else◌};
 ghost use Rattle.cut_definitions.specs.Safe.{IsFair};
 ghost use Rattle.cut_definitions.specs.Cuts.{has};
 ghost use Rattle.weighted_graph.specs.Marks.{MarksAreSafe};
@@ -31,7 +31,7 @@ pub struct Board {
 }
 
 impl Model for Board {
-    ghost use Rattle.std.specs.Prelude.{◌≡◌, [], length};
+    ghost use Rattle.std.specs.Prelude.{◌≡◌, length};
     ghost use Rattle.cut_definitions.specs.Graph.{IsEdgeList};
     ghost use Rattle.mark_board.specs.Seen.{BoardView};
     ghost use Rattle.mark_board.specs.Words.{words_for};

@@ -4,5 +4,4 @@ pub mod Pushing
 pub mod Augmenting
 pub mod RowStarts
 pub mod Showing
-pub mod Preflows
 pub mod Members

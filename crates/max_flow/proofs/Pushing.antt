@@ -1,5 +1,5 @@
 -- A push along the path to a vertex, one arc at a time.
-use Rattle.std.proofs.Common.{◌≡◌, ℕ, ◌+◌, ◌-◌, ◌*◌, ◌<◌, ◌≤◌, ◌⊎◌, inl, inr, ⊎_elim, eqb, List, set, get_or, refl, sym, ◌∙◌, ap, arith}
+use Rattle.std.proofs.Common.{◌≡◌, ℕ, ◌+◌, ◌-◌, ◌*◌, ◌<◌, ◌≤◌, ◌⊎◌, inl, inr, ⊎_elim, eqb, List, set, get_or, sym, ◌∙◌, arith}
 use Rattle.std.specs.Prelude.{◌≢◌}
 use Rattle.std.proofs.lemmas.List.{get_or-set_other}
 use Rattle.cut_definitions.specs.declared.edge_list.Edge.{Edge}
@@ -7,29 +7,9 @@ use Rattle.cut_definitions.specs.Graph.{Graph, IsGraph}
 use Rattle.cut_definitions.specs.Weight.{VertexSet}
 use Rattle.max_flow.specs.declared.search.Step.{Step}
 use Rattle.region_flow.specs.Residual.{out, counted, edge_of, IsResidual}
-use Rattle.max_flow.specs.Tree.{step_at, IsMarking, IsListed, IsTree, IsPath}
-use Rattle.region_flow.specs.Marks.{order_mark}
+use Rattle.max_flow.specs.Tree.{step_at, IsPath}
 use Rattle.region_flow.specs.Closed.{IsAlong}
 use Rattle.region_flow.proofs.Sending.{carried, narrower_path, pushed_once}
-
--- ---- the path to a vertex of the tree
-
--- the marks of a tree are those of its steps
-pub IsListed-from_marking : (n : ℕ) (marks : List ℕ) (steps : List Step) (count : ℕ) → IsMarking n marks steps count → 1 ≤ count → IsListed marks steps count
-IsListed-from_marking n marks steps count h some = record {
-  few = omega (arith, h.steps_length, h.rest);
-  within = λ j l. omega (arith, h.marks_length, h.to_n j l);
-  at_most = h.at_most;
-  stands = h.stands;
-}
-
--- the steps of a tree up to a place are a path
-pub IsPath-from_tree : (g : Graph) (toward marks : List ℕ) (steps : List Step) (count place : ℕ) → IsTree g toward marks steps count → place < count → IsPath g toward steps place
-IsPath-from_tree g toward marks steps count place h l = record {
-  inside = omega (arith, h.marking.steps_length, h.marking.rest);
-  reached = λ j a b. h.reached j a (omega arith);
-  distinct = λ i j a b e. (let p = h.marking.placed i (omega arith) in let q = h.marking.placed j (omega arith) in let f = ap (order_mark marks) e in omega arith);
-}
 
 -- ---- one arc
 
@@ -71,11 +51,6 @@ pub record Pushed (g : Graph) (toward0 toward : List ℕ) (steps : List Step) (p
   pub same : (j : ℕ) → 1 ≤ j → j ≤ at → get_or toward (step_at steps j).edge 0 ≡ get_or toward0 (step_at steps j).edge 0
   pub balance : (side : VertexSet) → out g.edges toward side + counted side (step_at steps at).vertex amount
       ≡ out g.edges toward0 side + counted side (step_at steps place).vertex amount
-
--- before the first arc nothing is pushed
-pub pushed_none : (g : Graph) (toward : List ℕ) (steps : List Step) (place amount : ℕ) → IsResidual g toward → amount ≤ (step_at steps place).bottleneck →
-    Pushed g toward toward steps place place amount
-pushed_none g toward steps place amount h l = record { inside = omega arith; residual = h; bottleneck = l; same = λ j a b. refl; balance = λ side. refl }
 
 -- the arc at hand can still carry the amount
 pub path_here : (g : Graph) (toward0 toward : List ℕ) (steps : List Step) (place at amount : ℕ) → IsPath g toward0 steps place → 1 ≤ at →

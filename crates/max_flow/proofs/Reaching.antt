@@ -1,5 +1,5 @@
 -- One arc of a search: what it needs, and what it does to the tree.
-use Rattle.std.proofs.Common.{◌≡◌, ℕ, ◌+◌, ◌-◌, ◌*◌, ◌<◌, ◌≤◌, inl, inr, ⊎_elim, List, set, length, get_or, min, refl, ◌∙◌, arith}
+use Rattle.std.proofs.Common.{◌≡◌, ℕ, ◌+◌, ◌-◌, ◌*◌, ◌<◌, ◌≤◌, inl, inr, ⊎_elim, List, set, length, get_or, min, ◌∙◌, arith}
 use Rattle.std.specs.Prelude.{◌≢◌}
 use Rattle.std.proofs.lemmas.Bool.{cases_eq, cases_lt}
 use Rattle.std.proofs.lemmas.List.{get_or-set_same, get_or-set_other}
@@ -27,10 +27,6 @@ pub bottleneck_some : (g : Graph) (toward marks : List ℕ) (steps : List Step) 
     1 ≤ (step_at steps j).bottleneck
 bottleneck_some g toward marks steps count j h l =
     ⊎_elim (λ (e : j < 1). let z : j ≡ 0 = omega arith in rw z h.wide) (λ (p : 1 ≤ j). (h.reached j p l).some) (cases_lt j 1)
-
--- a tree goes on from itself
-pub extends_itself : (g : Graph) (toward marks : List ℕ) (steps : List Step) (count : ℕ) → IsTree g toward marks steps count → Extends g toward marks steps count marks steps count
-extends_itself g toward marks steps count h = record { tree = h; more = omega arith; steps_kept = λ j l. refl; marks_kept = λ v p. p }
 
 -- less can be carried along where more can
 narrower : (e : Edge) (toward v a b bottleneck residual : ℕ) → bottleneck ≤ residual → v ≡ a → IsAlong e toward v b residual → IsAlong e toward a b bottleneck

@@ -1,4 +1,3 @@
 pub mod Tree
 pub mod Rows
 pub mod Flow
-pub mod Preflow

@@ -17,12 +17,10 @@
 #![tactic(auto)]
 
 pub mod flow;
-pub mod preflow;
 mod push;
 mod rows;
 mod search;
 mod side;
 
 pub use flow::Flow;
-pub use preflow::{Beyond, Preflow};
 pub use region_flow::{BestRun, Outcome};

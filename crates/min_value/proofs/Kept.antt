@@ -1,6 +1,6 @@
 -- Contractions that part no minimum cut, one after the other.
 use Rattle.std.proofs.Common.{◌≡◌, ℕ, ◌+◌, ◌-◌, ◌<◌, ◌≤◌, ⊎_elim, Bool, false, List, map, length, set, get_or, refl, sym, ◌∙◌, subst, ap, arith, get_or-set_other, get_or-set_same, length-set}
-use Rattle.std.specs.Prelude.{◌≢◌, Result, Ok, Err, Option, Some, None, IfOk, IfNone, IfSome}
+use Rattle.std.specs.Prelude.{◌≢◌, Result, Ok, Err, Option, Some, None, IfOk, IfNone}
 use Rattle.std.specs.List.{Contains}
 use Rattle.std.proofs.lemmas.Bool.{cases_eq, cases_lt, false≢true}
 use Rattle.std.proofs.lemmas.List.{get_or_default, length-map}
@@ -188,7 +188,3 @@ pub holds_for_none : {X E : Type 0} (r : Result (Option X) E) (P : Type 0) → P
 holds_for_none (Ok None) P p = p
 holds_for_none (Ok (Some x)) P p = tt
 holds_for_none (Err e) P p = tt
-
--- what holds of something that is there
-pub of_some : {X : Type 0} (o : Option X) (x : X) (P : X → Type 0) → o ≡ Some x → IfSome o P → P x
-of_some o x P is h = subst (λ o. IfSome o P) is h

@@ -1,6 +1,6 @@
 //! The nodes of the parts of a region.
 
-ghost use Rattle.std.specs.Prelude.{◌≡◌, ◌+◌, ◌<◌, ◌≤◌, ℕ, IfOk, length, slice_index};
+ghost use Rattle.std.specs.Prelude.{◌≡◌, ◌<◌, ◌≤◌, ℕ, IfOk, length, slice_index};
 ghost use Rattle.cut_definitions.specs.Graph.{Graph};
 ghost use Rattle.cut_definitions.specs.Weight.{VertexSet};
 ghost use Rattle.node_tree.specs.Flat.{AreLinked};
@@ -24,7 +24,8 @@ fn hanging_after(i: u32, count: u32, later: &[u64], next: &[u64], value: u64) ->
     hanging(2 * later[i as usize], inner, after, next[i as usize], value)
 }
 
-/// Hangs a node for each part from the second on, the second below the node of the region, and writes the node of each part.
+/// Hangs a node for each part from the second on, the second below the node of the region, which is that of the first part,
+/// and writes the node of each of them.
 ///
 /// `later` and `next` are what `weigh_parts` wrote of a chain. Each part takes one step. Want of memory is its only refusal,
 /// and then nodes may have been hung.
@@ -34,24 +35,22 @@ pub fn hang_parts(
     later: &[u64],
     next: &[u64],
     value: u64,
-    node: usize,
     nodes: &mut [usize],
 ) -> Result<(), NoMemory>
-    requires node { node < length tree.old.uppers }
+    requires node { slice_index nodes.old 1 < length tree.old.uppers }
     requires two { 2 ≤ count }
     requires later { count < length later.now }
     requires next { count < length next.now }
     requires nodes { count < length nodes.old }
     requires small { AreSmall count value later.now next.now }
     ensures long { length nodes.new ≡ length nodes.old }
-    ensures first { IfOk result (λ _. slice_index nodes.new 1 ≡ node) }
+    ensures first { IfOk result (λ _. slice_index nodes.new 1 ≡ slice_index nodes.old 1) }
     ensures within { IfOk result (λ _. (i : ℕ) → 1 ≤ i → i ≤ count → slice_index nodes.new i < length tree.new.uppers) }
     ensures linked { IfOk result (λ _. (g : Graph) (region : VertexSet) (t : ℕ) (part : ℕ → ℕ) → IsWeighedChain g region t count part value later.now next.now →
-        AreLinked g count part (λ i. slice_index nodes.new i) node tree.old tree.new) }
+        AreLinked g count part (λ i. slice_index nodes.new i) (slice_index nodes.old 1) tree.old tree.new) }
 {
     let _nodes = tree.len();
-    let second = tree.hang(node)?;
-    nodes[1] = node;
+    let second = tree.hang(nodes[1])?;
     nodes[2] = second;
     for i in 2..count {
         let hanging = hanging_after(i, count, later, next, value);

@@ -122,9 +122,6 @@ command_within words = chosen IsMade (is_clean (fault_of mincut words)) _ _ (by_
 pub is_makeable : (words : List Text) (command : Command) → command_of words ≡ Some command → IsMakeable command.job
 is_makeable words command is = subst (λ (o : Option Command). IfSome o IsMade) is (command_within words)
 
-pub reads_graph : (words : List Text) (command : Command) → command_of words ≡ Some command → IsReading command.job → ReadsGraph words
-reads_graph words command is reading = record { command = command; commanded = is; reading = reading }
-
 pub some_is : {X : Type 0} (x y : X) → ◌≡◌ {A = Option X} (Some x) (Some y) → x ≡ y
 some_is {X} x y e = ap (λ (o : Option X). elim o [ Some v ↦ v | None ↦ x ]) e
 

@@ -1,6 +1,6 @@
 -- Texts read as insertions, three each.
-use Rattle.std.proofs.Common.{◌≡◌, ℕ, ◌+◌, ◌<◌, ◌≤◌, List, [], ◌∷◌, ◌++◌, length, map, drop, get_or, append_assoc, append-nil, refl, sym, ◌∙◌, ap, arith, Option, Some, None}
-use Rattle.std.proofs.lemmas.List.{drop_all, length-drop, length-map, drop_more}
+use Rattle.std.proofs.Common.{◌≡◌, ℕ, ◌+◌, ◌<◌, ◌≤◌, List, [], ◌∷◌, ◌++◌, length, map, drop, get_or, append_assoc, refl, sym, ◌∙◌, ap, arith, Option, Some, None}
+use Rattle.std.proofs.lemmas.List.{length-drop, length-map, drop_more}
 use Rattle.std.specs.Borrow.{Bor}
 use Rattle.clap.specs.Words.{Text}
 use Rattle.program_words.specs.Insertions.{Insertion}
@@ -31,11 +31,6 @@ none_before (Some is) = refl
 pub one_more : (done : List Insertion) (x : Insertion) (o : Option (List Insertion)) → after_all done (before_all (Some x) o) ≡ after_all (done ++ x ∷ []) o
 one_more done x None = refl
 one_more done x (Some is) = ap Some (sym (append_assoc done (x ∷ []) is))
-
-pub all_read : (values : List (Bor Text)) (done : List Insertion) (j : ℕ) → length values ≤ j → insertions_of (texts_from values 0) ≡ after_all done (insertions_of (texts_from values j)) →
-    Some done ≡ insertions_of (map (λ v. v.now) values)
-all_read values done j le is =
-    ap Some (sym (append-nil done)) ∙ ap (λ (l : List (Bor Text)). after_all done (insertions_of (map (λ v. v.now) l))) (sym (drop_all j values le)) ∙ sym is
 
 few_none : (xs : List Text) → 1 ≤ length xs → length xs < 3 → insertions_of xs ≡ None
 few_none [] some few = absurd (omega (arith, some))

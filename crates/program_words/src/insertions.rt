@@ -1,6 +1,6 @@
 //! The insertions of a command.
 
-ghost use Rattle.std.specs.Prelude.{◌≡◌, ◌∷◌, ◌++◌, [], OnOk, OnErr};
+ghost use Rattle.std.specs.Prelude.{◌≡◌, ◌∷◌, ◌++◌, [], OnOk};
 
 use crate::NoMemory;
 use std::alloc::Global;
@@ -22,7 +22,7 @@ impl Model for Insertions {
 }
 
 impl Insertions {
-    ghost use Rattle.std.specs.Prelude.{◌≡◌, ◌<◌, ◌∷◌, ◌++◌, [], Some, OnOk, OnErr, length, slice_get};
+    ghost use Rattle.std.specs.Prelude.{◌≡◌, ◌<◌, ◌∷◌, ◌++◌, [], Some, OnOk, length, slice_get};
 
     /// No insertion. It takes no memory.
     pub fn new(alloc: Global) -> Insertions

@@ -44,12 +44,6 @@ next_earlier labels c v x ne = ⊎_elim
 next_here : (labels : List ℕ) (c v : ℕ) → v ≤ length labels → label labels v ≡ c → IsNext labels c v v
 next_here labels c v within is = inl (record { late = omega arith; to_n = within; is_in = is; before = λ u l m. absurd (omega (arith, l, m)) })
 
-pub first_none : (labels first : List ℕ) (v : ℕ) → ((c : ℕ) → get_or first c 0 ≡ 0) → length labels < v → AreFirst labels v first
-first_none labels first v empty past c k = inr (record { zero = empty c; none = λ u l m. absurd (omega (arith, l, m, past)) })
-
-pub next_none : (labels next : List ℕ) (v : ℕ) → length labels < v → AreNext labels v next
-next_none labels next v past u l m = absurd (omega (arith, l, m, past))
-
 pub first_linked : (labels first : List ℕ) (v : ℕ) → v ≤ length labels → length first ≡ classes labels + 1 → AreFirst labels (v + 1) first → AreFirst labels v (set first (label labels v) v)
 first_linked labels first v within long h c k = ⊎_elim
     (λ (e : c ≡ label labels v).

@@ -1,7 +1,7 @@
 //! Contraction of a dense graph: the weights between classes are added up along the rows of each class.
 
-ghost use Rattle.std.specs.Prelude.{◌≡◌, ℕ, ◌+◌, ◌-◌, ◌<◌, ◌≤◌, ◌^◌, ◌++◌, All, IfOk, IsTrue, OnOk, if◌then◌else◌, length, nat_lt, slice_index};
-ghost use Rattle.cut_definitions.specs.Contraction.{class, classes, label, relabel};
+ghost use Rattle.std.specs.Prelude.{◌≡◌, ℕ, ◌+◌, ◌-◌, ◌<◌, ◌≤◌, ◌^◌, ◌++◌, All, IfOk, IsTrue, OnOk, length, slice_index};
+ghost use Rattle.cut_definitions.specs.Contraction.{class, classes, relabel};
 ghost use Rattle.cut_definitions.specs.Weight.{between};
 ghost use Rattle.weighted_graph.specs.declared.graph.Arc.{Arc};
 ghost use Rattle.round_contract.specs.Rows.{AreFirst, AreNext, IsNext, edges_by, toward};

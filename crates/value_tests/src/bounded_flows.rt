@@ -1,12 +1,11 @@
-//! Bounded flows between two vertices, and what a preflow tells.
+//! Bounded flows between two vertices.
 
 ghost use Rattle.std.specs.Prelude.{◌≡◌, ◌≢◌, ◌<◌, ◌≤◌, ◌^◌};
-ghost use Rattle.cut_definitions.specs.Weight.{VertexSet, weight, IsCut};
 ghost use Rattle.max_flow.specs.Flow.{StandsFor};
 
 use crate::graphs::{graph_of, uneven_triangle};
 use cut_definitions::NoMemory;
-use max_flow::{Beyond, Flow, Outcome, Preflow};
+use max_flow::{Flow, Outcome};
 use std::alloc::Global;
 use vertex_set::Side;
 use weighted_graph::Graph;
@@ -135,26 +134,4 @@ fn one_flow_for_several_runs(rt: HostRuntime) {
     for (text, runs) in &RUNS {
         assert!(rt; all_agree(rt.alloc(), text, runs));
     }
-}
-
-/// What is told of the sets with t and without vertex 1.
-fn told_from_first(alloc: Global, graph: &Graph, t: u32, bound: u64) -> Result<Beyond, NoMemory>
-    requires from_two { 2 ≤ t }
-    requires to_n { t ≤ graph.now.vertices }
-    requires positive { 1 ≤ bound }
-    requires small { bound ≤ 2 ^ 61 }
-    requires none_below { (s : VertexSet) → IsCut graph.now.vertices s → bound ≤ weight graph.now s }
-{
-    let mut preflow = Preflow::new(alloc, graph)?;
-    preflow.enter(graph, 1);
-    Ok(preflow.look_beyond(graph, t, bound))
-}
-
-#[test]
-fn what_a_preflow_tells(rt: HostRuntime) -> Result<(), NoMemory> {
-    let graph = uneven_triangle(rt.alloc())?;
-    let second = told_from_first(rt.alloc(), &graph, 2, 5) == Ok(Beyond::Heavy);
-    let third = told_from_first(rt.alloc(), &graph, 3, 5) == Ok(Beyond::Alone);
-    assert!(rt; second && third);
-    Ok(())
 }

@@ -112,15 +112,7 @@ pub has_bit-clear : (words others cleared : List ℕ) → ((k : ℕ) → k < len
 has_bit-clear words others cleared h fits u l =
     rw (h (u / 64) l) (clear_test (get_or words (u / 64) 0) (get_or others (u / 64) 0) (u % 64) (fits (u / 64)) (omega arith))
 
-pub has_bit-flip : (words flipped : List ℕ) → ((k : ℕ) → k < length words → get_or flipped k 0 ≡ bit_not w64 (get_or words k 0)) →
-    ((k : ℕ) → get_or words k 0 < 2 ^ 64) → (u : ℕ) → u / 64 < length words → has_bit flipped u ≡ not (has_bit words u)
-has_bit-flip words flipped h fits u l = rw (h (u / 64) l) (flip_test (get_or words (u / 64) 0) (u % 64) (fits (u / 64)) (omega arith))
-
 -- ---- sets that were changed bit by bit
-
--- the view of words whose bits are those of a set
-pub listed-bits : (n : ℕ) (words : List ℕ) (s : VertexSet) → ((v : ℕ) → 1 ≤ v → v ≤ n → has_bit words v ≡ s v) → listed n (has_bit words) ≡ listed n s
-listed-bits n words s same = listed-same n (has_bit words) s same
 
 pub listed-insert : (n : ℕ) (words : List ℕ) (old : VertexList) (v : ℕ) → AreWords n words → listed n (has_bit words) ≡ old → v ≤ n →
     listed n (has_bit (set words (v / 64) (bit_or (get_or words (v / 64) 0) (1 * 2 ^ (v % 64) % 2 ^ 64)))) ≡ listed old.vertices (either (has old.members) (single v))

@@ -1,11 +1,11 @@
 -- Words of bits as the sets that callers see, and what changes keep.
-use Rattle.std.proofs.Common.{◌≡◌, ℕ, zero, suc, ◌+◌, ◌-◌, ◌*◌, ◌/◌, ◌%◌, ◌^◌, ◌<◌, ◌≤◌, ◌⊎◌, inl, inr, ⊎_elim, Bool, true, false, not, ◌&&◌, ◌||◌, eqb, ltb, cond, Option, None, Some, List, [], ◌∷◌, length, length-append, set, get_or, replicate, refl, sym, ◌∙◌, ap, arith, bit_and, bit_or}
+use Rattle.std.proofs.Common.{◌≡◌, ℕ, zero, suc, ◌+◌, ◌-◌, ◌*◌, ◌/◌, ◌%◌, ◌^◌, ◌<◌, ◌≤◌, ◌⊎◌, inl, inr, ⊎_elim, Bool, true, false, not, ◌&&◌, ◌||◌, eqb, ltb, cond, Option, None, Some, List, [], ◌∷◌, length, length-append, set, get_or, refl, sym, ◌∙◌, ap, arith, bit_and, bit_or}
 use Rattle.std.specs.Prelude.{◌≢◌, ◌↔◌, IsTrue, MatchOption}
 use Rattle.std.specs.Option.{is_some}
 use Rattle.std.specs.Int.{bit_not, w64}
 use Rattle.std.specs.List.{filter, range_with_len}
 use Rattle.std.proofs.lemmas.Bool.{cases_eq, cases_lt, cases_Bool, eq-eqb, ne_eqb, lt-ltb, ltb-true, false≢true}
-use Rattle.std.proofs.lemmas.List.{length-set, length-replicate}
+use Rattle.std.proofs.lemmas.List.{length-set}
 use Rattle.std.proofs.lemmas.List.FromFn.{length-range_with_len}
 use Rattle.std.proofs.lemmas.List.Sums.{length-filter, count_by-le-length}
 use Rattle.cut_definitions.specs.Weight.{VertexSet, complement}
@@ -13,7 +13,7 @@ use Rattle.cut_definitions.specs.Cuts.{has, IsAscendingWithin}
 use Rattle.cut_definitions.proofs.Bridge.{has_below, has_first_of, IsAscendingWithin-filter}
 use Rattle.cut_definitions.proofs.Bools.{and_first, and_second, only_first, only_second}
 use Rattle.vertex_set.specs.Side.{VertexList, listed, has_bit, AreWords, IsNextBit, IsNextFrom}
-use Rattle.vertex_set.proofs.Bits.{has-listed, listed-same, has_bit-insert, has_bit-remove, has_bit-join, has_bit-clear, has_bit-zeros, has_bit-past}
+use Rattle.vertex_set.proofs.Bits.{has-listed, listed-same, has_bit-insert, has_bit-remove, has_bit-join, has_bit-clear, has_bit-past}
 use Rattle.vertex_set.proofs.Counted.{filter-range_append}
 
 -- a bit of no vertex is not set
@@ -50,13 +50,6 @@ pub same_vertices : (n : ℕ) (words : List ℕ) (old : VertexList) → listed n
 same_vertices n words old view = ap (λ (x : VertexList). x.vertices) view
 
 -- ---- what changes keep
-
-pub zeros_are_words : (n : ℕ) → n < 2 ^ 32 → AreWords n (replicate {A = ℕ} ((n + 1) / 64 + 1) 0)
-zeros_are_words n few = record {
-  few = few;
-  long = length-replicate ((n + 1) / 64 + 1) 0;
-  within = λ v is. absurd (false≢true (sym (has_bit-zeros ((n + 1) / 64 + 1) v) ∙ is));
-}
 
 -- as many words, and no more bits
 pub words-fewer : (n : ℕ) (words new : List ℕ) → AreWords n words → length new ≡ length words → ((v : ℕ) → has_bit new v ≡ true → has_bit words v ≡ true) → AreWords n new

@@ -89,10 +89,6 @@ law_of_lifted_sides labels h (x ∷ xs) side_is =
 
 -- ---- the contracted graph is a graph
 
--- a pair within 1 to n, and one before another
-abbrev Within : ℕ → ℕ × ℕ → Type 0
-Within n p = (1 ≤ p.0) × (p.0 < p.1) × (p.1 ≤ n)
-
 abbrev Before : ℕ × ℕ → ℕ × ℕ → Type 0
 Before p q = (p.0 < q.0) ⊎ ((p.0 ≡ q.0) × (p.1 < q.1))
 

@@ -1,9 +1,9 @@
 -- Labels after labels, and lifted sets.
-use Rattle.std.proofs.Common.{◌≡◌, ℕ, zero, suc, ◌+◌, ◌-◌, ◌<◌, ◌≤◌, ⊎_elim, Bool, true, false, not, cond, ◌||◌, eqb, max, List, [], ◌∷◌, ◌++◌, map, length, take, get_or, refl, sym, ◌∙◌, subst, ap, arith}
+use Rattle.std.proofs.Common.{◌≡◌, ℕ, zero, suc, ◌+◌, ◌-◌, ◌<◌, ◌≤◌, ⊎_elim, Bool, true, false, not, cond, ◌||◌, eqb, max, List, [], ◌∷◌, map, length, refl, sym, ◌∙◌, subst, ap, arith}
 use Rattle.std.specs.Prelude.{◌≢◌}
 use Rattle.std.specs.List.{All, Contains, fold, filter, range_with_len}
 use Rattle.std.proofs.lemmas.Bool.{cases_eq, eq-eqb, ne_eqb}
-use Rattle.std.proofs.lemmas.List.{get_or_default, get_or-map, take_more, length-map}
+use Rattle.std.proofs.lemmas.List.{get_or_default, get_or-map, length-map}
 use Rattle.std.proofs.lemmas.List.Elements.{All-map, All-weaker}
 use Rattle.std.proofs.Math.Bool.{or-false, or-true}
 use Rattle.cut_definitions.specs.Cuts.{has, IsAscendingWithin}
@@ -16,13 +16,6 @@ use Rattle.cut_definitions.proofs.ListLaws.{length-filter_le}
 use Rattle.vertex_set.specs.Side.{VertexList, listed}
 use Rattle.vertex_set.proofs.Bits.{has-listed}
 use Rattle.weighted_graph.proofs.Contraction.{label_from_one, label_to_classes, vertex_of, fold_max-get_or}
-
-fold_max-push : (xs : List ℕ) (a x : ℕ) → fold max a (xs ++ x ∷ []) ≡ max (fold max a xs) x
-fold_max-push [] a x = refl
-fold_max-push (y ∷ xs) a x = fold_max-push xs (max a y) x
-
-pub fold_max-more : (xs : List ℕ) (i : ℕ) → i < length xs → fold max 0 (take (i + 1) xs) ≡ max (fold max 0 (take i xs)) (get_or xs i 0)
-fold_max-more xs i l = ap (fold max 0) (take_more xs i 0 l) ∙ fold_max-push (take i xs) 0 (get_or xs i 0)
 
 -- the class of a class
 pub label-map : (labels next : List ℕ) (v : ℕ) → 1 ≤ v → v ≤ length labels → label (map (label next) labels) v ≡ label next (label labels v)
@@ -96,9 +89,6 @@ lift_skip labels side n v s h l is = record {
       (cases_eq (v + 1) u);
   high = λ u a b. h.high u (omega arith) b;
 }
-
-pub lift_start : (labels side : List ℕ) (n : ℕ) (s : VertexList) → s ≡ record { vertices = n; members = [] } → IsLiftedTo labels side n 0 s
-lift_start labels side n s e = rw e (record { same_n = refl; ascending = tt; low = λ u a b. absurd (omega arith); high = λ u a b. refl })
 
 pub lift_end : (labels side : List ℕ) (n v : ℕ) (s : VertexList) → IsLiftedTo labels side n v s → n ≤ v → n ≡ length labels →
     s ≡ record { vertices = length labels; members = lift labels side }

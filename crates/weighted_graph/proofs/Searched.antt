@@ -1,5 +1,5 @@
 -- Marks of a search, and the ends of arcs and edges.
-use Rattle.std.proofs.Common.{◌≡◌, ℕ, ◌+◌, ◌<◌, ◌≤◌, ⊎_elim, Bool, true, false, not, List, length, set, get_or, refl, sym, ◌∙◌, ap, arith, get_or-set_other, get_or-set_same}
+use Rattle.std.proofs.Common.{◌≡◌, ℕ, ◌+◌, ◌<◌, ◌≤◌, ⊎_elim, Bool, true, false, not, List, length, set, get_or, refl, sym, ◌∙◌, arith, get_or-set_other, get_or-set_same}
 use Rattle.std.specs.Prelude.{◌≢◌, if◌then◌else◌}
 use Rattle.std.specs.List.{sum_by, All, count_by}
 use Rattle.std.proofs.lemmas.Bool.{cases_eq}
@@ -63,14 +63,6 @@ ends_joined g ok i l s none =
     let k = ok.in_range i no_edge l in
     let part = get_or-le-sum_by (cut_term s) g.edges i no_edge l in
     not_cut (s e.u) (s e.v) e.w k.3 (omega arith)
-
-pub arc_joins : (g : Graph) → IsGraph g → (v : ℕ) (a : Arc) → IsArcAt g v a → AreJoined g v a.to
-arc_joins g ok v a h s none =
-    let same = ends_joined g ok a.edge h.within s none in
-    ⊎_elim
-    (λ p. ap s (sym p.0) ∙ (same ∙ ap s p.1))
-    (λ p. ap s (sym p.0) ∙ (sym same ∙ ap s p.1))
-    h.ends
 
 -- ---- closed sets
 

@@ -2,8 +2,8 @@
 //!
 //! The vertices are 1 to n, edges are counted from 0 in the order of the list, and weights add up to at most 2^61.
 
-ghost use Rattle.std.specs.Prelude.{◌≡◌, ◌↔◌, ◌+◌, ◌<◌, ◌≤◌, IfOk, if◌then◌else◌, length, slice_get, slice_index_or};
-ghost use Rattle.std.specs.List.{AllPairs, sum_by};
+ghost use Rattle.std.specs.Prelude.{◌≡◌, ◌↔◌, ◌+◌, ◌<◌, ◌≤◌, IfOk, length, slice_get, slice_index_or};
+ghost use Rattle.std.specs.List.{AllPairs};
 ghost use Rattle.cut_definitions.specs.Graph.{IsEdgeList};
 ghost use Rattle.cut_definitions.specs.Weight.{VertexSet, weight, between};
 ghost use Rattle.cut_definitions.specs.Cuts.{has};
@@ -121,6 +121,13 @@ impl Graph {
         ensures { result.now ≡ self.now }
     {
         &self.list
+    }
+
+    /// The same list, given back. The rows are dropped. It takes no memory.
+    pub fn into_list(self) -> EdgeList
+        ensures { result ≡ self }
+    {
+        self.list
     }
 
     /// The edges at a vertex, ascending by the other end, lent without a copy. The row of 0 is empty.

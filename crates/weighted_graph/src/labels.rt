@@ -1,6 +1,6 @@
 //! Labels, which give each vertex a class: what a contraction makes one vertex of.
 
-ghost use Rattle.std.specs.Prelude.{◌≡◌, ℕ, ◌+◌, ◌≤◌, IfOk, length, map};
+ghost use Rattle.std.specs.Prelude.{◌≡◌, ℕ, ◌≤◌, IfOk, length, map};
 ghost use Rattle.cut_definitions.specs.Contraction.{label, classes, lift, IsLabels};
 ghost use Rattle.vertex_classes.specs.Classes.{no_vertex, AreNumbersOf, Respects};
 ghost use Rattle.weighted_graph.specs.Labels.{AreKept};

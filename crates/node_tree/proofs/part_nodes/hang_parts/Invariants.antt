@@ -9,7 +9,7 @@ use Rattle.node_tree.proofs.part_nodes.hang_parts.Given as goal
 
 abbrev pub invariant-loop-i : goal.invariant-loop-i
 invariant-loop-i l = record {
-  hung : AreHungUpTo l.fn.tree l.tree l.node (λ j. get_or l.nodes j 0) l.i;
+  hung : AreHungUpTo l.fn.tree l.tree (get_or l.fn.nodes 1 0) (λ j. get_or l.nodes j 0) l.i;
   linked : (g : Graph) (region : VertexSet) (t : ℕ) (part : ℕ → ℕ) → IsWeighedChain g region t l.count part l.value l.later l.next →
       (j : ℕ) → 2 ≤ j → j < l.i → IsMade g l.count part (λ k. get_or l.nodes k 0) l.tree j;
 }
