@@ -3,15 +3,8 @@ use Rattle.std.specs.Prelude.{◌≤◌}
 use Rattle.cut_definitions.specs.Components.{HasComponents, IsConnected}
 use Rattle.cut_definitions.specs.Graph.{Graph}
 use Rattle.rooted_cactus.specs.Solving.{IsSolved}
-use Rattle.cactus_solver.specs.declared.solved_list.GraphForm.{GraphForm}
-use Rattle.cactus_solver.specs.declared.solved_list.GraphForm.TheVariants.{Edges, Rows}
 use Rattle.cactus_solver.specs.declared.solved_list.Cuts.{Cuts}
 use Rattle.cactus_solver.specs.declared.solved_list.Cuts.TheVariants.{Apart, Joined}
-
--- the graph in either form
-abbrev pub graph_in : GraphForm → Graph
-graph_in (Edges list) = list
-graph_in (Rows graph) = graph
 
 -- the number of components, where there are several; or the value and the minimum cuts of a connected graph
 abbrev pub AreCutsOf : Graph → Cuts → Type 0

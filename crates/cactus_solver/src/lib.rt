@@ -14,5 +14,5 @@ mod solver;
 
 pub use by_list::solve_list;
 pub use rooted_cactus::Solved;
-pub use solved_list::{Cuts, GraphForm, SolvedList};
+pub use solved_list::{Cuts, SolvedList};
 pub use solver::{solve, solve_at};

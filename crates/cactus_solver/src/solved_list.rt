@@ -2,16 +2,6 @@
 
 use cut_definitions::EdgeList;
 use rooted_cactus::Solved;
-use weighted_graph::Graph;
-
-/// A graph as its list of edges alone, or with the rows that were made of that.
-#[derive(Drop)]
-pub enum GraphForm {
-    /// The list of edges.
-    Edges(EdgeList),
-    /// The graph with rows.
-    Rows(Graph),
-}
 
 /// The minimum cuts of a graph.
 #[derive(Drop)]
@@ -22,9 +12,9 @@ pub enum Cuts {
     Joined(Solved),
 }
 
-/// The minimum cuts of a graph, and the graph as it was kept.
+/// The minimum cuts of a graph, and its list of edges, given back.
 #[derive(Drop)]
 pub struct SolvedList {
-    pub graph: GraphForm,
+    pub list: EdgeList,
     pub cuts: Cuts,
 }

@@ -113,7 +113,7 @@ pub fn solve_at<R: Threads + Sync, G: Gate>(
     ensures normal { IfOk result (λ s. is_normal s.cactus.root ≡ true) }
 {
     let tree = tree_at_value(rt, alloc, graph, value, workers, gate)?;
-    let solved = cactus_by_tree(alloc, graph, value, tree)?;
+    let solved = cactus_by_tree(alloc, graph.list(), value, tree)?;
     Ok(solved)
 }
 

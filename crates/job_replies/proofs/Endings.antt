@@ -14,10 +14,10 @@ use Rattle.stop_lines.specs.declared.status.Status.TheVariants as status
 use Rattle.stop_lines.specs.declared.stop.Stop.{Stop}
 use Rattle.stop_lines.specs.declared.stop.Stop.TheVariants as stop
 use Rattle.stop_lines.specs.Stops.{status_of}
-use Rattle.job_answers.specs.Answers.{over_status, ReplyFailed, TakesReply, Told, TellingFailed}
-use Rattle.job_answers.specs.Intake.{IsCause, IsReply}
-use Rattle.job_answers.specs.Jobs.{IsInRange, IsWithin}
-use Rattle.job_answers.proofs.Telling.{Telling, answered, fault_is_told, graph_told, has_command, no_reply, outside_told, over_limit_told, reading_of_large, reading_of_outside, telling_failed, told, too_large_reply, trial_told}
+use Rattle.job_replies.specs.Answers.{over_status, ReplyFailed, TakesReply, Told, TellingFailed}
+use Rattle.job_replies.specs.Intake.{IsCause, IsReply}
+use Rattle.job_replies.specs.Jobs.{IsInRange, IsWithin}
+use Rattle.job_replies.proofs.Replied.{Telling, answered, fault_is_told, graph_told, has_command, no_reply, outside_told, over_limit_told, reading_of_large, reading_of_outside, telling_failed, told, too_large_reply, trial_told}
 use Rattle.job_replies.specs.declared.reply.Reply.{Reply}
 use Rattle.job_replies.specs.Endings.{IsBroken, IsReplied, IsStopOf, IsStopped}
 use Rattle.job_replies.specs.Replies.{text_of, TakesMemory}

@@ -11,11 +11,11 @@ use Rattle.flat_cactus.proofs.SomeBlock.{not_alone}
 use Rattle.rooted_cactus.specs.Rooted.{Rooted, IsCactus, sides_of}
 use Rattle.canonical_cactus.specs.Canonical.{is_canonical}
 use Rattle.canonical_cactus.specs.FirstBest.{IsFirstBest}
-use Rattle.job_answers.specs.Jobs.{IsCactusOf, IsBalancedText}
-use Rattle.job_answers.specs.Asked.{IsListReply, IsListStop, cuts_for}
+use Rattle.job_replies.specs.Jobs.{IsCactusOf, IsBalancedText}
+use Rattle.job_replies.specs.Asked.{IsListReply, IsListStop, cuts_for}
 use Rattle.rooted_cactus.specs.Solving.{IsSolved}
 use Rattle.answer_pages.specs.Listings.{listing_text, balanced_text}
-use Rattle.job_answers.specs.Trials.{ones, trial_text, IsFactsText}
+use Rattle.job_replies.specs.Trials.{ones, trial_text, IsFactsText}
 use Rattle.stop_lines.specs.declared.stop.Stop.TheVariants as stop
 use Rattle.cut_definitions.specs.Balance.{balance, IsBest}
 use Rattle.vertex_set.specs.Side.{VertexList}
@@ -27,7 +27,7 @@ use Rattle.std.proofs.lemmas.List.{length-map}
 use Rattle.cut_listing.specs.declared.ask.Ask.{Ask}
 use Rattle.std.specs.List.{Contains}
 use Rattle.cut_definitions.proofs.ListLaws.{some_long}
-use Rattle.job_answers.proofs.Answering.{best_of_same, turned}
+use Rattle.job_replies.proofs.Answering.{best_of_same, turned}
 
 -- the canonical cactus with the sides of that of a solved graph
 pub canonical_is : (g : Graph) (solved : Solved) (c : Rooted) → IsSolved g solved → c.vertices ≡ solved.cactus.vertices → is_canonical c.root ≡ true → HaveSameSides c solved.cactus →

@@ -1,30 +1,28 @@
 -- Graphs after insertions, and the minimum cuts that are kept.
-use Rattle.std.proofs.Common.{◌≡◌, ℕ, ◌+◌, ◌≤◌, true, List, [], ◌∷◌, ◌++◌, length, take, sym, ◌∙◌, ap, subst, Some}
+use Rattle.std.proofs.Common.{◌≡◌, ℕ, ◌+◌, ◌≤◌, List, [], ◌∷◌, ◌++◌, length, take, sym, ◌∙◌, ap, subst, Some}
 use Rattle.std.specs.Prelude.{slice_get}
 use Rattle.std.proofs.lemmas.List.{take_all}
 use Rattle.flat_cactus.specs.FlatLaws.{LawOfFlatForm, LawOfFlatSides}
 use Rattle.flat_cactus.specs.Flattened.{flat_of}
 use Rattle.answer_pages.specs.Growing.{growth_text}
 use Rattle.job_replies.specs.declared.growth.Growing.{Growing}
-use Rattle.job_answers.proofs.Answering.{stands}
+use Rattle.job_replies.proofs.Answering.{stands}
 use Rattle.cut_definitions.specs.Components.{IsConnected}
-use Rattle.cut_definitions.specs.Cuts.{has, mincuts, value}
+use Rattle.cut_definitions.specs.Cuts.{has, value}
 use Rattle.cut_definitions.specs.Graph.{Graph}
 use Rattle.cut_definitions.proofs.ListLaws.{taken}
-use Rattle.rooted_cactus.specs.Normal.{is_normal}
-use Rattle.rooted_cactus.specs.Rooted.{Rooted, sides_of}
+use Rattle.rooted_cactus.specs.Rooted.{Rooted}
 use Rattle.cactus_growth.specs.Insertion.{edge_between}
 use Rattle.cactus_growth.specs.After.{IsKept}
 use Rattle.cactus_growth.specs.Laws.{KeepsSome, LawOfKeptCuts, LawOfWeights}
-use Rattle.cut_definitions.specs.Members.{SameMembers}
 use Rattle.rooted_cactus.specs.declared.solved.Solved.{Solved}
 use Rattle.job_replies.specs.Growth.{HasGrown, IsGrowing}
 use Rattle.program_words.specs.Insertions.{Insertion, IsInsertion}
-use Rattle.job_answers.specs.GrownGraphs.{grown, step_of, steps_of, with_insertion}
-use Rattle.job_answers.specs.Jobs.{IsCactusOf, IsGrowText}
+use Rattle.job_replies.specs.GrownGraphs.{grown, step_of, steps_of, with_insertion}
+use Rattle.job_replies.specs.Jobs.{IsCactusOf, IsGrowText}
 use Rattle.rooted_cactus.specs.Solving.{IsSolved}
 use Rattle.answer_pages.specs.declared.growth_pages.Step.{Step}
-use Rattle.job_answers.proofs.Inserted.{grown_next, parts_between, steps_more, still_connected}
+use Rattle.job_replies.proofs.Inserted.{grown_next, parts_between, steps_more, still_connected}
 
 -- the cuts of a cactus that do not part the two vertices of an insertion are the minimum cuts after it
 pub kept_solved : (g : Graph) (i : Insertion) (solved : Solved) (kept : Rooted) → LawOfKeptCuts → IsSolved g solved → IsInsertion i → IsKept i.0 i.1 solved.cactus kept →
@@ -57,9 +55,6 @@ module _ (g : Graph) (is : List Insertion) (i : ℕ) (x : Insertion) (at : slice
 
 pub all_told : (g : Graph) (is : List Insertion) (i : ℕ) (after : Growing) (steps : List Step) → length is ≤ i → HasGrown g (take i is) after steps → HasGrown g is after steps
 all_told g is i after steps le has = subst (λ (l : List Insertion). HasGrown g l after steps) (take_all i is le) has
-
-pub solved_by : (g h : Graph) (solved : Solved) → g ≡ h → solved.value ≡ value g → solved.cactus.vertices ≡ g.vertices → SameMembers (sides_of solved.cactus) (mincuts g) → is_normal solved.cactus.root ≡ true → IsSolved h solved
-solved_by g h solved e v over same normal = subst (λ (x : Graph). IsSolved x solved) e (record { value = v; over = over; sides = same; normal = normal })
 
 pub kept_growing : (g : Graph) (i : Insertion) (longer : Graph) (solved : Solved) (kept : Rooted) → LawOfWeights → LawOfKeptCuts → 2 ≤ g.vertices → IsConnected g → IsSolved g solved → IsInsertion i →
     IsKept i.0 i.1 solved.cactus kept → longer ≡ with_insertion g i → (after : Growing) → after.graph ≡ longer → after.solved ≡ record { value = solved.value; cactus = kept } → IsGrowing after

@@ -8,7 +8,7 @@ use Rattle.rooted_cactus.specs.declared.tree.Node.{Node}
 use Rattle.rooted_cactus.specs.declared.solved.Solved.{Solved}
 use Rattle.rooted_cactus.specs.Solving.{IsSolved}
 use Rattle.canonical_cactus.specs.Canonical.{arranged, is_canonical}
-use Rattle.job_answers.specs.Jobs.{IsCactusOf}
+use Rattle.job_replies.specs.Jobs.{IsCactusOf}
 use Rattle.cut_definitions.proofs.Bools.{and_first}
 use Rattle.flat_cactus.proofs.SomeBlock.{some_block}
 

@@ -5,7 +5,7 @@ use Rattle.stop_lines.specs.declared.status.Status.TheVariants as status
 use Rattle.stop_lines.specs.declared.stop.Stop.{Stop}
 use Rattle.stop_lines.specs.declared.stop.Stop.TheVariants.{NoMemory}
 use Rattle.stop_lines.specs.Stops.{line_of, status_of}
-use Rattle.job_answers.specs.Answers.{Failed, Writes, Wrote}
+use Rattle.job_replies.specs.Answers.{Failed, Writes, Wrote}
 use Rattle.job_replies.specs.declared.reply.Reply.{Reply}
 use Rattle.job_replies.specs.Replies.{text_of, TakesMemory}
 

@@ -3,7 +3,7 @@ use Rattle.std.specs.Prelude.{◌≡◌, ◌≤◌, List}
 use Rattle.cut_definitions.specs.Components.{IsConnected}
 use Rattle.cut_definitions.specs.Graph.{Graph}
 use Rattle.program_words.specs.Insertions.{Insertion}
-use Rattle.job_answers.specs.GrownGraphs.{grown, steps_of}
+use Rattle.job_replies.specs.GrownGraphs.{grown, steps_of}
 use Rattle.rooted_cactus.specs.Solving.{IsSolved}
 use Rattle.job_replies.specs.declared.growth.Growing.{Growing}
 use Rattle.answer_pages.specs.declared.growth_pages.Step.{Step}

@@ -1,4 +1,12 @@
+pub mod GrownGraphs
+pub mod Trials
+pub mod Jobs
+pub mod Asked
+pub mod Apart
+pub mod GrowReplies
+pub mod Intake
+pub mod Answers
+pub mod TextLaws
 pub mod Replies
 pub mod Growth
-pub mod ReadGraphs
 pub mod Endings

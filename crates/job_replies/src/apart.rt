@@ -3,17 +3,18 @@
 ghost use Rattle.std.specs.Prelude.{◌≡◌, ◌≤◌, IfOk, IfErr, length};
 ghost use Rattle.cut_definitions.specs.Components.{HasComponents};
 ghost use Rattle.cut_listing.specs.Asks.{IsAskWithin};
-ghost use Rattle.job_answers.specs.Apart.{IsApartGraph, IsCountStop, IsTableStop, IsUnionBalance, IsUnionCount, IsUnionList, IsUnionStop};
-ghost use Rattle.job_answers.specs.Jobs.{AsksCuts, IsAnswerOf, IsInRange, IsStopFor};
+ghost use Rattle.job_replies.specs.Apart.{IsApartGraph, IsCountStop, IsTableStop, IsUnionBalance, IsUnionCount, IsUnionList, IsUnionStop};
+ghost use Rattle.job_replies.specs.Jobs.{AsksCuts, IsAnswerOf, IsInRange, IsStopFor};
 ghost use Rattle.job_replies.specs.Replies.{text_of, IsPrintable};
 ghost use Rattle.program_words.specs.Texts.{disconnected_line};
 
+use crate::asks::{ask_of, select_asked};
+use crate::components::{are_unions_few, components_of};
 use crate::reply::Reply;
 use balanced_cut::balance_of;
 use component_cuts::{BestRefusal, Components, laws};
 use cut_definitions::{EdgeList, NoMemory, VertexWeights};
 use cut_listing::Ask;
-use job_answers::{are_unions_few, ask_of, components_of, select_asked};
 use program_words::{Command, Job};
 use std::alloc::Global;
 use stop_lines::Stop;

@@ -6,25 +6,24 @@ ghost use Rattle.cut_definitions.specs.Cuts.{mincuts, value};
 ghost use Rattle.cut_definitions.specs.Graph.{Graph as EdgeGraph};
 ghost use Rattle.rooted_cactus.specs.Different.{HasNoEmptySide};
 ghost use Rattle.rooted_cactus.specs.Normal.{is_normal};
-ghost use Rattle.job_answers.specs.Jobs.{AsksCuts, IsAnswerOf, IsInRange, IsStopFor, IsCactusOf, IsCactusText, IsBalancedText, IsAugmentText};
+ghost use Rattle.job_replies.specs.Jobs.{AsksCuts, IsAnswerOf, IsInRange, IsStopFor, IsCactusOf, IsCactusText, IsBalancedText, IsAugmentText};
 ghost use Rattle.answer_pages.specs.Listings.{count_text};
-ghost use Rattle.job_answers.specs.Asked.{IsListReply, IsListStop};
+ghost use Rattle.job_replies.specs.Asked.{IsListReply, IsListStop};
 ghost use Rattle.rooted_cactus.specs.Solving.{IsSolved};
 ghost use Rattle.cut_listing.specs.Asks.{IsAskWithin};
 ghost use Rattle.cut_listing.specs.Listings.{IsList, IsRefusal};
 ghost use Rattle.job_replies.specs.Replies.{text_of, IsPrintable};
 
-use crate::read_graph::ReadGraph;
+use crate::asks::ask_of;
 use crate::reply::Reply;
 use balanced_cut::balance_of;
 use canonical_cactus::{canonical, first_best};
-use cut_definitions::{NoMemory, VertexWeights};
+use cut_definitions::{EdgeList, NoMemory, VertexWeights};
 use cut_listing::laws::{count_of_minimum_cuts, minimum_cuts_in_order, number_of_minimum_cuts};
 use cut_listing::{Ask, ListRefusal, Lister, list_balanced, list_parting};
 use edge_augment::augment;
 use edge_augment::laws::augmentation;
 use flat_cactus::laws;
-use job_answers::ask_of;
 use program_words::{Command, Job};
 use rooted_cactus::{Cactus, Solved};
 use std::alloc::Global;
@@ -32,7 +31,7 @@ use stop_lines::Stop;
 use vertex_set::Side;
 
 /// All minimum cuts, by their sides in order, or their number where they are too many.
-fn all_sides(alloc: Global, graph: &ReadGraph, solved: &Solved) -> Result<Vec<Side>, ListRefusal>
+fn all_sides(alloc: Global, graph: &EdgeList, solved: &Solved) -> Result<Vec<Side>, ListRefusal>
     requires { IsSolved graph.now solved.now }
     ensures list { IfOk result (λ sides. IsList (2 ^ 30) graph.now.vertices Ask.All solved.now.cactus sides.items) }
     ensures refusal { IfErr result (IsRefusal (2 ^ 30) graph.now.vertices Ask.All solved.now.cactus) }
@@ -48,7 +47,7 @@ fn all_sides(alloc: Global, graph: &ReadGraph, solved: &Solved) -> Result<Vec<Si
 fn asked_sides(
     alloc: Global,
     ask: Ask,
-    graph: &ReadGraph,
+    graph: &EdgeList,
     solved: &Solved,
 ) -> Result<Vec<Side>, ListRefusal>
     requires solved { IsSolved graph.now solved.now }
@@ -66,7 +65,7 @@ fn asked_sides(
 }
 
 /// The list of the minimum cuts that are asked for.
-fn listing_reply(alloc: Global, ask: Ask, graph: &ReadGraph, solved: Solved) -> Result<Reply, Stop>
+fn listing_reply(alloc: Global, ask: Ask, graph: &EdgeList, solved: Solved) -> Result<Reply, Stop>
     requires solved { IsSolved graph.now solved }
     requires within { IsAskWithin graph.now.vertices ask }
     ensures text { IfOk result (λ reply. IsListReply ask.entry graph.now (text_of reply)) }
@@ -96,7 +95,7 @@ pub fn count_of_cuts(alloc: Global, solved: &Solved) -> Result<u64, NoMemory>
 }
 
 /// The number of all minimum cuts.
-fn count_reply(alloc: Global, graph: &ReadGraph, solved: &Solved) -> Result<Reply, NoMemory>
+fn count_reply(alloc: Global, graph: &EdgeList, solved: &Solved) -> Result<Reply, NoMemory>
     requires solved { IsSolved graph.now solved.now }
     ensures text { IfOk result (λ reply. text_of reply ≡ count_text (value graph.now) (length (mincuts graph.now))) }
     ensures printable { IfOk result IsPrintable }
@@ -112,7 +111,7 @@ fn count_reply(alloc: Global, graph: &ReadGraph, solved: &Solved) -> Result<Repl
 /// The first of the most balanced minimum cuts, in the order of lists.
 fn balanced_reply(
     alloc: Global,
-    graph: &ReadGraph,
+    graph: &EdgeList,
     weights: &VertexWeights,
     solved: Solved,
 ) -> Result<Reply, NoMemory>
@@ -135,7 +134,7 @@ fn balanced_reply(
 pub fn cuts_reply(
     alloc: Global,
     command: Command,
-    graph: &ReadGraph,
+    graph: &EdgeList,
     weights: &VertexWeights,
     solved: Solved,
 ) -> Result<Reply, Stop>
@@ -172,7 +171,7 @@ pub fn canonical_of(alloc: Global, solved: Solved) -> Result<Cactus, NoMemory>
 }
 
 /// All minimum cuts.
-fn cactus_reply(alloc: Global, graph: &ReadGraph, solved: Solved) -> Result<Reply, NoMemory>
+fn cactus_reply(alloc: Global, graph: &EdgeList, solved: Solved) -> Result<Reply, NoMemory>
     requires enough { 2 ≤ graph.now.vertices }
     requires solved { IsSolved graph.now solved }
     ensures text { IfOk result (λ reply. IsCactusText graph.now (text_of reply)) }
@@ -188,7 +187,7 @@ fn cactus_reply(alloc: Global, graph: &ReadGraph, solved: Solved) -> Result<Repl
 }
 
 /// The fewest unit edges that raise the value.
-fn augment_reply(alloc: Global, graph: &ReadGraph, solved: Solved) -> Result<Reply, NoMemory>
+fn augment_reply(alloc: Global, graph: &EdgeList, solved: Solved) -> Result<Reply, NoMemory>
     requires enough { 2 ≤ graph.now.vertices }
     requires solved { IsSolved graph.now solved }
     ensures text { IfOk result (λ reply. IsAugmentText graph.now (text_of reply)) }

@@ -4,11 +4,10 @@ ghost use Rattle.std.specs.Prelude.{◌≡◌, ◌≤◌, IfOk, string_bytes};
 ghost use Rattle.rooted_cactus.specs.Solving.{IsSolved};
 ghost use Rattle.cut_definitions.specs.Components.{IsConnected};
 ghost use Rattle.graph_maker.specs.Made.{made_graph};
-ghost use Rattle.job_answers.specs.Trials.{ones, trial_text, IsFactsText};
+ghost use Rattle.job_replies.specs.Trials.{ones, trial_text, IsFactsText};
 ghost use Rattle.job_replies.specs.Replies.{text_of, IsPrintable, TakesMemory};
 
 use crate::cuts::count_of_cuts;
-use crate::read_graph::ReadGraph;
 use crate::reply::Reply;
 use balanced_cut::{balance_of, best};
 use cut_definitions::{EdgeList, NoMemory, VertexWeights};
@@ -32,7 +31,7 @@ fn facts_text(
 }
 
 /// Masses of 1, one for each vertex of the graph.
-fn masses_of_one(alloc: Global, graph: &ReadGraph) -> Result<VertexWeights, NoMemory>
+fn masses_of_one(alloc: Global, graph: &EdgeList) -> Result<VertexWeights, NoMemory>
     ensures { IfOk result (λ weights. weights ≡ ones graph.now.vertices) }
 {
     let list = vec![in alloc; 1; graph.n() as usize]?;
@@ -41,7 +40,7 @@ fn masses_of_one(alloc: Global, graph: &ReadGraph) -> Result<VertexWeights, NoMe
 
 /// The text of a solved graph: its numbers of vertices and edges, its value, the number of its minimum cuts and the greatest
 /// balance of one.
-fn describe(alloc: Global, graph: &ReadGraph, solved: &Solved) -> Result<String, NoMemory>
+fn describe(alloc: Global, graph: &EdgeList, solved: &Solved) -> Result<String, NoMemory>
     requires enough { 2 ≤ graph.now.vertices }
     requires solved { IsSolved graph.now solved.now }
     ensures { IfOk result (λ text. IsFactsText graph.now (string_bytes text)) }
@@ -52,14 +51,7 @@ fn describe(alloc: Global, graph: &ReadGraph, solved: &Solved) -> Result<String,
     let weights = masses_of_one(alloc, graph)?;
     let side = best(alloc, &solved.cactus, &weights)?;
     let balance = balance_of(&side, &weights);
-    facts_text(
-        alloc,
-        graph.n(),
-        graph.list().len(),
-        solved.value,
-        count,
-        balance,
-    )
+    facts_text(alloc, graph.n(), graph.len(), solved.value, count, balance)
 }
 
 /// The graph that is made for a number. It is connected.
@@ -75,7 +67,7 @@ pub fn made_for(alloc: Global, number: u32) -> Result<EdgeList, NoMemory>
 }
 
 /// The reply that tells of a solved graph, which is taken over with what was found.
-pub fn facts_reply(alloc: Global, graph: ReadGraph, solved: Solved) -> Result<Reply, NoMemory>
+pub fn facts_reply(alloc: Global, graph: EdgeList, solved: Solved) -> Result<Reply, NoMemory>
     requires enough { 2 ≤ graph.vertices }
     requires solved { IsSolved graph solved }
     ensures text { IfOk result (λ reply. IsFactsText graph (text_of reply)) }

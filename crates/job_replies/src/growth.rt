@@ -4,23 +4,22 @@ ghost use Rattle.std.specs.Prelude.{◌≡◌, ◌≤◌, List, IfErr, IfNone, I
 ghost use Rattle.std.specs.List.{All};
 ghost use Rattle.cut_definitions.specs.Components.{IsConnected};
 ghost use Rattle.cut_definitions.specs.Graph.{Graph as EdgeGraph};
-ghost use Rattle.job_answers.specs.GrowReplies.{IsGrowReply, IsGrowStop};
-ghost use Rattle.job_answers.specs.GrownGraphs.{step_of, StaysWithin};
-ghost use Rattle.job_answers.specs.Jobs.{AreInRange, IsGrowText};
+ghost use Rattle.job_replies.specs.GrowReplies.{IsGrowReply, IsGrowStop};
+ghost use Rattle.job_replies.specs.GrownGraphs.{step_of, StaysWithin};
+ghost use Rattle.job_replies.specs.Jobs.{AreInRange, IsGrowText};
 ghost use Rattle.job_replies.specs.Growth.{HasGrown, IsGrowing};
 ghost use Rattle.job_replies.specs.Replies.{text_of, IsPrintable};
 ghost use Rattle.program_words.specs.Insertions.{Insertion, IsInsertion};
 
 use crate::apart::disconnected;
 use crate::cuts::canonical_of;
-use crate::read_graph::ReadGraph;
+use crate::limits::check_limits;
 use crate::reply::Reply;
 use answer_pages::Step;
 use component_cuts::count_components;
 use cut_definitions::{EdgeList, NoMemory};
 use cut_listing::laws::number_of_minimum_cuts;
 use flat_cactus::laws;
-use job_answers::check_limits;
 use program_words::Insertions;
 use rooted_cactus::Solved;
 use std::alloc::Global;
@@ -29,7 +28,7 @@ use stop_lines::Stop;
 /// A graph, and its value and all its minimum cuts.
 #[derive(Drop)]
 pub struct Growing {
-    pub graph: ReadGraph,
+    pub graph: EdgeList,
     pub solved: Solved,
 }
 

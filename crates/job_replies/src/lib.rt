@@ -1,17 +1,23 @@
-//! What the program `mincut` replies once it has what is needed of the solver: from a solved graph, from a graph in several
-//! components, and from the steps of a growth to what is written, and the writing of it.
+//! What the program `mincut` answers for a graph: the text of each job, why it may have none, and the writing of it.
 //!
-//! A graph is solved above this crate, which needs no more of the solver than `rooted_cactus::Solved`; so all of this is
-//! proved beside the solver.
+//! The definitions and their laws are here, and all that a run does before and after the solver: the intake, which reads a
+//! graph, the vertices that a job names, the limits of insertions, and the way from a solved graph, from a graph in several
+//! components, or from the steps of a growth to what is written. A graph is solved above this crate, which needs no more of
+//! the solver than `rooted_cactus::Solved`; so all of this is proved beside the solver.
 #![tactic(auto)]
 
 mod apart;
+mod asks;
+mod components;
 mod cuts;
 mod ending;
 mod facts;
 mod growth;
+mod intake;
+pub mod laws;
+mod limits;
 mod lines;
-mod read_graph;
+mod ranges;
 mod reply;
 mod telling;
 
@@ -20,7 +26,8 @@ pub use cuts::cuts_reply;
 pub use ending::finish;
 pub use facts::{facts_reply, made_for};
 pub use growth::{Growing, apart_growth, grown_reply, step_for};
+pub use intake::take_in;
 pub use lines::{no_cut, value_text};
-pub use read_graph::ReadGraph;
+pub use ranges::first_outside;
 pub use reply::Reply;
 pub use telling::notice_reply;

@@ -1,7 +1,7 @@
 //! What is written to `out`.
 
 ghost use Rattle.std.specs.Prelude.{◌≡◌, ◌≢◌, Err, IsErrOf, OnOk};
-ghost use Rattle.job_answers.specs.Answers.{Wrote, Failed};
+ghost use Rattle.job_replies.specs.Answers.{Wrote, Failed};
 ghost use Rattle.job_replies.specs.Replies.{text_of, IsPrintable, TakesMemory};
 
 use answer_pages::{

@@ -1,7 +1,7 @@
 //! What is told beside the answers: a notice that the words ask for, and why there is no answer.
 
 ghost use Rattle.std.specs.Prelude.{◌≡◌, IfOk, IfErr};
-ghost use Rattle.job_answers.specs.Answers.{Writes};
+ghost use Rattle.job_replies.specs.Answers.{Writes};
 ghost use Rattle.job_replies.specs.Replies.{text_of, IsPrintable, TakesMemory};
 ghost use Rattle.program_words.specs.Notices as notices;
 ghost use Rattle.stop_lines.specs.Stops.{status_of, line_of};

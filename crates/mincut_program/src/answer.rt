@@ -2,17 +2,15 @@
 
 ghost use Rattle.std.specs.Prelude.{◌≡◌, ◌≤◌, IfOk, IfErr, length};
 ghost use Rattle.cut_definitions.specs.Cuts.{value};
-ghost use Rattle.job_answers.specs.Jobs.{AsksCuts, IsAnswerOf, IsInRange, IsStopFor};
+ghost use Rattle.job_replies.specs.Jobs.{AsksCuts, IsAnswerOf, IsInRange, IsStopFor};
 ghost use Rattle.job_replies.specs.Replies.{text_of, IsPrintable};
 ghost use Rattle.program_words.specs.Texts.{value_line};
 ghost use Rattle.program_words.specs.Words.{IsMakeable, IsReading};
 
 use crate::growth::grow_reply;
-use crate::solving::read_graph;
 use cactus_solver::{Cuts, SolvedList, solve_list};
 use cut_definitions::{EdgeList, VertexWeights};
-use job_answers::first_outside;
-use job_replies::{Reply, apart_reply, cuts_reply, no_cut, value_text};
+use job_replies::{Reply, apart_reply, cuts_reply, first_outside, no_cut, value_text};
 use metis_reader::MetisGraph;
 use min_value::value_of_list;
 use outside::{Gate, NoMemory};
@@ -56,11 +54,10 @@ fn reply_on_cuts<R: Threads + Sync, G: Gate>(
     ensures printable { IfOk result IsPrintable }
     ensures stop { IfErr result (IsStopFor command weights.now list) }
 {
-    let SolvedList { graph: form, cuts } = solve_list(rt, alloc, list, command.workers, gate)?;
-    let graph = read_graph(form);
+    let SolvedList { list, cuts } = solve_list(rt, alloc, list, command.workers, gate)?;
     match cuts {
-        Cuts::Apart(components) => apart_reply(alloc, command, graph.list(), components, weights),
-        Cuts::Joined(solved) => cuts_reply(alloc, command, &graph, weights, solved),
+        Cuts::Apart(components) => apart_reply(alloc, command, &list, components, weights),
+        Cuts::Joined(solved) => cuts_reply(alloc, command, &list, weights, solved),
     }
 }
 

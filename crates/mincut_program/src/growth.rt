@@ -7,11 +7,11 @@ ghost use Rattle.std.specs.Prelude.{◌≡◌, ◌≤◌, IfOk, IfErr};
 ghost use Rattle.std.specs.List.{All};
 ghost use Rattle.cut_definitions.specs.Components.{IsConnected};
 ghost use Rattle.cut_definitions.specs.Graph.{IsEdgeList};
-ghost use Rattle.job_answers.specs.GrowReplies.{IsGrowReply, IsGrowStop};
+ghost use Rattle.job_replies.specs.GrowReplies.{IsGrowReply, IsGrowStop};
 ghost use Rattle.job_replies.specs.Growth.{HasGrown, IsGrowing};
 ghost use Rattle.program_words.specs.Insertions.{IsInsertion};
-ghost use Rattle.job_answers.specs.GrownGraphs.{with_insertion, StaysWithin};
-ghost use Rattle.job_answers.specs.Jobs.{AreInRange, IsGrowText, IsVertex};
+ghost use Rattle.job_replies.specs.GrownGraphs.{with_insertion, StaysWithin};
+ghost use Rattle.job_replies.specs.Jobs.{AreInRange, IsGrowText, IsVertex};
 ghost use Rattle.job_replies.specs.Replies.{text_of, IsPrintable};
 
 use crate::solving::solve_connected;
@@ -19,7 +19,7 @@ use answer_pages::Step;
 use cactus_growth::{Grown, grow, laws, with_edge};
 use cactus_solver::Solved;
 use cut_definitions::EdgeList;
-use job_replies::{Growing, ReadGraph, Reply, apart_growth, grown_reply, step_for};
+use job_replies::{Growing, Reply, apart_growth, grown_reply, step_for};
 use outside::{Gate, NoMemory};
 use program_words::Insertions;
 use std::alloc::Global;
@@ -29,7 +29,7 @@ use stop_lines::Stop;
 /// The list of a graph with one insertion. The graph is given back.
 fn inserted(
     alloc: Global,
-    graph: ReadGraph,
+    graph: EdgeList,
     insertion: (u64, u64, u64),
 ) -> Result<EdgeList, NoMemory>
     requires first { IsVertex graph.vertices insertion.0 }
@@ -41,7 +41,7 @@ fn inserted(
     // known by this call: there are at most 4,194,304 vertices
     let _n = graph.n();
     let (u, v, w) = insertion;
-    with_edge(alloc, graph.list(), u as u32, v as u32, w)
+    with_edge(alloc, &graph, u as u32, v as u32, w)
 }
 
 /// The graph with one insertion.
@@ -72,7 +72,7 @@ fn grow_by<R: Threads + Sync, G: Gate>(
     let (u, v, _) = insertion;
     match grow(alloc, solved.cactus, u as u32, v as u32)? {
         Grown::Kept(cactus) => Ok(Growing {
-            graph: ReadGraph::of_list(longer),
+            graph: longer,
             solved: Solved { value, cactus },
         }),
         Grown::Gone => {

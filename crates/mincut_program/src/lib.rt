@@ -10,7 +10,7 @@ mod program;
 mod solving;
 mod trial;
 
-pub use job_answers::laws;
+pub use job_replies::laws;
 pub use program::run;
 pub use program_words::{Command, Insertions, Job, WordsRefusal, read_words};
 pub use stop_lines::Status;

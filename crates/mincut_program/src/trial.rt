@@ -2,7 +2,7 @@
 
 ghost use Rattle.std.specs.Prelude.{◌≤◌, IfOk};
 ghost use Rattle.job_replies.specs.Replies.{text_of, IsPrintable, TakesMemory};
-ghost use Rattle.job_answers.specs.Trials.{IsTrialText};
+ghost use Rattle.job_replies.specs.Trials.{IsTrialText};
 
 use crate::solving::solve_connected;
 use job_replies::{Reply, facts_reply, made_for};

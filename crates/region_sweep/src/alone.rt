@@ -38,6 +38,6 @@ pub fn solve_alone(alloc: Global, graph: &Graph, value: u64) -> Result<Solved, N
     ensures { IfOk result (IsSolved graph.now) }
 {
     let tree = tree_alone(alloc, graph, value)?;
-    let solved = cactus_by_tree(alloc, graph, value, tree)?;
+    let solved = cactus_by_tree(alloc, graph.list(), value, tree)?;
     Ok(solved)
 }

@@ -5,26 +5,25 @@ ghost use Rattle.cut_definitions.specs.Cuts.{value as least_value};
 ghost use Rattle.node_tree.specs.Finished.{IsFinished};
 ghost use Rattle.rooted_cactus.specs.Solving.{IsSolved};
 
-use cut_definitions::NoMemory;
+use cut_definitions::{EdgeList, NoMemory};
 use node_tree::{HomedTree, cactus_of_tree, normal_form};
 use rooted_cactus::Solved;
 use std::alloc::Global;
-use weighted_graph::Graph;
 
 /// The cactus of the minimum cuts of a graph, in its normal form, made of the tree of these cuts and beside the value, which is
-/// given. Time and memory are in proportion to the nodes of the tree and the vertices. It is refused only where memory is wanting.
+/// given; rows are not needed. Time and memory are in proportion to the nodes of the tree and the vertices. It is refused only where memory is wanting.
 pub fn cactus_by_tree(
     alloc: Global,
-    graph: &Graph,
+    list: &EdgeList,
     value: u64,
     tree: HomedTree,
 ) -> Result<Solved, NoMemory>
-    requires enough { 2 ≤ graph.now.vertices }
-    requires value { value ≡ least_value graph.now }
-    requires finished { IsFinished graph.now tree }
-    ensures { IfOk result (IsSolved graph.now) }
+    requires enough { 2 ≤ list.now.vertices }
+    requires value { value ≡ least_value list.now }
+    requires finished { IsFinished list.now tree }
+    ensures { IfOk result (IsSolved list.now) }
 {
-    let n = graph.n();
+    let n = list.n();
     let made = cactus_of_tree(alloc, tree, n)?;
     let cactus = normal_form(alloc, made)?;
     Ok(Solved { value, cactus })

@@ -291,7 +291,8 @@ impl Sweep {
         weigh_parts(parted, &self.flow, later, next);
         let count = self.parts.count();
         let nodes = self.nodes.as_mut_slice();
-        hang_parts(&mut self.tree, count, later, next, value, node, nodes)?;
+        nodes[1] = node;
+        hang_parts(&mut self.tree, count, later, next, value, nodes)?;
         self.fresh = regroup(
             parted,
             &mut self.flow,

@@ -1,7 +1,7 @@
 //! Lists of edges whose graphs need no rows.
 
 use crate::graphs::edges_of;
-use cactus_solver::{Cuts, GraphForm, SolvedList, solve_list};
+use cactus_solver::{Cuts, SolvedList, solve_list};
 use cut_definitions::NoMemory;
 use outside::OpenGate;
 use std::alloc::Global;
@@ -49,12 +49,12 @@ fn solved_path<R: Threads + Sync>(
 }
 
 #[test]
-fn a_long_path_is_solved_without_rows(rt: HostRuntime) -> Result<(), Fail> {
+fn a_long_path_is_solved_by_its_list(rt: HostRuntime) -> Result<(), Fail> {
     let Some(found) = solved_path(&rt, rt.alloc(), None)? else {
         return Err(Fail::from("no graph"));
     };
-    let SolvedList { graph, cuts } = found;
-    assert!(rt; matches!(graph, GraphForm::Edges(_)));
+    let SolvedList { list, cuts } = found;
+    assert!(rt; list.n() == 1_101 && list.len() == 1_100);
     match cuts {
         Cuts::Joined(solved) => assert!(rt; solved.value == 3 && solved.cactus.nodes() == 3),
         Cuts::Apart(_) => return Err(Fail::from("several components")),
@@ -67,7 +67,6 @@ fn a_path_with_a_gap_has_two_components(rt: HostRuntime) -> Result<(), Fail> {
     let Some(found) = solved_path(&rt, rt.alloc(), Some(550))? else {
         return Err(Fail::from("no graph"));
     };
-    assert!(rt; matches!(found.graph, GraphForm::Edges(_)));
-    assert!(rt; matches!(found.cuts, Cuts::Apart(2)));
+    assert!(rt; found.list.len() == 1_099 && matches!(found.cuts, Cuts::Apart(2)));
     Ok(())
 }

@@ -3,12 +3,12 @@ use Rattle.cut_definitions.specs.Cuts.{mincuts}
 use Rattle.cut_definitions.proofs.Results.{if_ok_more}
 use Rattle.cut_listing.specs.declared.ask.Ask.{Ask}
 use Rattle.cut_listing.specs.declared.ask.Ask.TheVariants.{Parting}
-use Rattle.job_answers.specs.Apart.{IsCountStop, IsTableStop, IsUnionBalance, IsUnionCount, IsUnionList, IsUnionStop}
-use Rattle.job_answers.specs.Jobs.{GoesByCactus, IsAnswerOf, IsListed, IsStopFor, IsTextOf, KeepsLimit, asked_cuts, asked_of}
+use Rattle.job_replies.specs.Apart.{IsCountStop, IsTableStop, IsUnionBalance, IsUnionCount, IsUnionList, IsUnionStop}
+use Rattle.job_replies.specs.Jobs.{GoesByCactus, IsAnswerOf, IsListed, IsStopFor, IsTextOf, KeepsLimit, asked_cuts, asked_of}
 use Rattle.job_replies.specs.Replies.{text_of}
 use Rattle.program_words.specs.declared.command.Job.{Job}
-use Rattle.job_answers.proofs.Answering.{over_err}
-use Rattle.job_answers.proofs.Unions.{count_stop, list_answer, table_stop, union_stop, union_text}
+use Rattle.job_replies.proofs.Answering.{over_err}
+use Rattle.job_replies.proofs.Unions.{count_stop, list_answer, table_stop, union_stop, union_text}
 use Rattle.job_replies.proofs.apart.apart_reply.Goals as goal
 
 pub returns-in-Cuts-clause-text : goal.returns-in-Cuts-clause-text

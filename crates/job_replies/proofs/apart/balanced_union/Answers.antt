@@ -1,6 +1,6 @@
 use Rattle.std.proofs.Common.{rules}
 use Rattle.component_cuts.specs.Sums.{IsSmall}
-use Rattle.job_answers.proofs.Unions.{best_union}
+use Rattle.job_replies.proofs.Unions.{best_union}
 use Rattle.job_replies.proofs.apart.balanced_union.Goals as goal
 
 pub returns-in-Ok-clause-text : goal.returns-in-Ok-clause-text

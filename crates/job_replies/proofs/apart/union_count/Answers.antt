@@ -1,6 +1,6 @@
 use Rattle.std.proofs.Common.{◌∙◌}
-use Rattle.job_answers.proofs.Answering.{two_lines}
-use Rattle.job_answers.proofs.Unions.{counted}
+use Rattle.job_replies.proofs.Answering.{two_lines}
+use Rattle.job_replies.proofs.Unions.{counted}
 use Rattle.job_replies.proofs.apart.union_count.Goals as goal
 
 pub returns-clause-text : goal.returns-clause-text

@@ -1,5 +1,5 @@
 use Rattle.job_replies.proofs.Graphs.{none_empty}
-use Rattle.job_answers.proofs.Raises.{raise_text}
+use Rattle.job_replies.proofs.Raises.{raise_text}
 use Rattle.job_replies.proofs.Raised.{block_of, normal_of}
 use Rattle.job_replies.proofs.cuts.augment_reply.Goals as goal
 

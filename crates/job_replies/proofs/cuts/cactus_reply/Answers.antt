@@ -1,5 +1,5 @@
 use Rattle.std.proofs.Common.{arith}
-use Rattle.job_answers.proofs.Answering.{canonical_text, value_small}
+use Rattle.job_replies.proofs.Answering.{canonical_text, value_small}
 use Rattle.job_replies.proofs.Graphs.{none_empty}
 use Rattle.job_replies.proofs.cuts.cactus_reply.Goals as goal
 

@@ -1,6 +1,6 @@
 use Rattle.std.proofs.Common.{◌∙◌, arith}
 use Rattle.answer_pages.specs.Listings.{count_text}
-use Rattle.job_answers.proofs.Answering.{two_lines}
+use Rattle.job_replies.proofs.Answering.{two_lines}
 use Rattle.job_replies.proofs.cuts.count_reply.Goals as goal
 
 pub count_of_cuts-requires-clause-few : goal.count_of_cuts-requires-clause-few

@@ -4,10 +4,10 @@ use Rattle.cut_listing.specs.declared.ask.Ask.TheVariants.{Parting}
 use Rattle.program_words.specs.declared.command.Job.{Job}
 use Rattle.cut_definitions.specs.Cuts.{mincuts}
 use Rattle.cut_definitions.proofs.Results.{if_ok_more}
-use Rattle.job_answers.specs.Jobs.{IsAnswerOf, IsListed, IsStopFor, IsTextOf, asked_cuts, asked_of}
-use Rattle.job_answers.specs.Asked.{IsListReply, IsListStop}
+use Rattle.job_replies.specs.Jobs.{IsAnswerOf, IsListed, IsStopFor, IsTextOf, asked_cuts, asked_of}
+use Rattle.job_replies.specs.Asked.{IsListReply, IsListStop}
 use Rattle.job_replies.specs.Replies.{text_of}
-use Rattle.job_answers.proofs.Answering.{over_err, listed_answer, listed_stop, whole_answer}
+use Rattle.job_replies.proofs.Answering.{over_err, listed_answer, listed_stop, whole_answer}
 use Rattle.job_replies.proofs.cuts.cuts_reply.Goals as goal
 
 pub returns-in-Cuts-clause-text : goal.returns-in-Cuts-clause-text

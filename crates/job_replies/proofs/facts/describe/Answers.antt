@@ -2,7 +2,7 @@ use Rattle.std.proofs.Common.{◌≡◌, ◌∙◌, ap, length, string_bytes, sy
 use Rattle.std.proofs.lemmas.List.{length-replicate}
 use Rattle.cut_definitions.specs.Graph.{Graph}
 use Rattle.cut_definitions.proofs.Results.{if_ok_more}
-use Rattle.job_answers.specs.Trials.{trial_text, IsFactsText}
+use Rattle.job_replies.specs.Trials.{trial_text, IsFactsText}
 use Rattle.job_replies.proofs.Graphs.{facts_known, has_block}
 use Rattle.job_replies.proofs.facts.describe.Goals as goal
 
@@ -23,5 +23,5 @@ returns c =
     if_ok_more (λ text. string_bytes text ≡ trial_text c.n.result c.len.result c.args.solved.now.value c.in_ok-count.count c.balance_of-balance.result)
     (λ text. IsFactsText c.args.graph.now (string_bytes text)) c.facts_text.result
     (λ text is. facts_known c.args.graph.now c.args.solved.now c.in_ok-weights.weights c.in_ok-side.side.members c.n.result c.len.result c.in_ok-count.count c.balance_of-balance.result c.requires.solved
-    c.in_ok-weights.ensures c.in_ok-side.ensures.best c.n.ensures.value (c.len.ensures ∙ ap (λ (x : Graph). length x.edges) c.list.ensures) (c.in_ok-count.ensures c.args.graph.now c.requires.solved) c.balance_of-balance.ensures (string_bytes text) is)
+    c.in_ok-weights.ensures c.in_ok-side.ensures.best c.n.ensures.value c.len.ensures (c.in_ok-count.ensures c.args.graph.now c.requires.solved) c.balance_of-balance.ensures (string_bytes text) is)
     c.facts_text.ensures

@@ -1,7 +1,7 @@
 use Rattle.std.proofs.Common.{◌≡◌, ◌∙◌, string_bytes}
 use Rattle.cut_definitions.proofs.Results.{if_ok_more}
-use Rattle.job_answers.specs.Trials.{trial_text}
-use Rattle.job_answers.proofs.Answering.{five_lines, formatted}
+use Rattle.job_replies.specs.Trials.{trial_text}
+use Rattle.job_replies.proofs.Answering.{five_lines, formatted}
 use Rattle.job_replies.proofs.facts.facts_text.Goals as goal
 
 pub returns : goal.returns

@@ -1,7 +1,7 @@
 use Rattle.std.proofs.Common.{◌≤◌, sym, subst}
 use Rattle.std.proofs.lemmas.Result.{IfOk-weaker}
 use Rattle.cut_definitions.specs.Graph.{Graph}
-use Rattle.job_answers.proofs.Answering.{made_enough}
+use Rattle.job_replies.proofs.Answering.{made_enough}
 use Rattle.job_replies.proofs.facts.made_for.Goals as goal
 
 pub returns-clause-enough : goal.returns-clause-enough

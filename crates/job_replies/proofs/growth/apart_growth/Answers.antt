@@ -1,6 +1,6 @@
 use Rattle.std.proofs.Common.{refl, arith}
-use Rattle.job_answers.proofs.Answering.{connected_of, one_component}
-use Rattle.job_answers.proofs.Inserted.{growth_stop}
+use Rattle.job_replies.proofs.Answering.{connected_of, one_component}
+use Rattle.job_replies.proofs.Inserted.{growth_stop}
 use Rattle.job_replies.proofs.growth.apart_growth.Goals as goal
 
 pub returns-in-Err-clause-stop : goal.returns-in-Err-clause-stop

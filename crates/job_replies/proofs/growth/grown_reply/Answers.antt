@@ -1,5 +1,5 @@
 use Rattle.std.proofs.Common.{arith}
-use Rattle.job_answers.proofs.Answering.{value_small}
+use Rattle.job_replies.proofs.Answering.{value_small}
 use Rattle.job_replies.proofs.Graphs.{none_empty}
 use Rattle.job_replies.proofs.Grown.{grow_text}
 use Rattle.job_replies.proofs.growth.grown_reply.Goals as goal

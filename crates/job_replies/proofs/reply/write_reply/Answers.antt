@@ -5,7 +5,7 @@ use Rattle.answer_pages.specs.Growing.{growth_text}
 use Rattle.answer_pages.specs.declared.growth_pages.Step.{Step}
 use Rattle.answer_pages.specs.Listings.{listing_text}
 use Rattle.job_replies.specs.Replies.{text_of}
-use Rattle.job_answers.proofs.Writing.{wrote_by, failed_by}
+use Rattle.job_replies.proofs.Writing.{wrote_by, failed_by}
 use Rattle.job_replies.proofs.reply.write_reply.Goals as goal
 
 pub returns-in-Cactus-clause-failed : goal.returns-in-Cactus-clause-failed

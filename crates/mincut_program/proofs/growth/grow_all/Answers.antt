@@ -1,6 +1,6 @@
 use Rattle.std.proofs.Common.{arith, refl}
 use Rattle.program_words.specs.Insertions.{IsInsertion}
-use Rattle.job_answers.proofs.Inserted.{fits_now, holds_at, there_now}
+use Rattle.job_replies.proofs.Inserted.{fits_now, holds_at, there_now}
 use Rattle.job_replies.proofs.Grown.{all_told, told_next}
 use Rattle.mincut_program.proofs.growth.grow_all.Goals as goal
 

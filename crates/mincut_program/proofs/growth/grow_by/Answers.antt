@@ -4,7 +4,7 @@ use Rattle.cut_definitions.specs.Graph.{Graph}
 use Rattle.cactus_growth.specs.After.{IsAfter}
 use Rattle.cactus_growth.specs.declared.grown.Grown.{Grown}
 use Rattle.rooted_cactus.specs.Solving.{IsSolved}
-use Rattle.job_answers.proofs.Inserted.{still_connected}
+use Rattle.job_replies.proofs.Inserted.{still_connected}
 use Rattle.job_replies.proofs.Grown.{kept_growing}
 use Rattle.job_replies.proofs.Raised.{block_in}
 use Rattle.mincut_program.proofs.growth.grow_by.Goals as goal
@@ -18,7 +18,7 @@ returns-in-Kept-clause-growing g c =
     kept_growing old.graph c.args.insertion c.in_ok-longer.longer old.solved c.in-Kept.cactus c.weights.ensures c.kept_cuts.ensures c.requires.growing.enough c.requires.growing.connected c.requires.growing.solved
     c.requires.insertion
     (subst (λ (r : Grown). IsAfter c.args.insertion.0 c.args.insertion.1 old.solved.cactus r) c.in-Kept.is c.in_ok-cactus.ensures)
-    c.in_ok-longer.ensures _ c.of_list.ensures refl
+    c.in_ok-longer.ensures _ refl refl
 
 pub solve_connected-requires-clause-connected : goal.solve_connected-requires-clause-connected
 solve_connected-requires-clause-connected g c κs lives =

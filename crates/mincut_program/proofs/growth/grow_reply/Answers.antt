@@ -1,7 +1,7 @@
 use Rattle.std.proofs.Common.{refl, rules}
 use Rattle.cut_definitions.specs.Components.{IsConnected}
-use Rattle.job_answers.proofs.Connected.{one_of_connected}
-use Rattle.job_answers.proofs.Inserted.{whole_growth}
+use Rattle.job_replies.proofs.Connected.{one_of_connected}
+use Rattle.job_replies.proofs.Inserted.{whole_growth}
 use Rattle.mincut_program.proofs.growth.grow_reply.Goals as goal
 
 pub returns-clause-text : goal.returns-clause-text

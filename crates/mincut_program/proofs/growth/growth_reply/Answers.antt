@@ -3,8 +3,8 @@ use Rattle.std.proofs.Common.{◌≤◌, sym, subst}
 use Rattle.cut_definitions.specs.Components.{IsConnected}
 use Rattle.cut_definitions.specs.Graph.{Graph}
 use Rattle.rooted_cactus.specs.Solving.{IsSolved}
-use Rattle.job_answers.specs.GrownGraphs.{StaysWithin}
-use Rattle.job_answers.specs.Jobs.{AreInRange}
+use Rattle.job_replies.specs.GrownGraphs.{StaysWithin}
+use Rattle.job_replies.specs.Jobs.{AreInRange}
 use Rattle.job_replies.specs.Growth.{HasGrown}
 use Rattle.mincut_program.proofs.growth.growth_reply.Goals as goal
 

@@ -1,7 +1,7 @@
 use Rattle.std.proofs.Common.{sym, ◌∙◌}
 use Rattle.std.specs.Io.KnownBytes.{IsAtEnd}
 use Rattle.program_words.specs.Words.{texts}
-use Rattle.job_answers.proofs.Telling.{only_notice}
+use Rattle.job_replies.proofs.Replied.{only_notice}
 use Rattle.program_words.proofs.Trials.{is_makeable}
 use Rattle.mincut_program.proofs.program.reply.Goals as goal
 

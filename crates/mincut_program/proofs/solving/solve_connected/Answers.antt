@@ -1,10 +1,10 @@
 -- A connected graph has one component.
 use Rattle.std.proofs.Common.{subst}
 use Rattle.cactus_solver.specs.SolvedLists.{AreCutsOf}
-use Rattle.job_answers.proofs.Connected.{none_apart}
+use Rattle.job_replies.proofs.Connected.{none_apart}
 use Rattle.mincut_program.proofs.solving.solve_connected.Goals as goal
 
 pub unreachable-requires : goal.unreachable-requires
 unreachable-requires g c =
-    let apart = subst (AreCutsOf c.args.list) c.in-Apart.is c.in_ok-form.ensures.cuts in
+    let apart = subst (AreCutsOf c.args.list) c.in-Apart.is c.in_ok-list.ensures.cuts in
     none_apart c.args.list _ c.requires.connected apart.0 apart.1

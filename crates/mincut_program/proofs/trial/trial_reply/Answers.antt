@@ -3,7 +3,7 @@ use Rattle.std.proofs.Common.{◌≤◌, ◌∙◌, sym, subst}
 use Rattle.std.proofs.lemmas.Result.{IfOk-weaker}
 use Rattle.cut_definitions.specs.Graph.{Graph}
 use Rattle.rooted_cactus.specs.Solving.{IsSolved}
-use Rattle.job_answers.specs.Trials.{IsFactsText}
+use Rattle.job_replies.specs.Trials.{IsFactsText}
 use Rattle.job_replies.specs.Replies.{text_of}
 use Rattle.mincut_program.proofs.trial.trial_reply.Goals as goal
 

@@ -7,7 +7,7 @@ use Rattle.region_sweep.proofs.finishing.cactus_by_tree.Goals as goal
 pub normal_form-requires-clause-sides : goal.normal_form-requires-clause-sides
 normal_form-requires-clause-sides c =
     let e = c.in_ok-made.ensures in
-    no_empty_side c.args.graph.now (sides_of c.in_ok-made.made.cactus) (finished c.args.graph.now (arrays_of c.args.tree) c.in_ok-made.made.cactus c.n-n.ensures.edge_list.is_graph (omega (arith, c.requires.enough)) c.requires.finished.all (e.n ∙ c.n-n.ensures.value) (rw c.n-n.ensures.value at e.sides))
+    no_empty_side c.args.list.now (sides_of c.in_ok-made.made.cactus) (finished c.args.list.now (arrays_of c.args.tree) c.in_ok-made.made.cactus c.n-n.ensures.edge_list.is_graph (omega (arith, c.requires.enough)) c.requires.finished.all (e.n ∙ c.n-n.ensures.value) (rw c.n-n.ensures.value at e.sides))
 
 pub returns : goal.returns
 returns c =
@@ -16,6 +16,6 @@ returns c =
       value = c.requires.value;
       over = c.in_ok-cactus.ensures.n ∙ (e.n ∙ c.n-n.ensures.value);
       sides = same_through (sides_of c.in_ok-cactus.cactus) (sides_of c.in_ok-made.made.cactus) _ c.in_ok-cactus.ensures.sides
-          (finished c.args.graph.now (arrays_of c.args.tree) c.in_ok-made.made.cactus c.n-n.ensures.edge_list.is_graph (omega (arith, c.requires.enough)) c.requires.finished.all (e.n ∙ c.n-n.ensures.value) (rw c.n-n.ensures.value at e.sides));
+          (finished c.args.list.now (arrays_of c.args.tree) c.in_ok-made.made.cactus c.n-n.ensures.edge_list.is_graph (omega (arith, c.requires.enough)) c.requires.finished.all (e.n ∙ c.n-n.ensures.value) (rw c.n-n.ensures.value at e.sides));
       normal = c.in_ok-cactus.ensures.normal;
     }

@@ -1,5 +1,6 @@
 -- The region is split.
-use Rattle.std.proofs.Common.{◌≡◌, ℕ, List, length, get_or, ◌∙◌, ap, subst, arith}
+use Rattle.std.proofs.Common.{◌≡◌, ℕ, ◌<◌, List, length, get_or, set, ◌∙◌, ap, subst, arith}
+use Rattle.std.proofs.lemmas.List.{length-set, get_or-set_same}
 use Rattle.std.specs.Vec.{with_items}
 use Rattle.node_tree.specs.Flat.{AreLinked}
 use Rattle.node_tree.specs.Laws.{region_of}
@@ -65,6 +66,7 @@ hang_parts-requires-clause-nodes c =
     let labels = c.args.self.now.flow.labels in
     omega (
       arith,
+      length-set c.as_mut_slice-nodes.result.now 1 c.of_region-node.result,
       ap (λ (l : List ℕ). length l) c.as_mut_slice-nodes.ensures.value,
       c.count-count.ensures,
       c.requires.under_way.room.nodes,
@@ -96,6 +98,7 @@ regroup-self-requires-clause-nodes c =
     let labels = c.args.self.now.flow.labels in
     omega (
       arith,
+      length-set c.as_mut_slice-nodes.result.now 1 c.of_region-node.result,
       ap (λ (l : List ℕ). length l) c.as_mut_slice-nodes.ensures.value,
       c.in_ok-hang_parts.ensures.long,
       c.requires.under_way.room.nodes,
@@ -130,7 +133,10 @@ returns c =
     let hung = c.in_ok-hang_parts.ensures in
     let r = c.regroup-self.ensures in
     let nodes = c.hang_parts.new.nodes in
-    let node_is : c.of_region-node.result ≡ get_or s.homes.regions region 0 = c.of_region-node.ensures ∙ ap (λ (k : ℕ). get_or s.homes.regions k 0) c.label-region.ensures in
+    let before = c.as_mut_slice-nodes.result.now in
+    let two : 1 < length before = omega (arith, ap (λ (l : List ℕ). length l) c.as_mut_slice-nodes.ensures.value, c.requires.under_way.room.nodes, few_parts g.vertices 1 t p.count part c.requires.light.numbered) in
+    let node_is : get_or (set before 1 c.of_region-node.result) 1 0 ≡ get_or s.homes.regions region 0 =
+    get_or-set_same before 1 c.of_region-node.result 0 two ∙ c.of_region-node.ensures ∙ ap (λ (k : ℕ). get_or s.homes.regions k 0) c.label-region.ensures in
     let linked = rw c.count-count.ensures at c.in_ok-hang_parts.ensures.linked in
     let is : IsSplit g labels c.regroup-self.new.flow.labels s.homes c.regroup-self.new.homes s.tree c.hang_parts.new.tree p nodes t c.args.value = record {
       light = c.requires.light;
@@ -158,7 +164,7 @@ returns c =
     } in
     let room = c.requires.under_way.room in
     let size = λ (l : List ℕ). length l in
-    let nodes_long = hung.long ∙ ap size c.as_mut_slice-nodes.ensures.value in
+    let nodes_long = hung.long ∙ length-set before 1 c.of_region-node.result ∙ ap size c.as_mut_slice-nodes.ensures.value in
     let later_long = c.weigh_parts.ensures.later_long ∙ ap size c.as_mut_slice-later.ensures.value in
     let next_long = c.weigh_parts.ensures.next_long ∙ ap size c.as_mut_slice-next.ensures.value in
     record {

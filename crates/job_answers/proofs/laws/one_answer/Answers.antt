@@ -1,5 +1,0 @@
-use Rattle.job_answers.proofs.OneAnswer.{one_answer}
-use Rattle.job_answers.proofs.laws.one_answer.Goals as goal
-
-pub returns : goal.returns
-returns c = one_answer

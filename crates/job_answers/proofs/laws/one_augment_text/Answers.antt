@@ -1,5 +1,0 @@
-use Rattle.job_answers.proofs.OneAugmentation.{one_augment_text}
-use Rattle.job_answers.proofs.laws.one_augment_text.Goals as goal
-
-pub returns : goal.returns
-returns c = one_augment_text

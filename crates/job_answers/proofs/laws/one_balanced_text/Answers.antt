@@ -1,5 +1,0 @@
-use Rattle.job_answers.proofs.OneText.{one_balanced_text}
-use Rattle.job_answers.proofs.laws.one_balanced_text.Goals as goal
-
-pub returns : goal.returns
-returns c = one_balanced_text

@@ -1,5 +1,0 @@
-use Rattle.job_answers.proofs.OneText.{one_cactus_text}
-use Rattle.job_answers.proofs.laws.one_cactus_text.Goals as goal
-
-pub returns : goal.returns
-returns c = one_cactus_text

@@ -1,9 +1,0 @@
-pub mod GrownGraphs
-pub mod Trials
-pub mod Jobs
-pub mod Asked
-pub mod Apart
-pub mod GrowReplies
-pub mod Intake
-pub mod Answers
-pub mod TextLaws
