@@ -4,10 +4,13 @@
     bench/workers.py [--program PATH] [--families grid,torus,..] [--edges 1000000] [--jobs cactus] [--workers 1,2,4] [--repetitions 5]
 
 Of each family one graph of about so many edges is made. Each number of workers gets it in turn, so many times, and the least elapsed
-time counts; the last column is that of the greatest number over that of one worker. Exit status 1 where two texts differ, or a run fails.
+time counts; the last but one column is that of the greatest number over that of one worker. The last one says how often a run with the
+greatest number waited: where that is one or two times, it started no thread, and what its time differs by is the machine's own doing.
+Exit status 1 where two texts differ, or a run fails.
 """
 import argparse
 import os
+import resource
 import subprocess
 import sys
 import tempfile
@@ -18,12 +21,18 @@ import solve
 FAMILIES = 'ring,ring_of_rings,squares,grid,torus,prism,tree,random_sparse,random_dense,ring_of_cliques,network,network_dual'
 
 
+def waits_so_far():
+    """How often the runs so far gave up a processor of their own accord."""
+    return resource.getrusage(resource.RUSAGE_CHILDREN).ru_nvcsw
+
+
 def elapsed(command, path, out_path):
-    """Seconds by the clock of one run, or None where it fails."""
+    """Seconds by the clock of one run and how often it waited, or None where it fails."""
     with open(path, 'rb') as source, open(out_path, 'wb') as out:
-        since = time.monotonic()
+        waited, since = waits_so_far(), time.monotonic()
         status = subprocess.run(command, stdin=source, stdout=out).returncode
-        return time.monotonic() - since if status == 0 else None
+        took = time.monotonic() - since
+        return (took, waits_so_far() - waited) if status == 0 else None
 
 
 def content(path):
@@ -32,7 +41,7 @@ def content(path):
 
 
 def least_times(options, job, path, folder):
-    """{number of workers: the least elapsed time}, or None where a run fails or two texts differ."""
+    """{number of workers: the least elapsed time, and how often that run waited}, or None where a run fails or two texts differ."""
     out_path, texts = os.path.join(folder, 'out'), set()
     times = {workers: [] for workers in options.workers}
     for _ in range(options.repetitions):
@@ -51,8 +60,9 @@ def row(options, family, job, path, size, folder):
     if times is None:
         print(f'| {family} | `{job}` | {size} | failed, or the texts differ |', flush=True)
         return False
-    cells = ' | '.join(f'{times[workers]:.3f}' for workers in options.workers)
-    print(f'| {family} | `{job}` | {size} | {cells} | {times[options.workers[-1]] / times[options.workers[0]]:.2f} |', flush=True)
+    cells = ' | '.join(f'{times[workers][0]:.3f}' for workers in options.workers)
+    last, waited = times[options.workers[-1]]
+    print(f'| {family} | `{job}` | {size} | {cells} | {last / times[options.workers[0]][0]:.2f} | {waited} |', flush=True)
     return True
 
 
@@ -67,8 +77,8 @@ def main():
     parser.add_argument('--repetitions', type=int, default=5)
     options = parser.parse_args()
     titles = ' | '.join(f'{workers}, s' for workers in options.workers)
-    print(f'| Graph | Job | Edges | {titles} | {options.workers[-1]} over {options.workers[0]} |')
-    print('| --- | --- | --: |' + ' --: |' * (len(options.workers) + 1))
+    print(f'| Graph | Job | Edges | {titles} | {options.workers[-1]} over {options.workers[0]} | Waits |')
+    print('| --- | --- | --: |' + ' --: |' * (len(options.workers) + 2))
     agree = True
     with tempfile.TemporaryDirectory(prefix='mincut-workers-') as folder:
         for family in options.families.split(','):
