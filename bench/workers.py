@@ -5,7 +5,8 @@
 
 Of each family one graph of about so many edges is made. Each number of workers gets it in turn, so many times, and the least elapsed
 time counts; the last but one column is that of the greatest number over that of one worker. The last one says how often a run with the
-greatest number waited: where that is one or two times, it started no thread, and what its time differs by is the machine's own doing.
+greatest number waited for anything: where that is one to three times, it started next to no thread (`strace -f -e trace=clone3` tells
+how many), and what its time differs by is mostly the machine's own doing.
 Exit status 1 where two texts differ, or a run fails.
 """
 import argparse
