@@ -1,6 +1,6 @@
 //! The nodes of the parts of a region.
 
-ghost use Rattle.std.specs.Prelude.{◌≡◌, ◌<◌, ◌≤◌, ℕ, IfOk, length, slice_index};
+ghost use Rattle.std.specs.Prelude.{◌≡◌, ◌<◌, ◌≤◌, ◌⊎◌, ℕ, IfOk, length, slice_index};
 ghost use Rattle.cut_definitions.specs.Graph.{Graph};
 ghost use Rattle.cut_definitions.specs.Weight.{VertexSet};
 ghost use Rattle.node_tree.specs.Flat.{AreLinked};
@@ -27,6 +27,7 @@ fn hanging_after(i: u32, count: u32, later: &[u64], next: &[u64], value: u64) ->
 /// Hangs a node for each part from the second on, the second below the node of the region, which is that of the first part,
 /// and writes the node of each of them.
 ///
+/// `nodes[1]` is the node of the region; those of the other parts are written behind it, and no other place changes.
 /// `later` and `next` are what `weigh_parts` wrote of a chain. Each part takes one step. Want of memory is its only refusal,
 /// and then nodes may have been hung.
 pub fn hang_parts(
@@ -44,7 +45,7 @@ pub fn hang_parts(
     requires nodes { count < length nodes.old }
     requires small { AreSmall count value later.now next.now }
     ensures long { length nodes.new ≡ length nodes.old }
-    ensures first { IfOk result (λ _. slice_index nodes.new 1 ≡ slice_index nodes.old 1) }
+    ensures kept { (j : ℕ) → (j ≤ 1) ⊎ (count < j) → slice_index nodes.new j ≡ slice_index nodes.old j }
     ensures within { IfOk result (λ _. (i : ℕ) → 1 ≤ i → i ≤ count → slice_index nodes.new i < length tree.new.uppers) }
     ensures linked { IfOk result (λ _. (g : Graph) (region : VertexSet) (t : ℕ) (part : ℕ → ℕ) → IsWeighedChain g region t count part value later.now next.now →
         AreLinked g count part (λ i. slice_index nodes.new i) (slice_index nodes.old 1) tree.old tree.new) }

@@ -1,5 +1,5 @@
 -- Trees that get the nodes and blocks of a sketch, and the cactus that they become.
-use Rattle.std.proofs.Common.{◌≡◌, ℕ, ◌+◌, ◌-◌, ◌≤◌, ◌<◌, ◌==◌, Bool, true, false, zero, suc, cond, List, [], ◌∷◌, ◌++◌, length, map, get_or, refl, sym, ◌∙◌, ap, subst, arith, ⊎_elim, ne_eqb, take, drop, take-append-drop, Option, Some, option_to_list, ◌↔◌}
+use Rattle.std.proofs.Common.{◌≡◌, ℕ, ◌+◌, ◌-◌, ◌≤◌, ◌<◌, ◌==◌, Bool, true, false, zero, suc, cond, List, [], ◌∷◌, ◌++◌, length, refl, sym, ◌∙◌, ap, subst, arith, ⊎_elim, ne_eqb, take, drop, take-append-drop, Option, Some, option_to_list, ◌↔◌}
 use Rattle.std.specs.Prelude.{slice_index, slice_index_or}
 use Rattle.std.specs.List.{All, Contains, filter, flat_map, range_with_len}
 use Rattle.std.proofs.lemmas.Bool.{cases_eq, eq-eqb}
@@ -13,7 +13,7 @@ use Rattle.cut_definitions.proofs.Bridge.{has_within, IsAscendingWithin-filter}
 use Rattle.cut_definitions.proofs.ListLaws.{All-from_each}
 use Rattle.cut_definitions.proofs.Ranges.{range_push}
 use Rattle.rooted_cactus.specs.Entered.{entered, entered_block}
-use Rattle.rooted_cactus.specs.Rooted.{IsCactus, places}
+use Rattle.rooted_cactus.specs.Rooted.{IsCactus}
 use Rattle.rooted_cactus.specs.Trees.{vertices, blocks, nodes_in}
 use Rattle.rooted_cactus.specs.Widths.{widths, block_widths}
 use Rattle.rooted_cactus.specs.declared.tree.Node.{Node}

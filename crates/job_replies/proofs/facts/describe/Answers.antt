@@ -1,6 +1,5 @@
 use Rattle.std.proofs.Common.{◌≡◌, ◌∙◌, ap, length, string_bytes, sym, arith}
 use Rattle.std.proofs.lemmas.List.{length-replicate}
-use Rattle.cut_definitions.specs.Graph.{Graph}
 use Rattle.cut_definitions.proofs.Results.{if_ok_more}
 use Rattle.job_replies.specs.Trials.{trial_text, IsFactsText}
 use Rattle.job_replies.proofs.Graphs.{facts_known, has_block}

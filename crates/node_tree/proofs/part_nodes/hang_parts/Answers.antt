@@ -1,8 +1,15 @@
 -- One part more gets its node.
-use Rattle.std.proofs.Common.{ℕ, ◌≡◌, ◌+◌, ◌<◌, ◌≤◌, length, get_or, set, ◌∙◌, arith}
+use Rattle.std.proofs.Common.{ℕ, ◌≡◌, ◌⊎◌, ⊎_elim, ◌+◌, ◌<◌, ◌≤◌, length, get_or, set, List, ◌∙◌, arith}
 use Rattle.std.proofs.lemmas.List.{length-set, get_or-set_same, get_or-set_other}
 use Rattle.node_tree.proofs.Linking.{IsStep, step_of, adds_of, hung_first, hung_more, made_more, linked}
 use Rattle.node_tree.proofs.part_nodes.hang_parts.Goals as goal
+
+-- a place between the second and the last part changes, and no other
+other_kept : (nodes : List ℕ) (place count n j : ℕ) → 2 ≤ place → place ≤ count → (j ≤ 1) ⊎ (count < j) → get_or (set nodes place n) j 0 ≡ get_or nodes j 0
+other_kept nodes place count n j low high =
+    ⊎_elim
+    (λ (h : j ≤ 1). get_or-set_other nodes place j n 0 (λ e. absurd (omega (arith, e, h, low))))
+    (λ (h : count < j). get_or-set_other nodes place j n 0 (λ e. absurd (omega (arith, e, h, high))))
 
 pub loop-i-init : goal.loop-i-init
 loop-i-init c =
@@ -11,6 +18,7 @@ loop-i-init c =
     let n = c.in_ok-second.second in
     let laid : length c.args.tree.now.follows ≡ length c.args.tree.now.uppers = omega (arith, c.len-nodes.ensures.uppers, c.len-nodes.ensures.follows) in
     record {
+      kept = λ j h. other_kept nodes 2 c.args.count n j (omega arith) c.requires.two h;
       hung = hung_first c.args.tree.now c.hang.new.self node n (λ j. get_or (set nodes 2 n) j 0) c.requires.node laid c.in_ok-second.ensures
           (get_or-set_other nodes 2 1 n 0 (λ e. absurd (omega (arith, e))))
           (get_or-set_same nodes 2 n 0 (omega (arith, c.requires.nodes, c.requires.two)));
@@ -36,6 +44,7 @@ loop-i-preserved c =
     let old = λ (j : ℕ) (l : j ≤ i). (let k : get_or (set nodes (i + 1) n) j 0 ≡ get_or nodes j 0 = get_or-set_other nodes (i + 1) j n 0 (λ e. absurd (omega (arith, e, l))) in k) in
     let two : 2 ≤ i = c.loop-i.auto.i in
     record {
+      kept = λ j h. other_kept nodes (i + 1) c.args.count n j (omega (arith, two)) (omega (arith, c.loop-i-test.true)) h ∙ c.loop-i.invariant.kept j h;
       hung = hung_more a b c.hang_next.new.self node n i (λ j. get_or nodes j 0) (λ j. get_or (set nodes (i + 1) n) j 0) h two up step new old (omega (arith, c.requires.node));
       linked = λ g region t part w. made_more g c.args.count part a b c.hang_next.new.self node n i (λ j. get_or nodes j 0) (λ j. get_or (set nodes (i + 1) n) j 0) h two up step new old
           (c.hanging_after-hanging.ensures g region t part w) (c.loop-i.invariant.linked g region t part w);

@@ -1,4 +1,4 @@
-use Rattle.std.proofs.Common.{◌≡◌, ◌∷◌, [], ◌++◌, refl}
+use Rattle.std.proofs.Common.{refl}
 use Rattle.rooted_cactus.specs.Trees.{nodes_in}
 use Rattle.tree_tests.proofs.Sketched.{closed_entered, closed_wide, cut_off}
 use Rattle.tree_tests.proofs.trees.close_block.Goals as goal

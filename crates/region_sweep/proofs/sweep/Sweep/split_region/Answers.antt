@@ -1,5 +1,5 @@
 -- The region is split.
-use Rattle.std.proofs.Common.{◌≡◌, ℕ, ◌<◌, List, length, get_or, set, ◌∙◌, ap, subst, arith}
+use Rattle.std.proofs.Common.{◌≡◌, ℕ, ◌⊎◌, inl, ◌<◌, List, length, get_or, set, ◌∙◌, ap, subst, arith}
 use Rattle.std.proofs.lemmas.List.{length-set, get_or-set_same}
 use Rattle.std.specs.Vec.{with_items}
 use Rattle.node_tree.specs.Flat.{AreLinked}
@@ -141,7 +141,7 @@ returns c =
     let is : IsSplit g labels c.regroup-self.new.flow.labels s.homes c.regroup-self.new.homes s.tree c.hang_parts.new.tree p nodes t c.args.value = record {
       light = c.requires.light;
       linked = subst (λ (k : ℕ). AreLinked g p.count part (λ i. get_or nodes i 0) k s.tree c.hang_parts.new.tree) node_is (linked g (region_of labels region) t part w);
-      first = hung.first ∙ node_is;
+      first = c.hang_parts.ensures.kept 1 (inl (omega arith)) ∙ node_is;
       within = λ i one le. hung.within i one (omega (arith, le, c.count-count.ensures));
       homes = rw c.label-region.ensures at r.homes;
       regrouped = rw c.label-region.ensures at r.regrouped;
