@@ -16,7 +16,7 @@ use weighted_graph::{Arc, Graph, Labels, relabel_list};
 const MANY_CLASSES: u32 = 4096;
 
 /// On a list of fewer edges threads gain nothing.
-const EDGES_FOR_THREADS: usize = 131_072;
+const EDGES_FOR_THREADS: usize = 4_194_304;
 
 /// Writes for each class its first vertex, and for each vertex the next one of its class, or 0 where there is none.
 fn link(labels: &Labels, first: &mut [u32], next: &mut [u32])
@@ -150,7 +150,7 @@ fn is_dense(graph: &Graph, labels: &Labels) -> bool
 ///
 /// A dense graph that becomes little smaller is not sorted: with k classes it costs O(n + m + k^2), where k^2 is at most in
 /// proportion to m, and memory in proportion to n + m. All others cost O(m log m); where there are two workers or more, and
-/// 131,072 edges or more, rayon's calls map and sort them, which start threads for the processors of the machine, whatever the
+/// 4,194,304 edges or more, rayon's calls map and sort them, which start threads for the processors of the machine, whatever the
 /// number of workers. It is refused only where memory is wanting.
 pub fn contracted_list<R: Threads + Sync>(
     rt: &R,

@@ -117,11 +117,10 @@ pub fn round<R: Threads + Sync, G: Gate>(
 /// The bound of the threshold is the weight of some cut, and so is the answered one, and each mark is safe for that and the
 /// slack. There are 1 to 64 workers, each of which runs, so the caller sees that the graph is worth them. Each passes the gate
 /// with its number, and scans from a vertex of its own what no other worker takes, until no vertex that waits touches what it
-/// scanned; they share the bound, the marks and the taken vertices, and none waits for another. In a dense graph each looks
-/// first for vertices that are far from each other, one for each cluster: where there are as many as workers or fewer, each has
-/// a cluster and stays in it, and else the first worker scans alone. All together go along each row about once: O(m log n), and
-/// O(n) for each worker, in a dense graph O(n log n) for each worker, of each worker. It takes O(m) memory, and O(n) for each
-/// worker, which that takes in its own thread, and is refused only where that is wanting.
+/// scanned; they share the bound, the marks and the taken vertices, and none waits for another. Of a vertex that is near to
+/// several workers each sees only a part of the weight, so on a dense graph they mark less than one would. All together go along
+/// each row about once: O(m log n), and O(n) for each worker. It takes O(m) memory, and O(n) for each worker, which that takes in
+/// its own thread, and is refused only where that is wanting.
 pub fn scan_round<R: Threads + Sync, G: Gate>(
     rt: &R,
     alloc: Global,

@@ -8,7 +8,6 @@ ghost use Rattle.round_workers.specs.Round.{IsLatest};
 ghost use Rattle.round_workers.specs.Seats.{HasSeen, IsLater, AreWon};
 
 use crate::lowering::lowered;
-use crate::roots::Start;
 use crate::threshold::Threshold;
 use capped_scan::{Scan, Scanned};
 use mark_board::{Board, BoardSeat};
@@ -153,47 +152,36 @@ fn scan_or_drop(
     take_in(board, seat, graph, scan, next, threshold)
 }
 
-/// Whether a link is so much less than the greatest one before it that a scan which met links near to the bound leaves its
-/// cluster there. No answer rests on it.
-fn leaves_cluster(link: u64, greatest: u64, bound: u64) -> bool {
-    greatest >= bound / 4 && link < greatest / 4
-}
-
 /// Scans what no other worker takes, from a root on, lowers the board's bound by each set that was scanned, and marks by links.
 /// Vertices that others have are dropped where they come next. It ends where no vertex that waits touches the scanned set: a
 /// worker passes over no vertex but its own and those beside them, so the scans of all together cost about as much as one scan
-/// of the whole graph. A worker that stays in its cluster ends where the next vertex has much less of a link than those before.
+/// of the whole graph.
 pub(crate) fn scan_on_board(
     board: &Board,
     seat: &mut BoardSeat,
     graph: &Graph,
     scan: &mut Scan,
-    start: Start,
+    root: u32,
     threshold: Threshold,
 )
     requires seen { HasSeen board.now graph.now threshold.slack threshold.bound seat.old }
     requires slack { threshold.slack ≤ 1 }
     requires stands { StandsFor scan.old graph.now }
-    requires root_from_one { 1 ≤ start.root }
-    requires root_to_n { start.root ≤ graph.now.vertices }
+    requires root_from_one { 1 ≤ root }
+    requires root_to_n { root ≤ graph.now.vertices }
     ensures seen { HasSeen board.now graph.now threshold.slack seat.new.seen seat.new }
     ensures later { IsLater seat.old seat.new }
     ensures won { AreWon scan.new seat.new }
 {
-    scan.start(start.root, threshold.bound + threshold.slack);
+    scan.start(root, threshold.bound + threshold.slack);
     let mut seen = threshold.bound;
-    let mut greatest = 0;
     for turn in 0..graph.n() {
         let Some(vertex) = scan.peek(graph) else {
             return;
         };
-        let link = scan.link(graph, vertex);
-        if turn > 0
-            && (link == 0 || start.stays && leaves_cluster(link, greatest, threshold.bound))
-        {
+        if turn > 0 && scan.link(graph, vertex) == 0 {
             return;
         }
-        greatest = greatest.max(link);
         let fallen = Threshold {
             bound: seen,
             ..threshold

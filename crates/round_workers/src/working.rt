@@ -3,7 +3,6 @@
 ghost use Rattle.std.specs.Prelude.{◌≡◌, ◌+◌, ◌<◌, ◌≤◌, All, IfOk, OnOk, length, true, vec_len};
 ghost use Rattle.round_workers.specs.Seats.{HasSeen, HasAll, HasTested, IsLater, AreWon, IsReady, IsDone, AreDone};
 
-use crate::roots::start_of;
 use crate::scanning::scan_on_board;
 use crate::shares::mark_share;
 use crate::threshold::Threshold;
@@ -76,8 +75,20 @@ fn certify(board: &Board, seat: &mut BoardSeat, graph: &Graph, share: usize, tas
     }
 }
 
-/// Makes a scan of the graph for a worker, and scans what no other worker takes from a root of its own, if it has one. Memory
-/// O(n) is all that it takes, and want of it is its only refusal.
+/// Where a worker begins to scan: at the first vertex of its run, if the vertices are divided into as many runs as there are shares.
+fn root_of(graph: &Graph, share: usize, shares: usize) -> u32
+    requires enough { 1 ≤ graph.now.vertices }
+    requires share { share < shares }
+    requires shares { shares ≤ 64 }
+    ensures from_one { 1 ≤ result }
+    ensures to_n { result ≤ graph.now.vertices }
+{
+    let before = graph.n() as usize * share / shares;
+    before as u32 + 1
+}
+
+/// Makes a scan of the graph for a worker, and scans what no other worker takes from a root of its own. Memory O(n) is all that it
+/// takes, and want of it is its only refusal.
 fn scan_own(
     board: &Board,
     seat: &mut BoardSeat,
@@ -96,15 +107,12 @@ fn scan_own(
     ensures won { IfOk result (λ scan. AreWon scan seat.new) }
 {
     let mut scan = Scan::new(task.alloc, graph)?;
-    let Some(start) = start_of(task.alloc, graph, &mut scan, share, task.shares)? else {
-        scan.start(1, 0);
-        return Ok(scan);
-    };
+    let root = root_of(graph, share, task.shares);
     let threshold = Threshold {
         bound,
         slack: task.slack,
     };
-    scan_on_board(board, seat, graph, &mut scan, start, threshold);
+    scan_on_board(board, seat, graph, &mut scan, root, threshold);
     Ok(scan)
 }
 
