@@ -1,5 +1,5 @@
 -- Kernels: what is left of a graph where no edge is shown to lie in no minimum cut.
-use Rattle.std.specs.Prelude.{ℕ, ◌≡◌, ◌*◌, ◌-◌, ◌<◌, ◌≤◌, List, length}
+use Rattle.std.specs.Prelude.{ℕ, ◌≡◌, ◌*◌, ◌-◌, ◌^◌, ◌<◌, ◌≤◌, List, length}
 use Rattle.std.specs.List.{Contains, sum_by}
 use Rattle.cut_definitions.specs.declared.edge_list.Edge.{Edge}
 use Rattle.cut_definitions.specs.Graph.{Graph}
@@ -36,3 +36,9 @@ pub record IsKept (g : Graph) (least : ℕ) (small : Graph) (labels : List ℕ) 
 -- of each graph that the former is kept of, the latter is kept too
 abbrev pub IsKeptOn : Kernel → Kernel → Type 0
 IsKeptOn before after = (g : Graph) → IsKept g before.value before.graph before.labels → IsKept g after.value after.graph after.labels
+
+-- the same before the value is known: a number is at least that
+pub record IsNarrowed (g : Graph) (bound : ℕ) (small : Graph) (labels : List ℕ) : Type 0 where
+  pub kept : IsKept g (value g) small labels
+  pub at_least : value g ≤ bound
+  pub fits : bound ≤ 2 ^ 62

@@ -9,7 +9,7 @@ ghost use Rattle.round_workers.specs.Round.{SomeIsMarked};
 ghost use Rattle.min_value.specs.Kernels.{NoneIsCertified, IsKept, IsKeptOn, IsLight};
 
 use crate::bare::is_bare;
-use crate::kept_graph::{Kernel, contract_safely, is_tenth_less, keep_less, round_at_value};
+use crate::kept_graph::{Kernel, contract_safely, is_worth_another, keep_less, round_at_value};
 use crate::scanners::scanners;
 use capped_scan::Scan;
 use cut_definitions::NoMemory;
@@ -218,7 +218,7 @@ pub(crate) fn close_first<R: Threads + Sync, G: Gate>(
     Ok(Some(kept))
 }
 
-/// Scans by so many workers and their contraction once more, and whether they took away a tenth of the vertices.
+/// Scans by so many workers and their contraction once more, and whether another one is worth its time.
 fn scan_again<R: Threads + Sync, G: Gate>(
     rt: &R,
     alloc: Global,
@@ -235,15 +235,16 @@ fn scan_again<R: Threads + Sync, G: Gate>(
     ensures fewer { IfOk result (λ more. more ≡ true → kept.new.graph.vertices < kept.old.graph.vertices) }
 {
     let before = kept.graph.n();
+    let edges = kept.graph.edges();
     let team = scanners(&kept.graph, kept.value, workers);
     let Some(marks) = marks_of_scans(rt, alloc, &kept.graph, kept.value, team, gate)? else {
         return Ok(false);
     };
     keep_less(rt, alloc, kept, &marks, workers)?;
-    Ok(is_tenth_less(kept.graph.n(), before))
+    Ok(is_worth_another(kept.graph.n(), before, edges))
 }
 
-/// What scans by so many workers leave of a graph, after the first ones, as long as each takes away a tenth of the vertices.
+/// What scans by so many workers leave of a graph, after the first ones, as long as another one is worth its time.
 fn scan_on<R: Threads + Sync, G: Gate>(
     rt: &R,
     alloc: Global,
@@ -265,10 +266,10 @@ fn scan_on<R: Threads + Sync, G: Gate>(
     Ok(kept)
 }
 
-/// Scans and their contractions, as long as each takes away a tenth of the vertices. It answers what is left and the labels
-/// that lead there, or none where the graph is bare or the first scan marks nothing, and the graph is light then. There are
-/// O(log n) scans, each of O((n + m) log n). Several workers scan side by side where the graph is large; where these take away
-/// less than a tenth, one goes on alone.
+/// Scans and their contractions, as long as another one is worth its time. It answers what is left and the labels that lead
+/// there, or none where the graph is bare or the first scan marks nothing, and the graph is light then. There are O(log n)
+/// scans, each of O((n + m) log n). Several workers scan side by side where the graph is large; where these take away too
+/// little, one goes on alone.
 pub(crate) fn contract_by_scans<R: Threads + Sync, G: Gate>(
     rt: &R,
     alloc: Global,
@@ -293,7 +294,7 @@ pub(crate) fn contract_by_scans<R: Threads + Sync, G: Gate>(
         return Ok(None);
     };
     let first = contract_safely(rt, alloc, graph, value, &marks, workers)?;
-    if is_tenth_less(first.graph.n(), n) {
+    if is_worth_another(first.graph.n(), n, graph.edges()) {
         let kept = scan_on(rt, alloc, graph, first, workers, gate)?;
         return Ok(Some(kept));
     }

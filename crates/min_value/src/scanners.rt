@@ -4,16 +4,12 @@ ghost use Rattle.std.specs.Prelude.{◌≡◌, ◌≤◌};
 ghost use Rattle.std.specs.List.{sum_by};
 ghost use Rattle.cut_definitions.specs.declared.edge_list.Edge.{Edge};
 
-use round_workers::is_dense;
 use weighted_graph::Graph;
 
 // A worker who scans beside others goes along at least so many edges, for threads cost up to some milliseconds to start.
 const EDGES_FOR_EACH: u64 = 32_768;
 
-// A dense graph has so many times as many edges as vertices for each worker, who looks at samples of it first.
-const EDGES_FOR_SAMPLES: u64 = 128;
-
-// Where a vertex has so many edges, and the graph is not dense, workers who begin in runs of the vertices mark much less than one.
+// Where a vertex has so many edges, workers who begin in runs of the vertices mark much less than one.
 const MANY_EDGES: u64 = 32;
 
 /// The sum of the weights of all edges.
@@ -30,15 +26,12 @@ pub(crate) fn total_weight(graph: &Graph) -> u64
 
 /// How many workers can scan a graph side by side with a gain. Each has enough edges to go along, and one for each vertex, since
 /// it makes room for all vertices. Where their vertices are neighbours, workers divide the weight of a vertex among them, so a
-/// limit is left to each of them; in a dense graph each has a cluster of its own, or does not scan.
+/// limit is left to each of them; and one alone scans a dense graph.
 fn most_scanners(graph: &Graph, limit: u64) -> u64 {
     let vertices = u64::from(graph.n()).max(1);
     let edges = graph.edges() as u64;
     let each = edges / vertices;
     let most = (edges / EDGES_FOR_EACH).min(each);
-    if is_dense(graph) {
-        return most.min(each / EDGES_FOR_SAMPLES);
-    }
     if each >= MANY_EDGES {
         return 1;
     }

@@ -6,6 +6,7 @@ ghost use Rattle.weighted_graph.specs.Marks.{MarksAreSafe};
 ghost use Rattle.capped_scan.specs.Scan.{StandsFor};
 ghost use Rattle.min_value.specs.Left.{IsScanned, IsShrunk, IsToTell};
 
+use crate::kept_graph::is_worth_another;
 use crate::scanners::scanners;
 use crate::values::least_degree;
 use capped_scan::Scan;
@@ -19,40 +20,47 @@ use std::alloc::Global;
 use std::thread::Threads;
 use weighted_graph::Graph;
 
-/// What a scan leaves: the least weight that is known, and the edges of the contracted graph, if it is a tenth smaller.
+/// What a scan leaves: the least weight that is known, and the edges of the contracted graph, if it is so much smaller that
+/// another scan is worth its time.
 #[derive(Drop)]
 pub(crate) struct Shrunk {
     best: u64,
     smaller: Option<EdgeList>,
 }
 
-/// Scans the graph from vertex 1 with a bound as the cap, and marks by links. It answers the lesser of the bound and the
-/// weights of the sets that were scanned.
-fn mark_by_links(graph: &Graph, scan: &mut Scan, bound: u64, marks: &mut Marks) -> u64
+/// Scans the graph from vertex 1, with the bound and the slack of a threshold as the cap, and marks by links. It answers the lesser
+/// of the bound and the weights of the sets that were scanned.
+pub(crate) fn mark_by_links(
+    graph: &Graph,
+    scan: &mut Scan,
+    threshold: Threshold,
+    marks: &mut Marks,
+) -> u64
     requires stands { StandsFor scan.old graph.now }
     requires some { 1 ≤ graph.now.vertices }
-    requires bound { bound ≤ 2 ^ 62 }
+    requires bound { threshold.bound ≤ 2 ^ 62 }
+    requires slack { threshold.slack ≤ 1 }
     requires marks { marks.old.edges ≡ length graph.now.edges }
-    requires safe { MarksAreSafe graph.now (has marks.old.marked) bound 0 }
-    ensures at_most { result ≤ bound }
-    ensures at_least { min bound (value graph.now) ≤ result }
+    requires safe { MarksAreSafe graph.now (has marks.old.marked) threshold.bound threshold.slack }
+    ensures at_most { result ≤ threshold.bound }
+    ensures at_least { min threshold.bound (value graph.now) ≤ result }
     ensures edges { marks.new.edges ≡ marks.old.edges }
-    ensures safe { MarksAreSafe graph.now (has marks.new.marked) result 0 }
+    ensures safe { MarksAreSafe graph.now (has marks.new.marked) result threshold.slack }
 {
-    scan.start(1, bound);
-    let mut least = bound;
+    scan.start(1, threshold.bound + threshold.slack);
+    let mut least = threshold.bound;
     for _ in 0..graph.n() {
         let Some(next) = scan.next(graph) else {
             return least;
         };
         least = lowered(next, least);
-        mark_links(graph, scan, next.vertex, least, 0, marks);
+        mark_links(graph, scan, next.vertex, least, threshold.slack, marks);
     }
     least
 }
 
-/// The contraction of marked edges, if that takes away a tenth of the vertices; the marks are safe for the least weight that
-/// is known.
+/// The contraction of marked edges, if another scan is worth its time then; the marks are safe for the least weight that is
+/// known.
 fn contract_marked<R: Threads + Sync>(
     rt: &R,
     alloc: Global,
@@ -69,7 +77,7 @@ fn contract_marked<R: Threads + Sync>(
 {
     let n = graph.n();
     let labels = classes_of_marks(alloc, graph, marks)?;
-    if u64::from(labels.classes()) * 10 > u64::from(n) * 9 {
+    if !is_worth_another(labels.classes(), n, graph.edges()) {
         return Ok(Shrunk {
             best,
             smaller: None,
@@ -82,7 +90,7 @@ fn contract_marked<R: Threads + Sync>(
     })
 }
 
-/// One scan, and the contraction of the edges that it marks, if that takes away a tenth of the vertices.
+/// One scan, and the contraction of the edges that it marks, if that takes away enough.
 fn scan_once<R: Threads + Sync>(
     rt: &R,
     alloc: Global,
@@ -96,7 +104,8 @@ fn scan_once<R: Threads + Sync>(
 {
     let mut marks = Marks::none(alloc, graph.edges())?;
     let mut scan = Scan::new(alloc, graph)?;
-    let best = mark_by_links(graph, &mut scan, bound, &mut marks);
+    let threshold = Threshold { bound, slack: 0 };
+    let best = mark_by_links(graph, &mut scan, threshold, &mut marks);
     let shrunk = contract_marked(rt, alloc, graph, best, &marks, workers)?;
     Ok(shrunk)
 }
@@ -123,8 +132,7 @@ fn scan_by_workers<R: Threads + Sync, G: Gate>(
     Ok(shrunk)
 }
 
-/// One scan: of workers side by side where the graph is large, and of one where it is not, or where theirs do not take away a
-/// tenth of the vertices.
+/// One scan: of workers side by side where the graph is large, and of one where it is not, or where theirs take away too little.
 fn scan_shared<R: Threads + Sync, G: Gate>(
     rt: &R,
     alloc: Global,
@@ -150,8 +158,8 @@ fn scan_shared<R: Threads + Sync, G: Gate>(
     Ok(next)
 }
 
-/// One scan, or where that takes away less than a tenth of the vertices a sweep by flows, after which the weight that is known
-/// is the lesser of the bound and the value.
+/// One scan, or where that takes away too little a sweep by flows, after which the weight that is known is the lesser of the
+/// bound and the value.
 pub(crate) fn scan_or_sweep<R: Threads + Sync, G: Gate>(
     rt: &R,
     alloc: Global,
@@ -195,9 +203,10 @@ pub(crate) fn scan_away<R: Threads + Sync, G: Gate>(
 
 /// The number that a scan left to be told.
 ///
-/// Scans contract what their links show safe, as long as each takes away a tenth of the vertices; what is left is swept by
-/// flows. Several workers scan side by side where a graph is large. There are O(log n) scans (Nagamochi, Ono and Ibaraki, 1994), each of O((n + m) log n). Only one graph has rows at a
-/// time. It is refused only where memory is wanting.
+/// Scans contract what their links show safe, as long as each takes away a tenth of the vertices, or a fiftieth of a dense
+/// graph; what is left is swept by flows. Several workers scan side by side where a graph is large. There are O(log n) scans
+/// (Nagamochi, Ono and Ibaraki, 1994), each of O((n + m) log n). Only one graph has rows at a time. It is refused only where
+/// memory is wanting.
 pub(crate) fn value_of_shrunk<R: Threads + Sync, G: Gate>(
     rt: &R,
     alloc: Global,

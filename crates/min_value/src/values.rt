@@ -56,7 +56,7 @@ fn contract_once<R: Threads + Sync, G: Gate>(
 /// The value by rounds that contract what they show safe, as long as each takes away a tenth of the vertices; the least bound
 /// of all rounds and what is left then decide. A round costs O((n + m) log n) and the certificates. The workers share the first
 /// round; what is left for later ones is small, and starting threads would cost more than it.
-fn value_by_rounds<R: Threads + Sync, G: Gate>(
+pub(crate) fn value_by_rounds<R: Threads + Sync, G: Gate>(
     rt: &R,
     alloc: Global,
     graph: &Graph,
@@ -84,7 +84,7 @@ fn value_by_rounds<R: Threads + Sync, G: Gate>(
 
 /// A sweep of flows, which are local on most graphs. It is cut short where they go along each row more than four times on the
 /// average. A vertex without edges is a cut of weight 0, and no flow is needed then.
-fn sweep(alloc: Global, graph: &Graph) -> Result<Swept, NoMemory>
+pub(crate) fn sweep(alloc: Global, graph: &Graph) -> Result<Swept, NoMemory>
     requires { 2 ≤ graph.now.vertices }
     ensures { IfOk result (TellsValue graph.now) }
 {

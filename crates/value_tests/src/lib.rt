@@ -20,6 +20,8 @@ mod graphs;
 #[cfg(test)]
 mod kernels;
 #[cfg(test)]
+mod narrowing;
+#[cfg(test)]
 mod rounds;
 #[cfg(test)]
 mod scans;

@@ -14,11 +14,9 @@ returns-clause-shrunk _ c =
     let labels = c.in_ok-labels.labels in
     let small = c.in_ok-smaller.smaller in
     let labelled : IsLabelled g labels = record { are_labels = c.classes.ensures.labels; long = c.in_ok-labels.ensures.vertices } in
-    let number : c.from.result ≡ classes labels = c.from.ensures ∙ c.classes.ensures.value in
-    let vertices : c.from-2.result ≡ g.vertices = c.from-2.ensures ∙ c.n-n.ensures.value in
     let few : small.vertices ≡ classes labels = ap (λ (h : Graph). h.vertices) c.in_ok-smaller.ensures ∙ vertices-relabel g labels in
     record {
       at_most = omega arith;
       left = left_marks g c.n-n.ensures.edge_list.is_graph (has c.args.marks.now.marked) labels best best small c.requires.enough (omega arith) (omega arith) c.requires.safe labelled c.in_ok-labels.ensures.classes c.in_ok-smaller.ensures;
-      less = omega (arith, c.if-from.false, number, vertices, few);
+      less = omega (arith, c.is_worth_another.ensures c.if-not-is_worth_another.false, c.classes.ensures.value, c.n-n.ensures.value, few);
     }

@@ -27,7 +27,7 @@ loop-preserved c =
       at_least = omega (
         arith,
         e,
-        least_lowered g c.args.bound c.loop.least next.prefix_weight next.all inv.at_least
+        least_lowered g c.args.threshold.bound c.loop.least next.prefix_weight next.all inv.at_least
             (λ no. law_of_prefixes g c.n-end.ensures.edge_list.is_graph c.loop.scan c.next.new.self next.vertex next.prefix_weight next.all c.in-Some.ensures.scanned no),
       );
       edges = m.edges ∙ inv.edges;
@@ -38,4 +38,4 @@ pub mark_links-requires-clause-safe : goal.mark_links-requires-clause-safe
 mark_links-requires-clause-safe c =
     let g = c.args.graph.now in
     let e = c.lowered-least.ensures in
-    safe-lower g (has c.loop.marks.marked) c.loop.least c.lowered-least.result 0 (omega (arith, e, lowered-le c.loop.least c.in-Some.next.prefix_weight c.in-Some.next.all)) c.loop.invariant.safe
+    safe-lower g (has c.loop.marks.marked) c.loop.least c.lowered-least.result c.args.threshold.slack (omega (arith, e, lowered-le c.loop.least c.in-Some.next.prefix_weight c.in-Some.next.all)) c.loop.invariant.safe

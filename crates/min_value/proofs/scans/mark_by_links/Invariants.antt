@@ -7,8 +7,8 @@ use Rattle.min_value.proofs.scans.mark_by_links.Given as goal
 abbrev pub invariant-loop : goal.invariant-loop
 invariant-loop l = record {
   stands : StandsFor l.scan l.graph;
-  at_most : l.least ≤ l.bound;
-  at_least : min l.bound (value l.graph) ≤ l.least;
+  at_most : l.least ≤ l.threshold.bound;
+  at_least : min l.threshold.bound (value l.graph) ≤ l.least;
   edges : l.marks.edges ≡ l.fn.marks.edges;
-  safe : MarksAreSafe l.graph (has l.marks.marked) l.least 0;
+  safe : MarksAreSafe l.graph (has l.marks.marked) l.least l.threshold.slack;
 }

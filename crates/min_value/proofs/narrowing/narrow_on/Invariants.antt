@@ -1,0 +1,8 @@
+use Rattle.min_value.specs.Kernels.{IsNarrowed}
+use Rattle.min_value.proofs.narrowing.narrow_on.Given as goal
+
+abbrev pub invariant-scans : goal.invariant-scans
+invariant-scans g l = IsNarrowed l.graph l.left.bound l.left.graph l.left.labels
+
+abbrev pub decreases-scans : goal.decreases-scans
+decreases-scans g l = l.left.graph.vertices

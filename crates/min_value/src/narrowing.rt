@@ -1,0 +1,228 @@
+//! The value of a graph, and where flows look far on it also a smaller graph that has all its minimum cuts.
+
+ghost use Rattle.std.specs.Prelude.{◌≡◌, ◌*◌, ◌≤◌, ◌^◌, IfOk, IfSome, length};
+ghost use Rattle.cut_definitions.specs.Cuts.{has, value as least_value};
+ghost use Rattle.weighted_graph.specs.Marks.{MarksAreSafe};
+ghost use Rattle.min_value.specs.Kernels.{IsKept, IsNarrowed};
+
+use crate::kept_graph::{Kernel, is_worth_another};
+use crate::scanners::scanners;
+use crate::scans::{mark_by_links, scan_or_sweep, value_of_shrunk};
+use crate::values::{FEW_EDGES, least_degree, sweep, value, value_by_rounds};
+use capped_scan::Scan;
+use cut_definitions::NoMemory;
+use least_cut::Swept;
+use mark_board::Marks;
+use outside::Gate;
+use round_contract::{classes_of_marks, contracted};
+use round_workers::{Threshold, scan_round};
+use std::alloc::Global;
+use std::thread::Threads;
+use weighted_graph::{Graph, Labels};
+
+/// The value of a graph, and a smaller graph with the same minimum cuts, if the scans for the value came upon one.
+#[derive(Drop)]
+pub struct ValueWithKernel {
+    pub value: u64,
+    pub kernel: Option<Kernel>,
+}
+
+/// What scans leave of a graph before its value is known: a bound on that, and a smaller graph with the same value whose minimum
+/// cuts, lifted by the labels, are exactly those of the graph.
+#[derive(Drop)]
+struct Narrowed {
+    bound: u64,
+    graph: Graph,
+    labels: Labels,
+}
+
+/// The graph on the classes of marks that are safe at a bound with slack 1, if another scan is worth its time then.
+fn narrow_by_marks<R: Threads + Sync>(
+    rt: &R,
+    alloc: Global,
+    graph: &Graph,
+    bound: u64,
+    marks: &Marks,
+    workers: u32,
+) -> Result<Option<Narrowed>, NoMemory>
+    requires enough { 2 ≤ graph.now.vertices }
+    requires small { bound ≤ 2 ^ 62 }
+    requires bound { least_value graph.now ≤ bound }
+    requires marks { marks.now.edges ≡ length graph.now.edges }
+    requires safe { MarksAreSafe graph.now (has marks.now.marked) bound 1 }
+    ensures narrowed { IfOk result (λ found. IfSome found (λ left. IsNarrowed graph.now left.bound left.graph left.labels)) }
+    ensures less { IfOk result (λ found. IfSome found (λ left. left.graph.vertices * 50 ≤ graph.now.vertices * 49)) }
+{
+    let labels = classes_of_marks(alloc, graph, marks)?;
+    if !is_worth_another(labels.classes(), graph.n(), graph.edges()) {
+        return Ok(None);
+    }
+    let small = contracted(rt, alloc, graph, &labels, workers)?;
+    Ok(Some(Narrowed {
+        bound,
+        graph: small,
+        labels,
+    }))
+}
+
+/// What a scan of one worker leaves, if it takes away enough.
+fn narrow_alone<R: Threads + Sync>(
+    rt: &R,
+    alloc: Global,
+    graph: &Graph,
+    bound: u64,
+    workers: u32,
+) -> Result<Option<Narrowed>, NoMemory>
+    requires enough { 2 ≤ graph.now.vertices }
+    requires small { bound ≤ 2 ^ 62 }
+    requires bound { least_value graph.now ≤ bound }
+    ensures narrowed { IfOk result (λ found. IfSome found (λ left. IsNarrowed graph.now left.bound left.graph left.labels)) }
+    ensures less { IfOk result (λ found. IfSome found (λ left. left.graph.vertices * 50 ≤ graph.now.vertices * 49)) }
+{
+    let mut marks = Marks::none(alloc, graph.edges())?;
+    let mut scan = Scan::new(alloc, graph)?;
+    let threshold = Threshold { bound, slack: 1 };
+    let low = mark_by_links(graph, &mut scan, threshold, &mut marks);
+    narrow_by_marks(rt, alloc, graph, low, &marks, workers)
+}
+
+/// The same of workers who scan side by side, from the least degree on.
+fn narrow_together<R: Threads + Sync, G: Gate>(
+    rt: &R,
+    alloc: Global,
+    graph: &Graph,
+    bound: u64,
+    workers: u32,
+    gate: &G,
+) -> Result<Option<Narrowed>, NoMemory>
+    requires enough { 2 ≤ graph.now.vertices }
+    requires small { bound ≤ 2 ^ 62 }
+    requires bound { least_value graph.now ≤ bound }
+    requires workers { (1 ≤ workers) × (workers ≤ 64) }
+    ensures narrowed { IfOk result (λ found. IfSome found (λ left. IsNarrowed graph.now left.bound left.graph left.labels)) }
+    ensures less { IfOk result (λ found. IfSome found (λ left. left.graph.vertices * 50 ≤ graph.now.vertices * 49)) }
+{
+    let opening = Threshold {
+        bound: least_degree(graph),
+        slack: 1,
+    };
+    let (low, marks) = scan_round(rt, alloc, graph, opening, workers, gate)?;
+    narrow_by_marks(rt, alloc, graph, low.min(bound), &marks, workers)
+}
+
+/// What one scan leaves, of several workers where the graph is large, and of one where theirs take away too little.
+fn narrow<R: Threads + Sync, G: Gate>(
+    rt: &R,
+    alloc: Global,
+    graph: &Graph,
+    bound: u64,
+    workers: u32,
+    gate: &G,
+) -> Result<Option<Narrowed>, NoMemory>
+    requires enough { 2 ≤ graph.now.vertices }
+    requires small { bound ≤ 2 ^ 62 }
+    requires bound { least_value graph.now ≤ bound }
+    requires workers { (1 ≤ workers) × (workers ≤ 64) }
+    ensures narrowed { IfOk result (λ found. IfSome found (λ left. IsNarrowed graph.now left.bound left.graph left.labels)) }
+    ensures less { IfOk result (λ found. IfSome found (λ left. left.graph.vertices * 50 ≤ graph.now.vertices * 49)) }
+{
+    let team = scanners(graph, bound, workers);
+    if team > 1 {
+        let found = narrow_together(rt, alloc, graph, bound, team, gate)?;
+        if found.is_some() {
+            return Ok(found);
+        }
+    }
+    narrow_alone(rt, alloc, graph, bound, workers)
+}
+
+/// What further scans leave of a graph, after the first one, as long as another one is worth its time.
+fn narrow_on<R: Threads + Sync, G: Gate>(
+    rt: &R,
+    alloc: Global,
+    graph: &Graph,
+    first: Narrowed,
+    workers: u32,
+    gate: &G,
+) -> Result<Narrowed, NoMemory>
+    requires narrowed { IsNarrowed graph.now first.bound first.graph first.labels }
+    requires workers { (1 ≤ workers) × (workers ≤ 64) }
+    ensures { IfOk result (λ left. IsNarrowed graph.now left.bound left.graph left.labels) }
+{
+    let mut left = first;
+    'scans: while let Some(next) = narrow(rt, alloc, &left.graph, left.bound, workers, gate)? {
+        left.labels = left.labels.compose(alloc, &next.labels)?;
+        left.graph = next.graph;
+        left.bound = next.bound;
+    }
+    Ok(left)
+}
+
+/// The value of a graph whose value is at most a bound, by scans with slack 1, which keep all minimum cuts, and where these take
+/// away too little by scans that keep the value alone, or a sweep.
+fn value_by_narrowing<R: Threads + Sync, G: Gate>(
+    rt: &R,
+    alloc: Global,
+    graph: &Graph,
+    bound: u64,
+    workers: u32,
+    gate: &G,
+) -> Result<ValueWithKernel, NoMemory>
+    requires enough { 2 ≤ graph.now.vertices }
+    requires small { bound ≤ 2 ^ 62 }
+    requires bound { least_value graph.now ≤ bound }
+    requires workers { (1 ≤ workers) × (workers ≤ 64) }
+    ensures value { IfOk result (λ r. r.value ≡ least_value graph.now) }
+    ensures kept { IfOk result (λ r. IfSome r.kernel (λ k. IsKept graph.now k.value k.graph k.labels)) }
+{
+    let Some(first) = narrow(rt, alloc, graph, bound, workers, gate)? else {
+        let shrunk = scan_or_sweep(rt, alloc, graph, bound, workers, gate)?;
+        let weight = value_of_shrunk(rt, alloc, shrunk, workers, gate)?;
+        return Ok(ValueWithKernel {
+            value: weight,
+            kernel: None,
+        });
+    };
+    let left = narrow_on(rt, alloc, graph, first, workers, gate)?;
+    let weight = value(rt, alloc, &left.graph, workers, gate)?;
+    Ok(ValueWithKernel {
+        value: weight,
+        kernel: Some(Kernel {
+            value: weight,
+            graph: left.graph,
+            labels: left.labels,
+        }),
+    })
+}
+
+/// The value of a graph of two or more vertices as `value` tells it, and a smaller graph with the same minimum cuts, if the way to
+/// the value leads by one: where flows look far on a large graph, scans contract edges that lie in no cut of at most the least
+/// weight that is known (Nagamochi, Ono and Ibaraki, 1994), so the scans that `reduce` would make are saved. Whether there is one
+/// is free. It costs as much as `value`, takes memory O(n + m), and is refused only where that is wanting.
+pub fn value_with_kernel<R: Threads + Sync, G: Gate>(
+    rt: &R,
+    alloc: Global,
+    graph: &Graph,
+    workers: u32,
+    gate: &G,
+) -> Result<ValueWithKernel, NoMemory>
+    requires enough { 2 ≤ graph.now.vertices }
+    requires workers { (1 ≤ workers) × (workers ≤ 64) }
+    ensures value { IfOk result (λ r. r.value ≡ least_value graph.now) }
+    ensures kept { IfOk result (λ r. IfSome r.kernel (λ k. IsKept graph.now k.value k.graph k.labels)) }
+{
+    if graph.edges() <= FEW_EDGES {
+        let weight = value_by_rounds(rt, alloc, graph, workers, gate)?;
+        return Ok(ValueWithKernel {
+            value: weight,
+            kernel: None,
+        });
+    }
+    match sweep(alloc, graph)? {
+        Swept::Whole(weight) => Ok(ValueWithKernel {
+            value: weight,
+            kernel: None,
+        }),
+        Swept::Part(bound) => value_by_narrowing(rt, alloc, graph, bound, workers, gate),
+    }
+}
