@@ -2,73 +2,76 @@
 
 ghost use Rattle.std.specs.Prelude.{◌≡◌, ◌≤◌, IfOk, IfSome};
 ghost use Rattle.cut_definitions.specs.Components.{IsConnected};
+ghost use Rattle.cut_definitions.specs.Contraction.{classes};
 ghost use Rattle.cut_definitions.specs.Cuts.{value as least_value};
+ghost use Rattle.cut_definitions.specs.Graph.{Graph as EdgeGraph};
 ghost use Rattle.forest_contraction.specs.Left.{AreTies};
 ghost use Rattle.min_value.specs.Kernels.{IsKept};
-ghost use Rattle.node_tree.specs.Finished.{IsFinished};
-ghost use Rattle.rooted_cactus.specs.Solving.{IsSolved};
 ghost use Rattle.cactus_solver.specs.SolvedLists.{AreCutsOf};
 
-use crate::list_classes::{ListClasses, classes_of};
+use crate::list_classes::classes_of;
 use crate::solved_list::{Cuts, SolvedList};
-use crate::solver::tree_at_value;
+use crate::solver::{tree_at_value, tree_by_kernel};
 use component_cuts::count_components;
 use cut_definitions::{EdgeList, NoMemory};
-use min_value::{ValueWithTies, value as least_weight, value_with_ties};
-use node_tree::HomedTree;
+use min_value::{
+    Kernel, ValueWithKernel, ValueWithTies, reduce, value_with_kernel, value_with_ties,
+};
 use outside::Gate;
 use region_sweep::cactus_by_tree;
-use rooted_cactus::Solved;
 use std::alloc::Global;
 use std::thread::Threads;
 use weighted_graph::Graph;
 
-/// The tree of the minimum cuts by that of the graph on the classes, which is given back.
-fn tree_by_classes<R: Threads + Sync, G: Gate>(
+/// What `reduce` leaves of a smaller graph, with the labels that lead there.
+fn reduce_further<R: Threads + Sync, G: Gate>(
     rt: &R,
     alloc: Global,
-    list: &EdgeList,
-    classes: ListClasses,
+    kernel: Kernel,
     workers: u32,
     gate: &G,
-) -> Result<HomedTree, NoMemory>
-    requires connected { IsConnected list.now }
-    requires enough { 2 ≤ list.now.vertices }
-    requires kept { IsKept list.now classes.value classes.list classes.labels }
+) -> Result<Kernel, NoMemory>
+    requires value { kernel.value ≡ least_value kernel.graph }
+    requires enough { 2 ≤ kernel.graph.vertices }
+    requires counted { classes kernel.labels ≡ kernel.graph.vertices }
     requires workers { (1 ≤ workers) × (workers ≤ 64) }
-    ensures { IfOk result (IsFinished list.now) }
+    ensures { (g : EdgeGraph) → IsKept g kernel.value kernel.graph kernel.labels → IfOk result (λ k. IsKept g k.value k.graph k.labels) }
 {
-    let ListClasses {
-        value,
-        list: between,
+    let Some(next) = reduce(rt, alloc, &kernel.graph, kernel.value, workers, gate)? else {
+        return Ok(kernel);
+    };
+    let labels = kernel.labels.compose(alloc, &next.labels)?;
+    Ok(Kernel {
+        value: kernel.value,
+        graph: next.graph,
         labels,
-    } = classes;
-    let graph = Graph::from_list(alloc, between)?;
-    // known by these calls: the graphs are edge lists
-    let _n = list.n();
-    let _small = graph.n();
-    let tree = tree_at_value(rt, alloc, &graph, value, workers, gate)?;
-    tree.spread(alloc, labels.as_slice())
+    })
 }
 
-/// The cactus by that of the graph on the classes, which alone has rows.
-fn solved_by_classes<R: Threads + Sync, G: Gate>(
+/// The minimum cuts of a graph without rows, by those of a smaller one.
+fn solve_by_smaller<R: Threads + Sync, G: Gate>(
     rt: &R,
     alloc: Global,
-    list: &EdgeList,
-    classes: ListClasses,
+    list: EdgeList,
+    kernel: Kernel,
     workers: u32,
     gate: &G,
-) -> Result<Solved, NoMemory>
-    requires connected { IsConnected list.now }
-    requires enough { 2 ≤ list.now.vertices }
-    requires kept { IsKept list.now classes.value classes.list classes.labels }
+) -> Result<SolvedList, NoMemory>
+    requires connected { IsConnected list }
+    requires enough { 2 ≤ list.vertices }
+    requires kept { IsKept list kernel.value kernel.graph kernel.labels }
     requires workers { (1 ≤ workers) × (workers ≤ 64) }
-    ensures { IfOk result (IsSolved list.now) }
+    ensures list { IfOk result (λ r. r.list ≡ list) }
+    ensures cuts { IfOk result (λ r. AreCutsOf list r.cuts) }
 {
-    let value = classes.value;
-    let tree = tree_by_classes(rt, alloc, list, classes, workers, gate)?;
-    cactus_by_tree(alloc, list, value, tree)
+    let value = kernel.value;
+    let kernel = reduce_further(rt, alloc, kernel, workers, gate)?;
+    let tree = tree_by_kernel(rt, alloc, &list, kernel, workers)?;
+    let solved = cactus_by_tree(alloc, &list, value, tree)?;
+    Ok(SolvedList {
+        list,
+        cuts: Cuts::Joined(solved),
+    })
 }
 
 /// The minimum cuts of a connected graph whose value is given. Its rows are dropped once the tree of the cuts is made, before
@@ -116,11 +119,12 @@ fn solve_connected<R: Threads + Sync, G: Gate>(
 {
     let ValueWithTies { value, ties } = found;
     if let Some(classes) = classes_of(alloc, &list, value, ties)? {
-        let solved = solved_by_classes(rt, alloc, &list, classes, workers, gate)?;
-        return Ok(SolvedList {
-            list,
-            cuts: Cuts::Joined(solved),
-        });
+        let kernel = Kernel {
+            value: classes.value,
+            graph: Graph::from_list(alloc, classes.list)?,
+            labels: classes.labels,
+        };
+        return solve_by_smaller(rt, alloc, list, kernel, workers, gate);
     }
     let graph = Graph::from_list(alloc, list)?;
     solve_graph(rt, alloc, graph, value, workers, gate)
@@ -147,8 +151,14 @@ fn solve_by_rows<R: Threads + Sync, G: Gate>(
         });
     }
     let graph = Graph::from_list(alloc, list)?;
-    let value = least_weight(rt, alloc, &graph, workers, gate)?;
-    solve_graph(rt, alloc, graph, value, workers, gate)
+    let ValueWithKernel { value, kernel } = value_with_kernel(rt, alloc, &graph, workers, gate)?;
+    match kernel {
+        Some(kernel) => {
+            let list = graph.into_list();
+            solve_by_smaller(rt, alloc, list, kernel, workers, gate)
+        }
+        None => solve_graph(rt, alloc, graph, value, workers, gate),
+    }
 }
 
 /// The minimum cuts of a graph of two or more vertices, whose list of edges is taken over and given back with the answer: how
@@ -156,9 +166,11 @@ fn solve_by_rows<R: Threads + Sync, G: Gate>(
 ///
 /// The value is told by the list where forests make that shorter, and the same forests show classes that no minimum cut
 /// parts. Where these are a tenth fewer than the vertices only the graph on the classes has rows. Else the graph has rows, and
-/// is solved as `solve_at` or `solve` solve it, but that its rows are dropped before the cactus is made. Components are counted by the list,
-/// in O(m log(n) + n) steps. The number of workers is 1 to 64; they and the gate are handed to the rounds and the sweep.
-/// Memory is in proportion to n + m. It is refused only where memory is wanting; the list is gone then.
+/// is solved as `solve_at` or `solve` solve it, but that scans which lead to the value may leave a smaller graph at once, and
+/// that its rows are dropped before the cactus is made. Components are counted by the list, in O(m log(n) + n) steps.
+///
+/// The number of workers is 1 to 64; they and the gate are handed to the rounds and the sweep. Memory is in proportion to
+/// n + m. It is refused only where memory is wanting; the list is gone then.
 pub fn solve_list<R: Threads + Sync, G: Gate>(
     rt: &R,
     alloc: Global,

@@ -9,7 +9,7 @@ ghost use Rattle.min_value.specs.Kernels.{IsKept};
 ghost use Rattle.node_tree.specs.Finished.{IsFinished};
 ghost use Rattle.cut_definitions.specs.Members.{SameMembers};
 
-use cut_definitions::NoMemory;
+use cut_definitions::{EdgeList, NoMemory};
 use min_value::{Kernel, reduce, value as least_weight};
 use node_tree::{HomedTree, tree_of_branches};
 use outside::Gate;
@@ -41,18 +41,18 @@ fn tree_of_cuts<R: Threads + Sync>(
 }
 
 /// The tree of the minimum cuts of a graph, by that of a smaller graph, which is given back.
-fn tree_by_kernel<R: Threads + Sync>(
+pub(crate) fn tree_by_kernel<R: Threads + Sync>(
     rt: &R,
     alloc: Global,
-    graph: &Graph,
+    list: &EdgeList,
     kernel: Kernel,
     workers: u32,
 ) -> Result<HomedTree, NoMemory>
     requires workers { 1 ≤ workers }
-    requires connected { IsConnected graph.now }
-    requires enough { 2 ≤ graph.now.vertices }
-    requires kept { IsKept graph.now kernel.value kernel.graph kernel.labels }
-    ensures { IfOk result (IsFinished graph.now) }
+    requires connected { IsConnected list.now }
+    requires enough { 2 ≤ list.now.vertices }
+    requires kept { IsKept list.now kernel.value kernel.graph kernel.labels }
+    ensures { IfOk result (IsFinished list.now) }
 {
     let Kernel {
         value,
@@ -60,7 +60,7 @@ fn tree_by_kernel<R: Threads + Sync>(
         labels,
     } = kernel;
     // known by these calls: the graphs are edge lists
-    let _n = graph.n();
+    let _n = list.n();
     let _small = small.n();
     let tree = tree_of_cuts(rt, alloc, &small, value, workers)?;
     tree.spread(alloc, labels.as_slice())
@@ -82,7 +82,7 @@ pub(crate) fn tree_at_value<R: Threads + Sync, G: Gate>(
     ensures { IfOk result (IsFinished graph.now) }
 {
     match reduce(rt, alloc, graph, value, workers, gate)? {
-        Some(kernel) => tree_by_kernel(rt, alloc, graph, kernel, workers),
+        Some(kernel) => tree_by_kernel(rt, alloc, graph.list(), kernel, workers),
         None => tree_of_cuts(rt, alloc, graph, value, workers),
     }
 }
