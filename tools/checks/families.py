@@ -122,6 +122,14 @@ def random_dense(n: int, rng: Random) -> Made:
     return n, edges, {}
 
 
+def dense_clusters(n: int, rng: Random) -> Made:
+    """About half of all pairs, weights 1 to 10,000, and n/2 times as much within two clusters (after Nagamochi, Ono and Ibaraki)."""
+    cluster = [rng.random() < 0.5 for _ in range(n + 1)]
+    weight = lambda u, v: rng.randrange(1, 10_001) * (max(1, n // 2) if cluster[u] == cluster[v] else 1)
+    edges = [(u, v, weight(u, v)) for u in range(1, n) for v in range(u + 1, n + 1) if v == u + 1 or rng.random() < 0.5]
+    return n, edges, {}
+
+
 CLIQUE_SIZE = 8
 
 
@@ -337,6 +345,7 @@ FAMILIES: dict[str, tuple[Callable[[int, Random], Made], Callable[[int], int]]] 
     'clique': (clique, lambda m: (1 + math.isqrt(1 + 8 * m)) // 2),
     'random_sparse': (random_sparse, lambda m: m // 3),
     'random_dense': (random_dense, lambda m: 2 * math.isqrt(m)),
+    'dense_clusters': (dense_clusters, lambda m: 2 * math.isqrt(m)),
     'ring_of_cliques': (ring_of_cliques, lambda m: m * 8 // 29),
     'network': (network, lambda m: m * 19 // 32),
     'network_dual': (network_dual, lambda m: m * 19 // 32),
