@@ -76,9 +76,10 @@ fn reduce_by_rounds<R: Threads + Sync, G: Gate>(
 ///
 /// On a graph of at most 1,024 edges it goes by rounds with slack 1, and a whole scan where the first of them marks nothing; on
 /// a larger one by scans with slack 1, as long as each takes away a tenth of the vertices, or a fiftieth of a dense graph.
-/// Several workers scan side by side where the graph is large. It is a kernel that is not closed: edges may be left that a certificate or a link shows to lie in
-/// no minimum cut. The graph has two or more vertices, and the value is its value. It costs O((n + m) log n), and on a small
-/// graph the certificates. The number of workers is 1 to 64. It is refused only where memory is wanting.
+/// Several workers scan side by side where the graph is large. It is a kernel that is not closed: edges may be left that a
+/// certificate or a link shows to lie in no minimum cut. The graph has two or more vertices, and the value is its value. It
+/// costs O((n + m) log n), and on a small graph the certificates. The number of workers is 1 to 64. It is refused only where
+/// memory is wanting.
 pub fn reduce<R: Threads + Sync, G: Gate>(
     rt: &R,
     alloc: Global,

@@ -1,6 +1,6 @@
 //! The value of a graph, and where flows look far on it also a smaller graph that has all its minimum cuts.
 
-ghost use Rattle.std.specs.Prelude.{◌≡◌, ◌*◌, ◌≤◌, ◌^◌, IfOk, IfSome, length};
+ghost use Rattle.std.specs.Prelude.{◌≡◌, ◌*◌, ◌<◌, ◌≤◌, ◌^◌, IfOk, IfSome, length};
 ghost use Rattle.cut_definitions.specs.Cuts.{has, value as least_value};
 ghost use Rattle.weighted_graph.specs.Marks.{MarksAreSafe};
 ghost use Rattle.min_value.specs.Kernels.{IsKept, IsNarrowed};
@@ -147,7 +147,8 @@ fn narrow_on<R: Threads + Sync, G: Gate>(
 ) -> Result<Narrowed, NoMemory>
     requires narrowed { IsNarrowed graph.now first.bound first.graph first.labels }
     requires workers { (1 ≤ workers) × (workers ≤ 64) }
-    ensures { IfOk result (λ left. IsNarrowed graph.now left.bound left.graph left.labels) }
+    ensures narrowed { IfOk result (λ left. IsNarrowed graph.now left.bound left.graph left.labels) }
+    ensures at_most { IfOk result (λ left. left.graph.vertices ≤ first.graph.vertices) }
 {
     let mut left = first;
     'scans: while let Some(next) = narrow(rt, alloc, &left.graph, left.bound, workers, gate)? {
@@ -174,6 +175,7 @@ fn value_by_narrowing<R: Threads + Sync, G: Gate>(
     requires workers { (1 ≤ workers) × (workers ≤ 64) }
     ensures value { IfOk result (λ r. r.value ≡ least_value graph.now) }
     ensures kept { IfOk result (λ r. IfSome r.kernel (λ k. IsKept graph.now k.value k.graph k.labels)) }
+    ensures fewer { IfOk result (λ r. IfSome r.kernel (λ k. k.graph.vertices < graph.now.vertices)) }
 {
     let Some(first) = narrow(rt, alloc, graph, bound, workers, gate)? else {
         let shrunk = scan_or_sweep(rt, alloc, graph, bound, workers, gate)?;
@@ -197,8 +199,10 @@ fn value_by_narrowing<R: Threads + Sync, G: Gate>(
 
 /// The value of a graph of two or more vertices as `value` tells it, and a smaller graph with the same minimum cuts, if the way to
 /// the value leads by one: where flows look far on a large graph, scans contract edges that lie in no cut of at most the least
-/// weight that is known (Nagamochi, Ono and Ibaraki, 1994), so the scans that `reduce` would make are saved. Whether there is one
-/// is free. It costs as much as `value`, takes memory O(n + m), and is refused only where that is wanting.
+/// weight that is known (Nagamochi, Ono and Ibaraki, 1994), so the scans that `reduce` would make are saved.
+///
+/// Whether there is one is free; where there is, it has fewer vertices. The number of workers is 1 to 64. It costs as much as
+/// `value`, takes memory O(n + m), and is refused only where that is wanting.
 pub fn value_with_kernel<R: Threads + Sync, G: Gate>(
     rt: &R,
     alloc: Global,
@@ -210,6 +214,7 @@ pub fn value_with_kernel<R: Threads + Sync, G: Gate>(
     requires workers { (1 ≤ workers) × (workers ≤ 64) }
     ensures value { IfOk result (λ r. r.value ≡ least_value graph.now) }
     ensures kept { IfOk result (λ r. IfSome r.kernel (λ k. IsKept graph.now k.value k.graph k.labels)) }
+    ensures fewer { IfOk result (λ r. IfSome r.kernel (λ k. k.graph.vertices < graph.now.vertices)) }
 {
     if graph.edges() <= FEW_EDGES {
         let weight = value_by_rounds(rt, alloc, graph, workers, gate)?;
