@@ -1,5 +1,5 @@
 pub mod Putting
-pub mod Lines
+pub mod Between
 mod Above
 mod Augmented
 mod Growths

@@ -138,3 +138,13 @@ all_taken (Ok x) b h t0 t1 p e =
     let whole : b ≡ p.gone = p.parts ∙ ap (λ (l : List ℕ). p.gone ++ l) e ∙ append-nil p.gone in
     subst (Appends t0 t1) (sym whole) p.taken
 all_taken (Err x) b h t0 t1 p e = tt
+
+all_gone : {T E : Type 0} (t0 t1 : Option (List ℕ)) (r : Result T E) (c : List ℕ) → OnOk r (Appends t0 t1 c) → OnOk r (IsSplit c t0 t1 [])
+all_gone t0 t1 (Ok x) c whole = record { gone = c; parts = sym (append-nil c); taken = whole }
+all_gone t0 t1 (Err x) c whole = tt
+
+-- a page was written out, and then bytes that did not pass through it
+pub puts_written : {T E : Type 0} {b h : List ℕ} {t0 t1 t2 : Option (List ℕ)} {m k n : ℕ} (r : Result T E) (c : List ℕ)
+    → IsSplit b t0 t1 h → h ≡ [] → k ≡ m → OnOk r (Appends t1 t2 c) → OnErr r (AppendsPrefix t1 t2 c) → HasCause k n r → Puts (b ++ c) t0 t2 m n h r
+puts_written {t1 = t1} {t2 = t2} {k = k} {n = n} r c p none e whole part cause =
+    puts_after c p e (subst (λ (l : List ℕ). Puts (l ++ c) t1 t2 k n l r) (sym none) (record { ok = all_gone t1 t2 r c whole; err = part; cause = cause }))

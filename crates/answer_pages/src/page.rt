@@ -40,13 +40,20 @@ impl Page {
         Ok(Page { bytes })
     }
 
+    /// Drops what is held.
+    pub(crate) fn clear(&mut self)
+        ensures { self.new ≡ [] }
+    {
+        self.bytes.clear();
+    }
+
     /// Writes out what is held.
     pub fn flush<K: Sink>(&mut self, sink: &mut K) -> Result<(), SinkFailed>
         ensures puts { Puts self.old (K.taken sink.old) (K.taken sink.new) (K.faults sink.old) (K.faults sink.new) self.new result }
         ensures empty { OnOk result (self.new ≡ []) }
     {
         write_whole(sink, &self.bytes)?;
-        self.bytes.clear();
+        self.clear();
         Ok(())
     }
 

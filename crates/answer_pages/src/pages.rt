@@ -2,17 +2,19 @@
 
 ghost use Rattle.std.specs.Prelude.{◌≡◌, ◌∷◌, ◌++◌, [], OnOk, OnErr, IsErrOf, MatchOption, codes, map};
 ghost use Rattle.std.specs.Io.KnownBytes.{Appends};
-ghost use Rattle.std.specs.List.{flat_map};
 ghost use Rattle.outside.specs.Faults.{HasCause, AppendsPrefix, Rose};
 ghost use Rattle.answer_pages.specs.Puts.{Puts};
 ghost use Rattle.answer_pages.specs.Text.{spaced, line};
 ghost use Rattle.answer_pages.specs.Listings.{above, side_line, listing_text, balanced_text};
 
+use crate::numbered_lines::Lines;
+use crate::pieces::{Crew, TextMaker};
 use crate::printing::put_line;
 use crate::{Page, PrintRefusal};
 use itoa::Buffer;
 use outside::{Sink, SinkFailed};
 use std::alloc::Global;
+use std::thread::Threads;
 use vertex_set::Side;
 
 /// The least member above a vertex.
@@ -61,23 +63,17 @@ fn put_from<K: Sink>(
 }
 
 /// Puts the line of a side.
-fn put_side<K: Sink>(page: &mut Page, sink: &mut K, side: &Side) -> Result<(), SinkFailed>
+pub(crate) fn put_side<K: Sink>(
+    page: &mut Page,
+    sink: &mut K,
+    side: &Side,
+) -> Result<(), SinkFailed>
     ensures { Puts (page.old ++ side_line side.now.members) (K.taken sink.old) (K.taken sink.new) (K.faults sink.old) (K.faults sink.new) page.new result }
 {
     match next_above(side, 0) {
         Some(least) => put_from(page, sink, side, least),
         None => page.put(sink, b"\n"),
     }
-}
-
-/// Puts the lines of sides.
-fn put_sides<K: Sink>(page: &mut Page, sink: &mut K, sides: &[Side]) -> Result<(), SinkFailed>
-    ensures { Puts (page.old ++ flat_map side_line (map (λ s. s.members) sides.now)) (K.taken sink.old) (K.taken sink.new) (K.faults sink.old) (K.faults sink.new) page.new result }
-{
-    'each_side: for i in 0..sides.len() {
-        put_side(page, sink, &sides[i])?;
-    }
-    Ok(())
 }
 
 /// Puts the line of a side behind the word for one.
@@ -89,18 +85,20 @@ fn put_worded_side<K: Sink>(page: &mut Page, sink: &mut K, side: &Side) -> Resul
     page.put(sink, b"\n")
 }
 
-/// Puts the text of a listing.
-fn put_listing<K: Sink>(
+/// Puts the text of a listing, by way of who makes lines into text.
+fn put_listing<T: TextMaker, K: Sink>(
+    maker: &mut T,
     page: &mut Page,
     sink: &mut K,
     value: u64,
     sides: &[Side],
 ) -> Result<(), SinkFailed>
+    requires { T.ready maker.old }
     ensures { Puts (page.old ++ listing_text value (map (λ s. s.members) sides.now)) (K.taken sink.old) (K.taken sink.new) (K.faults sink.old) (K.faults sink.new) page.new result }
 {
     put_line(page, sink, b"value", &[value as u128])?;
     put_line(page, sink, b"cuts", &[sides.len() as u128])?;
-    put_sides(page, sink, sides)
+    maker.put_all(page, sink, Lines::Sides(sides))
 }
 
 /// Puts the text of a side with its balance.
@@ -119,18 +117,20 @@ fn put_balanced<K: Sink>(
 }
 
 /// Writes the text of a listing by way of an empty page.
-fn write_listing<K: Sink>(
+fn write_listing<T: TextMaker, K: Sink>(
+    maker: &mut T,
     page: &mut Page,
     sink: &mut K,
     value: u64,
     sides: &[Side],
 ) -> Result<(), SinkFailed>
-    requires { page.old ≡ [] }
+    requires ready { T.ready maker.old }
+    requires empty { page.old ≡ [] }
     ensures whole { OnOk result (Appends (K.taken sink.old) (K.taken sink.new) (listing_text value (map (λ s. s.members) sides.now))) }
     ensures prefix { OnErr result (AppendsPrefix (K.taken sink.old) (K.taken sink.new) (listing_text value (map (λ s. s.members) sides.now))) }
     ensures cause { HasCause (K.faults sink.old) (K.faults sink.new) result }
 {
-    put_listing(page, sink, value, sides)?;
+    put_listing(maker, page, sink, value, sides)?;
     page.flush(sink)
 }
 
@@ -153,11 +153,14 @@ fn write_balanced<K: Sink>(
 
 /// Writes the value, the number of the sides, and the sides, one a line.
 ///
-/// It takes one page of memory before the first byte; where that is wanting nothing is written, and the sink stays as
-/// it was. Where a write fails, what was taken is a first part of the text. Time in proportion to the text, and for
-/// each side to n/64.
-pub fn print_listing<K: Sink>(
+/// It takes one page of memory before the first byte; where that is wanting nothing is written, and the sink stays as it was.
+/// Where a write fails, what was taken is a first part of the text. Where the text is long, several workers make it side by
+/// side, each with a page of its own and a few MiB for a piece of the text. Time in proportion to the text, and for each side
+/// to n/64.
+pub fn print_listing<R: Threads + Sync, K: Sink>(
+    rt: &R,
     alloc: Global,
+    workers: u32,
     value: u64,
     sides: &[Side],
     sink: &mut K,
@@ -171,9 +174,23 @@ pub fn print_listing<K: Sink>(
     let Ok(mut page) = Page::new(alloc) else {
         return Err(PrintRefusal::NoMemory);
     };
-    match write_listing(&mut page, sink, value, sides) {
+    let Ok(mut crew) = Crew::new(rt, alloc, workers, size_of_listing(sides)) else {
+        return Err(PrintRefusal::NoMemory);
+    };
+    match write_listing(&mut crew, &mut page, sink, value, sides) {
         Ok(()) => Ok(()),
         Err(_) => Err(PrintRefusal::SinkFailed),
+    }
+}
+
+/// About how many bytes the lines of some sides have, if half of the vertices are in each.
+fn size_of_listing(sides: &[Side]) -> usize {
+    match sides.first() {
+        Some(side) => sides
+            .len()
+            .saturating_mul(side.n() as usize)
+            .saturating_mul(3),
+        None => 0,
     }
 }
 

@@ -5,15 +5,18 @@ ghost use Rattle.std.specs.Io.KnownBytes.{Appends};
 ghost use Rattle.std.specs.List.{flat_map};
 ghost use Rattle.outside.specs.Faults.{HasCause, AppendsPrefix, Rose};
 ghost use Rattle.flat_cactus.specs.Flattened.{flat_of};
-ghost use Rattle.answer_pages.specs.Text.{cactus_text, line, first_line, node_lines, bridge_lines, cycle_lines};
+ghost use Rattle.answer_pages.specs.Text.{cactus_text, line, first_line};
 ghost use Rattle.answer_pages.specs.Puts.{Puts};
 
+use crate::numbered_lines::Lines;
 use crate::page::Page;
+use crate::pieces::{Crew, OneWorker, TextMaker};
 use flat_cactus::{FlatCactus, flatten};
 use itoa::Integer;
 use outside::{Sink, SinkFailed};
 use rooted_cactus::Cactus;
 use std::alloc::Global;
+use std::thread::Threads;
 
 /// Why a text was not printed.
 #[derive(Clone, Copy, Debug, PartialEq, Eq, Drop)]
@@ -40,7 +43,7 @@ pub(crate) fn put_line<K: Sink, I: Integer>(
 }
 
 /// Puts the line of a node.
-fn put_node<K: Sink>(
+pub(crate) fn put_node<K: Sink>(
     page: &mut Page,
     sink: &mut K,
     number: usize,
@@ -52,41 +55,6 @@ fn put_node<K: Sink>(
     page.put_number(sink, number)?;
     page.put_numbers(sink, vertices)?;
     page.put(sink, b"\n")
-}
-
-/// Puts the lines of all nodes.
-fn put_nodes<K: Sink>(page: &mut Page, sink: &mut K, cactus: &FlatCactus) -> Result<(), SinkFailed>
-    ensures { Puts (page.old ++ node_lines 0 cactus.now.nodes) (K.taken sink.old) (K.taken sink.new) (K.faults sink.old) (K.faults sink.new) page.new result }
-{
-    'each_node: for i in 0..cactus.nodes() {
-        put_node(page, sink, i, cactus.node(i))?;
-    }
-    Ok(())
-}
-
-/// Puts the lines of bridges.
-fn put_bridges<K: Sink>(
-    page: &mut Page,
-    sink: &mut K,
-    bridges: &[(u64, u64)],
-) -> Result<(), SinkFailed>
-    ensures { Puts (page.old ++ bridge_lines bridges.now) (K.taken sink.old) (K.taken sink.new) (K.faults sink.old) (K.faults sink.new) page.new result }
-{
-    'each_bridge: for i in 0..bridges.len() {
-        let (upper, lower) = bridges[i];
-        put_line(page, sink, b"bridge", &[upper, lower])?;
-    }
-    Ok(())
-}
-
-/// Puts the lines of all cycles.
-fn put_cycles<K: Sink>(page: &mut Page, sink: &mut K, cactus: &FlatCactus) -> Result<(), SinkFailed>
-    ensures { Puts (page.old ++ cycle_lines cactus.now.cycles) (K.taken sink.old) (K.taken sink.new) (K.faults sink.old) (K.faults sink.new) page.new result }
-{
-    'each_cycle: for i in 0..cactus.cycles() {
-        put_line(page, sink, b"cycle", cactus.cycle(i))?;
-    }
-    Ok(())
 }
 
 /// Puts the first line: the value, and how much there is of each kind.
@@ -108,6 +76,27 @@ fn put_first_line<K: Sink>(
     put_line(page, sink, b"cactus", &counts)
 }
 
+/// Writes the text of a flat cactus with a value, by way of an empty page and of who makes lines into text.
+pub(crate) fn write_flat<T: TextMaker, K: Sink>(
+    maker: &mut T,
+    page: &mut Page,
+    cactus: &FlatCactus,
+    value: u64,
+    sink: &mut K,
+) -> Result<(), SinkFailed>
+    requires ready { T.ready maker.old }
+    requires empty { page.old ≡ [] }
+    ensures whole { OnOk result (Appends (K.taken sink.old) (K.taken sink.new) (cactus_text value cactus.now)) }
+    ensures prefix { OnErr result (AppendsPrefix (K.taken sink.old) (K.taken sink.new) (cactus_text value cactus.now)) }
+    ensures cause { HasCause (K.faults sink.old) (K.faults sink.new) result }
+{
+    put_first_line(page, sink, cactus, value)?;
+    maker.put_all(page, sink, Lines::Nodes(cactus))?;
+    maker.put_all(page, sink, Lines::Bridges(cactus.bridges()))?;
+    maker.put_all(page, sink, Lines::Cycles(cactus))?;
+    page.flush(sink)
+}
+
 /// Writes the text of a flat cactus with a value, by way of an empty page. It takes no memory.
 ///
 /// Where a write fails, what was taken is a first part of the text. Time in proportion to the text.
@@ -122,11 +111,7 @@ pub fn print_flat<K: Sink>(
     ensures prefix { OnErr result (AppendsPrefix (K.taken sink.old) (K.taken sink.new) (cactus_text value cactus.now)) }
     ensures cause { HasCause (K.faults sink.old) (K.faults sink.new) result }
 {
-    put_first_line(page, sink, cactus, value)?;
-    put_nodes(page, sink, cactus)?;
-    put_bridges(page, sink, cactus.bridges())?;
-    put_cycles(page, sink, cactus)?;
-    page.flush(sink)
+    write_flat(&mut OneWorker, page, cactus, value, sink)
 }
 
 /// Writes the text of a cactus with a value.
@@ -158,4 +143,51 @@ pub fn print<K: Sink>(
         Ok(()) => Ok(()),
         Err(_) => Err(PrintRefusal::SinkFailed),
     }
+}
+
+/// Does the same by several workers, who make pieces of a long text side by side: it is the same text.
+///
+/// Where the text is long and there are two workers or more, each has a page of its own, which is taken before the first byte
+/// too, and a few MiB for a piece of the text; where these are wanting, the lines of that piece are put one by one.
+pub fn print_by_workers<R: Threads + Sync, K: Sink>(
+    rt: &R,
+    alloc: Global,
+    workers: u32,
+    cactus: &Cactus,
+    value: u64,
+    sink: &mut K,
+) -> Result<(), PrintRefusal>
+    requires value { value ≤ 2 ^ 62 }
+    requires n { cactus.now.vertices ≤ 4194304 }
+    ensures whole { OnOk result (Appends (K.taken sink.old) (K.taken sink.new) (cactus_text value (flat_of cactus.now))) }
+    ensures same_count { OnOk result (K.faults sink.new ≡ K.faults sink.old) }
+    ensures prefix { IsErrOf result PrintRefusal.SinkFailed → AppendsPrefix (K.taken sink.old) (K.taken sink.new) (cactus_text value (flat_of cactus.now)) }
+    ensures rose { IsErrOf result PrintRefusal.SinkFailed → Rose (K.faults sink.old) (K.faults sink.new) }
+    ensures memory { IsErrOf result PrintRefusal.NoMemory → sink.new ≡ sink.old }
+{
+    let Ok(flat) = flatten(alloc, cactus) else {
+        return Err(PrintRefusal::NoMemory);
+    };
+    let Ok(mut page) = Page::new(alloc) else {
+        return Err(PrintRefusal::NoMemory);
+    };
+    let Ok(mut crew) = Crew::new(rt, alloc, workers, size_of_text(&flat)) else {
+        return Err(PrintRefusal::NoMemory);
+    };
+    match write_flat(&mut crew, &mut page, &flat, value, sink) {
+        Ok(()) => Ok(()),
+        Err(_) => Err(PrintRefusal::SinkFailed),
+    }
+}
+
+/// About how many bytes the text of a flat cactus has.
+fn size_of_text(cactus: &FlatCactus) -> usize {
+    let numbers = cactus.nodes().saturating_add(cactus.n() as usize);
+    let (_, members) = cactus.cycle_lists();
+    let joined = cactus
+        .bridges()
+        .len()
+        .saturating_mul(3)
+        .saturating_add(members.len());
+    numbers.saturating_add(joined).saturating_mul(8)
 }

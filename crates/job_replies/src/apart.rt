@@ -34,6 +34,7 @@ fn union_listing(
     ask: Ask,
     graph: &EdgeList,
     parts: &Components,
+    workers: u32,
 ) -> Result<Reply, Stop>
     requires apart { IsApartGraph graph.now parts.now }
     requires within { IsAskWithin graph.now.vertices ask }
@@ -49,7 +50,11 @@ fn union_listing(
     }
     let unions = parts.sides(alloc)?;
     let sides = select_asked(ask, n, unions);
-    Ok(Reply::Listing { value: 0, sides })
+    Ok(Reply::Listing {
+        value: 0,
+        sides,
+        workers,
+    })
 }
 
 /// The number of the unions.
@@ -122,10 +127,17 @@ pub fn apart_reply(
     laws::components();
     laws::one_number();
     let parts = components_of(alloc, graph, count)?;
+    let workers = command.workers;
     match command.job {
         Job::Cactus | Job::Augment => Ok(disconnected(alloc, count)?),
-        Job::Cuts => union_listing(alloc, ask_of(command.least, weights), graph, &parts),
-        Job::Part(u, v) => { union_listing(alloc, Ask::Parting(u as u32, v as u32), graph, &parts) }
+        Job::Cuts => {
+            let ask = ask_of(command.least, weights);
+            union_listing(alloc, ask, graph, &parts, workers)
+        }
+        Job::Part(u, v) => {
+            let ask = Ask::Parting(u as u32, v as u32);
+            union_listing(alloc, ask, graph, &parts, workers)
+        }
         Job::Count => union_count(alloc, graph, &parts),
         Job::Balanced => balanced_union(alloc, graph, weights, &parts),
         Job::Value | Job::Grow(_) | Job::Trial(_) => unreachable!(),

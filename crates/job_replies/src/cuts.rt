@@ -65,7 +65,13 @@ fn asked_sides(
 }
 
 /// The list of the minimum cuts that are asked for.
-fn listing_reply(alloc: Global, ask: Ask, graph: &EdgeList, solved: Solved) -> Result<Reply, Stop>
+fn listing_reply(
+    alloc: Global,
+    ask: Ask,
+    graph: &EdgeList,
+    solved: Solved,
+    workers: u32,
+) -> Result<Reply, Stop>
     requires solved { IsSolved graph.now solved }
     requires within { IsAskWithin graph.now.vertices ask }
     ensures text { IfOk result (λ reply. IsListReply ask.entry graph.now (text_of reply)) }
@@ -78,6 +84,7 @@ fn listing_reply(alloc: Global, ask: Ask, graph: &EdgeList, solved: Solved) -> R
         Ok(sides) => Ok(Reply::Listing {
             value: solved.value,
             sides,
+            workers,
         }),
         Err(ListRefusal::TooLarge { cuts, n }) => Err(Stop::TooLarge { cuts, n }),
         Err(ListRefusal::NoMemory) => Err(Stop::NoMemory),
@@ -149,11 +156,17 @@ pub fn cuts_reply(
     ensures stop { IfErr result (IsStopFor command weights.now graph.now) }
 {
     match command.job {
-        Job::Cuts => listing_reply(alloc, ask_of(command.least, weights), graph, solved),
-        Job::Part(u, v) => listing_reply(alloc, Ask::Parting(u as u32, v as u32), graph, solved),
+        Job::Cuts => {
+            let ask = ask_of(command.least, weights);
+            listing_reply(alloc, ask, graph, solved, command.workers)
+        }
+        Job::Part(u, v) => {
+            let ask = Ask::Parting(u as u32, v as u32);
+            listing_reply(alloc, ask, graph, solved, command.workers)
+        }
         Job::Count => Ok(count_reply(alloc, graph, &solved)?),
         Job::Balanced => Ok(balanced_reply(alloc, graph, weights, solved)?),
-        Job::Cactus => Ok(cactus_reply(alloc, graph, solved)?),
+        Job::Cactus => Ok(cactus_reply(alloc, graph, solved, command.workers)?),
         Job::Augment => Ok(augment_reply(alloc, graph, solved)?),
         Job::Value | Job::Grow(_) | Job::Trial(_) => unreachable!(),
     }
@@ -171,7 +184,12 @@ pub fn canonical_of(alloc: Global, solved: Solved) -> Result<Cactus, NoMemory>
 }
 
 /// All minimum cuts.
-fn cactus_reply(alloc: Global, graph: &EdgeList, solved: Solved) -> Result<Reply, NoMemory>
+fn cactus_reply(
+    alloc: Global,
+    graph: &EdgeList,
+    solved: Solved,
+    workers: u32,
+) -> Result<Reply, NoMemory>
     requires enough { 2 ≤ graph.now.vertices }
     requires solved { IsSolved graph.now solved }
     ensures text { IfOk result (λ reply. IsCactusText graph.now (text_of reply)) }
@@ -183,7 +201,8 @@ fn cactus_reply(alloc: Global, graph: &EdgeList, solved: Solved) -> Result<Reply
     let _n = graph.n();
     let value = solved.value;
     let cactus = canonical_of(alloc, solved)?;
-    Ok(Reply::Cactus(Solved { value, cactus }))
+    let solved = Solved { value, cactus };
+    Ok(Reply::Cactus { solved, workers })
 }
 
 /// The fewest unit edges that raise the value.

@@ -10,11 +10,13 @@ use answer_pages::PrintRefusal;
 use outside::Sink;
 use std::alloc::Global;
 use std::mem::forget;
+use std::thread::Threads;
 use stop_lines::{Status, Stop};
 
 /// Writes the reply that was found to `out`, or tells on `err` why there is none or why it is not written, and answers how
 /// that ended. The memory of the reply is left to the end of the process.
-pub fn finish<K: Sink, E: Sink>(
+pub fn finish<R: Threads + Sync, K: Sink, E: Sink>(
+    rt: &R,
     alloc: Global,
     out: &mut K,
     err: &mut E,
@@ -27,7 +29,7 @@ pub fn finish<K: Sink, E: Sink>(
 {
     match found {
         Ok(reply) => {
-            let written = write_reply(alloc, out, &reply);
+            let written = write_reply(rt, alloc, out, &reply);
             // the run is over: giving each node of a large cactus back would take a tenth of its time
             forget(reply);
             match written {

@@ -5,12 +5,14 @@ ghost use Rattle.job_replies.specs.Answers.{Wrote, Failed};
 ghost use Rattle.job_replies.specs.Replies.{text_of, IsPrintable, TakesMemory};
 
 use answer_pages::{
-    PrintRefusal, Step, print, print_augmentation, print_balanced, print_growth, print_listing,
+    PrintRefusal, Step, print_augmentation, print_balanced, print_by_workers, print_growth,
+    print_listing,
 };
 use edge_augment::Plan;
 use outside::{Sink, write_whole};
 use rooted_cactus::Solved;
 use std::alloc::Global;
+use std::thread::Threads;
 use vertex_set::Side;
 
 /// What there is to write to `out`.
@@ -18,12 +20,16 @@ use vertex_set::Side;
 pub enum Reply {
     /// A text that is in memory.
     Text(String),
-    /// All minimum cuts, with their weight.
-    Cactus(Solved),
-    /// The weight of the minimum cuts, and the sides of a list of them.
+    /// All minimum cuts, with their weight, and how many workers make the text.
+    Cactus {
+        solved: Solved,
+        workers: u32,
+    },
+    /// The weight of the minimum cuts, the sides of a list of them, and how many workers make the text.
     Listing {
         value: u64,
         sides: Vec<Side>,
+        workers: u32,
     },
     /// The weight of the minimum cuts, and the balance and the side of one.
     Balanced {
@@ -58,7 +64,12 @@ fn write_text<K: Sink>(out: &mut K, text: &str) -> Result<(), PrintRefusal>
 /// Writes all of a reply.
 ///
 /// Where memory is wanting nothing is written; a text takes none.
-pub fn write_reply<K: Sink>(alloc: Global, out: &mut K, reply: &Reply) -> Result<(), PrintRefusal>
+pub fn write_reply<R: Threads + Sync, K: Sink>(
+    rt: &R,
+    alloc: Global,
+    out: &mut K,
+    reply: &Reply,
+) -> Result<(), PrintRefusal>
     requires { IsPrintable reply.now }
     ensures whole { OnOk result (Wrote (text_of reply.now) (K.taken out.old) (K.taken out.new) (K.faults out.old) (K.faults out.new)) }
     ensures failed { IsErrOf result PrintRefusal.SinkFailed → Failed (text_of reply.now) (K.taken out.old) (K.taken out.new) (K.faults out.old) (K.faults out.new) }
@@ -67,8 +78,14 @@ pub fn write_reply<K: Sink>(alloc: Global, out: &mut K, reply: &Reply) -> Result
 {
     match reply {
         Reply::Text(text) => write_text(out, text.as_str()),
-        Reply::Cactus(solved) => print(alloc, &solved.cactus, solved.value, out),
-        Reply::Listing { value, sides } => print_listing(alloc, *value, sides, out),
+        Reply::Cactus { solved, workers } => {
+            print_by_workers(rt, alloc, *workers, &solved.cactus, solved.value, out)
+        }
+        Reply::Listing {
+            value,
+            sides,
+            workers,
+        } => print_listing(rt, alloc, *workers, *value, sides, out),
         Reply::Balanced {
             value,
             balance,

@@ -185,5 +185,5 @@ pub fn run<R: Threads + Sync, S: Source, K: Sink, E: Sink, G: Gate>(
         → (result ≡ Status.Ok) ⊎ (result ≡ Status.OutOfMemory) }
 {
     let found = reply(rt, alloc, words, source, gate);
-    finish(alloc, out, err, found)
+    finish(rt, alloc, out, err, found)
 }

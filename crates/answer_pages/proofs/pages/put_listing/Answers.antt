@@ -1,10 +1,13 @@
-use Rattle.std.proofs.Common.{◌++◌, ◌∷◌, [], map, length, ℕ, List, ◌∙◌, ap, sym}
+use Rattle.std.proofs.Common.{◌++◌, ◌∷◌, [], map, length, ℕ, List, ◌∙◌, ◌≡◌, ap, sym}
 use Rattle.std.specs.Prelude.{codes}
 use Rattle.std.specs.List.{flat_map}
 use Rattle.std.proofs.lemmas.Result.{err_from_is_err_and}
 use Rattle.std.proofs.lemmas.List.{length-map}
+use Rattle.std.proofs.lemmas.List.Folds.{flat_map-map}
 use Rattle.vertex_set.specs.Side.{VertexList}
+use Rattle.answer_pages.specs.Lines.{joined}
 use Rattle.answer_pages.specs.Text.{line}
+use Rattle.answer_pages.proofs.Between.{map_joined}
 use Rattle.answer_pages.proofs.Putting.{split_then, puts_as, puts_after, puts_failed, line_word, three_parts}
 use Rattle.answer_pages.specs.Listings.{side_line}
 use Rattle.answer_pages.proofs.pages.put_listing.Goals as goal
@@ -31,11 +34,14 @@ returns-in_err-put_line-2 g c =
 
 pub returns : goal.returns
 returns g c =
+    let text = λ (s : VertexList). side_line s.members in
     let members = map (λ (s : VertexList). s.members) c.args.sides.now in
     let value = line (codes "value") (c.args.value ∷ []) in
     let count : ℕ → List ℕ = λ k. line (codes "cuts") (k ∷ []) in
     let sides = flat_map side_line members in
     let all = length c.args.sides.now in
-    puts_as (three_parts c.args.page.now value (count all) sides ∙ ap (λ (k : ℕ). c.args.page.now ++ (value ++ count k ++ sides)) (sym (length-map c.args.sides.now (λ (s : VertexList). s.members))))
-    (puts_after sides (split_then (count all) c.in_ok-put_line.ensures.ok c.in_ok-put_line-2.ensures.ok)
-    (c.in_ok-put_line-2.ensures.cause.ok ∙ c.in_ok-put_line.ensures.cause.ok) c.put_sides.ensures)
+    let same : joined (map text c.args.sides.now) ≡ sides = map_joined text c.args.sides.now ∙ sym (flat_map-map side_line (λ (s : VertexList). s.members) c.args.sides.now) in
+    puts_as (ap (λ (l : List ℕ). ((c.args.page.now ++ value) ++ count all) ++ l) same
+    ∙ three_parts c.args.page.now value (count all) sides ∙ ap (λ (k : ℕ). c.args.page.now ++ (value ++ count k ++ sides)) (sym (length-map c.args.sides.now (λ (s : VertexList). s.members))))
+    (puts_after (joined (map text c.args.sides.now)) (split_then (count all) c.in_ok-put_line.ensures.ok c.in_ok-put_line-2.ensures.ok)
+    (c.in_ok-put_line-2.ensures.cause.ok ∙ c.in_ok-put_line.ensures.cause.ok) c.put_all.ensures.puts)

@@ -9,17 +9,17 @@ use Rattle.answer_pages.proofs.pages.write_listing.Goals as goal
 pub returns-in_err-put_listing-clause-prefix : goal.returns-in_err-put_listing-clause-prefix
 returns-in_err-put_listing-clause-prefix g c =
     let text = listing_text c.args.value (map (λ (s : VertexList). s.members) c.args.sides.now) in
-    let p = not_flushed text c.requires (err_from_is_err_and c.from_residual.result c.from_residual.ensures.1).1 c.in_err-put_listing.ensures in
+    let p = not_flushed text c.requires.empty (err_from_is_err_and c.from_residual.result c.from_residual.ensures.1).1 c.in_err-put_listing.ensures in
     p.err
 
 pub returns-clause-whole : goal.returns-clause-whole
 returns-clause-whole g c =
     let text = listing_text c.args.value (map (λ (s : VertexList). s.members) c.args.sides.now) in
-    let p = flushed text c.requires c.in_ok-put_listing.ensures.ok c.in_ok-put_listing.ensures.cause.ok c.flush.ensures.puts in
+    let p = flushed text c.requires.empty c.in_ok-put_listing.ensures.ok c.in_ok-put_listing.ensures.cause.ok c.flush.ensures.puts in
     all_taken c.flush.result text c.flush.new.self (g.K.Sink.taken c.args.sink.now) (g.K.Sink.taken c.flush.new.sink) p.ok c.flush.ensures.empty
 
 pub returns-clause-prefix : goal.returns-clause-prefix
 returns-clause-prefix g c =
     let text = listing_text c.args.value (map (λ (s : VertexList). s.members) c.args.sides.now) in
-    let p = flushed text c.requires c.in_ok-put_listing.ensures.ok c.in_ok-put_listing.ensures.cause.ok c.flush.ensures.puts in
+    let p = flushed text c.requires.empty c.in_ok-put_listing.ensures.ok c.in_ok-put_listing.ensures.cause.ok c.flush.ensures.puts in
     p.err

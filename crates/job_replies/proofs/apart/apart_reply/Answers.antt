@@ -17,10 +17,10 @@ returns-in-Cuts-clause-text c =
     let masses = c.args.weights.now in
     let g = c.args.graph.now in
     let p = c.in_ok-parts.parts in
-    let ask : Ask = c.ask_of.result in
+    let ask : Ask = c.ask_of-ask.result in
     if_ok_more (λ reply. IsUnionList ask g (length p.parts) (text_of reply)) (λ reply. IsAnswerOf command masses g (text_of reply)) c.union_listing.result
     (λ reply r. list_answer command masses g p ask c.components.ensures c.one_number.ensures c.in_ok-parts.ensures
-    (c.ask_of.ensures.cuts g ∙ ap (λ (j : Job). asked_of j command.least masses (mincuts g)) (sym c.in-Cuts.is))
+    (c.ask_of-ask.ensures.cuts g ∙ ap (λ (j : Job). asked_of j command.least masses (mincuts g)) (sym c.in-Cuts.is))
     (subst IsListed (sym c.in-Cuts.is) tt) (λ by. subst GoesByCactus c.in-Cuts.is by) c.requires.in_range
     (λ text is. subst (λ (j : Job). IsTextOf j (asked_cuts command masses g) masses g text) (sym c.in-Cuts.is) is) (text_of reply) r)
     c.union_listing.ensures.text

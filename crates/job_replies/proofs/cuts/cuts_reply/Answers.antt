@@ -15,8 +15,8 @@ returns-in-Cuts-clause-text c =
     let command = c.args.command in
     let masses = c.args.weights.now in
     let g = c.args.graph.now in
-    if_ok_more (λ reply. IsListReply c.ask_of.result g (text_of reply)) (λ reply. IsAnswerOf command masses g (text_of reply)) c.listing_reply.result
-    (λ reply r. listed_answer command masses c.ask_of.result g (c.ask_of.ensures.cuts g ∙ ap (λ (j : Job). asked_of j command.least masses (mincuts g)) (sym c.in-Cuts.is))
+    if_ok_more (λ reply. IsListReply c.ask_of-ask.result g (text_of reply)) (λ reply. IsAnswerOf command masses g (text_of reply)) c.listing_reply.result
+    (λ reply r. listed_answer command masses c.ask_of-ask.result g (c.ask_of-ask.ensures.cuts g ∙ ap (λ (j : Job). asked_of j command.least masses (mincuts g)) (sym c.in-Cuts.is))
     (subst IsListed (sym c.in-Cuts.is) tt) c.requires.in_range c.requires.enough c.requires.one
     (λ text is. subst (λ (j : Job). IsTextOf j (asked_cuts command masses g) masses g text) (sym c.in-Cuts.is) is) (text_of reply) r)
     c.listing_reply.ensures.text
@@ -26,8 +26,8 @@ returns-in-Cuts-clause-stop c =
     let command = c.args.command in
     let masses = c.args.weights.now in
     let g = c.args.graph.now in
-    over_err (IsListStop c.ask_of.result g) (IsStopFor command masses g) c.listing_reply.result
-    (λ s r. listed_stop command masses c.ask_of.result g (c.ask_of.ensures.cuts g ∙ ap (λ (j : Job). asked_of j command.least masses (mincuts g)) (sym c.in-Cuts.is))
+    over_err (IsListStop c.ask_of-ask.result g) (IsStopFor command masses g) c.listing_reply.result
+    (λ s r. listed_stop command masses c.ask_of-ask.result g (c.ask_of-ask.ensures.cuts g ∙ ap (λ (j : Job). asked_of j command.least masses (mincuts g)) (sym c.in-Cuts.is))
     (subst IsListed (sym c.in-Cuts.is) tt) c.requires.in_range c.requires.enough c.requires.one s r)
     c.listing_reply.ensures.stop
 

@@ -10,8 +10,8 @@ use Rattle.job_replies.proofs.reply.write_reply.Goals as goal
 
 pub returns-in-Cactus-clause-failed : goal.returns-in-Cactus-clause-failed
 returns-in-Cactus-clause-failed g c failed =
-    failed_by (text_of c.args.reply.now) _ (g.K.Sink.taken c.args.out.now) (g.K.Sink.taken c.print.new.sink) (g.K.Sink.faults c.args.out.now) (g.K.Sink.faults c.print.new.sink)
-    (ap text_of (sym c.in-Cactus.is)) (c.print.ensures.prefix failed) (c.print.ensures.rose failed)
+    failed_by (text_of c.args.reply.now) _ (g.K.Sink.taken c.args.out.now) (g.K.Sink.taken c.print_by_workers.new.sink) (g.K.Sink.faults c.args.out.now) (g.K.Sink.faults c.print_by_workers.new.sink)
+    (ap text_of (sym c.in-Cactus.is)) (c.print_by_workers.ensures.prefix failed) (c.print_by_workers.ensures.rose failed)
 
 pub returns-in-Listing-clause-whole : goal.returns-in-Listing-clause-whole
 returns-in-Listing-clause-whole g c =

@@ -1,0 +1,126 @@
+//! Texts by their lines, each of which is known by its number: so a part of a text can be made without what stands before it.
+
+ghost use Rattle.std.specs.Prelude.{◌≡◌, ◌<◌, ◌≤◌, ◌++◌, length, slice_index_or, []};
+ghost use Rattle.answer_pages.specs.Lines.{joined_between, texts};
+ghost use Rattle.answer_pages.specs.Puts.{Puts};
+
+use crate::page::Page;
+use crate::pages::put_side;
+use crate::printing::{put_line, put_node};
+use flat_cactus::FlatCactus;
+use outside::{Sink, SinkFailed};
+use vertex_set::Side;
+
+/// Lines that stand one after another.
+#[derive(Clone, Copy)]
+pub enum Lines<'a> {
+    /// A line for each node of a cactus, with its number and its vertices.
+    Nodes(&'a FlatCactus),
+    /// A line for each of some bridges.
+    Bridges(&'a [(u64, u64)]),
+    /// A line for each cycle of a cactus.
+    Cycles(&'a FlatCactus),
+    /// A line for each of some sides.
+    Sides(&'a [Side]),
+    /// Numbers of one line, each with a space before it.
+    Vertices(&'a [u32]),
+    /// The same of longer numbers.
+    Members(&'a [u64]),
+}
+
+impl Lines<'_> {
+    /// How many there are.
+    pub fn count(&self) -> usize
+        ensures { result ≡ length (texts self.now) }
+    {
+        match self {
+            Lines::Nodes(cactus) => cactus.nodes(),
+            Lines::Bridges(bridges) => bridges.len(),
+            Lines::Cycles(cactus) => cactus.cycles(),
+            Lines::Sides(sides) => sides.len(),
+            Lines::Vertices(numbers) => numbers.len(),
+            Lines::Members(numbers) => numbers.len(),
+        }
+    }
+
+    /// Puts the line of a number.
+    fn put_one<K: Sink>(&self, page: &mut Page, sink: &mut K, i: usize) -> Result<(), SinkFailed>
+        requires { i < length (texts self.now) }
+        ensures { Puts (page.old ++ slice_index_or (texts self.now) i []) (K.taken sink.old) (K.taken sink.new) (K.faults sink.old) (K.faults sink.new) page.new result }
+    {
+        match self {
+            Lines::Nodes(cactus) => put_node(page, sink, i, cactus.node(i)),
+            Lines::Bridges(bridges) => {
+                let (upper, lower) = *bridges.get(i).unwrap();
+                put_line(page, sink, b"bridge", &[upper, lower])
+            }
+            Lines::Cycles(cactus) => put_line(page, sink, b"cycle", cactus.cycle(i)),
+            Lines::Sides(sides) => put_side(page, sink, sides.get(i).unwrap()),
+            Lines::Vertices(numbers) => page.put_number(sink, *numbers.get(i).unwrap()),
+            Lines::Members(numbers) => page.put_number(sink, *numbers.get(i).unwrap()),
+        }
+    }
+
+    /// Puts the lines from one number up to another, which is not put.
+    pub fn put<K: Sink>(
+        &self,
+        page: &mut Page,
+        sink: &mut K,
+        from: usize,
+        to: usize,
+    ) -> Result<(), SinkFailed>
+        requires ordered { from ≤ to }
+        requires within { to ≤ length (texts self.now) }
+        ensures { Puts (page.old ++ joined_between (texts self.now) from to) (K.taken sink.old) (K.taken sink.new) (K.faults sink.old) (K.faults sink.new) page.new result }
+    {
+        'each_line: for i in from..to {
+            self.put_one(page, sink, i)?;
+        }
+        Ok(())
+    }
+
+    /// At least as many bytes as a line has.
+    pub fn room_for(&self, i: usize) -> usize
+        requires { i < length (texts self.now) }
+    {
+        match self {
+            Lines::Nodes(cactus) => room_for_numbers(cactus.node(i).len() + 1),
+            Lines::Bridges(_) => room_for_numbers(2),
+            Lines::Cycles(cactus) => room_for_numbers(cactus.cycle(i).len()),
+            Lines::Sides(sides) => room_for_side(sides.get(i)),
+            Lines::Vertices(_) | Lines::Members(_) => NUMBER_SIZE,
+        }
+    }
+
+    /// The first line from one on for which so many bytes may not be enough, or how many lines there are.
+    pub fn next_long(&self, from: usize, room: usize) -> usize
+        requires { from ≤ length (texts self.now) }
+        ensures no_less { from ≤ result }
+        ensures no_more { result ≤ length (texts self.now) }
+    {
+        let count = self.count();
+        let mut i = from;
+        'lines: while i < count && self.room_for(i) <= room {
+            i += 1;
+        }
+        i
+    }
+}
+
+/// How many bytes a number has at most, of those that a text of this program has, with a space before it.
+const NUMBER_SIZE: usize = 8;
+
+/// How many bytes a line with so many numbers has at most.
+fn room_for_numbers(count: usize) -> usize {
+    count
+        .saturating_mul(NUMBER_SIZE)
+        .saturating_add(NUMBER_SIZE)
+}
+
+/// The same of the line of a side.
+fn room_for_side(side: Option<&Side>) -> usize {
+    match side {
+        Some(side) => room_for_numbers(side.len() as usize),
+        None => 0,
+    }
+}

@@ -1,0 +1,357 @@
+//! Long texts that several workers make side by side, a piece each, and that are written in their order.
+//!
+//! In each round the lines that come next are dealt to the pieces, each of which takes as many as surely fit; the pieces are
+//! made side by side, and written one after another. No promise rests on which lines a piece was dealt, nor on whether it was
+//! made: where what it has is not the text of the lines that come next, they are put one by one.
+
+ghost use Rattle.std.specs.Prelude.{⊤, Some, ◌≡◌, ◌<◌, ◌≤◌, ◌+◌, ◌++◌, ◌∷◌, false, IfOk, codes, length};
+ghost use Rattle.std.specs.List.{All};
+ghost use Rattle.std.specs.Thread.{IsSync};
+ghost use Rattle.answer_pages.specs.Lines.{joined, joined_between, texts};
+ghost use Rattle.answer_pages.specs.Pieces.{IsMade};
+ghost use Rattle.answer_pages.specs.Puts.{Puts};
+ghost use Rattle.answer_pages.specs.Text.{line};
+
+use crate::numbered_lines::Lines;
+use crate::page::Page;
+use cut_definitions::NoMemory;
+use outside::{Sink, SinkFailed, write_whole};
+use std::alloc::Global;
+use std::thread;
+use std::thread::Threads;
+
+/// How many bytes the text of a piece may have: some milliseconds of work.
+const PIECE_SIZE: usize = 2_097_152;
+
+/// Who makes lines into text.
+pub trait TextMaker {
+    /// What it needs to do its work.
+    ghost ready: { Self → Type 0 };
+
+    /// Puts all of some lines.
+    fn put_all<K: Sink>(
+        &mut self,
+        page: &mut Page,
+        sink: &mut K,
+        lines: Lines,
+    ) -> Result<(), SinkFailed>
+        requires { ready self.old }
+        ensures puts { Puts (page.old ++ joined (texts lines.entry)) (K.taken sink.old) (K.taken sink.new) (K.faults sink.old) (K.faults sink.new) page.new result }
+        ensures ready { ready self.new };
+}
+
+/// One worker, who puts one line after another.
+#[derive(Clone, Copy)]
+pub struct OneWorker;
+
+impl TextMaker for OneWorker {
+    ghost ready = { λ w. ⊤ };
+
+    fn put_all<K: Sink>(
+        &mut self,
+        page: &mut Page,
+        sink: &mut K,
+        lines: Lines,
+    ) -> Result<(), SinkFailed>
+        ensures puts { Puts (page.old ++ joined (texts lines.entry)) (K.taken sink.old) (K.taken sink.new) (K.faults sink.old) (K.faults sink.new) page.new result }
+        ensures ready { ⊤ }
+    {
+        lines.put(page, sink, 0, lines.count())
+    }
+}
+
+/// The text of a piece, in memory.
+#[derive(Drop)]
+struct PieceText {
+    bytes: Vec<u8>,
+    faults: u64,
+}
+
+impl Sink for PieceText {
+    ghost taken = { λ t. Some t.bytes.items };
+
+    ghost faults = { λ t. t.faults };
+
+    fn write(&mut self, piece: &[u8]) -> Result<usize, SinkFailed> {
+        if self.bytes.extend_from_slice(piece).is_err() {
+            self.faults = self.faults.saturating_add(1);
+            return Err(SinkFailed);
+        }
+        Ok(piece.len())
+    }
+}
+
+/// Lines that one worker makes into text, from one number up to another.
+#[derive(Drop)]
+struct Piece {
+    from: usize,
+    to: usize,
+    is_made: bool,
+    page: Page,
+    text: PieceText,
+}
+
+impl Piece {
+    /// A piece of no lines.
+    fn new(alloc: Global) -> Result<Piece, NoMemory>
+        ensures { IfOk result (λ p. p.is_made ≡ false) }
+    {
+        let page = Page::new(alloc)?;
+        let text = PieceText {
+            bytes: Vec::new(alloc),
+            faults: 0,
+        };
+        Ok(Piece {
+            from: 0,
+            to: 0,
+            is_made: false,
+            page,
+            text,
+        })
+    }
+
+    /// Takes as many lines as there is room for, from one on, but none from another on, and answers the next one.
+    fn take(&mut self, lines: Lines, from: usize, to: usize) -> usize
+        requires ordered { from ≤ to }
+        requires within { to ≤ length (texts lines) }
+        ensures no_less { from ≤ result }
+        ensures no_more { result ≤ to }
+        ensures unmade { self.new.is_made ≡ false }
+    {
+        let mut room = PIECE_SIZE;
+        let mut end = from;
+        'lines: while end < to {
+            let wanted = lines.room_for(end);
+            if wanted > room {
+                break;
+            }
+            room -= wanted;
+            end += 1;
+        }
+        self.from = from;
+        self.to = end;
+        self.is_made = false;
+        end
+    }
+
+    /// Makes the lines into text, if they are lines of these, and there is memory for it.
+    fn make(&mut self, lines: Lines)
+        ensures { IsMade (texts lines.entry) self.new }
+    {
+        self.is_made = false;
+        if self.from > self.to || self.to > lines.count() {
+            return;
+        }
+        self.page.clear();
+        self.text.bytes.clear();
+        self.is_made = lines
+            .put(&mut self.page, &mut self.text, self.from, self.to)
+            .is_ok()
+            && self.page.flush(&mut self.text).is_ok();
+    }
+
+    /// Puts the lines from one number up to another: by what was made, if that was of these lines.
+    fn put<K: Sink>(
+        &self,
+        page: &mut Page,
+        sink: &mut K,
+        lines: Lines,
+        from: usize,
+        to: usize,
+    ) -> Result<(), SinkFailed>
+        requires made { IsMade (texts lines) self.now }
+        requires ordered { from ≤ to }
+        requires within { to ≤ length (texts lines) }
+        ensures { Puts (page.old ++ joined_between (texts lines.entry) from to) (K.taken sink.old) (K.taken sink.new) (K.faults sink.old) (K.faults sink.new) page.new result }
+    {
+        if self.is_made && self.from == from && self.to == to {
+            page.flush(sink)?;
+            return write_whole(sink, &self.text.bytes);
+        }
+        lines.put(page, sink, from, to)
+    }
+}
+
+/// Pieces of no lines.
+fn new_pieces(alloc: Global, count: usize) -> Result<Vec<Piece>, NoMemory> {
+    let mut pieces = Vec::with_capacity(alloc, count)?;
+    for _i in 0..count {
+        let piece = Piece::new(alloc)?;
+        pieces.push(piece)?;
+    }
+    Ok(pieces)
+}
+
+/// Deals lines to pieces, from one number on, but none from another on, and answers the next one.
+fn deal(pieces: &mut [Piece], lines: Lines, from: usize, to: usize) -> usize
+    requires ordered { from < to }
+    requires within { to ≤ length (texts lines) }
+    ensures more { from < result }
+    ensures no_more { result ≤ to }
+    ensures unmade { All (IsMade (texts lines.entry)) pieces.new }
+{
+    let mut next = from;
+    'pieces: for i in 0..pieces.len() {
+        next = pieces[i].take(lines, next, to);
+    }
+    if next == from { to } else { next }
+}
+
+/// Makes the lines of all pieces into text side by side, if two or more have lines.
+fn make_all<R: Threads + Sync>(rt: &R, pieces: &mut [Piece], lines: Lines)
+    requires unmade { All (IsMade (texts lines)) pieces.old }
+    ensures made { All (IsMade (texts lines.entry)) pieces.new }
+{
+    if pieces.len() < 2 || pieces[1].from >= pieces[1].to {
+        return;
+    }
+    let threads = pieces.len();
+    thread::for_each_mut(
+        rt,
+        pieces,
+        threads,
+        &|_place: usize, piece: &mut Piece|
+            ensures { IsMade (texts lines.entry) piece.exit.now }
+        { piece.make(lines) },
+    );
+}
+
+/// Puts the lines from one number up to another, by what the pieces have of them.
+fn put_made<K: Sink>(
+    pieces: &[Piece],
+    page: &mut Page,
+    sink: &mut K,
+    lines: Lines,
+    from: usize,
+    to: usize,
+) -> Result<(), SinkFailed>
+    requires made { All (IsMade (texts lines)) pieces.now }
+    requires ordered { from ≤ to }
+    requires within { to ≤ length (texts lines) }
+    ensures { Puts (page.old ++ joined_between (texts lines.entry) from to) (K.taken sink.old) (K.taken sink.new) (K.faults sink.old) (K.faults sink.new) page.new result }
+{
+    let mut next = from;
+    'pieces: for i in 0..pieces.len() {
+        let end = pieces[i].to.clamp(next, to);
+        pieces[i].put(page, sink, lines, next, end)?;
+        next = end;
+    }
+    lines.put(page, sink, next, to)
+}
+
+/// Workers who make pieces of a text side by side.
+#[derive(Drop)]
+pub struct Crew<'a, R> {
+    rt: &'a R,
+    pieces: Vec<Piece>,
+}
+
+impl<R: Threads + Sync> Crew<'_, R> {
+    /// Workers for a text of about so many bytes: one for each piece that it fills, but no more than so many. Each has a page of
+    /// its own, and is refused only where that is wanting.
+    pub fn new(rt: &R, alloc: Global, workers: u32, size: usize) -> Result<Crew<'_, R>, NoMemory> {
+        let count = (workers as usize).min(size / PIECE_SIZE);
+        let pieces = new_pieces(alloc, count)?;
+        Ok(Crew { rt, pieces })
+    }
+
+    /// Puts the lines from one number up to another.
+    fn put_run<K: Sink>(
+        &mut self,
+        page: &mut Page,
+        sink: &mut K,
+        lines: Lines,
+        from: usize,
+        to: usize,
+    ) -> Result<(), SinkFailed>
+        requires ordered { from ≤ to }
+        requires within { to ≤ length (texts lines) }
+        ensures { Puts (page.old ++ joined_between (texts lines.entry) from to) (K.taken sink.old) (K.taken sink.new) (K.faults sink.old) (K.faults sink.new) page.new result }
+    {
+        let pieces = self.pieces.as_mut_slice();
+        let mut next = from;
+        'rounds: while next < to {
+            let end = deal(pieces, lines, next, to);
+            make_all(self.rt, pieces, lines);
+            put_made(pieces, page, sink, lines, next, end)?;
+            next = end;
+        }
+        Ok(())
+    }
+
+    /// Puts a line for which no piece has room: all its numbers are made like lines.
+    fn put_long<K: Sink>(
+        &mut self,
+        page: &mut Page,
+        sink: &mut K,
+        lines: Lines,
+        i: usize,
+    ) -> Result<(), SinkFailed>
+        requires { i < length (texts lines) }
+        ensures { Puts (page.old ++ joined_between (texts lines.entry) i (i + 1)) (K.taken sink.old) (K.taken sink.new) (K.faults sink.old) (K.faults sink.new) page.new result }
+    {
+        match lines {
+            Lines::Nodes(cactus) => self.put_long_node(page, sink, i, cactus.node(i)),
+            Lines::Cycles(cactus) => self.put_long_cycle(page, sink, cactus.cycle(i)),
+            _ => lines.put(page, sink, i, i + 1),
+        }
+    }
+
+    /// Puts the line of a node with very many vertices.
+    fn put_long_node<K: Sink>(
+        &mut self,
+        page: &mut Page,
+        sink: &mut K,
+        number: usize,
+        vertices: &[u32],
+    ) -> Result<(), SinkFailed>
+        ensures { Puts (page.old ++ line (codes "node") (number ∷ vertices.now)) (K.taken sink.old) (K.taken sink.new) (K.faults sink.old) (K.faults sink.new) page.new result }
+    {
+        page.put(sink, b"node")?;
+        page.put_number(sink, number)?;
+        self.put_run(page, sink, Lines::Vertices(vertices), 0, vertices.len())?;
+        page.put(sink, b"\n")
+    }
+
+    /// Puts the line of a cycle with very many nodes.
+    fn put_long_cycle<K: Sink>(
+        &mut self,
+        page: &mut Page,
+        sink: &mut K,
+        members: &[u64],
+    ) -> Result<(), SinkFailed>
+        ensures { Puts (page.old ++ line (codes "cycle") members.now) (K.taken sink.old) (K.taken sink.new) (K.faults sink.old) (K.faults sink.new) page.new result }
+    {
+        page.put(sink, b"cycle")?;
+        self.put_run(page, sink, Lines::Members(members), 0, members.len())?;
+        page.put(sink, b"\n")
+    }
+}
+
+impl<R: Threads + Sync> TextMaker for Crew<'_, R> {
+    ghost ready = { λ c. IsSync R.row };
+
+    fn put_all<K: Sink>(
+        &mut self,
+        page: &mut Page,
+        sink: &mut K,
+        lines: Lines,
+    ) -> Result<(), SinkFailed>
+        requires { IsSync R.row }
+        ensures puts { Puts (page.old ++ joined (texts lines.entry)) (K.taken sink.old) (K.taken sink.new) (K.faults sink.old) (K.faults sink.new) page.new result }
+        ensures ready { IsSync R.row }
+    {
+        let count = lines.count();
+        let mut next = 0;
+        'runs: while next < count {
+            let long = lines.next_long(next, PIECE_SIZE);
+            self.put_run(page, sink, lines, next, long)?;
+            next = long;
+            if long < count {
+                self.put_long(page, sink, lines, long)?;
+                next = long + 1;
+            }
+        }
+        Ok(())
+    }
+}
