@@ -14,6 +14,8 @@ mod graphs;
 #[cfg(test)]
 mod growths;
 #[cfg(test)]
+mod long_texts;
+#[cfg(test)]
 mod runs;
 #[cfg(test)]
 mod unions;

@@ -128,6 +128,29 @@ pub(crate) fn gives<R: Threads + Sync>(
     )
 }
 
+/// What an honest run writes to a sink with room for 8,000,000 bytes.
+pub(crate) fn printed<R: Threads + Sync>(
+    rt: &R,
+    alloc: Global,
+    words: &[&str],
+    text: &[u8],
+) -> Result<Vec<u8>, Fail> {
+    let strings = strings_of(alloc, words)?;
+    let mut source = source_of(alloc, text, &HONEST)?;
+    let mut out = sink_of(alloc, 8_000_000, &[])?;
+    let mut err = sink_of(alloc, 100, &[])?;
+    let _status = run(
+        rt,
+        alloc,
+        &strings,
+        &mut source,
+        &mut out,
+        &mut err,
+        &OpenGate,
+    );
+    Ok(out.taken().to_vec(alloc)?)
+}
+
 /// Whether an honest run answers `Ok`, writes this text, and tells nothing.
 pub(crate) fn answers<R: Threads + Sync>(
     rt: &R,
