@@ -1,14 +1,14 @@
 -- The bytes of lines from one number up to another, and the line of one number.
 use Rattle.std.proofs.Common.{◌≡◌, ℕ, zero, suc, ◌+◌, ◌-◌, ◌<◌, ◌≤◌, List, [], ◌∷◌, ◌++◌, length, get_or, take, drop, map, Option, Some, IfSome, ap, ◌∙◌, sym, refl, append_assoc, append-nil, arith, subst}
 use Rattle.std.proofs.Math.Seq.{take-add}
-use Rattle.std.proofs.lemmas.Grind.{flat_map-append}
+use Rattle.std.proofs.lemmas.List.Folds.{concat-append}
 use Rattle.std.proofs.lemmas.List.{drop-drop, take_all, get_or-map, length-map}
 use Rattle.std.proofs.lemmas.Option.{get_or_from_slice_get, slice_get_within}
-use Rattle.std.specs.List.{flat_map}
+use Rattle.std.specs.List.{concat, flat_map}
 use Rattle.std.specs.Borrow.{Bor}
 use Rattle.std.specs.Prelude.{codes, slice_get, slice_range}
 use Rattle.std.specs.Fmt.{decimal}
-use Rattle.answer_pages.specs.Lines.{joined, joined_between, node_texts}
+use Rattle.answer_pages.specs.Lines.{joined_between, node_texts}
 use Rattle.answer_pages.specs.Puts.{IsSplit}
 use Rattle.flat_cactus.specs.Flat.{Flat}
 use Rattle.answer_pages.specs.Text.{line, spaced, node_lines, bridge_lines, cycle_lines}
@@ -25,17 +25,17 @@ range_join ts from mid to low high =
 -- the lines from one number up to another, and those from there on
 pub between_join : (ts : List (List ℕ)) (from mid to : ℕ) → from ≤ mid → mid ≤ to → joined_between ts from mid ++ joined_between ts mid to ≡ joined_between ts from to
 between_join ts from mid to low high =
-    sym (flat_map-append (λ (l : List ℕ). l) (slice_range ts from mid) (slice_range ts mid to)) ∙ ap joined (sym (range_join ts from mid to low high))
+    sym (concat-append (slice_range ts from mid) (slice_range ts mid to)) ∙ ap concat (sym (range_join ts from mid to low high))
 
 pub between_none : (ts : List (List ℕ)) (i : ℕ) → joined_between ts i i ≡ []
 between_none ts i =
     let none : i - i ≡ 0 = omega arith in
-    ap (λ n. joined (take n (drop i ts))) none
+    ap (λ n. concat (take n (drop i ts))) none
 
-pub between_all : (ts : List (List ℕ)) → joined_between ts 0 (length ts) ≡ joined ts
+pub between_all : (ts : List (List ℕ)) → joined_between ts 0 (length ts) ≡ concat ts
 between_all ts =
     let whole : length ts - 0 ≡ length ts = omega arith in
-    ap (λ n. joined (take n ts)) whole ∙ ap joined (take_all (length ts) ts (omega arith))
+    ap (λ n. concat (take n ts)) whole ∙ ap concat (take_all (length ts) ts (omega arith))
 
 one_at : (ts : List (List ℕ)) (i : ℕ) → i < length ts → take 1 (drop i ts) ≡ get_or ts i [] ∷ []
 one_at [] i h = absurd (omega (arith, h))
@@ -45,7 +45,7 @@ one_at (t ∷ ts) (suc i) h = one_at ts i (omega (arith, h))
 pub between_one : (ts : List (List ℕ)) (i : ℕ) → i < length ts → joined_between ts i (i + 1) ≡ get_or ts i []
 between_one ts i h =
     let one : (i + 1) - i ≡ 1 = omega arith in
-    ap (λ n. joined (take n (drop i ts))) one ∙ ap joined (one_at ts i h) ∙ append-nil (get_or ts i [])
+    ap (λ n. concat (take n (drop i ts))) one ∙ ap concat (one_at ts i h) ∙ append-nil (get_or ts i [])
 
 -- one more line was put behind those from a number on
 pub line_put : (a : List ℕ) {h1 h2 : List ℕ} {t0 t1 t2 : Option (List ℕ)} (ts : List (List ℕ)) (from i : ℕ) → from ≤ i → i < length ts
@@ -111,14 +111,14 @@ node_line xs i x is h =
     let same : 0 + i ≡ i = omega arith in
     node_text 0 xs i x is h ∙ ap (λ n. line_of n x) same
 
-pub node_texts_joined : (first : ℕ) (xs : List (List ℕ)) → joined (node_texts first xs) ≡ node_lines first xs
+pub node_texts_joined : (first : ℕ) (xs : List (List ℕ)) → concat (node_texts first xs) ≡ node_lines first xs
 node_texts_joined first [] = refl
 node_texts_joined first (x ∷ xs) = ap (λ (l : List ℕ). line (codes "node") (first ∷ x) ++ l) (node_texts_joined (first + 1) xs)
 
 map_text : {X : Type 0} (f : X → List ℕ) (xs : List X) (i : ℕ) (x : X) → x ≡ get_or xs i x → i < length xs → f x ≡ get_or (map f xs) i []
 map_text f xs i x is h = ap f is ∙ sym (get_or-map f xs i x [] h)
 
-pub map_joined : {X : Type 0} (f : X → List ℕ) (xs : List X) → joined (map f xs) ≡ flat_map f xs
+pub map_joined : {X : Type 0} (f : X → List ℕ) (xs : List X) → concat (map f xs) ≡ flat_map f xs
 map_joined f [] = refl
 map_joined f (x ∷ xs) = ap (λ (l : List ℕ). f x ++ l) (map_joined f xs)
 
@@ -144,11 +144,11 @@ got xs i r b h e = subst (λ q. IfSome q (λ x. x.now ≡ get_or xs i x.now)) e 
 
 -- the text of a flat cactus, by its lines
 pub flat_text : (first : List ℕ) (flat : Flat) (bridges : List (ℕ × ℕ)) → bridges ≡ flat.bridges
-    → first ++ joined (node_texts 0 flat.nodes) ++ joined (map (λ (b : ℕ × ℕ). line (codes "bridge") (b.0 ∷ b.1 ∷ [])) bridges) ++ joined (map (line (codes "cycle")) flat.cycles)
+    → first ++ concat (node_texts 0 flat.nodes) ++ concat (map (λ (b : ℕ × ℕ). line (codes "bridge") (b.0 ∷ b.1 ∷ [])) bridges) ++ concat (map (line (codes "cycle")) flat.cycles)
     ≡ first ++ node_lines 0 flat.nodes ++ bridge_lines flat.bridges ++ cycle_lines flat.cycles
 flat_text first flat bridges is =
     let bridge = λ (b : ℕ × ℕ). line (codes "bridge") (b.0 ∷ b.1 ∷ []) in
-    let cycles = joined (map (line (codes "cycle")) flat.cycles) in
-    ap (λ (l : List ℕ). first ++ l ++ joined (map bridge bridges) ++ cycles) (node_texts_joined 0 flat.nodes)
+    let cycles = concat (map (line (codes "cycle")) flat.cycles) in
+    ap (λ (l : List ℕ). first ++ l ++ concat (map bridge bridges) ++ cycles) (node_texts_joined 0 flat.nodes)
     ∙ ap (λ (l : List ℕ). first ++ node_lines 0 flat.nodes ++ l ++ cycles) (map_joined bridge bridges ∙ ap bridge_lines is)
     ∙ ap (λ (l : List ℕ). first ++ node_lines 0 flat.nodes ++ bridge_lines flat.bridges ++ l) (map_joined (line (codes "cycle")) flat.cycles)

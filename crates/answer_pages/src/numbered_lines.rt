@@ -1,7 +1,7 @@
 //! Texts by their lines, each of which is known by its number: so a part of a text can be made without what stands before it.
 
-ghost use Rattle.std.specs.Prelude.{◌≡◌, ◌<◌, ◌≤◌, ◌++◌, length, slice_index_or, []};
-ghost use Rattle.answer_pages.specs.Lines.{joined_between, texts};
+ghost use Rattle.std.specs.Prelude.{◌≡◌, ℕ, ◌+◌, ◌-◌, ◌*◌, ◌^◌, ◌<◌, ◌≤◌, ◌++◌, length, min, slice_index_or, []};
+ghost use Rattle.answer_pages.specs.Lines.{joined_between, room_wanted, texts};
 ghost use Rattle.answer_pages.specs.Puts.{Puts};
 
 use crate::page::Page;
@@ -30,7 +30,7 @@ pub enum Lines<'a> {
 
 impl Lines<'_> {
     /// How many there are.
-    pub fn count(&self) -> usize
+    pub(crate) fn count(&self) -> usize
         ensures { result ≡ length (texts self.now) }
     {
         match self {
@@ -62,7 +62,7 @@ impl Lines<'_> {
     }
 
     /// Puts the lines from one number up to another, which is not put.
-    pub fn put<K: Sink>(
+    pub(crate) fn put<K: Sink>(
         &self,
         page: &mut Page,
         sink: &mut K,
@@ -79,24 +79,28 @@ impl Lines<'_> {
         Ok(())
     }
 
-    /// At least as many bytes as a line has.
-    pub fn room_for(&self, i: usize) -> usize
+    /// How many bytes are kept for a line: eight for each number, and eight more for a line with a word. They are enough where
+    /// no number has more than seven digits, as in all texts of this program.
+    pub(crate) fn room_for(&self, i: usize) -> usize
         requires { i < length (texts self.now) }
+        ensures { result ≡ min (room_wanted self.now i) (2 ^ 64 - 1) }
     {
         match self {
             Lines::Nodes(cactus) => room_for_numbers(cactus.node(i).len() + 1),
             Lines::Bridges(_) => room_for_numbers(2),
             Lines::Cycles(cactus) => room_for_numbers(cactus.cycle(i).len()),
-            Lines::Sides(sides) => room_for_side(sides.get(i)),
+            Lines::Sides(sides) => room_for_numbers(sides.get(i).unwrap().len() as usize),
             Lines::Vertices(_) | Lines::Members(_) => NUMBER_SIZE,
         }
     }
 
     /// The first line from one on for which so many bytes may not be enough, or how many lines there are.
-    pub fn next_long(&self, from: usize, room: usize) -> usize
+    pub(crate) fn next_long(&self, from: usize, room: usize) -> usize
         requires { from ≤ length (texts self.now) }
         ensures no_less { from ≤ result }
         ensures no_more { result ≤ length (texts self.now) }
+        ensures short { (j : ℕ) → from ≤ j → j < result → min (room_wanted self.now j) (2 ^ 64 - 1) ≤ room }
+        ensures long { result < length (texts self.now) → room < min (room_wanted self.now result) (2 ^ 64 - 1) }
     {
         let count = self.count();
         let mut i = from;
@@ -111,16 +115,10 @@ impl Lines<'_> {
 const NUMBER_SIZE: usize = 8;
 
 /// How many bytes a line with so many numbers has at most.
-fn room_for_numbers(count: usize) -> usize {
+fn room_for_numbers(count: usize) -> usize
+    ensures { result ≡ min (8 * count + 8) (2 ^ 64 - 1) }
+{
     count
         .saturating_mul(NUMBER_SIZE)
         .saturating_add(NUMBER_SIZE)
-}
-
-/// The same of the line of a side.
-fn room_for_side(side: Option<&Side>) -> usize {
-    match side {
-        Some(side) => room_for_numbers(side.len() as usize),
-        None => 0,
-    }
 }

@@ -4,10 +4,10 @@
 //! made side by side, and written one after another. No promise rests on which lines a piece was dealt, nor on whether it was
 //! made: where what it has is not the text of the lines that come next, they are put one by one.
 
-ghost use Rattle.std.specs.Prelude.{⊤, Some, ◌≡◌, ◌<◌, ◌≤◌, ◌+◌, ◌++◌, ◌∷◌, false, IfOk, codes, length};
-ghost use Rattle.std.specs.List.{All};
+ghost use Rattle.std.specs.Prelude.{⊤, Some, ◌≡◌, ◌<◌, ◌≤◌, ◌+◌, ◌++◌, ◌/◌, ◌∷◌, false, IfOk, codes, length, min};
+ghost use Rattle.std.specs.List.{All, concat};
 ghost use Rattle.std.specs.Thread.{IsSync};
-ghost use Rattle.answer_pages.specs.Lines.{joined, joined_between, texts};
+ghost use Rattle.answer_pages.specs.Lines.{joined_between, texts};
 ghost use Rattle.answer_pages.specs.Pieces.{IsMade};
 ghost use Rattle.answer_pages.specs.Puts.{Puts};
 ghost use Rattle.answer_pages.specs.Text.{line};
@@ -36,7 +36,7 @@ pub trait TextMaker {
         lines: Lines,
     ) -> Result<(), SinkFailed>
         requires { ready self.old }
-        ensures puts { Puts (page.old ++ joined (texts lines.entry)) (K.taken sink.old) (K.taken sink.new) (K.faults sink.old) (K.faults sink.new) page.new result }
+        ensures puts { Puts (page.old ++ concat (texts lines.entry)) (K.taken sink.old) (K.taken sink.new) (K.faults sink.old) (K.faults sink.new) page.new result }
         ensures ready { ready self.new };
 }
 
@@ -53,7 +53,7 @@ impl TextMaker for OneWorker {
         sink: &mut K,
         lines: Lines,
     ) -> Result<(), SinkFailed>
-        ensures puts { Puts (page.old ++ joined (texts lines.entry)) (K.taken sink.old) (K.taken sink.new) (K.faults sink.old) (K.faults sink.new) page.new result }
+        ensures puts { Puts (page.old ++ concat (texts lines.entry)) (K.taken sink.old) (K.taken sink.new) (K.faults sink.old) (K.faults sink.new) page.new result }
         ensures ready { ⊤ }
     {
         lines.put(page, sink, 0, lines.count())
@@ -173,9 +173,11 @@ impl Piece {
 }
 
 /// Pieces of no lines.
-fn new_pieces(alloc: Global, count: usize) -> Result<Vec<Piece>, NoMemory> {
+fn new_pieces(alloc: Global, count: usize) -> Result<Vec<Piece>, NoMemory>
+    ensures { IfOk result (λ pieces. length pieces.items ≡ count) }
+{
     let mut pieces = Vec::with_capacity(alloc, count)?;
-    for _i in 0..count {
+    'pieces: for _i in 0..count {
         let piece = Piece::new(alloc)?;
         pieces.push(piece)?;
     }
@@ -249,7 +251,14 @@ pub struct Crew<'a, R> {
 impl<R: Threads + Sync> Crew<'_, R> {
     /// Workers for a text of about so many bytes: one for each piece that it fills, but no more than so many. Each has a page of
     /// its own, and is refused only where that is wanting.
-    pub fn new(rt: &R, alloc: Global, workers: u32, size: usize) -> Result<Crew<'_, R>, NoMemory> {
+    pub(crate) fn new(
+        rt: &R,
+        alloc: Global,
+        workers: u32,
+        size: usize,
+    ) -> Result<Crew<'_, R>, NoMemory>
+        ensures { IfOk result (λ c. length c.pieces.items ≡ min workers (size / 2097152)) }
+    {
         let count = (workers as usize).min(size / PIECE_SIZE);
         let pieces = new_pieces(alloc, count)?;
         Ok(Crew { rt, pieces })
@@ -338,7 +347,7 @@ impl<R: Threads + Sync> TextMaker for Crew<'_, R> {
         lines: Lines,
     ) -> Result<(), SinkFailed>
         requires { IsSync R.row }
-        ensures puts { Puts (page.old ++ joined (texts lines.entry)) (K.taken sink.old) (K.taken sink.new) (K.faults sink.old) (K.faults sink.new) page.new result }
+        ensures puts { Puts (page.old ++ concat (texts lines.entry)) (K.taken sink.old) (K.taken sink.new) (K.faults sink.old) (K.faults sink.new) page.new result }
         ensures ready { IsSync R.row }
     {
         let count = lines.count();

@@ -1,11 +1,10 @@
 use Rattle.std.proofs.Common.{◌++◌, ◌∷◌, [], map, length, ℕ, List, ◌∙◌, ◌≡◌, ap, sym}
 use Rattle.std.specs.Prelude.{codes}
-use Rattle.std.specs.List.{flat_map}
+use Rattle.std.specs.List.{concat, flat_map}
 use Rattle.std.proofs.lemmas.Result.{err_from_is_err_and}
 use Rattle.std.proofs.lemmas.List.{length-map}
 use Rattle.std.proofs.lemmas.List.Folds.{flat_map-map}
 use Rattle.vertex_set.specs.Side.{VertexList}
-use Rattle.answer_pages.specs.Lines.{joined}
 use Rattle.answer_pages.specs.Text.{line}
 use Rattle.answer_pages.proofs.Between.{map_joined}
 use Rattle.answer_pages.proofs.Putting.{split_then, puts_as, puts_after, puts_failed, line_word, three_parts}
@@ -40,8 +39,8 @@ returns g c =
     let count : ℕ → List ℕ = λ k. line (codes "cuts") (k ∷ []) in
     let sides = flat_map side_line members in
     let all = length c.args.sides.now in
-    let same : joined (map text c.args.sides.now) ≡ sides = map_joined text c.args.sides.now ∙ sym (flat_map-map side_line (λ (s : VertexList). s.members) c.args.sides.now) in
+    let same : concat (map text c.args.sides.now) ≡ sides = map_joined text c.args.sides.now ∙ sym (flat_map-map side_line (λ (s : VertexList). s.members) c.args.sides.now) in
     puts_as (ap (λ (l : List ℕ). ((c.args.page.now ++ value) ++ count all) ++ l) same
     ∙ three_parts c.args.page.now value (count all) sides ∙ ap (λ (k : ℕ). c.args.page.now ++ (value ++ count k ++ sides)) (sym (length-map c.args.sides.now (λ (s : VertexList). s.members))))
-    (puts_after (joined (map text c.args.sides.now)) (split_then (count all) c.in_ok-put_line.ensures.ok c.in_ok-put_line-2.ensures.ok)
+    (puts_after (concat (map text c.args.sides.now)) (split_then (count all) c.in_ok-put_line.ensures.ok c.in_ok-put_line-2.ensures.ok)
     (c.in_ok-put_line-2.ensures.cause.ok ∙ c.in_ok-put_line.ensures.cause.ok) c.put_all.ensures.puts)

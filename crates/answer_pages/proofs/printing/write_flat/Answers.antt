@@ -1,7 +1,8 @@
 use Rattle.std.proofs.Common.{ℕ, List, [], ◌∷◌, ◌++◌, ◌∙◌, ◌≡◌, ap, map, refl, sym, append-nil}
 use Rattle.std.proofs.lemmas.Result.{err_from_is_err_and}
+use Rattle.std.specs.List.{concat}
 use Rattle.std.specs.Prelude.{codes}
-use Rattle.answer_pages.specs.Lines.{joined, node_texts}
+use Rattle.answer_pages.specs.Lines.{node_texts}
 use Rattle.answer_pages.specs.Text.{first_line, line, cactus_text}
 use Rattle.answer_pages.proofs.Between.{flat_text}
 use Rattle.answer_pages.proofs.Putting.{split_then, split_as, puts_as, puts_after, puts_failed, text_first, text_second, text_parts, all_taken}
@@ -11,9 +12,9 @@ pub returns-in_err-put_first_line-clause-prefix : goal.returns-in_err-put_first_
 returns-in_err-put_first_line-clause-prefix g c =
     let flat = c.args.cactus.now in
     let first = first_line c.args.value flat in
-    let nodes = joined (node_texts 0 flat.nodes) in
-    let bridges = joined (map (λ (b : ℕ × ℕ). line (codes "bridge") (b.0 ∷ b.1 ∷ [])) flat.bridges) in
-    let cycles = joined (map (line (codes "cycle")) flat.cycles) in
+    let nodes = concat (node_texts 0 flat.nodes) in
+    let bridges = concat (map (λ (b : ℕ × ℕ). line (codes "bridge") (b.0 ∷ b.1 ∷ [])) flat.bridges) in
+    let cycles = concat (map (line (codes "cycle")) flat.cycles) in
     let behind : c.args.page.now ++ (first ++ nodes ++ bridges ++ cycles) ≡ cactus_text c.args.value flat =
     ap (λ (l : List ℕ). l ++ (first ++ nodes ++ bridges ++ cycles)) c.requires.empty ∙ flat_text first flat flat.bridges refl in
     let p = puts_as (text_first c.args.page.now first nodes bridges cycles ∙ behind)
@@ -24,9 +25,9 @@ pub returns-in_err-put_all-clause-prefix : goal.returns-in_err-put_all-clause-pr
 returns-in_err-put_all-clause-prefix g c =
     let flat = c.args.cactus.now in
     let first = first_line c.args.value flat in
-    let nodes = joined (node_texts 0 flat.nodes) in
-    let bridges = joined (map (λ (b : ℕ × ℕ). line (codes "bridge") (b.0 ∷ b.1 ∷ [])) flat.bridges) in
-    let cycles = joined (map (line (codes "cycle")) flat.cycles) in
+    let nodes = concat (node_texts 0 flat.nodes) in
+    let bridges = concat (map (λ (b : ℕ × ℕ). line (codes "bridge") (b.0 ∷ b.1 ∷ [])) flat.bridges) in
+    let cycles = concat (map (line (codes "cycle")) flat.cycles) in
     let behind : c.args.page.now ++ (first ++ nodes ++ bridges ++ cycles) ≡ cactus_text c.args.value flat =
     ap (λ (l : List ℕ). l ++ (first ++ nodes ++ bridges ++ cycles)) c.requires.empty ∙ flat_text first flat flat.bridges refl in
     let back = c.from_residual-in_err-put_all in
@@ -39,9 +40,9 @@ pub returns-in_err-put_all-2-clause-prefix : goal.returns-in_err-put_all-2-claus
 returns-in_err-put_all-2-clause-prefix g c =
     let flat = c.args.cactus.now in
     let first = first_line c.args.value flat in
-    let nodes = joined (node_texts 0 flat.nodes) in
-    let bridges = joined (map (λ (b : ℕ × ℕ). line (codes "bridge") (b.0 ∷ b.1 ∷ [])) c.bridges.result.now) in
-    let cycles = joined (map (line (codes "cycle")) flat.cycles) in
+    let nodes = concat (node_texts 0 flat.nodes) in
+    let bridges = concat (map (λ (b : ℕ × ℕ). line (codes "bridge") (b.0 ∷ b.1 ∷ [])) c.bridges.result.now) in
+    let cycles = concat (map (line (codes "cycle")) flat.cycles) in
     let behind : c.args.page.now ++ (first ++ nodes ++ bridges ++ cycles) ≡ cactus_text c.args.value flat =
     ap (λ (l : List ℕ). l ++ (first ++ nodes ++ bridges ++ cycles)) c.requires.empty ∙ flat_text first flat c.bridges.result.now c.bridges.ensures in
     let back = c.from_residual-in_err-put_all-2 in
@@ -55,9 +56,9 @@ pub returns-in_err-put_all-3-clause-prefix : goal.returns-in_err-put_all-3-claus
 returns-in_err-put_all-3-clause-prefix g c =
     let flat = c.args.cactus.now in
     let first = first_line c.args.value flat in
-    let nodes = joined (node_texts 0 flat.nodes) in
-    let bridges = joined (map (λ (b : ℕ × ℕ). line (codes "bridge") (b.0 ∷ b.1 ∷ [])) c.bridges.result.now) in
-    let cycles = joined (map (line (codes "cycle")) flat.cycles) in
+    let nodes = concat (node_texts 0 flat.nodes) in
+    let bridges = concat (map (λ (b : ℕ × ℕ). line (codes "bridge") (b.0 ∷ b.1 ∷ [])) c.bridges.result.now) in
+    let cycles = concat (map (line (codes "cycle")) flat.cycles) in
     let behind : c.args.page.now ++ (first ++ nodes ++ bridges ++ cycles) ≡ cactus_text c.args.value flat =
     ap (λ (l : List ℕ). l ++ (first ++ nodes ++ bridges ++ cycles)) c.requires.empty ∙ flat_text first flat c.bridges.result.now c.bridges.ensures in
     let same = c.in_ok-put_all-2.ensures.puts.cause.ok ∙ c.in_ok-put_all.ensures.puts.cause.ok ∙ c.in_ok-put_first_line.ensures.cause.ok in
@@ -73,9 +74,9 @@ pub returns-clause-whole : goal.returns-clause-whole
 returns-clause-whole g c =
     let flat = c.args.cactus.now in
     let first = first_line c.args.value flat in
-    let nodes = joined (node_texts 0 flat.nodes) in
-    let bridges = joined (map (λ (b : ℕ × ℕ). line (codes "bridge") (b.0 ∷ b.1 ∷ [])) c.bridges.result.now) in
-    let cycles = joined (map (line (codes "cycle")) flat.cycles) in
+    let nodes = concat (node_texts 0 flat.nodes) in
+    let bridges = concat (map (λ (b : ℕ × ℕ). line (codes "bridge") (b.0 ∷ b.1 ∷ [])) c.bridges.result.now) in
+    let cycles = concat (map (line (codes "cycle")) flat.cycles) in
     let behind : c.args.page.now ++ (first ++ nodes ++ bridges ++ cycles) ≡ cactus_text c.args.value flat =
     ap (λ (l : List ℕ). l ++ (first ++ nodes ++ bridges ++ cycles)) c.requires.empty ∙ flat_text first flat c.bridges.result.now c.bridges.ensures in
     let same = c.in_ok-put_all-2.ensures.puts.cause.ok ∙ c.in_ok-put_all.ensures.puts.cause.ok ∙ c.in_ok-put_first_line.ensures.cause.ok in
@@ -89,9 +90,9 @@ pub returns-clause-prefix : goal.returns-clause-prefix
 returns-clause-prefix g c =
     let flat = c.args.cactus.now in
     let first = first_line c.args.value flat in
-    let nodes = joined (node_texts 0 flat.nodes) in
-    let bridges = joined (map (λ (b : ℕ × ℕ). line (codes "bridge") (b.0 ∷ b.1 ∷ [])) c.bridges.result.now) in
-    let cycles = joined (map (line (codes "cycle")) flat.cycles) in
+    let nodes = concat (node_texts 0 flat.nodes) in
+    let bridges = concat (map (λ (b : ℕ × ℕ). line (codes "bridge") (b.0 ∷ b.1 ∷ [])) c.bridges.result.now) in
+    let cycles = concat (map (line (codes "cycle")) flat.cycles) in
     let behind : c.args.page.now ++ (first ++ nodes ++ bridges ++ cycles) ≡ cactus_text c.args.value flat =
     ap (λ (l : List ℕ). l ++ (first ++ nodes ++ bridges ++ cycles)) c.requires.empty ∙ flat_text first flat c.bridges.result.now c.bridges.ensures in
     let same = c.in_ok-put_all-2.ensures.puts.cause.ok ∙ c.in_ok-put_all.ensures.puts.cause.ok ∙ c.in_ok-put_first_line.ensures.cause.ok in
