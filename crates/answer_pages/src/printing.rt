@@ -145,36 +145,34 @@ pub fn print<K: Sink>(
     }
 }
 
-/// Does the same by several workers, who make pieces of a long text side by side: it is the same text.
+/// Writes the text of a flat cactus with a value, as `print_flat` does, by several workers, who make pieces of a long text side
+/// by side: it is the same text.
 ///
-/// Where the text is long and there are two workers or more, each has a page of its own, which is taken before the first byte
-/// too, and a few MiB for a piece of the text; where these are wanting, the lines of that piece are put one by one.
+/// It is refused only where memory is wanting or a write fails. A page, and one more for each worker that a long text has work
+/// for, are taken before the first byte: where they are wanting nothing is written, and the sink stays as it was. A piece of a
+/// long text takes a few MiB besides; where these are wanting, its lines are put one by one. Where a write fails, what was taken
+/// is a first part of the text. Time in proportion to the text, which the workers share.
 pub fn print_by_workers<R: Threads + Sync, K: Sink>(
     rt: &R,
     alloc: Global,
     workers: u32,
-    cactus: &Cactus,
+    cactus: &FlatCactus,
     value: u64,
     sink: &mut K,
 ) -> Result<(), PrintRefusal>
-    requires value { value ≤ 2 ^ 62 }
-    requires n { cactus.now.vertices ≤ 4194304 }
-    ensures whole { OnOk result (Appends (K.taken sink.old) (K.taken sink.new) (cactus_text value (flat_of cactus.now))) }
+    ensures whole { OnOk result (Appends (K.taken sink.old) (K.taken sink.new) (cactus_text value cactus.now)) }
     ensures same_count { OnOk result (K.faults sink.new ≡ K.faults sink.old) }
-    ensures prefix { IsErrOf result PrintRefusal.SinkFailed → AppendsPrefix (K.taken sink.old) (K.taken sink.new) (cactus_text value (flat_of cactus.now)) }
+    ensures prefix { IsErrOf result PrintRefusal.SinkFailed → AppendsPrefix (K.taken sink.old) (K.taken sink.new) (cactus_text value cactus.now) }
     ensures rose { IsErrOf result PrintRefusal.SinkFailed → Rose (K.faults sink.old) (K.faults sink.new) }
     ensures memory { IsErrOf result PrintRefusal.NoMemory → sink.new ≡ sink.old }
 {
-    let Ok(flat) = flatten(alloc, cactus) else {
-        return Err(PrintRefusal::NoMemory);
-    };
     let Ok(mut page) = Page::new(alloc) else {
         return Err(PrintRefusal::NoMemory);
     };
-    let Ok(mut crew) = Crew::new(rt, alloc, workers, size_of_text(&flat)) else {
+    let Ok(mut crew) = Crew::new(rt, alloc, workers, size_of_text(cactus)) else {
         return Err(PrintRefusal::NoMemory);
     };
-    match write_flat(&mut crew, &mut page, &flat, value, sink) {
+    match write_flat(&mut crew, &mut page, cactus, value, sink) {
         Ok(()) => Ok(()),
         Err(_) => Err(PrintRefusal::SinkFailed),
     }

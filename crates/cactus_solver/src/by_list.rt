@@ -7,10 +7,11 @@ ghost use Rattle.cut_definitions.specs.Cuts.{value as least_value};
 ghost use Rattle.cut_definitions.specs.Graph.{Graph as EdgeGraph};
 ghost use Rattle.forest_contraction.specs.Left.{AreTies};
 ghost use Rattle.min_value.specs.Kernels.{IsKept};
-ghost use Rattle.cactus_solver.specs.SolvedLists.{AreCutsOf};
+ghost use Rattle.rooted_cactus.specs.Solving.{IsSolved};
+ghost use Rattle.cactus_solver.specs.SolvedLists.{AreCutsOf, IsTreeSolved};
 
 use crate::list_classes::classes_of;
-use crate::solved_list::{Cuts, SolvedList};
+use crate::solved_list::{Cuts, SolvedList, SolvedTree};
 use crate::solver::{tree_at_value, tree_by_kernel};
 use component_cuts::count_components;
 use cut_definitions::{EdgeList, NoMemory};
@@ -19,6 +20,7 @@ use min_value::{
 };
 use outside::Gate;
 use region_sweep::cactus_by_tree;
+use rooted_cactus::Solved;
 use std::alloc::Global;
 use std::thread::Threads;
 use weighted_graph::Graph;
@@ -56,26 +58,24 @@ fn solve_by_smaller<R: Threads + Sync, G: Gate>(
     kernel: Kernel,
     workers: u32,
     gate: &G,
-) -> Result<SolvedList, NoMemory>
+) -> Result<SolvedList<SolvedTree>, NoMemory>
     requires connected { IsConnected list }
     requires enough { 2 ≤ list.vertices }
     requires kept { IsKept list kernel.value kernel.graph kernel.labels }
     requires workers { (1 ≤ workers) × (workers ≤ 64) }
     ensures list { IfOk result (λ r. r.list ≡ list) }
-    ensures cuts { IfOk result (λ r. AreCutsOf list r.cuts) }
+    ensures cuts { IfOk result (λ r. AreCutsOf IsTreeSolved list r.cuts) }
 {
     let value = kernel.value;
     let kernel = reduce_further(rt, alloc, kernel, workers, gate)?;
     let tree = tree_by_kernel(rt, alloc, &list, kernel, workers)?;
-    let solved = cactus_by_tree(alloc, &list, value, tree)?;
     Ok(SolvedList {
         list,
-        cuts: Cuts::Joined(solved),
+        cuts: Cuts::Joined(SolvedTree { value, tree }),
     })
 }
 
-/// The minimum cuts of a connected graph whose value is given. Its rows are dropped once the tree of the cuts is made, before
-/// the cactus takes memory.
+/// The minimum cuts of a connected graph whose value is given. Its rows are dropped once the tree of the cuts is made.
 fn solve_graph<R: Threads + Sync, G: Gate>(
     rt: &R,
     alloc: Global,
@@ -83,20 +83,19 @@ fn solve_graph<R: Threads + Sync, G: Gate>(
     value: u64,
     workers: u32,
     gate: &G,
-) -> Result<SolvedList, NoMemory>
+) -> Result<SolvedList<SolvedTree>, NoMemory>
     requires connected { IsConnected graph }
     requires enough { 2 ≤ graph.vertices }
     requires value { value ≡ least_value graph }
     requires workers { (1 ≤ workers) × (workers ≤ 64) }
     ensures list { IfOk result (λ r. r.list ≡ graph) }
-    ensures cuts { IfOk result (λ r. AreCutsOf graph r.cuts) }
+    ensures cuts { IfOk result (λ r. AreCutsOf IsTreeSolved graph r.cuts) }
 {
     let tree = tree_at_value(rt, alloc, &graph, value, workers, gate)?;
     let list = graph.into_list();
-    let solved = cactus_by_tree(alloc, &list, value, tree)?;
     Ok(SolvedList {
         list,
-        cuts: Cuts::Joined(solved),
+        cuts: Cuts::Joined(SolvedTree { value, tree }),
     })
 }
 
@@ -108,14 +107,14 @@ fn solve_connected<R: Threads + Sync, G: Gate>(
     found: ValueWithTies,
     workers: u32,
     gate: &G,
-) -> Result<SolvedList, NoMemory>
+) -> Result<SolvedList<SolvedTree>, NoMemory>
     requires connected { IsConnected list }
     requires enough { 2 ≤ list.vertices }
     requires value { found.value ≡ least_value list }
     requires ties { IfSome found.ties (AreTies list) }
     requires workers { (1 ≤ workers) × (workers ≤ 64) }
     ensures list { IfOk result (λ r. r.list ≡ list) }
-    ensures cuts { IfOk result (λ r. AreCutsOf list r.cuts) }
+    ensures cuts { IfOk result (λ r. AreCutsOf IsTreeSolved list r.cuts) }
 {
     let ValueWithTies { value, ties } = found;
     if let Some(classes) = classes_of(alloc, &list, value, ties)? {
@@ -137,11 +136,11 @@ fn solve_by_rows<R: Threads + Sync, G: Gate>(
     list: EdgeList,
     workers: u32,
     gate: &G,
-) -> Result<SolvedList, NoMemory>
+) -> Result<SolvedList<SolvedTree>, NoMemory>
     requires enough { 2 ≤ list.vertices }
     requires workers { (1 ≤ workers) × (workers ≤ 64) }
     ensures list { IfOk result (λ r. r.list ≡ list) }
-    ensures cuts { IfOk result (λ r. AreCutsOf list r.cuts) }
+    ensures cuts { IfOk result (λ r. AreCutsOf IsTreeSolved list r.cuts) }
 {
     let components = count_components(alloc, &list)?;
     if components >= 2 {
@@ -162,26 +161,26 @@ fn solve_by_rows<R: Threads + Sync, G: Gate>(
 }
 
 /// The minimum cuts of a graph of two or more vertices, whose list of edges is taken over and given back with the answer: how
-/// many components there are, where it has several, or the value and the cactus of the minimum cuts, in its normal form.
+/// many components there are, where it has several, or the value and the tree of the minimum cuts, in arrays.
 ///
 /// The value is told by the list where forests make that shorter, and the same forests show classes that no minimum cut
 /// parts. Where these are a tenth fewer than the vertices only the graph on the classes has rows. Else the graph has rows, and
 /// is solved as `solve_at` or `solve` solve it, but that scans which lead to the value may leave a smaller graph at once, and
-/// that its rows are dropped before the cactus is made. Components are counted by the list, in O(m log(n) + n) steps.
+/// that its rows are dropped once the tree is made. Components are counted by the list, in O(m log(n) + n) steps.
 ///
 /// The number of workers is 1 to 64; they and the gate are handed to the rounds and the sweep. Memory is in proportion to
 /// n + m. It is refused only where memory is wanting; the list is gone then.
-pub fn solve_list<R: Threads + Sync, G: Gate>(
+pub fn tree_of_list<R: Threads + Sync, G: Gate>(
     rt: &R,
     alloc: Global,
     list: EdgeList,
     workers: u32,
     gate: &G,
-) -> Result<SolvedList, NoMemory>
+) -> Result<SolvedList<SolvedTree>, NoMemory>
     requires enough { 2 ≤ list.vertices }
     requires workers { (1 ≤ workers) × (workers ≤ 64) }
     ensures list { IfOk result (λ r. r.list ≡ list) }
-    ensures cuts { IfOk result (λ r. AreCutsOf list r.cuts) }
+    ensures cuts { IfOk result (λ r. AreCutsOf IsTreeSolved list r.cuts) }
 {
     // known by this call: it is an edge list
     let _n = list.n();
@@ -192,4 +191,32 @@ pub fn solve_list<R: Threads + Sync, G: Gate>(
         return solve_by_rows(rt, alloc, list, workers, gate);
     }
     solve_connected(rt, alloc, list, found, workers, gate)
+}
+
+/// The minimum cuts of a graph of two or more vertices, whose list of edges is taken over and given back with the answer: how
+/// many components there are, where it has several, or the value and the cactus of the minimum cuts, in its normal form.
+///
+/// The tree of the cuts comes from `tree_of_list`, and the cactus is made of it, when the graph has no rows any more. The number
+/// of workers is 1 to 64; they and the gate are handed on. Memory is in proportion to n + m. It is refused only where memory is
+/// wanting; the list is gone then.
+pub fn solve_list<R: Threads + Sync, G: Gate>(
+    rt: &R,
+    alloc: Global,
+    list: EdgeList,
+    workers: u32,
+    gate: &G,
+) -> Result<SolvedList<Solved>, NoMemory>
+    requires enough { 2 ≤ list.vertices }
+    requires workers { (1 ≤ workers) × (workers ≤ 64) }
+    ensures list { IfOk result (λ r. r.list ≡ list) }
+    ensures cuts { IfOk result (λ r. AreCutsOf IsSolved list r.cuts) }
+{
+    let SolvedList { list, cuts } = tree_of_list(rt, alloc, list, workers, gate)?;
+    let cuts = match cuts {
+        Cuts::Apart(components) => Cuts::Apart(components),
+        Cuts::Joined(SolvedTree { value, tree }) => {
+            Cuts::Joined(cactus_by_tree(alloc, &list, value, tree)?)
+        }
+    };
+    Ok(SolvedList { list, cuts })
 }

@@ -4,7 +4,8 @@
 //! read off the graph where that is a tree whose edges all have the value, and else by a sweep over the regions of a flow.
 //! Each vertex is put into the node of its class, and the cactus is made of that and brought to its normal form. `solve_at`
 //! does so for a value that is known, and `solve_list` takes a list of edges: it goes by the list where forests make that
-//! shorter before a graph has rows, and tells of several components.
+//! shorter before a graph has rows, and tells of several components. `tree_of_list` stops before its last step, and answers the
+//! tree in arrays, of which `solve_list` makes the cactus.
 #![tactic(auto)]
 
 mod by_list;
@@ -12,7 +13,7 @@ mod list_classes;
 mod solved_list;
 mod solver;
 
-pub use by_list::solve_list;
+pub use by_list::{solve_list, tree_of_list};
 pub use rooted_cactus::Solved;
-pub use solved_list::{Cuts, SolvedList};
+pub use solved_list::{Cuts, SolvedList, SolvedTree};
 pub use solver::{solve, solve_at};

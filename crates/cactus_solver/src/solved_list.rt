@@ -1,20 +1,27 @@
 //! What is found of a list of edges.
 
 use cut_definitions::EdgeList;
-use rooted_cactus::Solved;
+use node_tree::HomedTree;
 
 /// The minimum cuts of a graph.
 #[derive(Drop)]
-pub enum Cuts {
+pub enum Cuts<T> {
     /// So many components, of which there are several: the minimum cuts weigh 0, and are the unions of these.
     Apart(u32),
-    /// The value of a connected graph and the cactus of its minimum cuts, in its normal form.
-    Joined(Solved),
+    /// What is known of the minimum cuts of a connected graph.
+    Joined(T),
 }
 
 /// The minimum cuts of a graph, and its list of edges, given back.
 #[derive(Drop)]
-pub struct SolvedList {
+pub struct SolvedList<T> {
     pub list: EdgeList,
-    pub cuts: Cuts,
+    pub cuts: Cuts<T>,
+}
+
+/// The value of a connected graph, and the tree of its minimum cuts in arrays.
+#[derive(Drop)]
+pub struct SolvedTree {
+    pub value: u64,
+    pub tree: HomedTree,
 }

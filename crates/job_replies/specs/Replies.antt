@@ -11,15 +11,14 @@ use Rattle.answer_pages.specs.Listings.{listing_text, balanced_text}
 
 abbrev pub text_of : Reply → List ℕ
 text_of (Text text) = string_bytes text
-text_of (Cactus solved workers) = cactus_text solved.value (flat_of solved.cactus)
+text_of (Cactus value cactus workers) = cactus_text value cactus
 text_of (Listing value sides workers) = listing_text value (members_of sides.items)
 text_of (Balanced value balance side) = balanced_text value balance side.members
 text_of (Growth steps solved) = growth_text steps.items solved.value (flat_of solved.cactus)
 text_of (Augmentation value plan) = augment_text value plan
 
--- the numbers are within the limits of the text of a cactus
+-- the numbers are within the limits of the text of a growth
 abbrev pub IsPrintable : Reply → Type 0
-IsPrintable (Cactus solved workers) = (solved.value ≤ 2 ^ 62) × (solved.cactus.vertices ≤ 4194304)
 IsPrintable (Growth steps solved) = (solved.value ≤ 2 ^ 62) × (solved.cactus.vertices ≤ 4194304)
 IsPrintable _ = ⊤
 

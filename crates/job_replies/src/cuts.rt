@@ -23,10 +23,11 @@ use cut_listing::laws::{count_of_minimum_cuts, minimum_cuts_in_order, number_of_
 use cut_listing::{Ask, ListRefusal, Lister, list_balanced, list_parting};
 use edge_augment::augment;
 use edge_augment::laws::augmentation;
-use flat_cactus::laws;
+use flat_cactus::{flatten, laws};
 use program_words::{Command, Job};
 use rooted_cactus::{Cactus, Solved};
 use std::alloc::Global;
+use std::mem::forget;
 use stop_lines::Stop;
 use vertex_set::Side;
 
@@ -197,12 +198,16 @@ fn cactus_reply(
 {
     laws::flat_form();
     laws::flat_sides();
-    // known by this call: the graph has at most 4,194,304 vertices
-    let _n = graph.n();
     let value = solved.value;
     let cactus = canonical_of(alloc, solved)?;
-    let solved = Solved { value, cactus };
-    Ok(Reply::Cactus { solved, workers })
+    let flat = flatten(alloc, &cactus)?;
+    // the run ends soon: giving each node of a large cactus back would take a tenth of its time
+    forget(cactus);
+    Ok(Reply::Cactus {
+        value,
+        cactus: flat,
+        workers,
+    })
 }
 
 /// The fewest unit edges that raise the value.

@@ -9,6 +9,7 @@ use answer_pages::{
     print_listing,
 };
 use edge_augment::Plan;
+use flat_cactus::FlatCactus;
 use outside::{Sink, write_whole};
 use rooted_cactus::Solved;
 use std::alloc::Global;
@@ -20,9 +21,10 @@ use vertex_set::Side;
 pub enum Reply {
     /// A text that is in memory.
     Text(String),
-    /// All minimum cuts, with their weight, and how many workers make the text.
+    /// The weight of the minimum cuts, the flat cactus of them all, and how many workers make the text.
     Cactus {
-        solved: Solved,
+        value: u64,
+        cactus: FlatCactus,
         workers: u32,
     },
     /// The weight of the minimum cuts, the sides of a list of them, and how many workers make the text.
@@ -78,9 +80,11 @@ pub fn write_reply<R: Threads + Sync, K: Sink>(
 {
     match reply {
         Reply::Text(text) => write_text(out, text.as_str()),
-        Reply::Cactus { solved, workers } => {
-            print_by_workers(rt, alloc, *workers, &solved.cactus, solved.value, out)
-        }
+        Reply::Cactus {
+            value,
+            cactus,
+            workers,
+        } => print_by_workers(rt, alloc, *workers, cactus, *value, out),
         Reply::Listing {
             value,
             sides,

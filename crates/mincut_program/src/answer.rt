@@ -7,10 +7,11 @@ ghost use Rattle.job_replies.specs.Replies.{text_of, IsPrintable};
 ghost use Rattle.program_words.specs.Texts.{value_line};
 ghost use Rattle.program_words.specs.Words.{IsMakeable, IsReading};
 
+use crate::cactus::joined_reply;
 use crate::growth::grow_reply;
-use cactus_solver::{Cuts, SolvedList, solve_list};
+use cactus_solver::{Cuts, SolvedList, tree_of_list};
 use cut_definitions::{EdgeList, VertexWeights};
-use job_replies::{Reply, apart_reply, cuts_reply, first_outside, no_cut, value_text};
+use job_replies::{Reply, apart_reply, first_outside, no_cut, value_text};
 use metis_reader::MetisGraph;
 use min_value::value_of_list;
 use outside::{Gate, NoMemory};
@@ -54,10 +55,10 @@ fn reply_on_cuts<R: Threads + Sync, G: Gate>(
     ensures printable { IfOk result IsPrintable }
     ensures stop { IfErr result (IsStopFor command weights.now list) }
 {
-    let SolvedList { list, cuts } = solve_list(rt, alloc, list, command.workers, gate)?;
+    let SolvedList { list, cuts } = tree_of_list(rt, alloc, list, command.workers, gate)?;
     match cuts {
         Cuts::Apart(components) => apart_reply(alloc, command, &list, components, weights),
-        Cuts::Joined(solved) => cuts_reply(alloc, command, &list, weights, solved),
+        Cuts::Joined(found) => joined_reply(alloc, command, &list, weights, found),
     }
 }
 

@@ -5,6 +5,7 @@
 #![tactic(auto)]
 
 mod answer;
+mod cactus;
 mod growth;
 mod program;
 mod solving;

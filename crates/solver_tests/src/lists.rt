@@ -1,7 +1,7 @@
 //! Lists of edges whose graphs need no rows.
 
 use crate::graphs::edges_of;
-use cactus_solver::{Cuts, SolvedList, solve_list};
+use cactus_solver::{Cuts, Solved, SolvedList, solve_list};
 use cut_definitions::NoMemory;
 use outside::OpenGate;
 use std::alloc::Global;
@@ -36,7 +36,7 @@ fn solved_path<R: Threads + Sync>(
     rt: &R,
     alloc: Global,
     gap: Option<u32>,
-) -> Result<Option<SolvedList>, NoMemory> {
+) -> Result<Option<SolvedList<Solved>>, NoMemory> {
     let text = path(alloc, gap)?;
     let Some(list) = edges_of(alloc, &text) else {
         return Ok(None);

@@ -1,7 +1,7 @@
 -- A graph whose value is above 0 is connected.
 use Rattle.std.proofs.Common.{arith}
 use Rattle.cactus_solver.proofs.Connected.{connected_by_value}
-use Rattle.cactus_solver.proofs.by_list.solve_list.Goals as goal
+use Rattle.cactus_solver.proofs.by_list.tree_of_list.Goals as goal
 
 pub solve_connected-requires-clause-connected : goal.solve_connected-requires-clause-connected
 solve_connected-requires-clause-connected g c = λ κs lives.

@@ -1,0 +1,5 @@
+pub mod Plans
+pub mod Arranged
+pub mod Grouped
+pub mod Walked
+pub mod CanonicalFlats

@@ -1,0 +1,41 @@
+//! From a tree in arrays to its flat canonical cactus.
+
+ghost use Rattle.std.specs.Prelude.{◌≡◌, ◌+◌, ◌≤◌, IfNone, IfOk, IfSome, length, slice_index};
+ghost use Rattle.node_tree.specs.Finished.{arrays_of};
+ghost use Rattle.node_tree.specs.Flat.{AreNodes};
+ghost use Rattle.tree_flattening.specs.Arranged.{IsUnfit};
+ghost use Rattle.tree_flattening.specs.CanonicalFlats.{IsCanonicalFlat};
+
+use crate::arranging::arrange;
+use crate::walking::flatten_arranged;
+use cut_definitions::NoMemory;
+use flat_cactus::FlatCactus;
+use node_tree::HomedTree;
+use std::alloc::Global;
+
+/// The flat canonical cactus over the vertices 1 to n whose sides are those of a tree in arrays; none where there are more nodes
+/// than vertices, a node has no vertex, or a cycle has three nodes with the one above, since then the canonical cactus has other
+/// nodes than the tree.
+///
+/// Blocks are put in the order of the least vertices below them, and cycles turned so that the least vertex at or under their
+/// first node below the upper one is less than that at or under the last; nodes are numbered in the order in which the tree is
+/// entered then. It takes O(n log n) steps, as many as n where the blocks of each node are in order already, in loops, so that a
+/// deep tree does not run out of stack. Memory is in proportion to n, and it is refused only where that is wanting.
+pub fn canonical_flat(
+    alloc: Global,
+    tree: &HomedTree,
+    n: u32,
+) -> Result<Option<FlatCactus>, NoMemory>
+    requires some { 1 ≤ n }
+    requires homes { length tree.now.homes.items ≡ n + 1 }
+    requires nodes { AreNodes (arrays_of tree.now) }
+    requires one { slice_index tree.now.homes.items 1 ≡ 0 }
+    ensures flat { IfOk result (λ o. IfSome o (IsCanonicalFlat n (arrays_of tree.now))) }
+    ensures none { IfOk result (λ o. IfNone o (IsUnfit n (arrays_of tree.now))) }
+{
+    let Some(arranged) = arrange(alloc, tree, n)? else {
+        return Ok(None);
+    };
+    let flat = flatten_arranged(alloc, &arranged, n)?;
+    Ok(Some(flat))
+}
