@@ -5,7 +5,6 @@ use Rattle.std.specs.List.{Contains, filter, range_with_len}
 use Rattle.std.specs.List.Sorted.{IsPermutation}
 use Rattle.std.proofs.lemmas.List.FromFn.{length-range_with_len}
 use Rattle.std.proofs.lemmas.List.Sorted.{Contains-permutation, IsPermutation-sym, IsPermutation-refl, IsPermutation-reverse, length_permutation}
-use Rattle.std.proofs.lemmas.List.Elements.{All-contains}
 use Rattle.cut_definitions.specs.Weight.{VertexSet}
 use Rattle.cut_definitions.proofs.Lists.{Contains-here, Contains-filter, Contains-from_filter, Contains-from_map}
 use Rattle.cut_definitions.proofs.ListLaws.{All-from_each, length-filter_le}
@@ -13,7 +12,7 @@ use Rattle.rooted_cactus.specs.declared.tree.Node.{Node}
 use Rattle.rooted_cactus.specs.Sides.{cuts}
 use Rattle.rooted_cactus.specs.Rooted.{sides_of}
 use Rattle.rooted_cactus.specs.Different.{HasNoEmptySide}
-use Rattle.rooted_cactus.proofs.Ranges.{IsWithin, range_within}
+use Rattle.rooted_cactus.proofs.Ranges.{IsWithin}
 use Rattle.canonical_cactus.specs.Canonical.{arranged as arranged_in}
 use Rattle.canonical_cactus.specs.Laws.{over}
 use Rattle.canonical_cactus.specs.Standing.{least_in}
@@ -23,7 +22,7 @@ use Rattle.node_tree.specs.Forest.{IsForest}
 use Rattle.node_tree.specs.TreeSets.{IsTreeSide}
 use Rattle.node_tree.proofs.ForestEnds.{cactus_is, sides_are}
 use Rattle.node_tree.proofs.Making.{itself}
-use Rattle.tree_flattening.proofs.Runs.{head_is, run_within, run_starts}
+use Rattle.tree_flattening.proofs.Runs.{head_is, range_within, run_within, run_starts}
 use Rattle.tree_flattening.specs.Plans.{Plan, IsPlan, own_of, heads_of, run_from, run_of}
 use Rattle.tree_flattening.specs.Arranged.{LeastVertices, AreFilled, IsArranged, last_or}
 use Rattle.tree_flattening.proofs.Stated.{LawOfCanonicalTrees, IsLaidOut, plain_plan}
@@ -33,7 +32,9 @@ use Rattle.tree_flattening.proofs.Ordering.{in_order}
 
 -- ---- lists of numbers
 in_range : (n x : ℕ) → Contains (range_with_len 1 n) x → IsWithin 1 n x
-in_range n x = All-contains (IsWithin 1 n) (range_with_len 1 n) x (range_within n 1 n (omega arith))
+in_range n x c =
+    let r = range_within 1 n x c in
+    (r.0, omega (arith, r.1))
 
 some_member : {X : Type 0} (xs : List X) → 1 ≤ length xs → (x : X) × Contains xs x
 some_member [] h = absurd (omega (arith, h))

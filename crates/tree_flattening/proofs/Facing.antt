@@ -1,22 +1,15 @@
 -- Least vertices of several parts in any order, and cycles that are faced by those at their ends.
-use Rattle.std.proofs.Common.{◌≡◌, ℕ, zero, suc, ◌+◌, ◌-◌, ◌<◌, ◌≤◌, inl, inr, Bool, true, false, cond, get_or, Some, List, [], ◌∷◌, ◌++◌, length, map, reverse, ap, ◌∙◌, sym, refl, arith}
+use Rattle.std.proofs.Common.{◌≡◌, ℕ, zero, suc, ◌+◌, ◌-◌, ◌<◌, ◌≤◌, Bool, true, false, cond, get_or, Some, List, [], ◌∷◌, ◌++◌, length, map, reverse, ap, ◌∙◌, sym, refl, arith}
 use Rattle.std.specs.Prelude.{nat_lt}
 use Rattle.std.specs.List.{Contains}
 use Rattle.std.specs.List.Sorted.{IsPermutation, IsNonDecreasingBy}
-use Rattle.std.proofs.lemmas.Bool.{false≢true}
 use Rattle.std.proofs.lemmas.List.{length-map, length-reverse, get_or-map, get_or-reverse}
 use Rattle.std.proofs.lemmas.List.Sorted.{Contains-permutation, IsPermutation-sym, IsPermutation-refl, IsPermutation-reverse, IsNonDecreasingBy-from_default}
 use Rattle.cut_definitions.specs.Cuts.{least}
 use Rattle.cut_definitions.proofs.Lists.{Contains-here, Contains-there, Contains-nil}
 use Rattle.cut_definitions.proofs.Values.{least-le, Contains-least}
-use Rattle.rooted_cactus.specs.declared.tree.Block.{Block}
-use Rattle.rooted_cactus.specs.declared.tree.Children.{Children}
-use Rattle.rooted_cactus.specs.declared.tree.Block.TheVariants.{Cycle}
 use Rattle.rooted_cactus.specs.Entries.{top_first}
-use Rattle.rooted_cactus.specs.Normal.{BlockShape, block_shape}
 use Rattle.rooted_cactus.specs.Trims.{Each}
-use Rattle.rooted_cactus.proofs.Shapes.{bridge_shape}
-use Rattle.rooted_cactus.proofs.Views.{view}
 use Rattle.canonical_cactus.specs.Canonical.{Arranged, all_vertices}
 use Rattle.canonical_cactus.specs.Standing.{least_in, lesser_of, or_zero}
 use Rattle.canonical_cactus.specs.Making as Making
@@ -87,12 +80,6 @@ leasts_known f k xs h vs = least_both vs (all_vertices (map f xs)) ∙ ap (lesse
         ∙ ap (lesser_of (Some (k x))) (alone f k xs (λ y m. h y (Contains-there x xs y m))) ∙ sym (least_both (k x ∷ []) (map k xs))
 
 -- ---- cycles
-pub is_cycle : (b : Block) → (block_shape b).is_cycle ≡ true → (nodes : Children) × (b ≡ Cycle nodes)
-is_cycle b h = elim (view b) [
-  | inl y ↦ absurd (false≢true (sym (ap (λ c. (block_shape c).is_cycle) y.1 ∙ ap (λ (c : BlockShape). c.is_cycle) (bridge_shape y.0)) ∙ h))
-  | inr y ↦ y
-]
-
 pub faced_one : (f : ℕ → ℕ) (h : ℕ) → faced f h (h ∷ []) ≡ h ∷ []
 faced_one f h = one (nat_lt (f h) (f h))
   where

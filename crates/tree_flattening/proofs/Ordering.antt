@@ -31,7 +31,8 @@ use Rattle.tree_flattening.specs.Plans.{Plan, IsDrawn, own_of, heads_of, run_of}
 use Rattle.tree_flattening.specs.Arranged.{LeastVertices, AreLeasts, AreFilled, HasNoTriangle, IsArranged, last_or, faced}
 use Rattle.tree_flattening.proofs.Stated.{IsLaidOut, plain_plan}
 use Rattle.tree_flattening.proofs.Runs.{head_is, run_starts, run_within}
-use Rattle.tree_flattening.proofs.Facing.{each_mapped, sorted_mapped, none_left, last_in, least_some, least_moved, leasts_known, is_cycle, faced_one, faced_moves, faced_long, faces}
+use Rattle.rooted_cactus.proofs.Fits.{cycle_view}
+use Rattle.tree_flattening.proofs.Facing.{each_mapped, sorted_mapped, none_left, last_in, least_some, least_moved, leasts_known, faced_one, faced_moves, faced_long, faces}
 
 -- ---- the nodes and blocks of both trees
 module _ (n : ℕ) (a : NodeArrays) (l : LeastVertices) (p : Plan) (node : ℕ → Node) (block : ℕ → Block) (node1 : ℕ → Node) (block1 : ℕ → Block)
@@ -95,8 +96,8 @@ module _ (n : ℕ) (a : NodeArrays) (l : LeastVertices) (p : Plan) (node : ℕ �
       let f : ℕ → Arranged = λ j. arranged (node1 j) in
       let long : length run ≡ length rest + 1 = omega (arith, ap length starts) in
       let longer : (xs : List ℕ) → length xs ≡ length run → not (length xs == 1) ≡ true = λ xs e. ap not (ne_eqb (length xs) 1 (λ o. more (omega (arith, o, e, long)))) in
-      let x = is_cycle (block h) (old.kind h lt ∙ longer (reverse run) (length-reverse run)) in
-      let y = is_cycle (block1 h) (kind_drawn h lt ∙ longer qs (faced_long l.nodes h run)) in
+      let x = cycle_view (block h) (old.kind h lt ∙ longer (reverse run) (length-reverse run)) in
+      let y = cycle_view (block1 h) (kind_drawn h lt ∙ longer qs (faced_long l.nodes h run)) in
       let under : nodes_in x.0 ≡ map node (reverse run) = sym (nodes_cycle x.0) ∙ sym (ap nodes_of x.1) ∙ old.nodes h lt in
       let under1 : nodes_in y.0 ≡ map node1 qs = sym (nodes_cycle y.0) ∙ sym (ap nodes_of y.1) ∙ run_drawn h lt in
       let rs = map (λ j. read_node has kept (node j)) (reverse run) in

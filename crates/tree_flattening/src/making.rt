@@ -13,7 +13,7 @@ use flat_cactus::FlatCactus;
 use node_tree::HomedTree;
 use std::alloc::Global;
 
-/// The flat canonical cactus over the vertices 1 to n whose sides are those of a tree in arrays; none where there are more nodes
+/// The flat canonical cactus over the vertices 1 to n whose sides are those of a tree in arrays; none just where there are more nodes
 /// than vertices, a node has no vertex, or a cycle has three nodes with the one above, since then the canonical cactus has other
 /// nodes than the tree.
 ///
@@ -31,6 +31,7 @@ pub fn canonical_flat(
     requires nodes { AreNodes (arrays_of tree.now) }
     requires one { slice_index tree.now.homes.items 1 ≡ 0 }
     ensures flat { IfOk result (λ o. IfSome o (IsCanonicalFlat n (arrays_of tree.now))) }
+    ensures fit { IfOk result (λ o. IfSome o (λ f. ¬ (IsUnfit n (arrays_of tree.now)))) }
     ensures none { IfOk result (λ o. IfNone o (IsUnfit n (arrays_of tree.now))) }
 {
     let Some(arranged) = arrange(alloc, tree, n)? else {

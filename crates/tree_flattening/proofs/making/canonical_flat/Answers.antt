@@ -1,4 +1,4 @@
-use Rattle.std.proofs.Common.{refl, subst, arith}
+use Rattle.std.proofs.Common.{refl, subst, arith, inl, inr}
 use Rattle.std.specs.Prelude.{IfSome}
 use Rattle.node_tree.specs.Finished.{arrays_of}
 use Rattle.node_tree.specs.Flat.{NodeArrays}
@@ -28,3 +28,15 @@ returns-clause-flat c =
       sides = tree.sides;
       flat = c.in_ok-flat.ensures tree.node tree.block tree.drawn;
     }
+
+pub returns-clause-fit : goal.returns-clause-fit
+returns-clause-fit c = λ unfit.
+    let a : NodeArrays = arrays_of c.args.tree.now in
+    let ordered = subst (λ o. IfSome o (IsOrdered c.args.n a)) c.in-Some.is c.in_ok-arranged.ensures.ordered in
+    elim unfit [
+      | inl more ↦ omega (arith, more, ordered.few)
+      | inr rest ↦ elim rest [
+        | inl empty ↦ empty ordered.filled
+        | inr triangle ↦ triangle ordered.no_triangle
+      ]
+    ]
