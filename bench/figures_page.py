@@ -13,6 +13,7 @@ MUCH = 30e6          # bytes; less is mostly that of the start of a program
 COLOURS = {'program': '#c8553d', 'lemon-ni': '#2f6f9f', 'lemon-ho': '#5b8c5a', 'boost': '#8a6bb1', 'igraph': '#b98b2d', 'networkx': '#7a7f85',
            'igraph-count': '#b98b2d', 'value': '#2f6f9f', 'count': '#b98b2d', 'cactus': '#c8553d'}
 PLOTTED = ('ring', 'ring_of_rings', 'grid', 'torus', 'prism', 'tree', 'regular', 'random_sparse', 'random_dense', 'ring_of_cliques', 'network', 'network_dual')
+WORKERS = '## Workers'    # the heading of what bench/workers.py writes
 JOBS = {'value': 'the least weight of a cut', 'count': 'the number of all minimum cuts', 'cactus': 'all minimum cuts at once'}
 
 
@@ -330,14 +331,32 @@ def call_lines(calls):
                    [[f'`{name}`'] + [f'{figure:,.1f}' for figure in figures] for name, figures in calls['microseconds'].items()])]
 
 
+def parted(path):
+    """What a page has before its section on workers, which bench/workers.py writes, and that section; both may be empty."""
+    if not os.path.exists(path):
+        return '', ''
+    with open(path) as page:
+        text = page.read()
+    place = text.find(f'{WORKERS}\n')
+    return (text, '') if place < 0 else (text[:place], text[place:])
+
+
+def write_workers(path, lines):
+    """Puts the section on workers at the end of a page, in place of the one that stood there."""
+    before, _ = parted(path)
+    with open(path, 'w') as out:
+        out.write('\n'.join([before.rstrip('\n'), '', WORKERS, '', *lines]).lstrip('\n'))
+
+
 def write(told, titles, folder):
-    """Writes the page and its plots into the folder; `titles` has a title for each contender."""
-    records = told['records']
+    """Writes the page and its plots into the folder; `titles` has a title for each contender. The section on workers stays."""
+    records, path = told['records'], os.path.join(folder, 'FIGURES.md')
     lines = about_lines(told['about'], records) + write_plots(records, titles, folder)
     for job, answer in JOBS.items():
         some = [record for record in records if record['job'] == job]
         if some:
             lines += job_lines(job, answer, some, titles)
     lines += call_lines(told.get('calls'))
-    with open(os.path.join(folder, 'FIGURES.md'), 'w') as out:
-        out.write('\n'.join(lines))
+    _, workers = parted(path)
+    with open(path, 'w') as out:
+        out.write('\n'.join(lines) + (f'\n{workers}' if workers else ''))

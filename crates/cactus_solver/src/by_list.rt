@@ -10,7 +10,7 @@ ghost use Rattle.min_value.specs.Kernels.{IsKept};
 ghost use Rattle.rooted_cactus.specs.Solving.{IsSolved};
 ghost use Rattle.cactus_solver.specs.SolvedLists.{AreCutsOf, IsTreeSolved};
 
-use crate::list_classes::classes_of;
+use crate::list_classes::{ListClasses, classes_of};
 use crate::solved_list::{Cuts, SolvedList, SolvedTree};
 use crate::solver::{tree_at_value, tree_by_kernel};
 use component_cuts::count_components;
@@ -23,7 +23,8 @@ use region_sweep::cactus_by_tree;
 use rooted_cactus::Solved;
 use std::alloc::Global;
 use std::thread::Threads;
-use weighted_graph::Graph;
+use vertex_order::{NearGraph, near_graph};
+use weighted_graph::{Graph, Labels};
 
 /// What `reduce` leaves of a smaller graph, with the labels that lead there.
 fn reduce_further<R: Threads + Sync, G: Gate>(
@@ -99,6 +100,65 @@ fn solve_graph<R: Threads + Sync, G: Gate>(
     })
 }
 
+/// The graph on classes of the vertices, by the list of its edges.
+fn kernel_of_classes(alloc: Global, found: ListClasses) -> Result<Kernel, NoMemory>
+    requires { (g : EdgeGraph) × IsKept g found.value found.list found.labels }
+    ensures { (g : EdgeGraph) → IsKept g found.value found.list found.labels → IfOk result (λ k. IsKept g k.value k.graph k.labels) }
+{
+    let ListClasses {
+        value,
+        list,
+        labels,
+    } = found;
+    // known by this call: it is an edge list
+    let _n = list.n();
+    match near_graph(alloc, list)? {
+        NearGraph::AsListed(graph) => Ok(Kernel {
+            value,
+            graph,
+            labels,
+        }),
+        NearGraph::Renumbered {
+            graph,
+            labels: next,
+            ..
+        } => Ok(Kernel {
+            value,
+            graph,
+            labels: labels.compose(alloc, &next)?,
+        }),
+    }
+}
+
+/// The value of a graph that labels have renumbered, and what the scans for it leave of the graph.
+fn kernel_of_renumbered<R: Threads + Sync, G: Gate>(
+    rt: &R,
+    alloc: Global,
+    graph: Graph,
+    labels: Labels,
+    workers: u32,
+    gate: &G,
+) -> Result<Kernel, NoMemory>
+    requires enough { 2 ≤ graph.vertices }
+    requires counted { classes labels ≡ graph.vertices }
+    requires workers { (1 ≤ workers) × (workers ≤ 64) }
+    ensures { (g : EdgeGraph) → IsKept g (least_value graph) graph labels → IfOk result (λ k. IsKept g k.value k.graph k.labels) }
+{
+    let ValueWithKernel { value, kernel } = value_with_kernel(rt, alloc, &graph, workers, gate)?;
+    match kernel {
+        Some(kernel) => Ok(Kernel {
+            value,
+            graph: kernel.graph,
+            labels: labels.compose(alloc, &kernel.labels)?,
+        }),
+        None => Ok(Kernel {
+            value,
+            graph,
+            labels,
+        }),
+    }
+}
+
 /// The minimum cuts of a connected graph whose value is known.
 fn solve_connected<R: Threads + Sync, G: Gate>(
     rt: &R,
@@ -118,15 +178,48 @@ fn solve_connected<R: Threads + Sync, G: Gate>(
 {
     let ValueWithTies { value, ties } = found;
     if let Some(classes) = classes_of(alloc, &list, value, ties)? {
-        let kernel = Kernel {
-            value: classes.value,
-            graph: Graph::from_list(alloc, classes.list)?,
-            labels: classes.labels,
-        };
+        let kernel = kernel_of_classes(alloc, classes)?;
         return solve_by_smaller(rt, alloc, list, kernel, workers, gate);
     }
-    let graph = Graph::from_list(alloc, list)?;
-    solve_graph(rt, alloc, graph, value, workers, gate)
+    match near_graph(alloc, list)? {
+        NearGraph::AsListed(graph) => solve_graph(rt, alloc, graph, value, workers, gate),
+        NearGraph::Renumbered {
+            list,
+            graph,
+            labels,
+        } => {
+            let kernel = Kernel {
+                value,
+                graph,
+                labels,
+            };
+            solve_by_smaller(rt, alloc, list, kernel, workers, gate)
+        }
+    }
+}
+
+/// The minimum cuts of a connected graph by its rows, in the order of its list.
+fn solve_as_listed<R: Threads + Sync, G: Gate>(
+    rt: &R,
+    alloc: Global,
+    graph: Graph,
+    workers: u32,
+    gate: &G,
+) -> Result<SolvedList<SolvedTree>, NoMemory>
+    requires connected { IsConnected graph }
+    requires enough { 2 ≤ graph.vertices }
+    requires workers { (1 ≤ workers) × (workers ≤ 64) }
+    ensures list { IfOk result (λ r. r.list ≡ graph) }
+    ensures cuts { IfOk result (λ r. AreCutsOf IsTreeSolved graph r.cuts) }
+{
+    let ValueWithKernel { value, kernel } = value_with_kernel(rt, alloc, &graph, workers, gate)?;
+    match kernel {
+        Some(kernel) => {
+            let list = graph.into_list();
+            solve_by_smaller(rt, alloc, list, kernel, workers, gate)
+        }
+        None => solve_graph(rt, alloc, graph, value, workers, gate),
+    }
 }
 
 /// The minimum cuts of a graph whose list does not tell a value above 0: the number of components, or the cuts by rows.
@@ -149,14 +242,16 @@ fn solve_by_rows<R: Threads + Sync, G: Gate>(
             cuts: Cuts::Apart(components),
         });
     }
-    let graph = Graph::from_list(alloc, list)?;
-    let ValueWithKernel { value, kernel } = value_with_kernel(rt, alloc, &graph, workers, gate)?;
-    match kernel {
-        Some(kernel) => {
-            let list = graph.into_list();
+    match near_graph(alloc, list)? {
+        NearGraph::AsListed(graph) => solve_as_listed(rt, alloc, graph, workers, gate),
+        NearGraph::Renumbered {
+            list,
+            graph,
+            labels,
+        } => {
+            let kernel = kernel_of_renumbered(rt, alloc, graph, labels, workers, gate)?;
             solve_by_smaller(rt, alloc, list, kernel, workers, gate)
         }
-        None => solve_graph(rt, alloc, graph, value, workers, gate),
     }
 }
 
@@ -166,7 +261,8 @@ fn solve_by_rows<R: Threads + Sync, G: Gate>(
 /// The value is told by the list where forests make that shorter, and the same forests show classes that no minimum cut
 /// parts. Where these are a tenth fewer than the vertices only the graph on the classes has rows. Else the graph has rows, and
 /// is solved as `solve_at` or `solve` solve it, but that scans which lead to the value may leave a smaller graph at once, and
-/// that its rows are dropped once the tree is made. Components are counted by the list, in O(m log(n) + n) steps.
+/// that its rows are dropped once the tree is made. What has rows is numbered anew where that brings neighbours nearer.
+/// Components are counted by the list, in O(m log(n) + n) steps.
 ///
 /// The number of workers is 1 to 64; they and the gate are handed to the rounds and the sweep. Memory is in proportion to
 /// n + m. It is refused only where memory is wanting; the list is gone then.

@@ -2,3 +2,4 @@ pub mod Contracted
 pub mod Kept
 pub mod Light
 pub mod Scanned
+pub mod Numbered

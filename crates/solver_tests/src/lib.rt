@@ -12,6 +12,8 @@ mod graphs;
 #[cfg(test)]
 mod lists;
 #[cfg(test)]
+mod scattered;
+#[cfg(test)]
 mod shares;
 #[cfg(test)]
 mod sides;

@@ -1,0 +1,47 @@
+//! Labels that number the vertices in the order in which a breadth-first search finds them.
+
+ghost use Rattle.std.specs.Prelude.{IfOk, IfSome};
+ghost use Rattle.vertex_order.specs.Numbering.{IsNumbering};
+
+use crate::finding::Finding;
+use cut_definitions::{Edge, NoMemory};
+use std::alloc::Global;
+use weighted_graph::{Graph, Labels};
+
+/// The arrays of so many vertices do not fit the nearer caches.
+const FAR: u32 = 32_768;
+
+/// Where so large a part of the vertices waits at once, their order says little of who is near.
+const PART_WAITING: usize = 8;
+
+/// Whether the ends of most edges are far from each other.
+fn is_scattered(edges: &[Edge]) -> bool {
+    let mut far = 0usize;
+    for edge in edges {
+        if edge.v.saturating_sub(edge.u) >= FAR {
+            far += 1;
+        }
+    }
+    far > edges.len() / 2
+}
+
+/// Labels by which neighbours are nearer to each other: the vertices in the order of a breadth-first search from vertex 1. None
+/// where most edges lead to a near vertex already, where there are fewer edges than vertices, where the search does not find all
+/// vertices, or where too many wait at once.
+pub(crate) fn nearer_order(alloc: Global, graph: &Graph) -> Result<Option<Labels>, NoMemory>
+    ensures { IfOk result (λ found. IfSome found (IsNumbering graph.now.vertices)) }
+{
+    let n = graph.n() as usize;
+    if n == 0 || graph.edges() < n || !is_scattered(graph.edge_list()) {
+        return Ok(None);
+    }
+    let mut finding = Finding::new(alloc, graph.n())?;
+    for place in 0..n {
+        let found = finding.count();
+        if place >= found || found - place > n / PART_WAITING {
+            return Ok(None);
+        }
+        finding.find_beside(graph, place)?;
+    }
+    Ok(Some(Labels::from_list(finding.numbers)))
+}
