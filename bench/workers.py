@@ -114,7 +114,9 @@ def section_of(options, head, rows, load):
     """The section of the page: how it was measured, and the table."""
     about = (f'Elapsed seconds of whole runs by `bench/workers.py`, the least of {options.repetitions} in turn, on '
              f'{datetime.datetime.now(datetime.timezone.utc).strftime("%Y-%m-%d")}, {os.cpu_count()} processors, load {load:.1f} before the first run. '
-             "'Reading' is a run that ends once the graph is read; 'waits' is how often the run with most workers waited.")
+             "'Reading' is a run that ends once the graph is read; 'waits' is how often the run with most workers waited. Where that is one to three "
+            "times it started next to no thread, and what its time differs by is the machine's own doing. Which steps one thread does, and why, is "
+            "in DECISIONS, 'What one thread does'.")
     return [about, '', *figures_page.table(head, rows)]
 
 
