@@ -9,7 +9,7 @@ use std::alloc::Global;
 use weighted_graph::{Graph, Labels};
 
 /// The arrays of so many vertices do not fit the nearer caches.
-const FAR: u32 = 32_768;
+const FAR: u32 = 4_096;
 
 /// Where so large a part of the vertices waits at once, their order says little of who is near.
 const PART_WAITING: usize = 8;
