@@ -7,7 +7,7 @@ ghost use Rattle.forest_contraction.specs.Left.{AreLabelsTied, AreTies};
 ghost use Rattle.min_value.specs.Kernels.{IsKept};
 
 use cut_definitions::{EdgeList, NoMemory};
-use forest_contraction::{Ties, tied_classes};
+use forest_contraction::{Ties, is_tenth_less, tied_classes};
 use std::alloc::Global;
 use weighted_graph::{Labels, relabel_list};
 
@@ -41,7 +41,7 @@ fn between(
     requires tied { AreLabelsTied list.now (value + 1) labels }
     ensures { IfOk result (λ found. IfSome found (λ c. IsKept list.now c.value c.list c.labels)) }
 {
-    if u64::from(labels.classes()) * 10 > u64::from(list.n()) * 9 {
+    if !is_tenth_less(labels.classes(), list.n()) {
         return Ok(None);
     }
     let between = relabel_list(alloc, list, &labels)?;

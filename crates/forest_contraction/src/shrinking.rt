@@ -1,6 +1,6 @@
 //! Contraction of a list of edges, as long as it makes the list shorter.
 
-ghost use Rattle.std.specs.Prelude.{◌≡◌, ◌^◌, ◌<◌, ◌≤◌, ℕ, IfOk, IfSome, IsTrue, MatchOption, if◌then◌else◌, length, min, nat_lt};
+ghost use Rattle.std.specs.Prelude.{◌≡◌, ◌↔◌, ◌*◌, ◌^◌, ◌<◌, ◌≤◌, ℕ, IfOk, IfSome, IsTrue, MatchOption, if◌then◌else◌, length, min, nat_lt};
 ghost use Rattle.cut_definitions.specs.Cuts.{value};
 ghost use Rattle.cut_definitions.specs.Graph.{Graph};
 ghost use Rattle.weighted_graph.specs.ContractionLaws.{PartsNoClass};
@@ -20,9 +20,8 @@ const FEW_EDGES: usize = 1024;
 const LOW_BOUND: u64 = 6;
 
 /// Whether there are at most nine tenths of so many.
-fn is_a_tenth_less(few: u32, many: u32) -> bool
-    requires { 1 ≤ many }
-    ensures { IsTrue result → few < many }
+pub fn is_tenth_less(few: u32, many: u32) -> bool
+    ensures { IsTrue result ↔ (few * 10 ≤ many * 9) }
 {
     u64::from(few) * 10 <= u64::from(many) * 9
 }
@@ -58,7 +57,7 @@ fn between_classes(
         IfOk result (λ found. IfSome found (IsLesser (min bound (value list.now)) bound)) }
     ensures above { IfOk result (λ found. IfSome found (λ small. 2 ≤ small.vertices → value list.now ≤ value small)) }
 {
-    if !is_a_tenth_less(labels.classes(), list.n()) {
+    if !is_tenth_less(labels.classes(), list.n()) {
         return Ok(None);
     }
     let small = relabel_list(alloc, list, labels)?;

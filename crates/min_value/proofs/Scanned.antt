@@ -56,5 +56,5 @@ least_known g bound best (Some small) h = lesser_known (min bound (value g)) bes
 
 -- a sweep from a fair bound tells the value, or a bound on it
 pub tells_value : (g : Graph) → IsGraph g → (bound most : ℕ) (swept : Swept) → IsFair g bound → TellsLeast g bound most swept → TellsValue g swept
-tells_value g ok bound most (Whole weight) fair told = omega (arith, told, value-le_fair g bound fair)
+tells_value g ok bound most (Whole weight) fair told = (omega (arith, told, value-le_fair g bound fair), omega (arith, told, fair_small g ok bound fair))
 tells_value g ok bound most (Part weight) fair told = (omega (arith, told.0, value-le_fair g bound fair), omega (arith, told.1, fair_small g ok bound fair))

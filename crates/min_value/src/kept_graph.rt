@@ -8,6 +8,7 @@ ghost use Rattle.round_workers.specs.Round.{CertifiedAreMarked, SomeIsMarked};
 ghost use Rattle.min_value.specs.Kernels.{IsKept, IsKeptOn};
 
 use cut_definitions::NoMemory;
+use forest_contraction::is_tenth_less;
 use mark_board::Marks;
 use outside::Gate;
 use round_contract::contract;
@@ -23,13 +24,6 @@ pub struct Kernel {
     pub value: u64,
     pub graph: Graph,
     pub labels: Labels,
-}
-
-/// Whether a number of vertices is a tenth smaller than the one before it.
-pub(crate) fn is_tenth_less(left: u32, before: u32) -> bool
-    ensures { result ≡ true → left * 10 ≤ before * 9 }
-{
-    u64::from(left) * 10 <= u64::from(before) * 9
 }
 
 // A graph with so many times as many edges as vertices is dense.

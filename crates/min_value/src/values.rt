@@ -1,13 +1,14 @@
 //! The value of a graph.
 
-ghost use Rattle.std.specs.Prelude.{◌≡◌, ◌≤◌, IfOk};
+ghost use Rattle.std.specs.Prelude.{◌≡◌, ◌≤◌, ◌^◌, IfOk};
 ghost use Rattle.cut_definitions.specs.Cuts.{value};
 ghost use Rattle.cut_definitions.specs.Safe.{IsFair};
 ghost use Rattle.forest_contraction.specs.Left.{IsLesser};
-ghost use Rattle.min_value.specs.Left.{TellsValue};
+ghost use Rattle.min_value.specs.Left.{IsToTell, TellsValue};
 
-use crate::scans::{scan_away, scan_or_sweep, value_of_shrunk};
+use crate::scans::{Shrunk, scan_or_sweep, value_of_shrunk};
 use cut_definitions::NoMemory;
+use forest_contraction::is_tenth_less;
 use least_cut::{Swept, least_weight_below, least_weight_within};
 use outside::Gate;
 use round_contract::contract;
@@ -71,7 +72,7 @@ pub(crate) fn value_by_rounds<R: Threads + Sync, G: Gate>(
     let mut shrinks = true;
     'rounds: while shrinks && small.n() >= 2 {
         let (low, smaller) = contract_once(rt, alloc, &small, 1, gate)?;
-        shrinks = u64::from(smaller.n()) * 10 <= u64::from(small.n()) * 9;
+        shrinks = is_tenth_less(smaller.n(), small.n());
         best = best.min(low);
         small = smaller;
     }
@@ -98,48 +99,44 @@ pub(crate) fn sweep(alloc: Global, graph: &Graph) -> Result<Swept, NoMemory>
     Ok(swept)
 }
 
-/// The value by a sweep, and where that is cut short by scans, which contract the graph.
-fn value_by_sweep<R: Threads + Sync, G: Gate>(
+/// A sweep, and where that is cut short one scan: what is left to be told of the value.
+fn sweep_or_scan<R: Threads + Sync, G: Gate>(
     rt: &R,
     alloc: Global,
     graph: &Graph,
     workers: u32,
     gate: &G,
-) -> Result<u64, NoMemory>
-    requires workers { (1 ≤ workers) × (workers ≤ 64) }
+) -> Result<Shrunk, NoMemory>
     requires enough { 2 ≤ graph.now.vertices }
-    ensures { IfOk result (λ weight. weight ≡ value graph.now) }
+    requires workers { (1 ≤ workers) × (workers ≤ 64) }
+    ensures small { IfOk result (λ s. s.best ≤ 2 ^ 62) }
+    ensures told { IfOk result (λ s. IsToTell (value graph.now) s.best s.smaller) }
 {
-    let swept = sweep(alloc, graph)?;
-    match swept {
-        Swept::Whole(weight) => Ok(weight),
-        Swept::Part(best) => {
-            let shrunk = scan_or_sweep(rt, alloc, graph, best, workers, gate)?;
-            value_of_shrunk(rt, alloc, shrunk, workers, gate)
-        }
+    // known by this call: the graph is an edge list, so no weight is above 2^61
+    let _n = graph.n();
+    match sweep(alloc, graph)? {
+        Swept::Whole(best) => Ok(Shrunk {
+            best,
+            smaller: None,
+        }),
+        Swept::Part(best) => scan_or_sweep(rt, alloc, graph, best, workers, gate),
     }
 }
 
-/// The same for a graph that is given back before a smaller one gets its rows.
-fn value_by_sweep_away<R: Threads + Sync, G: Gate>(
+/// The same for a graph that is taken over, and so given back before a smaller one gets its rows.
+fn sweep_or_scan_away<R: Threads + Sync, G: Gate>(
     rt: &R,
     alloc: Global,
     graph: Graph,
     workers: u32,
     gate: &G,
-) -> Result<u64, NoMemory>
-    requires workers { (1 ≤ workers) × (workers ≤ 64) }
+) -> Result<Shrunk, NoMemory>
     requires enough { 2 ≤ graph.vertices }
-    ensures { IfOk result (λ weight. weight ≡ value graph) }
+    requires workers { (1 ≤ workers) × (workers ≤ 64) }
+    ensures small { IfOk result (λ s. s.best ≤ 2 ^ 62) }
+    ensures told { IfOk result (λ s. IsToTell (value graph) s.best s.smaller) }
 {
-    let swept = sweep(alloc, &graph)?;
-    match swept {
-        Swept::Whole(weight) => Ok(weight),
-        Swept::Part(best) => {
-            let shrunk = scan_away(rt, alloc, graph, best, workers, gate)?;
-            value_of_shrunk(rt, alloc, shrunk, workers, gate)
-        }
-    }
+    sweep_or_scan(rt, alloc, &graph, workers, gate)
 }
 
 /// The value of a graph as `value` tells it, but that the graph is given back as soon as a smaller one is known.
@@ -157,7 +154,8 @@ pub(crate) fn value_away<R: Threads + Sync, G: Gate>(
     if graph.edges() <= FEW_EDGES {
         return value_by_rounds(rt, alloc, &graph, workers, gate);
     }
-    value_by_sweep_away(rt, alloc, graph, workers, gate)
+    let shrunk = sweep_or_scan_away(rt, alloc, graph, workers, gate)?;
+    value_of_shrunk(rt, alloc, shrunk, workers, gate)
 }
 
 /// The value of a graph of two or more vertices: the least weight of a cut.
@@ -182,6 +180,7 @@ pub fn value<R: Threads + Sync, G: Gate>(
         let weight = value_by_rounds(rt, alloc, graph, workers, gate)?;
         return Ok(weight);
     }
-    let weight = value_by_sweep(rt, alloc, graph, workers, gate)?;
+    let shrunk = sweep_or_scan(rt, alloc, graph, workers, gate)?;
+    let weight = value_of_shrunk(rt, alloc, shrunk, workers, gate)?;
     Ok(weight)
 }

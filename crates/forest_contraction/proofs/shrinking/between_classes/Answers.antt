@@ -9,7 +9,7 @@ use Rattle.forest_contraction.proofs.shrinking.between_classes.Goals as goal
 pub returns-clause-less : goal.returns-clause-less
 unfolding relabel
 returns-clause-less c =
-    let less = c.is_a_tenth_less.ensures c.if-not-is_a_tenth_less.false in
+    let less = c.is_tenth_less.ensures.0 c.if-not-is_tenth_less.false in
     rw c.in_ok-small.ensures (omega (arith, less, c.classes.ensures.value, c.n.ensures.value))
 
 pub returns-clause-left : goal.returns-clause-left

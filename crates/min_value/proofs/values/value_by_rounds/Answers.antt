@@ -1,4 +1,4 @@
-use Rattle.std.proofs.Common.{sym, ◌∙◌, subst, ℕ, arith}
+use Rattle.std.proofs.Common.{sym, subst, ℕ, arith}
 use Rattle.cut_definitions.specs.Cuts.{value}
 use Rattle.forest_contraction.specs.Left.{IsLesser}
 use Rattle.min_value.proofs.Contracted.{left_more, left_none, left_some, fewer_left}
@@ -6,8 +6,8 @@ use Rattle.min_value.proofs.values.value_by_rounds.Goals as goal
 
 pub rounds-smaller : goal.rounds-smaller
 rounds-smaller g c =
-    fewer_left c.rounds.small.vertices c.in_ok-low.smaller.vertices c.from.result c.from-in-rounds.result c.rounds.shrinks
-    (c.from.ensures ∙ c.n-in-rounds.ensures.value) (c.from-in-rounds.ensures ∙ c.n-in-rounds-2.ensures.value) (omega (arith, c.if-n-ge2.true, c.n.ensures.value)) c.rounds-test.true
+    fewer_left c.rounds.small.vertices c.in_ok-low.smaller.vertices c.is_tenth_less-shrinks.result c.rounds.shrinks
+    (λ yes. omega (arith, c.is_tenth_less-shrinks.ensures.0 yes, c.n-in-rounds.ensures.value, c.n-in-rounds-2.ensures.value)) (omega (arith, c.if-n-ge2.true, c.n.ensures.value)) c.rounds-test.true
 
 pub rounds-preserved : goal.rounds-preserved
 rounds-preserved g c =
