@@ -4,9 +4,8 @@ use Rattle.cut_definitions.specs.Graph.{Graph, IsGraph}
 use Rattle.cut_definitions.specs.Cuts.{value}
 use Rattle.cut_definitions.specs.Contraction.{relabel}
 use Rattle.vertex_order.specs.Numbering.{IsNumbering}
-use Rattle.vertex_order.proofs.Keeping.{numbering_is_labelled, numbering_keeps}
+use Rattle.vertex_order.proofs.Keeping.{numbering_is_labelled, numbering_keeps, numbered_stands}
 use Rattle.min_value.specs.Kernels.{KeepsAllMinimumCuts, IsKept}
-use Rattle.min_value.proofs.Kept.{two_left}
 
 pub kept_by_numbering : (g : Graph) → IsGraph g → 2 ≤ g.vertices → (least : ℕ) (labels : List ℕ) (small : Graph) → least ≡ value g → IsNumbering g.vertices labels → small ≡ relabel g labels → IsKept g least small labels
 unfolding relabel
@@ -19,5 +18,5 @@ kept_by_numbering g ok two least labels small is h small_is =
       labelled = numbering_is_labelled g labels h;
       counted = refl;
       minimum_cuts = all;
-      enough = two_left g (relabel g labels) labels two all;
+      enough = (numbered_stands g ok two labels h).enough;
     })

@@ -1,11 +1,12 @@
 -- A search that numbers the vertices as it finds them.
-use Rattle.std.proofs.Common.{◌≡◌, ℕ, suc, ◌+◌, ◌-◌, ◌<◌, ◌≤◌, ⊎_elim, max, List, [], ◌∷◌, ◌++◌, length, set, get_or, refl, sym, ◌∙◌, ap, arith}
+use Rattle.std.proofs.Common.{◌≡◌, ℕ, ◌+◌, ◌-◌, ◌<◌, ◌≤◌, ⊎_elim, List, [], ◌∷◌, ◌++◌, length, set, get_or, refl, sym, ◌∙◌, ap, arith}
 use Rattle.std.specs.Prelude.{◌≢◌}
-use Rattle.std.specs.List.{All, Contains, fold}
+use Rattle.std.specs.List.{Contains}
 use Rattle.std.proofs.lemmas.Bool.{cases_eq, cases_lt}
 use Rattle.std.proofs.lemmas.List.Elements.{All-from_get_or}
 use Rattle.std.proofs.lemmas.List.{get_or_append_left, get_or_default, get_or_push, get_or-set_same, get_or-set_other, length-append, length-set}
 use Rattle.cut_definitions.specs.Contraction.{classes, IsLabels}
+use Rattle.cut_definitions.proofs.ListLaws.{fold_max-bound}
 use Rattle.weighted_graph.proofs.Labelling.{le_length}
 use Rattle.vertex_order.specs.declared.finding.Finding.{Finding}
 use Rattle.vertex_order.specs.Finding.{IsFinding, number_of, vertex_at}
@@ -51,6 +52,14 @@ put_finding n f f' v count h order numbers is one to_n new =
           (cases_eq w v);
     }
 
+-- a vertex that has a number keeps one
+pub still_numbered : (xs ys : List ℕ) (v count u : ℕ) → ys ≡ set xs (v - 1) count → 1 ≤ v → v ≤ length xs → 1 ≤ count → 1 ≤ u → 1 ≤ get_or xs (u - 1) 0 → 1 ≤ get_or ys (u - 1) 0
+still_numbered xs ys v count u is one to_n some u1 was =
+    ⊎_elim
+    (λ (e : v ≡ u). let at : u - 1 ≡ v - 1 = omega (arith, e) in omega (arith, ap (λ (zs : List ℕ). get_or zs (u - 1) 0) is, ap (λ (k : ℕ). get_or (set xs (v - 1) count) k 0) at, get_or-set_same xs (v - 1) count 0 (omega (arith, one, to_n)), some))
+    (λ (ne : v ≢ u). omega (arith, ap (λ (zs : List ℕ). get_or zs (u - 1) 0) is, get_or-set_other xs (v - 1) (u - 1) count 0 (λ (e : u - 1 ≡ v - 1). ne (omega (arith, e, one, u1))), was))
+    (cases_eq v u)
+
 -- ---- no more vertices than there are
 
 -- the place of the vertex that has a number
@@ -92,17 +101,8 @@ never_missed n f h all v one to_n none =
     (cases_lt c (n + 1)) in r) in
     omega (arith, le_length (n + 1) ys each, same_length, h.long)
 
-above_zero : (x : ℕ) → ¬ (x ≡ 0) → 1 ≤ x
-above_zero x ne = omega (arith, ne)
-
 all_numbered : (n : ℕ) (f : Finding) → IsFinding n f → n ≤ length f.order.items → (v : ℕ) → 1 ≤ v → v ≤ n → 1 ≤ number_of f v
-all_numbered n f h all v one to_n = above_zero (number_of f v) (never_missed n f h all v one to_n)
-
-fold_max-bound : (xs : List ℕ) (a m : ℕ) → a ≤ m → All (λ x. x ≤ m) xs → fold max a xs ≤ m
-fold_max-bound [] a m le all = le
-fold_max-bound (x ∷ xs) a m le all =
-    let first : x ≤ m = all 0 0 (omega arith) in
-    fold_max-bound xs (max a x) m (omega arith) (λ k d l. all (suc k) d (omega arith))
+all_numbered n f h all v one to_n = let some = never_missed n f h all v one to_n in omega (arith, some)
 
 -- the number at a place of the list is that of the vertex there
 at_place : (n : ℕ) (f : Finding) → IsFinding n f → n ≤ length f.order.items → (k : ℕ) → k < length f.numbers.items →
@@ -118,8 +118,7 @@ pub numbers_are_labels : (n : ℕ) (f : Finding) → IsFinding n f → n ≤ len
 numbers_are_labels n f h all = record {
   from_one = All-from_get_or (λ c. 1 ≤ c) f.numbers.items 0 (λ k l. (at_place n f h all k l).0);
   used = λ c l u.
-      let bound : classes f.numbers.items ≤ length f.order.items = fold_max-bound f.numbers.items 0 (length f.order.items) (omega arith)
-      (All-from_get_or (λ c. c ≤ length f.order.items) f.numbers.items 0 (λ k less. (at_place n f h all k less).1)) in
+      let bound : classes f.numbers.items ≤ length f.order.items = fold_max-bound f.numbers.items 0 (length f.order.items) (omega arith) (λ k less. (at_place n f h all k less).1) in
       each_number n f h c l (omega (arith, u, bound));
   first = λ some. ap (number_of f) (sym h.first) ∙ h.numbers 0 h.some;
 }

@@ -1,10 +1,9 @@
 -- What a numbering of the vertices keeps.
-use Rattle.std.proofs.Common.{◌≡◌, ℕ, ◌≤◌, Bool, false, not, List, refl, sym, subst, arith}
-use Rattle.std.specs.Prelude.{if◌then◌else◌}
+use Rattle.std.proofs.Common.{◌≡◌, ℕ, ◌≤◌, List, refl, sym, subst}
 use Rattle.cut_definitions.specs.Graph.{Graph, IsGraph}
-use Rattle.cut_definitions.specs.Weight.{VertexSet, parts}
 use Rattle.cut_definitions.specs.Cuts.{has, value}
 use Rattle.cut_definitions.specs.Contraction.{relabel}
+use Rattle.cut_definitions.proofs.Bools.{parts_itself}
 use Rattle.cut_definitions.proofs.Bridge.{IsCut-has, two_vertices}
 use Rattle.cut_definitions.proofs.Values.{value_is_weight, Contains-mincuts, IsSide-from_mincuts}
 use Rattle.weighted_graph.specs.ContractionLaws.{IsLabelled, KeepsMinimumCuts, PartsNoClass}
@@ -13,29 +12,22 @@ use Rattle.vertex_order.specs.declared.renumbering.NearGraph.{NearGraph}
 use Rattle.vertex_order.specs.declared.renumbering.NearGraph.TheVariants.{AsListed, Renumbered}
 use Rattle.vertex_order.specs.Numbering.{IsNumbering, IsNearGraph, graph_of}
 
-never_parted : (b : Bool) → (if b then not b else b) ≡ false
-never_parted b = grind arith
-
--- no set parts a vertex from itself
-not_from_itself : (s : VertexSet) (v : ℕ) → parts s v v ≡ false
-not_from_itself s v = never_parted (s v)
-
 pub numbering_is_labelled : (g : Graph) (labels : List ℕ) → IsNumbering g.vertices labels → IsLabelled g labels
 numbering_is_labelled g labels h = record { are_labels = h.are_labels; long = h.long }
 
 numbering_parts_none : (g : Graph) (labels : List ℕ) → IsNumbering g.vertices labels → PartsNoClass g labels
-numbering_parts_none g labels h = λ k side l u v u1 un v1 vn same. rw (h.apart u v u1 un v1 vn same) (not_from_itself (has _) v)
+numbering_parts_none g labels h = λ k side l u v u1 un v1 vn same. rw (h.apart u v u1 un v1 vn same) (parts_itself (has _ v))
 
 -- where each vertex has a label of its own, the value and all minimum cuts are kept
 pub numbering_keeps : (g : Graph) → IsGraph g → 2 ≤ g.vertices → (labels : List ℕ) → IsNumbering g.vertices labels → KeepsMinimumCuts g labels
 numbering_keeps g ok two labels h = law_of_contracted_minimum_cuts g ok labels (numbering_is_labelled g labels h) two (numbering_parts_none g labels h)
 
 -- a graph of two vertices or more with the same value
-pub record StandsFor (g small : Graph) : Type 0 where
+pub record SharesValue (g small : Graph) : Type 0 where
   pub same_value : value small ≡ value g
   pub enough : 2 ≤ small.vertices
 
-numbered_stands : (g : Graph) → IsGraph g → 2 ≤ g.vertices → (labels : List ℕ) → IsNumbering g.vertices labels → StandsFor g (relabel g labels)
+pub numbered_stands : (g : Graph) → IsGraph g → 2 ≤ g.vertices → (labels : List ℕ) → IsNumbering g.vertices labels → SharesValue g (relabel g labels)
 numbered_stands g ok two labels h =
     let kept = numbering_keeps g ok two labels h in
     let best = value_is_weight g two in
@@ -47,6 +39,6 @@ numbered_stands g ok two labels h =
     }
 
 -- the graph of a list, renumbered or not
-pub near_stands : (g : Graph) → IsGraph g → 2 ≤ g.vertices → (near : NearGraph) → IsNearGraph g near → StandsFor g (graph_of near)
-near_stands g ok two (AsListed graph) h = subst (StandsFor g) (sym h) (record { same_value = refl; enough = two })
-near_stands g ok two (Renumbered list graph labels) h = subst (StandsFor g) (sym h.2) (numbered_stands g ok two labels h.1)
+pub near_stands : (g : Graph) → IsGraph g → 2 ≤ g.vertices → (near : NearGraph) → IsNearGraph g near → SharesValue g (graph_of near)
+near_stands g ok two (AsListed graph) h = subst (SharesValue g) (sym h) (record { same_value = refl; enough = two })
+near_stands g ok two (Renumbered list graph labels) h = subst (SharesValue g) (sym h.2) (numbered_stands g ok two labels h.1)

@@ -1,7 +1,9 @@
 //! A search that numbers the vertices as it finds them.
 
-ghost use Rattle.std.specs.Prelude.{◌≡◌, ◌<◌, ◌≤◌, IfOk, OnOk, length};
-ghost use Rattle.vertex_order.specs.Finding.{IsFinding, number_of};
+ghost use Rattle.std.specs.Prelude.{◌≡◌, ℕ, ◌<◌, ◌≤◌, All, IfOk, OnOk, length};
+ghost use Rattle.weighted_graph.specs.declared.graph.Arc.{Arc};
+ghost use Rattle.weighted_graph.specs.Rows.{row_of};
+ghost use Rattle.vertex_order.specs.Finding.{IsFinding, number_of, vertex_at};
 
 use cut_definitions::NoMemory;
 use std::alloc::Global;
@@ -34,6 +36,7 @@ impl Finding {
         requires finding { IsFinding (length self.old.numbers.items) self.old }
         ensures finding { OnOk result (IsFinding (length self.old.numbers.items) self.new) }
         ensures numbered { OnOk result (1 ≤ number_of self.new v) }
+        ensures still { OnOk result ((u : ℕ) → 1 ≤ u → 1 ≤ number_of self.old u → 1 ≤ number_of self.new u) }
         ensures more { length self.old.order.items ≤ length self.new.order.items }
     {
         let place = v as usize - 1;
@@ -56,6 +59,7 @@ impl Finding {
         requires place { place < length self.old.order.items }
         requires finding { IsFinding graph.now.vertices self.old }
         ensures finding { OnOk result (IsFinding graph.now.vertices self.new) }
+        ensures numbered { OnOk result (All (λ (a : Arc). 1 ≤ number_of self.new a.to) (row_of graph.now (vertex_at self.old place))) }
         ensures more { length self.old.order.items ≤ length self.new.order.items }
     {
         // known by this call: the graph is an edge list

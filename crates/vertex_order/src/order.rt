@@ -12,7 +12,7 @@ use weighted_graph::{Graph, Labels};
 const FAR: u32 = 4_096;
 
 /// Where so large a part of the vertices waits at once, their order says little of who is near.
-const PART_WAITING: usize = 8;
+const PART_WAITING: usize = 12;
 
 /// Whether the ends of most edges are far from each other.
 fn is_scattered(edges: &[Edge]) -> bool {
