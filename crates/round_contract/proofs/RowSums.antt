@@ -1,7 +1,7 @@
 -- The vertices of a class one after another, what their rows add up to, and the edges that are made of it.
-use Rattle.std.proofs.Common.{◌≡◌, ℕ, zero, suc, ◌+◌, ◌-◌, ◌*◌, ◌<◌, ◌≤◌, inl, inr, ⊎_elim, Bool, true, false, ◌&&◌, ◌||◌, cond, eqb, ltb, List, [], ◌∷◌, ◌++◌, length, map, replicate, get_or, set, refl, sym, ◌∙◌, subst, ap, arith, length-append}
-use Rattle.std.proofs.lemmas.List.{get_or-replicate, get_or_past, length-replicate}
-use Rattle.std.specs.Prelude.{◌≢◌}
+use Rattle.std.proofs.Common.{◌≡◌, ℕ, zero, suc, ◌+◌, ◌-◌, ◌*◌, ◌<◌, ◌≤◌, inl, inr, ⊎_elim, Bool, true, false, ◌&&◌, ◌||◌, cond, eqb, ltb, List, [], ◌∷◌, ◌++◌, length, map, get_or, set, refl, sym, ◌∙◌, subst, ap, arith, length-append}
+use Rattle.std.specs.Prelude.{◌≢◌, Result, Ok, Err, All, IfOk, IsOk, OnOk, min}
+use Rattle.std.specs.Global.{Vec}
 use Rattle.std.specs.List.{filter, flat_map, range_with_len}
 use Rattle.std.proofs.lemmas.Bool.{cases_eq, cases_lt, eq-eqb, ne_eqb, and_left, and_right}
 use Rattle.std.proofs.lemmas.Bool.Decides.{nat_tests}
@@ -19,12 +19,13 @@ use Rattle.cut_definitions.specs.Contraction.{label, classes, class, relabel}
 use Rattle.cut_definitions.proofs.Sums.{sum_by-plus, sum_by-none, sum_by-same, sum_by-same_on}
 use Rattle.cut_definitions.proofs.WeightLaws.{join_of, join_term}
 use Rattle.cut_definitions.proofs.Ranges.{range_push}
+use Rattle.rayon.specs.Shown.{run-append}
 use Rattle.weighted_graph.specs.ContractionLaws.{IsLabelled}
 use Rattle.weighted_graph.specs.Rows.{row_of}
 use Rattle.weighted_graph.specs.declared.graph.Arc.{Arc}
 use Rattle.weighted_graph.proofs.Contraction.{law_of_contracted_graph}
 use Rattle.weighted_graph.proofs.RowLaws.{law_of_rows}
-use Rattle.round_contract.specs.Rows.{IsFirst, IsNone, IsNext, AreFirst, AreNext, toward, members_before, class_row, class_rows, edges_by}
+use Rattle.round_contract.specs.Rows.{IsFirst, IsNone, IsNext, AreFirst, AreNext, toward, members_before, class_row, edges_by, found_edges, run_rows}
 
 -- ---- the first vertex of each class, and the next one of each vertex
 
@@ -191,14 +192,23 @@ pub same_row : (g : Graph) (labels sums : List ℕ) (c : ℕ) → ((b : ℕ) →
 same_row g labels sums c same = ap (filter keeps)
     (same_map (λ b. get_or sums b 0) (λ b. between g (class labels c) (class labels b)) c (classes labels - c) (c + 1) (λ b l u. same b (omega (arith, l)) (omega (arith, u, l))))
 
-pub rows_more : (g : Graph) (labels : List ℕ) (m : ℕ) → class_rows g labels (m + 1) ≡ class_rows g labels m ++ class_row g labels (m + 1)
-rows_more g labels m =
+-- a run of one class more
+pub rows_more : (g : Graph) (labels : List ℕ) (from m : ℕ) → run_rows g labels from (m + 1) ≡ run_rows g labels from m ++ class_row g labels (from + m + 1)
+rows_more g labels from m =
     let up : m + 1 ≡ suc m = omega arith in
-    let down : 1 + m ≡ m + 1 = omega arith in
-    ap (class_rows g labels) up
-    ∙ (ap (flat_map (class_row g labels)) (range_push 1 m)
-    ∙ (flat_map-append (class_row g labels) (range_with_len 1 m) ((1 + m) ∷ [])
-    ∙ ap (λ l. class_rows g labels m ++ l) (append-nil (class_row g labels (1 + m)) ∙ ap (class_row g labels) down)))
+    let down : from + 1 + m ≡ from + m + 1 = omega arith in
+    ap (run_rows g labels from) up
+    ∙ (ap (flat_map (class_row g labels)) (range_push (from + 1) m)
+    ∙ (flat_map-append (class_row g labels) (range_with_len (from + 1) m) ((from + 1 + m) ∷ [])
+    ∙ ap (λ l. run_rows g labels from m ++ l) (append-nil (class_row g labels (from + 1 + m)) ∙ ap (class_row g labels) down)))
+
+-- two runs of classes, one after the other
+rows_run : (g : Graph) (labels : List ℕ) (from a b : ℕ) → run_rows g labels from a ++ run_rows g labels (from + a) b ≡ run_rows g labels from (a + b)
+rows_run g labels from a b =
+    let next : from + a + 1 ≡ from + 1 + a = omega arith in
+    ap (λ k. run_rows g labels from a ++ flat_map (class_row g labels) (range_with_len k b)) next
+    ∙ (sym (flat_map-append (class_row g labels) (range_with_len (from + 1) a) (range_with_len (from + 1 + a) b))
+    ∙ ap (flat_map (class_row g labels)) (run-append (from + 1) a b))
 
 -- one more class, to which there is a weight or not
 pub edges_with : (sums : List ℕ) (c b : ℕ) → c < b → 1 ≤ get_or sums b 0 → edges_by sums c (b + 1 - 1 - c) ≡ edges_by sums c (b - 1 - c) ++ edge_to (λ k. get_or sums k 0) c b ∷ []
@@ -237,9 +247,65 @@ spread g labels (x ∷ xs) =
     ∙ (sym (filter-append keeps (map make (pairs_from k x)) (map make (flat_map (pairs_from k) xs)))
     ∙ ap (filter keeps) (sym (map-append make (pairs_from k x) (flat_map (pairs_from k) xs)))))
 
-pub rows_are : (g : Graph) (labels : List ℕ) → class_rows g labels (classes labels) ≡ (relabel g labels).edges
+pub rows_are : (g : Graph) (labels : List ℕ) → run_rows g labels 0 (classes labels) ≡ (relabel g labels).edges
 unfolding relabel
 rows_are g labels = spread g labels (range_with_len 1 (classes labels))
+
+-- ---- the runs of the workers
+
+-- run i, where the runs begin and end at these numbers of classes
+abbrev run_at : Graph → List ℕ → (ℕ → ℕ) → ℕ → List Edge
+run_at g labels ends i = run_rows g labels (ends i) (ends (i + 1) - ends i)
+
+-- the edges of runs that follow one another are those of all their classes
+runs_are : {E : Type 0} (g : Graph) (labels : List ℕ) (ends : ℕ → ℕ) → ((i n : ℕ) → ends i ≤ ends (i + n)) → (from : ℕ) (runs : List (Result (Vec Edge) E)) →
+    ((i : ℕ) (d : Result (Vec Edge) E) → i < length runs → found_edges (get_or runs i d) ≡ run_at g labels ends (from + i)) →
+    flat_map found_edges runs ≡ run_rows g labels (ends from) (ends (from + length runs) - ends from)
+runs_are g labels ends up from [] each =
+    let same : from + 0 ≡ from = omega arith in
+    let none : ends (from + 0) - ends from ≡ 0 = omega (arith, ap ends same) in
+    sym (ap (run_rows g labels (ends from)) none)
+runs_are g labels ends up from (r ∷ runs) each =
+    let n = length runs in
+    let a = ends (from + 1) - ends from in
+    let b = ends (from + 1 + n) - ends (from + 1) in
+    let here : from + 0 ≡ from = omega arith in
+    let last : from + 1 + n ≡ from + suc n = omega arith in
+    let next : ends (from + 1) ≡ ends from + a = omega (arith, up from 1) in
+    let all : a + b ≡ ends (from + suc n) - ends from = omega (arith, up from 1, up (from + 1) n, ap ends last) in
+    ap (λ l. l ++ flat_map found_edges runs) (each 0 r (omega arith) ∙ ap (run_at g labels ends) here)
+    ∙ (ap (λ l. run_at g labels ends from ++ l) (runs_are g labels ends up (from + 1) runs (λ i d l. each (suc i) d (omega (arith, l)) ∙ ap (run_at g labels ends) (let e : from + suc i ≡ from + 1 + i = omega arith in e)))
+    ∙ (ap (λ k. run_at g labels ends from ++ run_rows g labels k b) next
+    ∙ (rows_run g labels (ends from) a b
+    ∙ ap (run_rows g labels (ends from)) all)))
+
+-- what was found in a run that was not refused
+found_is : {E : Type 0} (run : Result (Vec Edge) E) (xs : List Edge) → IsOk run → IfOk run (λ edges. edges.items ≡ xs) → found_edges run ≡ xs
+found_is (Ok edges) xs ok h = h
+found_is (Err e) xs ok h = absurd (grind (arith, ok))
+
+-- runs of so many classes each, the last ones cut off at the number of classes, and enough of them to reach it
+pub runs_of_size : {E : Type 0} (g : Graph) (labels : List ℕ) (size count : ℕ) (runs : List (Result (Vec Edge) E)) → count ≡ classes labels → count ≤ length runs * size → All (λ run. IsOk run) runs →
+    ((i : ℕ) (d : Result (Vec Edge) E) → i < length runs → IfOk (get_or runs i d) (λ edges. edges.items ≡ run_rows g labels (min (i * size) count) (min ((i + 1) * size) count - min (i * size) count))) →
+    flat_map found_edges runs ≡ (relabel g labels).edges
+runs_of_size g labels size count runs is enough whole each =
+    let ends : ℕ → ℕ = λ i. min (i * size) count in
+    let all : ends (0 + length runs) - ends 0 ≡ classes labels = omega (arith, low, enough, is, ap ends (let e : 0 + length runs ≡ length runs = omega arith in e)) in
+    runs_are g labels ends grow 0 runs (λ i d l. found_is (get_or runs i d) (run_at g labels ends i) (whole i d l) (each i d l) ∙ ap (run_at g labels ends) (let e : i ≡ 0 + i = omega arith in e))
+    ∙ (ap (λ k. run_rows g labels k (ends (0 + length runs) - ends 0)) low
+    ∙ (ap (run_rows g labels 0) all
+    ∙ rows_are g labels))
+  where
+    grow : (i n : ℕ) → min (i * size) count ≤ min ((i + n) * size) count
+    grow i n = grind arith
+
+    low : min (0 * size) count ≡ 0
+    low = omega arith
+
+-- what follows of a value from two facts of it
+pub if_both : {T E : Type 0} (r : Result T E) (P R : T → Type 0) (Q : Type 0) → ((x : T) → P x → Q → R x) → IfOk r P → OnOk r Q → IfOk r R
+if_both (Ok x) P R Q then p q = then x p q
+if_both (Err e) P R Q then p q = p
 
 -- ---- how many edges there are
 
@@ -280,10 +346,3 @@ unfolding relabel
 relabel_made g labels k edges e f =
     ap (λ (x : ℕ). let r : Graph = record { vertices = x; edges = edges } in r) e
     ∙ ap (λ (es : List Edge). let r : Graph = record { vertices = classes labels; edges = es } in r) f
-
--- ---- a list of zeros is 0 everywhere, past its end too
-pub zeros_at : (n i : ℕ) → get_or (replicate {A = ℕ} n 0) i 0 ≡ 0
-zeros_at n i = ⊎_elim
-    (λ (l : i < n). get_or-replicate n i 0 0 l)
-    (λ (le : n ≤ i). get_or_past (replicate {A = ℕ} n 0) i 0 (omega (arith, length-replicate {A = ℕ} n 0)))
-    (cases_lt i n)

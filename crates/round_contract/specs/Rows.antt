@@ -1,5 +1,6 @@
 -- The weights between classes, added up from the rows of their vertices.
-use Rattle.std.specs.Prelude.{ℕ, ◌≡◌, ◌≢◌, ◌==◌, ◌+◌, ◌-◌, ◌<◌, ◌≤◌, ◌⊎◌, ◌&&◌, List, length, map, nat_lt, slice_index, if◌then◌else◌}
+use Rattle.std.specs.Prelude.{ℕ, ◌≡◌, ◌≢◌, ◌==◌, ◌+◌, ◌-◌, ◌<◌, ◌≤◌, ◌⊎◌, ◌&&◌, List, [], Result, Ok, Err, length, map, nat_lt, slice_index, if◌then◌else◌}
+use Rattle.std.specs.Global.{Vec}
 use Rattle.std.specs.List.{sum_by, filter, flat_map, range_with_len}
 use Rattle.cut_definitions.specs.declared.edge_list.Edge.{Edge}
 use Rattle.cut_definitions.specs.Graph.{Graph}
@@ -43,9 +44,21 @@ abbrev pub class_row : Graph → List ℕ → ℕ → List Edge
 class_row g labels c =
     filter (λ (e : Edge). nat_lt 0 e.w) (map (λ b. record { u = c; v = b; w = between g (class labels c) (class labels b) }) (range_with_len (c + 1) (classes labels - c)))
 
--- and from the first classes
-abbrev pub class_rows : Graph → List ℕ → ℕ → List Edge
-class_rows g labels count = flat_map (class_row g labels) (range_with_len 1 count)
+-- and from so many classes after one, in their order
+abbrev pub run_rows : Graph → List ℕ → ℕ → ℕ → List Edge
+run_rows g labels from count = flat_map (class_row g labels) (range_with_len (from + 1) count)
+
+-- the edges that were found, or none
+abbrev pub found_edges : {E : Type 0} → Result (Vec Edge) E → List Edge
+found_edges (Ok edges) = edges.items
+found_edges (Err _) = []
+
+-- for each class its first vertex, and for each vertex the next one of its class
+pub record AreMembers (labels first next : List ℕ) : Type 0 where
+  pub classes_long : length first ≡ classes labels + 1
+  pub vertices_long : length next ≡ length labels + 1
+  pub first_of_each : AreFirst labels 1 first
+  pub next_of_each : AreNext labels 1 next
 
 -- the edges to so many classes from one on, by what each weighs
 abbrev pub edges_by : List ℕ → ℕ → ℕ → List Edge

@@ -1,22 +1,29 @@
 //! Contraction of a dense graph: the weights between classes are added up along the rows of each class.
 
-ghost use Rattle.std.specs.Prelude.{◌≡◌, ℕ, ◌+◌, ◌-◌, ◌<◌, ◌≤◌, ◌^◌, ◌++◌, All, IfOk, IsTrue, OnOk, length, slice_index};
-ghost use Rattle.cut_definitions.specs.Contraction.{class, classes, relabel};
+ghost use Rattle.std.specs.Prelude.{◌≡◌, ℕ, ◌+◌, ◌-◌, ◌*◌, ◌<◌, ◌≤◌, ◌^◌, ◌++◌, All, IfOk, IsTrue, OnOk, length, min, slice_index};
+ghost use Rattle.std.specs.List.{flat_map};
+ghost use Rattle.std.specs.Result.{IsOk};
+ghost use Rattle.cut_definitions.specs.Contraction.{class, classes, classes as classes_of, relabel};
 ghost use Rattle.cut_definitions.specs.Weight.{between};
 ghost use Rattle.weighted_graph.specs.declared.graph.Arc.{Arc};
-ghost use Rattle.round_contract.specs.Rows.{AreFirst, AreNext, IsNext, edges_by, toward};
+ghost use Rattle.round_contract.specs.Rows.{AreFirst, AreMembers, AreNext, IsNext, edges_by, found_edges, run_rows, toward};
 
 use crate::threads::relabel_in_threads;
 use cut_definitions::{Edge, EdgeList, NoMemory};
+use row_ranges::graph_of_list;
 use std::alloc::Global;
+use std::thread;
 use std::thread::Threads;
 use weighted_graph::{Arc, Graph, Labels, relabel_list};
 
 /// The greatest number of classes for which rows are added up: each two of them may be joined by an edge.
 const MANY_CLASSES: u32 = 4096;
 
-/// On a list of fewer edges threads gain nothing.
+/// On a list of fewer edges rayon's calls gain nothing.
 const EDGES_FOR_THREADS: usize = 4_194_304;
+
+/// On a dense graph of fewer edges threads cost more than they save.
+const EDGES_FOR_RUNS: usize = 131_072;
 
 /// Writes for each class its first vertex, and for each vertex the next one of its class, or 0 where there is none.
 fn link(labels: &Labels, first: &mut [u32], next: &mut [u32])
@@ -99,37 +106,125 @@ fn append_row(class: u32, sums: &[u64], edges: &mut Vec<Edge>) -> Result<(), NoM
     Ok(())
 }
 
-/// The edges of the contracted graph, in their order.
-fn edges_of_classes(alloc: Global, graph: &Graph, labels: &Labels) -> Result<Vec<Edge>, NoMemory>
-    requires { length labels.now ≡ graph.now.vertices }
-    ensures { IfOk result (λ edges. edges.items ≡ (relabel graph.now labels.now).edges) }
+/// For each class its first vertex, and for each vertex the next one of its class, or 0 where there is none.
+#[derive(Clone, Copy)]
+pub(crate) struct Members<'a> {
+    pub(crate) first: &'a [u32],
+    pub(crate) next: &'a [u32],
+}
+
+/// The edges of the contracted graph whose lesser class is one after `from` and at most `to`, in their order.
+fn edges_of_run(
+    alloc: Global,
+    graph: &Graph,
+    labels: &Labels,
+    members: Members,
+    from: u32,
+    to: u32,
+) -> Result<Vec<Edge>, NoMemory>
+    requires labels { length labels.now ≡ graph.now.vertices }
+    requires members { AreMembers labels.now members.first.now members.next.now }
+    requires order { from ≤ to }
+    requires classes { to ≤ classes labels.now }
+    ensures { IfOk result (λ edges. edges.items ≡ run_rows graph.now labels.now from (to - from)) }
 {
-    let count = labels.classes() as usize;
-    let mut first = vec![in alloc; 0u32; count + 1]?;
-    let mut next = vec![in alloc; 0u32; labels.n() as usize + 1]?;
-    link(labels, first.as_mut_slice(), next.as_mut_slice());
-    let mut room = vec![in alloc; 0u64; count + 1]?;
+    let mut room = vec![in alloc; 0u64; labels.classes() as usize + 1]?;
     let sums = room.as_mut_slice();
     let mut edges = Vec::new(alloc);
-    for before in 0..labels.classes() {
+    for before in from..to {
         let class = before + 1;
-        let start = first[class as usize];
+        let start = members.first[class as usize];
         sums.fill(0);
-        add_class(graph, labels, &next, start, class, sums);
+        add_class(graph, labels, members.next, start, class, sums);
         append_row(class, sums, &mut edges)?;
     }
     Ok(edges)
 }
 
+/// The edges of runs, one run after another; none where one of them was refused.
+fn joined(alloc: Global, runs: Vec<Result<Vec<Edge>, NoMemory>>) -> Result<Vec<Edge>, NoMemory>
+    ensures edges { IfOk result (λ edges. edges.items ≡ flat_map found_edges runs.items) }
+    ensures whole { OnOk result (All (λ run. IsOk run) runs.items) }
+{
+    let mut edges = Vec::new(alloc);
+    for run in runs {
+        let mut found = run?;
+        edges.append(&mut found)?;
+    }
+    Ok(edges)
+}
+
+/// The edges of the contracted graph, in their order, where each worker makes those of a run of classes.
+fn edges_by_workers<R: Threads + Sync>(
+    rt: &R,
+    alloc: Global,
+    graph: &Graph,
+    labels: &Labels,
+    members: Members,
+    workers: u32,
+) -> Result<Vec<Edge>, NoMemory>
+    requires labels { length labels.now ≡ graph.now.vertices }
+    requires members { AreMembers labels.now members.first.now members.next.now }
+    requires workers { 1 ≤ workers }
+    ensures { IfOk result (λ edges. edges.items ≡ (relabel graph.now labels.now).edges) }
+{
+    let classes = labels.classes();
+    let size = u64::from(classes.div_ceil(workers));
+    let runs = thread::map_indices(
+        rt,
+        alloc,
+        workers as usize,
+        &|i: usize| -> Result<Vec<Edge>, NoMemory>
+            requires { (length labels.now ≡ graph.now.vertices) × AreMembers labels.now members.first.now members.next.now × (classes ≡ classes_of labels.now) × (i < 4294967296) × (size < 4294967296) }
+            ensures { IfOk result (λ edges. edges.items ≡ run_rows graph.entry.now labels.entry.now (min (i * size) classes) (min ((i + 1) * size) classes - min (i * size) classes)) }
+        {
+            let from = (i as u64 * size).min(u64::from(classes)) as u32;
+            let to = ((i as u64 + 1) * size).min(u64::from(classes)) as u32;
+            edges_of_run(alloc, graph, labels, members, from, to)
+        },
+    )?;
+    joined(alloc, runs)
+}
+
+/// The edges of the contracted graph, in their order.
+fn edges_of_classes<R: Threads + Sync>(
+    rt: &R,
+    alloc: Global,
+    graph: &Graph,
+    labels: &Labels,
+    workers: u32,
+) -> Result<Vec<Edge>, NoMemory>
+    requires { length labels.now ≡ graph.now.vertices }
+    ensures { IfOk result (λ edges. edges.items ≡ (relabel graph.now labels.now).edges) }
+{
+    let mut first = vec![in alloc; 0u32; labels.classes() as usize + 1]?;
+    let mut next = vec![in alloc; 0u32; labels.n() as usize + 1]?;
+    link(labels, first.as_mut_slice(), next.as_mut_slice());
+    let members = Members {
+        first: &first,
+        next: &next,
+    };
+    if workers > 1 && graph.edges() >= EDGES_FOR_RUNS {
+        return edges_by_workers(rt, alloc, graph, labels, members, workers);
+    }
+    edges_of_run(alloc, graph, labels, members, 0, labels.classes())
+}
+
 /// The list of edges of the graph on a few classes, by the rows of each class.
-fn list_by_rows(alloc: Global, graph: &Graph, labels: &Labels) -> Result<EdgeList, NoMemory>
+fn list_by_rows<R: Threads + Sync>(
+    rt: &R,
+    alloc: Global,
+    graph: &Graph,
+    labels: &Labels,
+    workers: u32,
+) -> Result<EdgeList, NoMemory>
     requires labels { length labels.now ≡ graph.now.vertices }
     requires few { classes labels.now ≤ 4096 }
     ensures { IfOk result (λ l. l ≡ relabel graph.now labels.now) }
 {
     // known by this call: the graph is an edge list
     let _n = graph.n();
-    let edges = edges_of_classes(alloc, graph, labels)?;
+    let edges = edges_of_classes(rt, alloc, graph, labels, workers)?;
     Ok(EdgeList::from_edges(labels.classes(), edges))
 }
 
@@ -149,8 +244,9 @@ fn is_dense(graph: &Graph, labels: &Labels) -> bool
 /// The list of edges of the graph on the classes of labels, one for each vertex, as `relabel_list` makes it.
 ///
 /// A dense graph that becomes little smaller is not sorted: with k classes it costs O(n + m + k^2), where k^2 is at most in
-/// proportion to m, and memory in proportion to n + m. All others cost O(m log m); where there are two workers or more, and
-/// 4,194,304 edges or more, rayon's calls map and sort them, which start threads for the processors of the machine, whatever the
+/// proportion to m, and memory in proportion to n + m; where it has 131,072 edges or more, each worker makes the edges of a run
+/// of classes. All others cost O(m log m); where there are two workers or more, and 4,194,304 edges or more, rayon's calls map
+/// and sort them, which start threads for the processors of the machine, whatever the
 /// number of workers. It is refused only where memory is wanting.
 pub fn contracted_list<R: Threads + Sync>(
     rt: &R,
@@ -163,7 +259,7 @@ pub fn contracted_list<R: Threads + Sync>(
     ensures { IfOk result (λ l. l ≡ relabel graph.now labels.now) }
 {
     if is_dense(graph, labels) {
-        return list_by_rows(alloc, graph, labels);
+        return list_by_rows(rt, alloc, graph, labels, workers);
     }
     if workers > 1 && graph.edges() >= EDGES_FOR_THREADS {
         return relabel_in_threads(rt, alloc, graph.list(), labels);
@@ -184,5 +280,5 @@ pub fn contracted<R: Threads + Sync>(
     ensures { IfOk result (λ g. g ≡ relabel graph.now labels.now) }
 {
     let list = contracted_list(rt, alloc, graph, labels, workers)?;
-    Graph::from_list(alloc, list)
+    graph_of_list(rt, alloc, list, workers)
 }
