@@ -101,7 +101,12 @@ fn solve_graph<R: Threads + Sync, G: Gate>(
 }
 
 /// The graph on classes of the vertices, by the list of its edges.
-fn kernel_of_classes(alloc: Global, found: ListClasses) -> Result<Kernel, NoMemory>
+fn kernel_of_classes<R: Threads + Sync>(
+    rt: &R,
+    alloc: Global,
+    found: ListClasses,
+    workers: u32,
+) -> Result<Kernel, NoMemory>
     requires { (g : EdgeGraph) × IsKept g found.value found.list found.labels }
     ensures { (g : EdgeGraph) → IsKept g found.value found.list found.labels → IfOk result (λ k. IsKept g k.value k.graph k.labels) }
 {
@@ -112,7 +117,7 @@ fn kernel_of_classes(alloc: Global, found: ListClasses) -> Result<Kernel, NoMemo
     } = found;
     // known by this call: it is an edge list
     let _n = list.n();
-    match near_graph(alloc, list)? {
+    match near_graph(rt, alloc, list, workers)? {
         NearGraph::AsListed(graph) => Ok(Kernel {
             value,
             graph,
@@ -178,10 +183,10 @@ fn solve_connected<R: Threads + Sync, G: Gate>(
 {
     let ValueWithTies { value, ties } = found;
     if let Some(classes) = classes_of(alloc, &list, value, ties)? {
-        let kernel = kernel_of_classes(alloc, classes)?;
+        let kernel = kernel_of_classes(rt, alloc, classes, workers)?;
         return solve_by_smaller(rt, alloc, list, kernel, workers, gate);
     }
-    match near_graph(alloc, list)? {
+    match near_graph(rt, alloc, list, workers)? {
         NearGraph::AsListed(graph) => solve_graph(rt, alloc, graph, value, workers, gate),
         NearGraph::Renumbered {
             list,
@@ -242,7 +247,7 @@ fn solve_by_rows<R: Threads + Sync, G: Gate>(
             cuts: Cuts::Apart(components),
         });
     }
-    match near_graph(alloc, list)? {
+    match near_graph(rt, alloc, list, workers)? {
         NearGraph::AsListed(graph) => solve_as_listed(rt, alloc, graph, workers, gate),
         NearGraph::Renumbered {
             list,

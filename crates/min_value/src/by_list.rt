@@ -10,6 +10,7 @@ use cut_definitions::{EdgeList, NoMemory};
 use forest_contraction::{Contracted, Ties, WithTies, contract_list, contract_with_ties};
 use least_cut::value_of_dense;
 use outside::Gate;
+use row_ranges::graph_of_list;
 use std::alloc::Global;
 use std::thread::Threads;
 use vertex_order::near_graph;
@@ -17,16 +18,21 @@ use weighted_graph::Graph;
 
 /// The graph of a list that is taken over, as it is swept over: in an order by which neighbours are nearer, but that on a graph
 /// little denser than a ring flows cost less than another order.
-fn graph_to_sweep(alloc: Global, list: EdgeList) -> Result<Graph, NoMemory>
+fn graph_to_sweep<R: Threads + Sync>(
+    rt: &R,
+    alloc: Global,
+    list: EdgeList,
+    workers: u32,
+) -> Result<Graph, NoMemory>
     requires { 2 ≤ list.vertices }
     ensures value { IfOk result (λ graph. value graph ≡ value list) }
     ensures enough { IfOk result (λ graph. 2 ≤ graph.vertices) }
 {
     let n = list.n() as usize;
     if list.len() < n + n / 8 {
-        return Graph::from_list(alloc, list);
+        return graph_of_list(rt, alloc, list, workers);
     }
-    let near = near_graph(alloc, list)?;
+    let near = near_graph(rt, alloc, list, workers)?;
     Ok(near.into_graph())
 }
 
@@ -42,7 +48,7 @@ fn value_by_rows<R: Threads + Sync, G: Gate>(
     requires workers { (1 ≤ workers) × (workers ≤ 64) }
     ensures { IfOk result (λ weight. weight ≡ value list) }
 {
-    let graph = graph_to_sweep(alloc, list)?;
+    let graph = graph_to_sweep(rt, alloc, list, workers)?;
     value_away(rt, alloc, graph, workers, gate)
 }
 

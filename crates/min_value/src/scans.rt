@@ -16,6 +16,7 @@ use mark_board::Marks;
 use outside::Gate;
 use round_contract::{classes_of_marks, contracted_list};
 use round_workers::{Threshold, lowered, mark_links, scan_round};
+use row_ranges::graph_of_list;
 use std::alloc::Global;
 use std::thread::Threads;
 use weighted_graph::Graph;
@@ -24,8 +25,8 @@ use weighted_graph::Graph;
 /// another scan is worth its time.
 #[derive(Drop)]
 pub(crate) struct Shrunk {
-    best: u64,
-    smaller: Option<EdgeList>,
+    pub(crate) best: u64,
+    pub(crate) smaller: Option<EdgeList>,
 }
 
 /// Scans the graph from vertex 1, with the bound and the slack of a threshold as the cap, and marks by links. It answers the lesser
@@ -184,23 +185,6 @@ pub(crate) fn scan_or_sweep<R: Threads + Sync, G: Gate>(
     })
 }
 
-/// The same for a graph that is given back before the contracted one gets its rows.
-pub(crate) fn scan_away<R: Threads + Sync, G: Gate>(
-    rt: &R,
-    alloc: Global,
-    graph: Graph,
-    bound: u64,
-    workers: u32,
-    gate: &G,
-) -> Result<Shrunk, NoMemory>
-    requires enough { 2 ≤ graph.vertices }
-    requires bound { bound ≤ 2 ^ 62 }
-    requires workers { (1 ≤ workers) × (workers ≤ 64) }
-    ensures { IfOk result (λ s. IsScanned graph bound s.best s.smaller) }
-{
-    scan_or_sweep(rt, alloc, &graph, bound, workers, gate)
-}
-
 /// The number that a scan left to be told.
 ///
 /// Scans contract what their links show safe, as long as each takes away a tenth of the vertices, or a fiftieth of a dense
@@ -226,8 +210,8 @@ pub(crate) fn value_of_shrunk<R: Threads + Sync, G: Gate>(
         if list.n() < 2 {
             return Ok(best);
         }
-        let graph = Graph::from_list(alloc, list)?;
-        let next = scan_away(rt, alloc, graph, best, workers, gate)?;
+        let graph = graph_of_list(rt, alloc, list, workers)?;
+        let next = scan_or_sweep(rt, alloc, &graph, best, workers, gate)?;
         best = next.best;
         smaller = next.smaller;
     }

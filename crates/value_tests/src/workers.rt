@@ -10,6 +10,7 @@ use metis_reader::Reader;
 use min_value::{reduce, value};
 use outside::{Gate, OpenGate};
 use round_workers::{Threshold, scan_round};
+use row_ranges::graph_of_list;
 use std::alloc::Global;
 use std::sync::atomic::{AtomicU64, Ordering};
 use std::test::Fail;
@@ -139,7 +140,7 @@ fn is_reduced_by_two<R: Threads + Sync>(rt: &R, alloc: Global, graph: &Graph) ->
 }
 
 /// The graph of a list of so many edges.
-fn graph_of_list(alloc: Global, list: Option<EdgeList>, edges: usize) -> Option<Graph>
+fn long_graph(alloc: Global, list: Option<EdgeList>, edges: usize) -> Option<Graph>
     ensures { IfSome result (λ g. 2 ≤ g.vertices) }
 {
     let list = list?;
@@ -155,7 +156,7 @@ fn graph_of_list(alloc: Global, list: Option<EdgeList>, edges: usize) -> Option<
 #[test]
 fn two_workers_scan_a_large_graph(rt: HostRuntime) -> Result<(), Fail> {
     let list = chain_of_blocks(rt.alloc(), 64, 8);
-    let Some(graph) = graph_of_list(rt.alloc(), list, 1855) else {
+    let Some(graph) = long_graph(rt.alloc(), list, 1855) else {
         return Err(Fail::from("no graph"));
     };
     assert!(rt; marks_each_block(&rt, rt.alloc(), &graph));
@@ -165,9 +166,36 @@ fn two_workers_scan_a_large_graph(rt: HostRuntime) -> Result<(), Fail> {
 #[test]
 fn two_workers_reduce_a_large_graph(rt: HostRuntime) -> Result<(), Fail> {
     let list = chain_of_blocks(rt.alloc(), 100, 38);
-    let Some(graph) = graph_of_list(rt.alloc(), list, 70399) else {
+    let Some(graph) = long_graph(rt.alloc(), list, 70399) else {
         return Err(Fail::from("no graph"));
     };
     assert!(rt; is_reduced_by_two(&rt, rt.alloc(), &graph));
+    Ok(())
+}
+
+/// Whether two graphs have the same rows and degrees.
+fn have_same_rows(a: &Graph, b: &Graph) -> bool {
+    if a.n() != b.n() {
+        return false;
+    }
+    for v in 0..a.n() {
+        if a.row(v) != b.row(v) || a.degree(v) != b.degree(v) {
+            return false;
+        }
+    }
+    a.row(a.n()) == b.row(b.n())
+}
+
+#[test]
+fn workers_fill_the_rows_that_one_fills(rt: HostRuntime) -> Result<(), Fail> {
+    let blocks = chain_of_blocks(rt.alloc(), 4, 364);
+    let Some(one) = long_graph(rt.alloc(), blocks, 264267) else {
+        return Err(Fail::from("no graph"));
+    };
+    for workers in [2, 3, 64] {
+        let list = EdgeList::from_edges(one.n(), Vec::from_slice(rt.alloc(), one.edge_list())?);
+        let several = graph_of_list(&rt, rt.alloc(), list, workers)?;
+        assert!(rt; have_same_rows(&one, &several));
+    }
     Ok(())
 }

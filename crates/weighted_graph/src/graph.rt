@@ -12,7 +12,7 @@ ghost use Rattle.cut_definitions.specs.Contraction.{relabel};
 ghost use Rattle.cut_definitions.specs.Scan.{single};
 ghost use Rattle.vertex_classes.specs.Classes.{no_vertex, Respects};
 ghost use Rattle.weighted_graph.specs.declared.graph.Arc.{Arc};
-ghost use Rattle.weighted_graph.specs.Rows.{row_of, weight_in};
+ghost use Rattle.weighted_graph.specs.Rows.{row_of, weight_in, IsIndexed};
 
 use crate::components::join_ends;
 use crate::labels::Labels;
@@ -81,7 +81,15 @@ impl Graph {
         ensures { IfOk result (λ g. g ≡ list) }
     {
         let rows = RowIndex::build(alloc, &list)?;
-        Ok(Graph { list, rows })
+        Ok(Graph::from_rows(list, rows))
+    }
+
+    /// The graph of a list of edges and of its rows, which whoever calls has made. Both are taken over.
+    pub fn from_rows(list: EdgeList, rows: RowIndex) -> Graph
+        requires { IsIndexed list rows.starts.items rows.arcs.items rows.degrees.items }
+        ensures { result ≡ list }
+    {
+        Graph { list, rows }
     }
 
     /// The number of vertices.

@@ -11,8 +11,9 @@ pub mod labels;
 pub mod laws;
 mod relabel;
 mod row_blocks;
-mod row_index;
+pub mod row_index;
 
 pub use graph::{Arc, Graph};
 pub use labels::Labels;
 pub use relabel::relabel_list;
+pub use row_index::RowIndex;

@@ -7,7 +7,7 @@ use Rattle.min_value.proofs.Numbered.{kept_by_numbering}
 use Rattle.cactus_solver.proofs.by_list.kernel_of_classes.Goals as goal
 
 pub returns-in_ok-compose-in-Renumbered : goal.returns-in_ok-compose-in-Renumbered
-returns-in_ok-compose-in-Renumbered c = λ g before.
+returns-in_ok-compose-in-Renumbered r c = λ g before.
     let found = c.args.found in
     let graph = c.in-Renumbered.graph in
     let next = c.in-Renumbered.next in

@@ -1,0 +1,4 @@
+pub mod Within
+pub mod Cut
+pub mod Own
+pub mod Whole

@@ -1,0 +1,82 @@
+//! The graph of a list of edges, whose rows several workers fill.
+
+ghost use Rattle.std.specs.Prelude.{◌≡◌, IfOk};
+ghost use Rattle.weighted_graph.specs.Rows.{IsIndexed};
+
+use crate::halves::fill_ranges;
+use crate::range::Range;
+use cut_definitions::{Edge, EdgeList, NoMemory};
+use std::alloc::Global;
+use std::thread::Threads;
+use weighted_graph::row_index::row_starts;
+use weighted_graph::{Arc, Graph, RowIndex};
+
+/// The least number of edges for which threads pay: below it they cost more than they save.
+const EDGES_FOR_THREADS: usize = 262_144;
+
+/// The writes into the rows of so many vertices stay in the nearer caches.
+const NEAR: u32 = 16_384;
+
+/// Whether the ends of most edges are near each other, so that rows are filled in the order of the edges. Either answer is right: it
+/// decides the time alone.
+fn is_near(edges: &[Edge]) -> bool {
+    let mut near = 0usize;
+    for edge in edges {
+        if edge.v.saturating_sub(edge.u) < NEAR {
+            near += 1;
+        }
+    }
+    near > edges.len() / 2
+}
+
+/// The rows and degrees of a list of edges, filled by as many threads as there are workers.
+fn rows_by_ranges<R: Threads + Sync>(
+    rt: &R,
+    alloc: Global,
+    list: &EdgeList,
+    workers: u32,
+) -> Result<RowIndex, NoMemory>
+    ensures { IfOk result (λ r. IsIndexed list.now r.starts.items r.arcs.items r.degrees.items) }
+{
+    let edges = list.edges();
+    let starts = row_starts(alloc, list.n(), edges)?;
+    let free = Arc {
+        to: 0,
+        edge: 0,
+        weight: 0,
+    };
+    let mut arcs = vec![in alloc; free; starts[starts.len() - 1]]?;
+    let whole = Range {
+        edges,
+        starts: &starts,
+        first: 0,
+        workers,
+    };
+    let degrees = fill_ranges(rt, alloc, whole, &mut arcs)?;
+    Ok(RowIndex {
+        starts,
+        arcs,
+        degrees,
+    })
+}
+
+/// The graph of a list of edges, which is taken over, as `Graph::from_list` makes it. Where there are two workers or more, 262,144
+/// edges or more, and most of these lead to a near vertex, its rows are filled side by side, each worker's for a range of
+/// vertices. Want of a thread alone costs no more than time.
+///
+/// It takes O(n + m) steps for each worker, and memory in proportion to n + m. It is refused only where that is wanting; the list
+/// is gone then.
+pub fn graph_of_list<R: Threads + Sync>(
+    rt: &R,
+    alloc: Global,
+    list: EdgeList,
+    workers: u32,
+) -> Result<Graph, NoMemory>
+    ensures { IfOk result (λ g. g ≡ list) }
+{
+    if workers < 2 || list.len() < EDGES_FOR_THREADS || !is_near(list.edges()) {
+        return Graph::from_list(alloc, list);
+    }
+    let rows = rows_by_ranges(rt, alloc, &list, workers)?;
+    Ok(Graph::from_rows(list, rows))
+}
