@@ -6,24 +6,9 @@ ghost use Rattle.edge_arrays.specs.Given.{given};
 ghost use Rattle.mincut_c.specs.Statuses.{HasCuts, IsReason, TellsFault, number_of};
 
 use crate::status::{Fault, OK, status_of};
-use cut_definitions::{EdgeList, NoMemory};
+use crate::values::lesser_of_list;
 use edge_arrays::{laws, list_of_arrays};
-use least_cut::{least_weight_below, value_of_dense};
 use std::alloc::Global;
-use weighted_graph::Graph;
-
-/// The lesser of a bound and the value of a list of edges of two or more vertices.
-fn lesser_of_list(alloc: Global, list: EdgeList, bound: u64) -> Result<u64, NoMemory>
-    requires { 2 ≤ list.vertices }
-    ensures { IfOk result (λ weight. weight ≡ min bound (value list)) }
-{
-    if let Some(weight) = value_of_dense(alloc, &list)? {
-        return Ok(bound.min(weight));
-    }
-    let graph = Graph::from_list(alloc, list)?;
-    let weight = least_weight_below(alloc, &graph, bound)?;
-    Ok(weight)
-}
 
 /// The lesser of a bound and the value of the graph of the arrays.
 fn lesser_of_arrays(

@@ -1,6 +1,6 @@
 //! The value.
 
-ghost use Rattle.std.specs.Prelude.{◌≡◌, ◌≢◌, ◌≤◌, IfOk, IfErr};
+ghost use Rattle.std.specs.Prelude.{◌≡◌, ◌≢◌, ◌≤◌, IfOk, IfErr, if◌then◌else◌, min, nat_lt};
 ghost use Rattle.cut_definitions.specs.Cuts.{value};
 ghost use Rattle.edge_arrays.specs.Given.{given};
 ghost use Rattle.mincut_c.specs.Statuses.{HasCuts, IsReason, TellsFault, number_of};
@@ -8,9 +8,51 @@ ghost use Rattle.mincut_c.specs.Statuses.{HasCuts, IsReason, TellsFault, number_
 use crate::status::{Fault, OK, status_of};
 use cut_definitions::{EdgeList, NoMemory};
 use edge_arrays::{laws, list_of_arrays};
-use least_cut::{least_weight, value_of_dense};
+use forest_contraction::{Contracted, contract_list};
+use least_cut::{least_weight, least_weight_below, value_of_dense};
 use std::alloc::Global;
 use weighted_graph::Graph;
+
+/// A list of at most so many edges is not contracted.
+const FEW_EDGES: usize = 1024;
+
+/// The lesser of a bound and the value of a list of edges, or the bound where that has fewer than two vertices.
+fn least_below(alloc: Global, list: EdgeList, bound: u64) -> Result<u64, NoMemory>
+    ensures { IfOk result (λ weight. weight ≡ (if nat_lt list.vertices 2 then bound else min bound (value list))) }
+{
+    if list.n() < 2 {
+        return Ok(bound);
+    }
+    let graph = Graph::from_list(alloc, list)?;
+    let weight = least_weight_below(alloc, &graph, bound)?;
+    Ok(weight)
+}
+
+/// Whether forests are tried before a sweep: where there are few edges, in all or for each vertex, the sweep costs less. Either
+/// answer is right.
+fn suits_forests(list: &EdgeList) -> bool {
+    let n = list.n() as usize;
+    list.len() > FEW_EDGES && list.len() >= n + n / 2
+}
+
+/// The lesser of a bound and the value of a list of edges of two or more vertices. What forests show that no lighter cut parts
+/// is contracted before a graph has rows.
+pub(crate) fn lesser_of_list(alloc: Global, list: EdgeList, bound: u64) -> Result<u64, NoMemory>
+    requires { 2 ≤ list.vertices }
+    ensures { IfOk result (λ weight. weight ≡ min bound (value list)) }
+{
+    if let Some(weight) = value_of_dense(alloc, &list)? {
+        return Ok(bound.min(weight));
+    }
+    if !suits_forests(&list) {
+        return least_below(alloc, list, bound);
+    }
+    let Contracted {
+        bound: most,
+        list: smaller,
+    } = contract_list(alloc, &list)?;
+    least_below(alloc, smaller.unwrap_or(list), most.min(bound))
+}
 
 /// The value of a list of edges of two or more vertices.
 fn value_of_list(alloc: Global, list: EdgeList) -> Result<u64, NoMemory>
@@ -20,9 +62,15 @@ fn value_of_list(alloc: Global, list: EdgeList) -> Result<u64, NoMemory>
     if let Some(weight) = value_of_dense(alloc, &list)? {
         return Ok(weight);
     }
-    let graph = Graph::from_list(alloc, list)?;
-    let weight = least_weight(alloc, &graph)?;
-    Ok(weight)
+    if !suits_forests(&list) {
+        let graph = Graph::from_list(alloc, list)?;
+        return least_weight(alloc, &graph);
+    }
+    let Contracted {
+        bound,
+        list: smaller,
+    } = contract_list(alloc, &list)?;
+    least_below(alloc, smaller.unwrap_or(list), bound)
 }
 
 /// The value of the graph of the arrays.
