@@ -14,6 +14,9 @@ use weighted_graph::{Arc, Graph, RowIndex};
 /// The least number of edges for which threads pay: below it they cost more than they save.
 const EDGES_FOR_THREADS: usize = 262_144;
 
+/// With fewer edges for each vertex the lists that the workers make for their vertices cost what they save.
+const EDGES_FOR_EACH_VERTEX: usize = 8;
+
 /// The writes into the rows of so many vertices stay in the nearer caches.
 const NEAR: u32 = 16_384;
 
@@ -27,6 +30,14 @@ fn is_near(edges: &[Edge]) -> bool {
         }
     }
     near > edges.len() / 2
+}
+
+/// Whether several workers fill the rows sooner than one. Either answer is right.
+fn is_shared(list: &EdgeList) -> bool {
+    let edges = list.len();
+    edges >= EDGES_FOR_THREADS
+        && edges / EDGES_FOR_EACH_VERTEX >= list.n() as usize
+        && is_near(list.edges())
 }
 
 /// The rows and degrees of a list of edges, filled by as many threads as there are workers.
@@ -61,8 +72,8 @@ fn rows_by_ranges<R: Threads + Sync>(
 }
 
 /// The graph of a list of edges, which is taken over, as `Graph::from_list` makes it. Where there are two workers or more, 262,144
-/// edges or more, and most of these lead to a near vertex, its rows are filled side by side, each worker's for a range of
-/// vertices. Want of a thread alone costs no more than time.
+/// edges or more, eight or more for each vertex, and most of these lead to a near vertex, its rows are filled side by side, each
+/// worker's for a range of vertices. Want of a thread alone costs no more than time.
 ///
 /// It takes O(n + m) steps for each worker, and memory in proportion to n + m. It is refused only where that is wanting; the list
 /// is gone then.
@@ -74,7 +85,7 @@ pub fn graph_of_list<R: Threads + Sync>(
 ) -> Result<Graph, NoMemory>
     ensures { IfOk result (λ g. g ≡ list) }
 {
-    if workers < 2 || list.len() < EDGES_FOR_THREADS || !is_near(list.edges()) {
+    if workers < 2 || !is_shared(&list) {
         return Graph::from_list(alloc, list);
     }
     let rows = rows_by_ranges(rt, alloc, &list, workers)?;
