@@ -24,7 +24,7 @@ import time
 import figures_page
 import solve
 
-FAMILIES = 'ring,ring_of_rings,squares,grid,torus,prism,tree,random_sparse,random_dense,ring_of_cliques,network,network_dual'
+FAMILIES = 'ring,ring_of_rings,squares,grid,torus,prism,tree,random_sparse,random_dense,dense_clusters,ring_of_cliques,network,network_dual'
 NO_SUCH_VERTEX = 7
 
 
