@@ -13,4 +13,4 @@ mod threads;
 
 pub use classes::classes_of_marks;
 pub use contracting::contract;
-pub use rows::{contracted, contracted_list};
+pub use rows::{contracted, contracted_alone, contracted_list};

@@ -23,7 +23,10 @@ const MANY_CLASSES: u32 = 4096;
 const EDGES_FOR_THREADS: usize = 4_194_304;
 
 /// On a dense graph of fewer edges threads cost more than they save.
-const EDGES_FOR_RUNS: usize = 131_072;
+const EDGES_FOR_RUNS: usize = 1_048_576;
+
+/// Of a few thousand classes, more workers would have next to nothing to do each.
+const MOST_RUNS: u32 = 64;
 
 /// Writes for each class its first vertex, and for each vertex the next one of its class, or 0 where there is none.
 fn link(labels: &Labels, first: &mut [u32], next: &mut [u32])
@@ -113,6 +116,16 @@ pub(crate) struct Members<'a> {
     pub(crate) next: &'a [u32],
 }
 
+/// For each class its first vertex, and for each vertex the next one of its class, as `Members` shows them.
+fn linked(alloc: Global, labels: &Labels) -> Result<(Vec<u32>, Vec<u32>), NoMemory>
+    ensures { IfOk result (λ lists. AreMembers labels.now lists.0.items lists.1.items) }
+{
+    let mut first = vec![in alloc; 0u32; labels.classes() as usize + 1]?;
+    let mut next = vec![in alloc; 0u32; labels.n() as usize + 1]?;
+    link(labels, first.as_mut_slice(), next.as_mut_slice());
+    Ok((first, next))
+}
+
 /// The edges of the contracted graph whose lesser class is one after `from` and at most `to`, in their order.
 fn edges_of_run(
     alloc: Global,
@@ -186,32 +199,35 @@ fn edges_by_workers<R: Threads + Sync>(
     joined(alloc, runs)
 }
 
-/// The edges of the contracted graph, in their order.
-fn edges_of_classes<R: Threads + Sync>(
-    rt: &R,
-    alloc: Global,
-    graph: &Graph,
-    labels: &Labels,
-    workers: u32,
-) -> Result<Vec<Edge>, NoMemory>
-    requires { length labels.now ≡ graph.now.vertices }
-    ensures { IfOk result (λ edges. edges.items ≡ (relabel graph.now labels.now).edges) }
+/// The list of all edges of the graph on a few classes.
+fn list_of_edges(graph: &Graph, labels: &Labels, edges: Vec<Edge>) -> EdgeList
+    requires labels { length labels.now ≡ graph.now.vertices }
+    requires few { classes labels.now ≤ 4096 }
+    requires edges { edges.items ≡ (relabel graph.now labels.now).edges }
+    ensures { result ≡ relabel graph.now labels.now }
 {
-    let mut first = vec![in alloc; 0u32; labels.classes() as usize + 1]?;
-    let mut next = vec![in alloc; 0u32; labels.n() as usize + 1]?;
-    link(labels, first.as_mut_slice(), next.as_mut_slice());
+    // known by this call: the graph is an edge list
+    let _n = graph.n();
+    EdgeList::from_edges(labels.classes(), edges)
+}
+
+/// The list of edges of the graph on a few classes, by the rows of each class.
+fn list_by_rows(alloc: Global, graph: &Graph, labels: &Labels) -> Result<EdgeList, NoMemory>
+    requires labels { length labels.now ≡ graph.now.vertices }
+    requires few { classes labels.now ≤ 4096 }
+    ensures { IfOk result (λ l. l ≡ relabel graph.now labels.now) }
+{
+    let (first, next) = linked(alloc, labels)?;
     let members = Members {
         first: &first,
         next: &next,
     };
-    if workers > 1 && graph.edges() >= EDGES_FOR_RUNS {
-        return edges_by_workers(rt, alloc, graph, labels, members, workers);
-    }
-    edges_of_run(alloc, graph, labels, members, 0, labels.classes())
+    let edges = edges_of_run(alloc, graph, labels, members, 0, labels.classes())?;
+    Ok(list_of_edges(graph, labels, edges))
 }
 
-/// The list of edges of the graph on a few classes, by the rows of each class.
-fn list_by_rows<R: Threads + Sync>(
+/// The list of edges of the graph on a few classes, where each worker makes those of a run of classes.
+fn list_by_workers<R: Threads + Sync>(
     rt: &R,
     alloc: Global,
     graph: &Graph,
@@ -220,12 +236,16 @@ fn list_by_rows<R: Threads + Sync>(
 ) -> Result<EdgeList, NoMemory>
     requires labels { length labels.now ≡ graph.now.vertices }
     requires few { classes labels.now ≤ 4096 }
+    requires workers { 1 ≤ workers }
     ensures { IfOk result (λ l. l ≡ relabel graph.now labels.now) }
 {
-    // known by this call: the graph is an edge list
-    let _n = graph.n();
-    let edges = edges_of_classes(rt, alloc, graph, labels, workers)?;
-    Ok(EdgeList::from_edges(labels.classes(), edges))
+    let (first, next) = linked(alloc, labels)?;
+    let members = Members {
+        first: &first,
+        next: &next,
+    };
+    let edges = edges_by_workers(rt, alloc, graph, labels, members, workers)?;
+    Ok(list_of_edges(graph, labels, edges))
 }
 
 /// Whether so many edges of the graph may be left between classes that each two classes can be looked at.
@@ -241,13 +261,28 @@ fn is_dense(graph: &Graph, labels: &Labels) -> bool
     is_little_smaller && pairs / 8 <= graph.edges() as u64
 }
 
-/// The list of edges of the graph on the classes of labels, one for each vertex, as `relabel_list` makes it.
+/// The list of edges of the graph on the classes of labels, one for each vertex, as `relabel_list` makes it, by the calling thread
+/// alone.
 ///
 /// A dense graph that becomes little smaller is not sorted: with k classes it costs O(n + m + k^2), where k^2 is at most in
-/// proportion to m, and memory in proportion to n + m; where it has 131,072 edges or more, each worker makes the edges of a run
-/// of classes. All others cost O(m log m); where there are two workers or more, and 4,194,304 edges or more, rayon's calls map
-/// and sort them, which start threads for the processors of the machine, whatever the
-/// number of workers. It is refused only where memory is wanting.
+/// proportion to m, and memory in proportion to n + m. All others cost O(m log m). It is refused only where memory is wanting.
+pub fn contracted_alone(alloc: Global, graph: &Graph, labels: &Labels) -> Result<EdgeList, NoMemory>
+    requires { length labels.now ≡ graph.now.vertices }
+    ensures { IfOk result (λ l. l ≡ relabel graph.now labels.now) }
+{
+    if is_dense(graph, labels) {
+        return list_by_rows(alloc, graph, labels);
+    }
+    let list = relabel_list(alloc, graph.list(), labels)?;
+    Ok(list)
+}
+
+/// The list of edges that `contracted_alone` makes, by several threads where there are two workers or more and edges enough.
+///
+/// Of a dense graph that becomes little smaller, and has 1,048,576 edges or more, each worker makes the edges of a run of classes;
+/// more than 64 workers count as 64, and each has memory in proportion to the number of classes and to its edges. Of all others,
+/// 4,194,304 edges or more are mapped and sorted by rayon's calls, which start threads for the processors of the machine, whatever
+/// the number of workers. It costs as much as `contracted_alone` in all, and is refused only where memory is wanting.
 pub fn contracted_list<R: Threads + Sync>(
     rt: &R,
     alloc: Global,
@@ -258,10 +293,13 @@ pub fn contracted_list<R: Threads + Sync>(
     requires { length labels.now ≡ graph.now.vertices }
     ensures { IfOk result (λ l. l ≡ relabel graph.now labels.now) }
 {
-    if is_dense(graph, labels) {
-        return list_by_rows(rt, alloc, graph, labels, workers);
+    if workers < 2 || graph.edges() < EDGES_FOR_RUNS {
+        return contracted_alone(alloc, graph, labels);
     }
-    if workers > 1 && graph.edges() >= EDGES_FOR_THREADS {
+    if is_dense(graph, labels) {
+        return list_by_workers(rt, alloc, graph, labels, workers.min(MOST_RUNS));
+    }
+    if graph.edges() >= EDGES_FOR_THREADS {
         return relabel_in_threads(rt, alloc, graph.list(), labels);
     }
     let list = relabel_list(alloc, graph.list(), labels)?;

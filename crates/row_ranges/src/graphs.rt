@@ -3,16 +3,17 @@
 ghost use Rattle.std.specs.Prelude.{◌≡◌, IfOk};
 ghost use Rattle.weighted_graph.specs.Rows.{IsIndexed};
 
+use crate::distance::most_lead_far;
 use crate::halves::fill_ranges;
 use crate::range::Range;
-use cut_definitions::{Edge, EdgeList, NoMemory};
+use cut_definitions::{EdgeList, NoMemory};
 use std::alloc::Global;
 use std::thread::Threads;
 use weighted_graph::row_index::row_starts;
 use weighted_graph::{Arc, Graph, RowIndex};
 
 /// The least number of edges for which threads pay: below it they cost more than they save.
-const EDGES_FOR_THREADS: usize = 262_144;
+const EDGES_FOR_THREADS: usize = 1_048_576;
 
 /// With fewer edges for each vertex the lists that the workers make for their vertices cost what they save.
 const EDGES_FOR_EACH_VERTEX: usize = 8;
@@ -20,24 +21,15 @@ const EDGES_FOR_EACH_VERTEX: usize = 8;
 /// The writes into the rows of so many vertices stay in the nearer caches.
 const NEAR: u32 = 16_384;
 
-/// Whether the ends of most edges are near each other, so that rows are filled in the order of the edges. Either answer is right: it
-/// decides the time alone.
-fn is_near(edges: &[Edge]) -> bool {
-    let mut near = 0usize;
-    for edge in edges {
-        if edge.v.saturating_sub(edge.u) < NEAR {
-            near += 1;
-        }
-    }
-    near > edges.len() / 2
-}
+/// More workers would go over all edges for next to nothing.
+const MOST_WORKERS: u32 = 64;
 
 /// Whether several workers fill the rows sooner than one. Either answer is right.
 fn is_shared(list: &EdgeList) -> bool {
     let edges = list.len();
     edges >= EDGES_FOR_THREADS
         && edges / EDGES_FOR_EACH_VERTEX >= list.n() as usize
-        && is_near(list.edges())
+        && !most_lead_far(list.edges(), NEAR)
 }
 
 /// The rows and degrees of a list of edges, filled by as many threads as there are workers.
@@ -71,9 +63,9 @@ fn rows_by_ranges<R: Threads + Sync>(
     })
 }
 
-/// The graph of a list of edges, which is taken over, as `Graph::from_list` makes it. Where there are two workers or more, 262,144
+/// The graph of a list of edges, which is taken over, as `Graph::from_list` makes it. Where there are two workers or more, 1,048,576
 /// edges or more, eight or more for each vertex, and most of these lead to a near vertex, its rows are filled side by side, each
-/// worker's for a range of vertices. Want of a thread alone costs no more than time.
+/// worker's for a range of vertices. More than 64 workers count as 64. Want of a thread alone costs no more than time.
 ///
 /// It takes O(n + m) steps for each worker, and memory in proportion to n + m. It is refused only where that is wanting; the list
 /// is gone then.
@@ -88,6 +80,6 @@ pub fn graph_of_list<R: Threads + Sync>(
     if workers < 2 || !is_shared(&list) {
         return Graph::from_list(alloc, list);
     }
-    let rows = rows_by_ranges(rt, alloc, &list, workers)?;
+    let rows = rows_by_ranges(rt, alloc, &list, workers.min(MOST_WORKERS))?;
     Ok(Graph::from_rows(list, rows))
 }

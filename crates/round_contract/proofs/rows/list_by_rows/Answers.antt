@@ -1,12 +1,12 @@
-use Rattle.std.proofs.Common.{◌∙◌, subst, sym}
-use Rattle.cut_definitions.specs.Graph.{IsEdgeList}
-use Rattle.round_contract.proofs.RowSums.{few_rows, relabel_made}
+use Rattle.std.proofs.Common.{◌≡◌, ◌-◌, ◌∙◌, ap, arith}
+use Rattle.cut_definitions.specs.Contraction.{classes}
+use Rattle.round_contract.specs.Rows.{run_rows}
+use Rattle.round_contract.proofs.RowSums.{rows_are}
 use Rattle.round_contract.proofs.rows.list_by_rows.Goals as goal
 
-pub from_edges-requires : goal.from_edges-requires
-from_edges-requires g c =
-    subst IsEdgeList (sym (relabel_made c.args.graph.now c.args.labels.now c.classes.result c.in_ok-edges.edges.items c.classes.ensures.value c.in_ok-edges.ensures))
-    (few_rows c.args.graph.now c.n-n.ensures.edge_list c.args.labels.now (record { are_labels = c.classes.ensures.labels; long = c.requires.labels }) c.requires.few)
-
-pub returns : goal.returns
-returns g c = c.from_edges.ensures ∙ relabel_made c.args.graph.now c.args.labels.now c.classes.result c.in_ok-edges.edges.items c.classes.ensures.value c.in_ok-edges.ensures
+pub list_of_edges-requires-clause-edges : goal.list_of_edges-requires-clause-edges
+list_of_edges-requires-clause-edges c =
+    let graph = c.args.graph.now in
+    let labels = c.args.labels.now in
+    let all : c.classes.result - 0 ≡ classes labels = omega (arith, c.classes.ensures.value) in
+    c.in_ok-edges.ensures ∙ (ap (run_rows graph labels 0) all ∙ rows_are graph labels)
