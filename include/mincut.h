@@ -54,7 +54,7 @@ uint32_t mincut_version(void);
 
 /* The value: 0 where the graph is not connected. With another status than MINCUT_OK `value` is left as it was. The statuses are
  * 0 to 7. Cost: O(m log m) to sort the edges and contract, and one sweep of flows over what is left, which takes
- * little more than that on most graphs, but much more on dense graphs of uneven weights. */
+ * little more than that on most graphs. */
 mincut_status mincut_value(uint32_t n, size_t m, const uint32_t *u, const uint32_t *v, const uint64_t *w, uint64_t *value);
 
 /* The lesser of the bound and the value, for separation: the value where that is below the bound, and else the bound. Its statuses

@@ -1,22 +1,15 @@
 -- Classes that no cut parts which weighs at most the value keep the minimum cuts.
-use Rattle.std.proofs.Common.{◌≡◌, ℕ, ◌+◌, ◌<◌, ◌≤◌, ◌^◌, List, refl, sym, subst, arith}
+use Rattle.std.proofs.Common.{◌≡◌, ℕ, ◌+◌, ◌<◌, ◌≤◌, List, refl, sym, subst, arith}
 use Rattle.cut_definitions.specs.Graph.{Graph, IsGraph}
 use Rattle.cut_definitions.specs.Weight.{VertexSet, weight}
-use Rattle.cut_definitions.specs.Cuts.{has, value}
+use Rattle.cut_definitions.specs.Cuts.{value}
 use Rattle.cut_definitions.specs.Contraction.{relabel, RespectsClasses}
-use Rattle.cut_definitions.proofs.Running.{weight-le_total}
-use Rattle.cut_definitions.proofs.Values.{value_is_weight}
 use Rattle.weighted_graph.specs.ContractionLaws.{IsLabelled}
 use Rattle.weighted_graph.proofs.Contraction.{law_of_contracted_minimum_cuts}
 use Rattle.forest_contraction.specs.Left.{AreLabelsTied}
 use Rattle.forest_contraction.proofs.Lessening.{tied_none}
 use Rattle.min_value.specs.Kernels.{KeepsAllMinimumCuts, IsKept}
 use Rattle.min_value.proofs.Kept.{two_left}
-
-pub value_fits : (g : Graph) → IsGraph g → 2 ≤ g.vertices → value g ≤ 2 ^ 61
-value_fits g ok two =
-    let best = value_is_weight g two in
-    omega (arith, weight-le_total g (has best.0), best.2, ok.total)
 
 pub kept_by_ties : (g : Graph) → IsGraph g → (labels : List ℕ) (least : ℕ) (small : Graph) → 2 ≤ g.vertices → least ≡ value g → IsLabelled g labels →
     ((s : VertexSet) → weight g s < least + 1 → RespectsClasses g.vertices labels s) → small ≡ relabel g labels → IsKept g least small labels

@@ -1,4 +1,4 @@
 pub mod Lifting
 pub mod Smaller
 mod ByClasses
-mod Connected
+pub mod Connected

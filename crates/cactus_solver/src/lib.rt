@@ -12,8 +12,10 @@ mod by_list;
 mod list_classes;
 mod solved_list;
 mod solver;
+mod sweep_team;
 
-pub use by_list::{solve_list, tree_of_list};
+pub use by_list::{solve_list, solve_long_list, tree_of_list, tree_of_long_list};
 pub use rooted_cactus::Solved;
 pub use solved_list::{Cuts, SolvedList, SolvedTree};
 pub use solver::{solve, solve_at};
+pub use sweep_team::SweepTeam;

@@ -1,11 +1,13 @@
 -- What a scan leaves to be known of a value, below any bound.
-use Rattle.std.proofs.Common.{◌≡◌, ℕ, ◌≤◌, Bool, true, false, List, min, refl, sym, subst, arith}
+use Rattle.std.proofs.Common.{◌≡◌, ℕ, ◌≤◌, ◌^◌, Bool, true, false, List, min, refl, sym, subst, arith}
 use Rattle.std.specs.Prelude.{if◌then◌else◌, Option, None, Some, MatchOption, nat_lt}
 use Rattle.cut_definitions.specs.Graph.{Graph, IsGraph}
-use Rattle.cut_definitions.specs.Cuts.{value}
+use Rattle.cut_definitions.specs.Cuts.{has, value}
 use Rattle.cut_definitions.specs.Safe.{IsFair}
 use Rattle.cut_definitions.specs.Contraction.{relabel}
+use Rattle.cut_definitions.proofs.Running.{weight-le_total}
 use Rattle.cut_definitions.proofs.SafeLaws.{value-le_fair}
+use Rattle.cut_definitions.proofs.Values.{value_is_weight}
 use Rattle.weighted_graph.specs.ContractionLaws.{IsLabelled}
 use Rattle.weighted_graph.specs.Marks.{MarksAreSafe}
 use Rattle.weighted_graph.proofs.MarkLaws.{law_of_marked_classes}
@@ -16,8 +18,7 @@ use Rattle.forest_contraction.proofs.Lessening.{shrunk_left}
 use Rattle.least_cut.specs.declared.sweep.Swept.{Swept}
 use Rattle.least_cut.specs.declared.sweep.Swept.TheVariants.{Whole, Part}
 use Rattle.least_cut.specs.Sweep.{TellsLeast}
-use Rattle.round_workers.proofs.Marking.{fair_small}
-use Rattle.min_value.specs.Left.{IsShrunk, TellsValue}
+use Rattle.min_value.specs.Left.{IsShrunk, TellsLesser}
 
 -- a bound that is lowered by the weight of a cut is not below the lesser of the first bound and the value
 pub least_lowered : (g : Graph) (bound least weight : ℕ) (all : Bool) → min bound (value g) ≤ least → (all ≡ false → IsFair g weight) → min bound (value g) ≤ (if all then least else min least weight)
@@ -54,7 +55,13 @@ pub least_known : (g : Graph) (bound best : ℕ) (smaller : Option Graph) → Is
 least_known g bound best None h = omega (arith, h.left)
 least_known g bound best (Some small) h = lesser_known (min bound (value g)) best small h.left
 
--- a sweep from a fair bound tells the value, or a bound on it
-pub tells_value : (g : Graph) → IsGraph g → (bound most : ℕ) (swept : Swept) → IsFair g bound → TellsLeast g bound most swept → TellsValue g swept
-tells_value g ok bound most (Whole weight) fair told = (omega (arith, told, value-le_fair g bound fair), omega (arith, told, fair_small g ok bound fair))
-tells_value g ok bound most (Part weight) fair told = (omega (arith, told.0, value-le_fair g bound fair), omega (arith, told.1, fair_small g ok bound fair))
+-- no cut weighs more than all edges together
+pub value_fits : (g : Graph) → IsGraph g → 2 ≤ g.vertices → value g ≤ 2 ^ 61
+value_fits g ok two =
+    let best = value_is_weight g two in
+    omega (arith, weight-le_total g (has best.0), best.2, ok.total)
+
+-- a sweep up to a bound, but no further than a cut can weigh, tells as much as one up to the bound
+pub tells_lesser : (g : Graph) → IsGraph g → 2 ≤ g.vertices → (bound low most : ℕ) (swept : Swept) → low ≡ min bound (2 ^ 61) → TellsLeast g low most swept → TellsLesser g bound swept
+tells_lesser g ok two bound low most (Whole weight) is told = (omega (arith, is, told, value_fits g ok two), omega (arith, is, told))
+tells_lesser g ok two bound low most (Part weight) is told = (omega (arith, is, told.0, value_fits g ok two), omega (arith, is, told.1), omega (arith, is, told.1))

@@ -28,7 +28,7 @@ abbrev pub count_left : Option Graph → ℕ
 count_left None = 0
 count_left (Some g) = g.vertices + 1
 
--- the value itself, or a bound on it; not too large for a bound
-abbrev pub TellsValue : Graph → Swept → Type 0
-TellsValue g (Whole weight) = (weight ≡ value g) × (weight ≤ 2 ^ 62)
-TellsValue g (Part weight) = (value g ≤ weight) × (weight ≤ 2 ^ 62)
+-- the lesser of a bound and the value, or a number between that and the bound; not too large for a bound of scans
+abbrev pub TellsLesser : Graph → ℕ → Swept → Type 0
+TellsLesser g bound (Whole weight) = (weight ≡ min bound (value g)) × (weight ≤ 2 ^ 62)
+TellsLesser g bound (Part weight) = (min bound (value g) ≤ weight) × (weight ≤ bound) × (weight ≤ 2 ^ 62)

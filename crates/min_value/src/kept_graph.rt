@@ -11,11 +11,10 @@ use cut_definitions::NoMemory;
 use forest_contraction::is_tenth_less;
 use mark_board::Marks;
 use outside::Gate;
-use round_contract::contract;
 use round_workers::round;
-use std::alloc::Global;
 use std::thread::Threads;
 use weighted_graph::{Graph, Labels};
+use worker_team::{Crew, Team, Threaded, contract};
 
 /// The value of a graph, a smaller graph with the same value, and labels that give each vertex of the graph a vertex of
 /// the smaller one. The minimum cuts of the graph are those of the smaller graph, lifted by the labels.
@@ -41,14 +40,13 @@ pub(crate) fn is_worth_another(left: u32, before: u32, edges: usize) -> bool
 }
 
 /// The graph on the classes that marked edges join, where these lie in no minimum cut. It costs O(m log m).
-pub(crate) fn contract_safely<R: Threads + Sync>(
-    rt: &R,
-    alloc: Global,
+pub(crate) fn contract_safely<T: Team>(
+    team: &T,
     graph: &Graph,
     value: u64,
     marks: &Marks,
-    workers: u32,
 ) -> Result<Kernel, NoMemory>
+    requires ready { T.ready team.now }
     requires enough { 2 ≤ graph.now.vertices }
     requires value { value ≡ least_value graph.now }
     requires marks { marks.now.edges ≡ length graph.now.edges }
@@ -59,7 +57,7 @@ pub(crate) fn contract_safely<R: Threads + Sync>(
 {
     // known by this call: the graph is an edge list
     let _n = graph.n();
-    let (small, labels) = contract(rt, alloc, graph, marks, workers)?;
+    let (small, labels) = contract(team, graph, marks)?;
     Ok(Kernel {
         value,
         graph: small,
@@ -68,13 +66,8 @@ pub(crate) fn contract_safely<R: Threads + Sync>(
 }
 
 /// Contracts marked edges of what is kept of a graph, and leads the labels on.
-pub(crate) fn keep_less<R: Threads + Sync>(
-    rt: &R,
-    alloc: Global,
-    kept: &mut Kernel,
-    marks: &Marks,
-    workers: u32,
-) -> Result<(), NoMemory>
+pub(crate) fn keep_less<T: Team>(team: &T, kept: &mut Kernel, marks: &Marks) -> Result<(), NoMemory>
+    requires ready { T.ready team.now }
     requires enough { 2 ≤ kept.old.graph.vertices }
     requires value { kept.old.value ≡ least_value kept.old.graph }
     requires counted { classes kept.old.labels ≡ kept.old.graph.vertices }
@@ -84,20 +77,18 @@ pub(crate) fn keep_less<R: Threads + Sync>(
     ensures at_most { IfOk result (λ _. kept.new.graph.vertices ≤ kept.old.graph.vertices) }
     ensures fewer { SomeIsMarked marks.now → IfOk result (λ _. kept.new.graph.vertices < kept.old.graph.vertices) }
 {
-    let next = contract_safely(rt, alloc, &kept.graph, kept.value, marks, workers)?;
-    kept.labels = kept.labels.compose(alloc, &next.labels)?;
+    let next = contract_safely(team, &kept.graph, kept.value, marks)?;
+    kept.labels = kept.labels.compose(team.alloc(), &next.labels)?;
     kept.graph = next.graph;
     Ok(())
 }
 
 /// The marks of a round with slack 1 that is opened with the value, where its bound stays.
 pub(crate) fn round_at_value<R: Threads + Sync, G: Gate>(
-    rt: &R,
-    alloc: Global,
+    crew: &Crew<R, G>,
     graph: &Graph,
     value: u64,
     workers: u32,
-    gate: &G,
 ) -> Result<Marks, NoMemory>
     requires enough { 2 ≤ graph.now.vertices }
     requires value { value ≡ least_value graph.now }
@@ -106,35 +97,30 @@ pub(crate) fn round_at_value<R: Threads + Sync, G: Gate>(
     ensures safe { IfOk result (λ marks. MarksAreSafe graph.now (has marks.marked) value 1) }
     ensures certified { IfOk result (λ marks. CertifiedAreMarked graph.now (has marks.marked) (value + 1)) }
 {
-    let (_low, marks) = round(rt, alloc, graph, value, 1, workers, gate)?;
+    let Threaded { rt, alloc, .. } = crew.threads;
+    let (_low, marks) = round(rt, alloc, graph, value, 1, workers, crew.gate)?;
     Ok(marks)
 }
 
 /// A round with slack 1 and the contraction of what it marked.
 fn contract_once<R: Threads + Sync, G: Gate>(
-    rt: &R,
-    alloc: Global,
+    crew: &Crew<R, G>,
     graph: &Graph,
     value: u64,
-    workers: u32,
-    gate: &G,
 ) -> Result<Kernel, NoMemory>
     requires enough { 2 ≤ graph.now.vertices }
     requires value { value ≡ least_value graph.now }
-    requires workers { (1 ≤ workers) × (workers ≤ 64) }
     ensures { IfOk result (λ k. IsKept graph.now k.value k.graph k.labels) }
 {
-    let marks = round_at_value(rt, alloc, graph, value, workers, gate)?;
-    let kept = contract_safely(rt, alloc, graph, value, &marks, workers)?;
+    let marks = round_at_value(crew, graph, value, crew.threads.workers())?;
+    let kept = contract_safely(&crew.threads, graph, value, &marks)?;
     Ok(kept)
 }
 
 /// One more round with slack 1 by one worker, and whether it took away a tenth of the vertices.
 fn contract_again<R: Threads + Sync, G: Gate>(
-    rt: &R,
-    alloc: Global,
+    crew: &Crew<R, G>,
     kept: &mut Kernel,
-    gate: &G,
 ) -> Result<bool, NoMemory>
     requires enough { 2 ≤ kept.old.graph.vertices }
     requires value { kept.old.value ≡ least_value kept.old.graph }
@@ -144,19 +130,17 @@ fn contract_again<R: Threads + Sync, G: Gate>(
     ensures fewer { IfOk result (λ more. more ≡ true → kept.new.graph.vertices < kept.old.graph.vertices) }
 {
     let before = kept.graph.n();
-    let marks = round_at_value(rt, alloc, &kept.graph, kept.value, 1, gate)?;
-    keep_less(rt, alloc, kept, &marks, 1)?;
+    let marks = round_at_value(crew, &kept.graph, kept.value, 1)?;
+    keep_less(&crew.threads, kept, &marks)?;
     Ok(is_tenth_less(kept.graph.n(), before))
 }
 
 /// Further rounds by one worker, after the first one has left a smaller graph, as long as each takes away a tenth of the
 /// vertices.
 pub(crate) fn go_on_by_rounds<R: Threads + Sync, G: Gate>(
-    rt: &R,
-    alloc: Global,
+    crew: &Crew<R, G>,
     graph: &Graph,
     first: Kernel,
-    gate: &G,
 ) -> Result<Kernel, NoMemory>
     requires kept { IsKept graph.now first.value first.graph first.labels }
     ensures kept { IfOk result (λ k. IsKept graph.now k.value k.graph k.labels) }
@@ -165,7 +149,7 @@ pub(crate) fn go_on_by_rounds<R: Threads + Sync, G: Gate>(
     let mut kept = first;
     let mut shrinks = is_tenth_less(kept.graph.n(), graph.n());
     'rounds: while shrinks {
-        shrinks = contract_again(rt, alloc, &mut kept, gate)?;
+        shrinks = contract_again(crew, &mut kept)?;
     }
     Ok(kept)
 }
@@ -173,18 +157,14 @@ pub(crate) fn go_on_by_rounds<R: Threads + Sync, G: Gate>(
 /// Rounds with slack 1 and their contractions, as long as each takes away a tenth of the vertices. It answers what is left
 /// and the labels that lead there. The workers share the first round.
 pub(crate) fn contract_by_rounds<R: Threads + Sync, G: Gate>(
-    rt: &R,
-    alloc: Global,
+    crew: &Crew<R, G>,
     graph: &Graph,
     value: u64,
-    workers: u32,
-    gate: &G,
 ) -> Result<Kernel, NoMemory>
     requires enough { 2 ≤ graph.now.vertices }
     requires value { value ≡ least_value graph.now }
-    requires workers { (1 ≤ workers) × (workers ≤ 64) }
     ensures { IfOk result (λ k. IsKept graph.now k.value k.graph k.labels) }
 {
-    let first = contract_once(rt, alloc, graph, value, workers, gate)?;
-    go_on_by_rounds(rt, alloc, graph, first, gate)
+    let first = contract_once(crew, graph, value)?;
+    go_on_by_rounds(crew, graph, first)
 }

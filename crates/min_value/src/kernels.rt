@@ -6,14 +6,14 @@ ghost use Rattle.cut_definitions.specs.Contraction.{classes};
 ghost use Rattle.weighted_graph.specs.ContractionLaws.{IsLabelled};
 ghost use Rattle.min_value.specs.Kernels.{IsKept, KeepsAllMinimumCuts, NoneIsCertified, IsLight};
 
-use crate::closing::{close_first, close_once, contract_by_scans};
+use crate::closing::{close_first, close_once, reduce_by_scans};
 use crate::kept_graph::{Kernel, contract_by_rounds, go_on_by_rounds};
-use crate::values::{FEW_EDGES, value};
+use crate::rounds::{FEW_EDGES, value};
 use cut_definitions::NoMemory;
 use outside::Gate;
-use std::alloc::Global;
 use std::thread::Threads;
 use weighted_graph::Graph;
+use worker_team::Crew;
 
 /// The kernel of a graph of two or more vertices: a smaller graph with the same value whose minimum cuts, lifted by the
 /// labels, are exactly those of the graph (after Padberg and Rinaldi, 1990, and Nagamochi, Ono and Ibaraki, 1994).
@@ -24,14 +24,10 @@ use weighted_graph::Graph;
 /// value; each round but the last makes a new graph. The number of workers is 1 to 64. It is refused only where memory is
 /// wanting.
 pub fn kernel<R: Threads + Sync, G: Gate>(
-    rt: &R,
-    alloc: Global,
+    crew: &Crew<R, G>,
     graph: &Graph,
-    workers: u32,
-    gate: &G,
 ) -> Result<Kernel, NoMemory>
     requires enough { 2 ≤ graph.now.vertices }
-    requires workers { (1 ≤ workers) × (workers ≤ 64) }
     ensures value { IfOk result (λ k. k.value ≡ least_value graph.now) }
     ensures kernel_value { IfOk result (λ k. least_value k.graph ≡ least_value graph.now) }
     ensures labels { IfOk result (λ k. IsLabelled graph.now k.labels) }
@@ -40,33 +36,29 @@ pub fn kernel<R: Threads + Sync, G: Gate>(
     ensures closed { IfOk result (λ k. NoneIsCertified k.graph (k.value + 1)) }
     ensures light { IfOk result (λ k. IsLight k.graph k.value) }
 {
-    let least = value(rt, alloc, graph, workers, gate)?;
-    let mut kept = contract_by_rounds(rt, alloc, graph, least, workers, gate)?;
-    'closing: while close_once(rt, alloc, &mut kept, workers, gate)? {}
+    let least = value(crew, graph)?;
+    let mut kept = contract_by_rounds(crew, graph, least)?;
+    'closing: while close_once(crew, &mut kept)? {}
     Ok(kept)
 }
 
 /// Rounds with slack 1 and their contractions, as long as each takes away a tenth of the vertices; none where the first and a
 /// whole scan mark nothing.
 fn reduce_by_rounds<R: Threads + Sync, G: Gate>(
-    rt: &R,
-    alloc: Global,
+    crew: &Crew<R, G>,
     graph: &Graph,
     value: u64,
-    workers: u32,
-    gate: &G,
 ) -> Result<Option<Kernel>, NoMemory>
     requires enough { 2 ≤ graph.now.vertices }
     requires value { value ≡ least_value graph.now }
-    requires workers { (1 ≤ workers) × (workers ≤ 64) }
     ensures kept { IfOk result (λ found. IfSome found (λ k. IsKept graph.now k.value k.graph k.labels)) }
     ensures fewer { IfOk result (λ found. IfSome found (λ k. k.graph.vertices < graph.now.vertices)) }
     ensures light { IfOk result (λ found. IfNone found (IsLight graph.now value)) }
 {
-    let Some(first) = close_first(rt, alloc, graph, value, workers, gate)? else {
+    let Some(first) = close_first(crew, graph, value)? else {
         return Ok(None);
     };
-    let kept = go_on_by_rounds(rt, alloc, graph, first, gate)?;
+    let kept = go_on_by_rounds(crew, graph, first)?;
     Ok(Some(kept))
 }
 
@@ -81,23 +73,19 @@ fn reduce_by_rounds<R: Threads + Sync, G: Gate>(
 /// costs O((n + m) log n), and on a small graph the certificates. The number of workers is 1 to 64. It is refused only where
 /// memory is wanting.
 pub fn reduce<R: Threads + Sync, G: Gate>(
-    rt: &R,
-    alloc: Global,
+    crew: &Crew<R, G>,
     graph: &Graph,
     value: u64,
-    workers: u32,
-    gate: &G,
 ) -> Result<Option<Kernel>, NoMemory>
     requires enough { 2 ≤ graph.now.vertices }
     requires value { value ≡ least_value graph.now }
-    requires workers { (1 ≤ workers) × (workers ≤ 64) }
     ensures kept { IfOk result (λ found. IfSome found (λ k. IsKept graph.now k.value k.graph k.labels)) }
     ensures fewer { IfOk result (λ found. IfSome found (λ k. k.graph.vertices < graph.now.vertices)) }
     ensures light { IfOk result (λ found. IfNone found (IsLight graph.now value)) }
 {
     if graph.edges() <= FEW_EDGES {
-        return reduce_by_rounds(rt, alloc, graph, value, workers, gate);
+        return reduce_by_rounds(crew, graph, value);
     }
-    let kept = contract_by_scans(rt, alloc, graph, value, workers, gate)?;
+    let kept = reduce_by_scans(&crew.threads, graph, value)?;
     Ok(kept)
 }

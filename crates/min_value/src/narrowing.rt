@@ -8,17 +8,15 @@ ghost use Rattle.min_value.specs.Kernels.{IsKept, IsNarrowed};
 use crate::kept_graph::{Kernel, is_worth_another};
 use crate::scanners::scanners;
 use crate::scans::{mark_by_links, scan_or_sweep, value_of_shrunk};
-use crate::values::{FEW_EDGES, least_degree, sweep, value, value_by_rounds};
+use crate::values::{MOST_WEIGHT, least_degree, sweep, value_by_sweeps};
 use capped_scan::Scan;
 use cut_definitions::NoMemory;
 use least_cut::Swept;
 use mark_board::Marks;
-use outside::Gate;
-use round_contract::{classes_of_marks, contracted};
-use round_workers::{Threshold, scan_round};
-use std::alloc::Global;
-use std::thread::Threads;
+use round_contract::classes_of_marks;
+use round_workers::Threshold;
 use weighted_graph::{Graph, Labels};
+use worker_team::{Team, contracted};
 
 /// The value of a graph, and a smaller graph with the same minimum cuts, if the scans for the value came upon one.
 #[derive(Drop)]
@@ -37,14 +35,13 @@ struct Narrowed {
 }
 
 /// The graph on the classes of marks that are safe at a bound with slack 1, if another scan is worth its time then.
-fn narrow_by_marks<R: Threads + Sync>(
-    rt: &R,
-    alloc: Global,
+fn narrow_by_marks<T: Team>(
+    team: &T,
     graph: &Graph,
     bound: u64,
     marks: &Marks,
-    workers: u32,
 ) -> Result<Option<Narrowed>, NoMemory>
+    requires ready { T.ready team.now }
     requires enough { 2 ≤ graph.now.vertices }
     requires small { bound ≤ 2 ^ 62 }
     requires bound { least_value graph.now ≤ bound }
@@ -53,11 +50,11 @@ fn narrow_by_marks<R: Threads + Sync>(
     ensures narrowed { IfOk result (λ found. IfSome found (λ left. IsNarrowed graph.now left.bound left.graph left.labels)) }
     ensures less { IfOk result (λ found. IfSome found (λ left. left.graph.vertices * 50 ≤ graph.now.vertices * 49)) }
 {
-    let labels = classes_of_marks(alloc, graph, marks)?;
+    let labels = classes_of_marks(team.alloc(), graph, marks)?;
     if !is_worth_another(labels.classes(), graph.n(), graph.edges()) {
         return Ok(None);
     }
-    let small = contracted(rt, alloc, graph, &labels, workers)?;
+    let small = contracted(team, graph, &labels)?;
     Ok(Some(Narrowed {
         bound,
         graph: small,
@@ -66,39 +63,32 @@ fn narrow_by_marks<R: Threads + Sync>(
 }
 
 /// What a scan of one worker leaves, if it takes away enough.
-fn narrow_alone<R: Threads + Sync>(
-    rt: &R,
-    alloc: Global,
-    graph: &Graph,
-    bound: u64,
-    workers: u32,
-) -> Result<Option<Narrowed>, NoMemory>
+fn narrow_alone<T: Team>(team: &T, graph: &Graph, bound: u64) -> Result<Option<Narrowed>, NoMemory>
+    requires ready { T.ready team.now }
     requires enough { 2 ≤ graph.now.vertices }
     requires small { bound ≤ 2 ^ 62 }
     requires bound { least_value graph.now ≤ bound }
     ensures narrowed { IfOk result (λ found. IfSome found (λ left. IsNarrowed graph.now left.bound left.graph left.labels)) }
     ensures less { IfOk result (λ found. IfSome found (λ left. left.graph.vertices * 50 ≤ graph.now.vertices * 49)) }
 {
-    let mut marks = Marks::none(alloc, graph.edges())?;
-    let mut scan = Scan::new(alloc, graph)?;
+    let mut marks = Marks::none(team.alloc(), graph.edges())?;
+    let mut scan = Scan::new(team.alloc(), graph)?;
     let threshold = Threshold { bound, slack: 1 };
     let low = mark_by_links(graph, &mut scan, threshold, &mut marks);
-    narrow_by_marks(rt, alloc, graph, low, &marks, workers)
+    narrow_by_marks(team, graph, low, &marks)
 }
 
 /// The same of workers who scan side by side, from the least degree on.
-fn narrow_together<R: Threads + Sync, G: Gate>(
-    rt: &R,
-    alloc: Global,
+fn narrow_together<T: Team>(
+    team: &T,
     graph: &Graph,
     bound: u64,
     workers: u32,
-    gate: &G,
 ) -> Result<Option<Narrowed>, NoMemory>
+    requires ready { T.ready team.now }
     requires enough { 2 ≤ graph.now.vertices }
     requires small { bound ≤ 2 ^ 62 }
     requires bound { least_value graph.now ≤ bound }
-    requires workers { (1 ≤ workers) × (workers ≤ 64) }
     ensures narrowed { IfOk result (λ found. IfSome found (λ left. IsNarrowed graph.now left.bound left.graph left.labels)) }
     ensures less { IfOk result (λ found. IfSome found (λ left. left.graph.vertices * 50 ≤ graph.now.vertices * 49)) }
 {
@@ -106,53 +96,39 @@ fn narrow_together<R: Threads + Sync, G: Gate>(
         bound: least_degree(graph),
         slack: 1,
     };
-    let (low, marks) = scan_round(rt, alloc, graph, opening, workers, gate)?;
-    narrow_by_marks(rt, alloc, graph, low.min(bound), &marks, workers)
+    let (low, marks) = team.scan_round(graph, opening, workers)?;
+    narrow_by_marks(team, graph, low.min(bound), &marks)
 }
 
 /// What one scan leaves, of several workers where the graph is large, and of one where theirs take away too little.
-fn narrow<R: Threads + Sync, G: Gate>(
-    rt: &R,
-    alloc: Global,
-    graph: &Graph,
-    bound: u64,
-    workers: u32,
-    gate: &G,
-) -> Result<Option<Narrowed>, NoMemory>
+fn narrow<T: Team>(team: &T, graph: &Graph, bound: u64) -> Result<Option<Narrowed>, NoMemory>
+    requires ready { T.ready team.now }
     requires enough { 2 ≤ graph.now.vertices }
     requires small { bound ≤ 2 ^ 62 }
     requires bound { least_value graph.now ≤ bound }
-    requires workers { (1 ≤ workers) × (workers ≤ 64) }
     ensures narrowed { IfOk result (λ found. IfSome found (λ left. IsNarrowed graph.now left.bound left.graph left.labels)) }
     ensures less { IfOk result (λ found. IfSome found (λ left. left.graph.vertices * 50 ≤ graph.now.vertices * 49)) }
 {
-    let team = scanners(graph, bound, workers);
-    if team > 1 {
-        let found = narrow_together(rt, alloc, graph, bound, team, gate)?;
+    let scanning = scanners(graph, bound, team.workers());
+    if scanning > 1 {
+        let found = narrow_together(team, graph, bound, scanning)?;
         if found.is_some() {
             return Ok(found);
         }
     }
-    narrow_alone(rt, alloc, graph, bound, workers)
+    narrow_alone(team, graph, bound)
 }
 
 /// What further scans leave of a graph, after the first one, as long as another one is worth its time.
-fn narrow_on<R: Threads + Sync, G: Gate>(
-    rt: &R,
-    alloc: Global,
-    graph: &Graph,
-    first: Narrowed,
-    workers: u32,
-    gate: &G,
-) -> Result<Narrowed, NoMemory>
+fn narrow_on<T: Team>(team: &T, graph: &Graph, first: Narrowed) -> Result<Narrowed, NoMemory>
+    requires ready { T.ready team.now }
     requires narrowed { IsNarrowed graph.now first.bound first.graph first.labels }
-    requires workers { (1 ≤ workers) × (workers ≤ 64) }
     ensures narrowed { IfOk result (λ left. IsNarrowed graph.now left.bound left.graph left.labels) }
     ensures at_most { IfOk result (λ left. left.graph.vertices ≤ first.graph.vertices) }
 {
     let mut left = first;
-    'scans: while let Some(next) = narrow(rt, alloc, &left.graph, left.bound, workers, gate)? {
-        left.labels = left.labels.compose(alloc, &next.labels)?;
+    'scans: while let Some(next) = narrow(team, &left.graph, left.bound)? {
+        left.labels = left.labels.compose(team.alloc(), &next.labels)?;
         left.graph = next.graph;
         left.bound = next.bound;
     }
@@ -161,32 +137,29 @@ fn narrow_on<R: Threads + Sync, G: Gate>(
 
 /// The value of a graph whose value is at most a bound, by scans with slack 1, which keep all minimum cuts, and where these take
 /// away too little by scans that keep the value alone, or a sweep.
-fn value_by_narrowing<R: Threads + Sync, G: Gate>(
-    rt: &R,
-    alloc: Global,
+fn value_by_narrowing<T: Team>(
+    team: &T,
     graph: &Graph,
     bound: u64,
-    workers: u32,
-    gate: &G,
 ) -> Result<ValueWithKernel, NoMemory>
+    requires ready { T.ready team.now }
     requires enough { 2 ≤ graph.now.vertices }
     requires small { bound ≤ 2 ^ 62 }
     requires bound { least_value graph.now ≤ bound }
-    requires workers { (1 ≤ workers) × (workers ≤ 64) }
     ensures value { IfOk result (λ r. r.value ≡ least_value graph.now) }
     ensures kept { IfOk result (λ r. IfSome r.kernel (λ k. IsKept graph.now k.value k.graph k.labels)) }
     ensures fewer { IfOk result (λ r. IfSome r.kernel (λ k. k.graph.vertices < graph.now.vertices)) }
 {
-    let Some(first) = narrow(rt, alloc, graph, bound, workers, gate)? else {
-        let shrunk = scan_or_sweep(rt, alloc, graph, bound, workers, gate)?;
-        let weight = value_of_shrunk(rt, alloc, shrunk, workers, gate)?;
+    let Some(first) = narrow(team, graph, bound)? else {
+        let shrunk = scan_or_sweep(team, graph, bound)?;
+        let weight = value_of_shrunk(team, shrunk)?;
         return Ok(ValueWithKernel {
             value: weight,
             kernel: None,
         });
     };
-    let left = narrow_on(rt, alloc, graph, first, workers, gate)?;
-    let weight = value(rt, alloc, &left.graph, workers, gate)?;
+    let left = narrow_on(team, graph, first)?;
+    let weight = value_by_sweeps(team, &left.graph)?;
     Ok(ValueWithKernel {
         value: weight,
         kernel: Some(Kernel {
@@ -203,31 +176,20 @@ fn value_by_narrowing<R: Threads + Sync, G: Gate>(
 ///
 /// Whether there is one is free; where there is, it has fewer vertices. The number of workers is 1 to 64. It costs as much as
 /// `value`, takes memory O(n + m), and is refused only where that is wanting.
-pub fn value_with_kernel<R: Threads + Sync, G: Gate>(
-    rt: &R,
-    alloc: Global,
-    graph: &Graph,
-    workers: u32,
-    gate: &G,
-) -> Result<ValueWithKernel, NoMemory>
+pub fn value_with_kernel<T: Team>(team: &T, graph: &Graph) -> Result<ValueWithKernel, NoMemory>
+    requires ready { T.ready team.now }
     requires enough { 2 ≤ graph.now.vertices }
-    requires workers { (1 ≤ workers) × (workers ≤ 64) }
     ensures value { IfOk result (λ r. r.value ≡ least_value graph.now) }
     ensures kept { IfOk result (λ r. IfSome r.kernel (λ k. IsKept graph.now k.value k.graph k.labels)) }
     ensures fewer { IfOk result (λ r. IfSome r.kernel (λ k. k.graph.vertices < graph.now.vertices)) }
 {
-    if graph.edges() <= FEW_EDGES {
-        let weight = value_by_rounds(rt, alloc, graph, workers, gate)?;
-        return Ok(ValueWithKernel {
-            value: weight,
-            kernel: None,
-        });
-    }
-    match sweep(alloc, graph)? {
+    // known by this call: the graph is an edge list, so no cut weighs more than 2^61
+    let _n = graph.n();
+    match sweep(team.alloc(), graph, MOST_WEIGHT)? {
         Swept::Whole(weight) => Ok(ValueWithKernel {
             value: weight,
             kernel: None,
         }),
-        Swept::Part(bound) => value_by_narrowing(rt, alloc, graph, bound, workers, gate),
+        Swept::Part(bound) => value_by_narrowing(team, graph, bound),
     }
 }

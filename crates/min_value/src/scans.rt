@@ -13,13 +13,10 @@ use capped_scan::Scan;
 use cut_definitions::{EdgeList, NoMemory};
 use least_cut::least_weight_below;
 use mark_board::Marks;
-use outside::Gate;
-use round_contract::{classes_of_marks, contracted_list};
-use round_workers::{Threshold, lowered, mark_links, scan_round};
-use row_ranges::graph_of_list;
-use std::alloc::Global;
-use std::thread::Threads;
+use round_contract::classes_of_marks;
+use round_workers::{Threshold, lowered, mark_links};
 use weighted_graph::Graph;
+use worker_team::Team;
 
 /// What a scan leaves: the least weight that is known, and the edges of the contracted graph, if it is so much smaller that
 /// another scan is worth its time.
@@ -62,14 +59,13 @@ pub(crate) fn mark_by_links(
 
 /// The contraction of marked edges, if another scan is worth its time then; the marks are safe for the least weight that is
 /// known.
-fn contract_marked<R: Threads + Sync>(
-    rt: &R,
-    alloc: Global,
+fn contract_marked<T: Team>(
+    team: &T,
     graph: &Graph,
     best: u64,
     marks: &Marks,
-    workers: u32,
 ) -> Result<Shrunk, NoMemory>
+    requires ready { T.ready team.now }
     requires enough { 2 ≤ graph.now.vertices }
     requires marks { marks.now.edges ≡ length graph.now.edges }
     requires safe { MarksAreSafe graph.now (has marks.now.marked) best 0 }
@@ -77,14 +73,14 @@ fn contract_marked<R: Threads + Sync>(
     ensures shrunk { IfOk result (λ s. IsShrunk graph.now best s.best s.smaller) }
 {
     let n = graph.n();
-    let labels = classes_of_marks(alloc, graph, marks)?;
+    let labels = classes_of_marks(team.alloc(), graph, marks)?;
     if !is_worth_another(labels.classes(), n, graph.edges()) {
         return Ok(Shrunk {
             best,
             smaller: None,
         });
     }
-    let smaller = contracted_list(rt, alloc, graph, &labels, workers)?;
+    let smaller = team.contracted_list(graph, &labels)?;
     Ok(Shrunk {
         best,
         smaller: Some(smaller),
@@ -92,93 +88,76 @@ fn contract_marked<R: Threads + Sync>(
 }
 
 /// One scan, and the contraction of the edges that it marks, if that takes away enough.
-fn scan_once<R: Threads + Sync>(
-    rt: &R,
-    alloc: Global,
-    graph: &Graph,
-    bound: u64,
-    workers: u32,
-) -> Result<Shrunk, NoMemory>
+fn scan_once<T: Team>(team: &T, graph: &Graph, bound: u64) -> Result<Shrunk, NoMemory>
+    requires ready { T.ready team.now }
     requires enough { 2 ≤ graph.now.vertices }
     requires bound { bound ≤ 2 ^ 62 }
     ensures { IfOk result (λ s. IsShrunk graph.now bound s.best s.smaller) }
 {
-    let mut marks = Marks::none(alloc, graph.edges())?;
-    let mut scan = Scan::new(alloc, graph)?;
+    let mut marks = Marks::none(team.alloc(), graph.edges())?;
+    let mut scan = Scan::new(team.alloc(), graph)?;
     let threshold = Threshold { bound, slack: 0 };
     let best = mark_by_links(graph, &mut scan, threshold, &mut marks);
-    let shrunk = contract_marked(rt, alloc, graph, best, &marks, workers)?;
+    let shrunk = contract_marked(team, graph, best, &marks)?;
     Ok(shrunk)
 }
 
 /// The same by workers who scan side by side. They open with a weight of a cut, the least degree.
-fn scan_by_workers<R: Threads + Sync, G: Gate>(
-    rt: &R,
-    alloc: Global,
+fn scan_by_workers<T: Team>(
+    team: &T,
     graph: &Graph,
     bound: u64,
     workers: u32,
-    gate: &G,
 ) -> Result<Shrunk, NoMemory>
+    requires ready { T.ready team.now }
     requires enough { 2 ≤ graph.now.vertices }
-    requires workers { (1 ≤ workers) × (workers ≤ 64) }
     ensures { IfOk result (λ s. IsShrunk graph.now bound s.best s.smaller) }
 {
     let opening = Threshold {
         bound: least_degree(graph),
         slack: 0,
     };
-    let (low, marks) = scan_round(rt, alloc, graph, opening, workers, gate)?;
-    let shrunk = contract_marked(rt, alloc, graph, low.min(bound), &marks, workers)?;
+    let (low, marks) = team.scan_round(graph, opening, workers)?;
+    let shrunk = contract_marked(team, graph, low.min(bound), &marks)?;
     Ok(shrunk)
 }
 
 /// One scan: of workers side by side where the graph is large, and of one where it is not, or where theirs take away too little.
-fn scan_shared<R: Threads + Sync, G: Gate>(
-    rt: &R,
-    alloc: Global,
-    graph: &Graph,
-    bound: u64,
-    workers: u32,
-    gate: &G,
-) -> Result<Shrunk, NoMemory>
+fn scan_shared<T: Team>(team: &T, graph: &Graph, bound: u64) -> Result<Shrunk, NoMemory>
+    requires ready { T.ready team.now }
     requires enough { 2 ≤ graph.now.vertices }
     requires bound { bound ≤ 2 ^ 62 }
-    requires workers { (1 ≤ workers) × (workers ≤ 64) }
     ensures { IfOk result (λ s. IsShrunk graph.now bound s.best s.smaller) }
 {
-    let team = scanners(graph, bound, workers);
-    if team == 1 {
-        return scan_once(rt, alloc, graph, bound, workers);
+    let scanning = scanners(graph, bound, team.workers());
+    if scanning == 1 {
+        return scan_once(team, graph, bound);
     }
-    let shrunk = scan_by_workers(rt, alloc, graph, bound, team, gate)?;
+    let shrunk = scan_by_workers(team, graph, bound, scanning)?;
     if shrunk.smaller.is_some() {
         return Ok(shrunk);
     }
-    let next = scan_once(rt, alloc, graph, shrunk.best, workers)?;
+    let next = scan_once(team, graph, shrunk.best)?;
     Ok(next)
 }
 
 /// One scan, or where that takes away too little a sweep by flows, after which the weight that is known is the lesser of the
 /// bound and the value.
-pub(crate) fn scan_or_sweep<R: Threads + Sync, G: Gate>(
-    rt: &R,
-    alloc: Global,
+pub(crate) fn scan_or_sweep<T: Team>(
+    team: &T,
     graph: &Graph,
     bound: u64,
-    workers: u32,
-    gate: &G,
 ) -> Result<Shrunk, NoMemory>
+    requires ready { T.ready team.now }
     requires enough { 2 ≤ graph.now.vertices }
     requires bound { bound ≤ 2 ^ 62 }
-    requires workers { (1 ≤ workers) × (workers ≤ 64) }
     ensures { IfOk result (λ s. IsScanned graph.now bound s.best s.smaller) }
 {
-    let shrunk = scan_shared(rt, alloc, graph, bound, workers, gate)?;
+    let shrunk = scan_shared(team, graph, bound)?;
     if shrunk.smaller.is_some() {
         return Ok(shrunk);
     }
-    let best = least_weight_below(alloc, graph, shrunk.best)?;
+    let best = least_weight_below(team.alloc(), graph, shrunk.best)?;
     Ok(Shrunk {
         best,
         smaller: None,
@@ -191,15 +170,9 @@ pub(crate) fn scan_or_sweep<R: Threads + Sync, G: Gate>(
 /// graph; what is left is swept by flows. Several workers scan side by side where a graph is large. There are O(log n) scans
 /// (Nagamochi, Ono and Ibaraki, 1994), each of O((n + m) log n). Only one graph has rows at a time. It is refused only where
 /// memory is wanting.
-pub(crate) fn value_of_shrunk<R: Threads + Sync, G: Gate>(
-    rt: &R,
-    alloc: Global,
-    shrunk: Shrunk,
-    workers: u32,
-    gate: &G,
-) -> Result<u64, NoMemory>
+pub(crate) fn value_of_shrunk<T: Team>(team: &T, shrunk: Shrunk) -> Result<u64, NoMemory>
+    requires ready { T.ready team.now }
     requires small { shrunk.best ≤ 2 ^ 62 }
-    requires workers { (1 ≤ workers) × (workers ≤ 64) }
     ensures { (whole : ℕ) → IsToTell whole shrunk.best shrunk.smaller → IfOk result (λ weight. weight ≡ whole) }
 {
     let Shrunk {
@@ -210,8 +183,8 @@ pub(crate) fn value_of_shrunk<R: Threads + Sync, G: Gate>(
         if list.n() < 2 {
             return Ok(best);
         }
-        let graph = graph_of_list(rt, alloc, list, workers)?;
-        let next = scan_or_sweep(rt, alloc, &graph, best, workers, gate)?;
+        let graph = team.graph(list)?;
+        let next = scan_or_sweep(team, &graph, best)?;
         best = next.best;
         smaller = next.smaller;
     }

@@ -6,7 +6,7 @@ ghost use Rattle.edge_arrays.specs.Given.{given};
 ghost use Rattle.mincut_c.specs.Statuses.{HasCuts, IsReason, TellsFault, number_of};
 
 use crate::status::{Fault, OK, status_of};
-use crate::values::lesser_of_list;
+use crate::values::least_below;
 use edge_arrays::{laws, list_of_arrays};
 use std::alloc::Global;
 
@@ -29,7 +29,7 @@ fn lesser_of_arrays(
     if list.n() < 2 {
         return Err(Fault::NoCut);
     }
-    let weight = lesser_of_list(alloc, list, bound)?;
+    let weight = least_below(alloc, list, bound)?;
     Ok(weight)
 }
 

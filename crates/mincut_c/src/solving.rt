@@ -8,6 +8,8 @@ ghost use Rattle.mincut_c.specs.Shown.{HasFewParts, ShowsCuts};
 ghost use Rattle.mincut_c.specs.Statuses.{HasCuts, IsReason, IsUnsolved, number_of};
 
 use crate::status::Fault;
+use crate::values::FEW_EDGES;
+use cactus_solver::{Cuts, SolvedList, solve_long_list};
 use cut_definitions::EdgeList;
 use edge_arrays::laws::{same_mincuts, same_value};
 use edge_arrays::list_of_arrays;
@@ -19,9 +21,10 @@ use rooted_cactus::Solved;
 use rooted_cactus::laws::few_nodes;
 use std::alloc::Global;
 use weighted_graph::Graph;
+use worker_team::Alone;
 
-/// The value of a connected graph, and a cactus of its minimum cuts.
-fn solved_of_list(alloc: Global, list: EdgeList) -> Result<Solved, Fault>
+/// The value of a connected graph, and a cactus of its minimum cuts, by sweeps over the graph itself.
+fn solved_by_sweeps(alloc: Global, list: EdgeList) -> Result<Solved, Fault>
     requires { 2 ≤ list.vertices }
     ensures solved { IfOk result (IsSolved list) }
     ensures positive { IfOk result (λ s. 1 ≤ value list) }
@@ -36,6 +39,26 @@ fn solved_of_list(alloc: Global, list: EdgeList) -> Result<Solved, Fault>
     }
     let solved = solve_alone(alloc, &graph, least)?;
     Ok(solved)
+}
+
+/// The value of a connected graph, and a cactus of its minimum cuts. A small graph is swept over as it is; a large one is contracted
+/// before, as in the program.
+fn solved_of_list(alloc: Global, list: EdgeList) -> Result<Solved, Fault>
+    requires { 2 ≤ list.vertices }
+    ensures solved { IfOk result (IsSolved list) }
+    ensures positive { IfOk result (λ s. 1 ≤ value list) }
+    ensures unsolved { IfErr result (λ fault. IsUnsolved fault list) }
+{
+    if list.len() <= FEW_EDGES {
+        return solved_by_sweeps(alloc, list);
+    }
+    // known by this call: it is an edge list
+    let _n = list.n();
+    let SolvedList { cuts, .. } = solve_long_list(&Alone { alloc }, list)?;
+    match cuts {
+        Cuts::Joined(solved) => Ok(solved),
+        Cuts::Apart(_) => Err(Fault::Disconnected),
+    }
 }
 
 /// The graph of the arrays, where it has a cut.

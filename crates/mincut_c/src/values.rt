@@ -1,6 +1,6 @@
 //! The value.
 
-ghost use Rattle.std.specs.Prelude.{◌≡◌, ◌≢◌, ◌≤◌, IfOk, IfErr, if◌then◌else◌, min, nat_lt};
+ghost use Rattle.std.specs.Prelude.{◌≡◌, ◌≢◌, ◌≤◌, IfOk, IfErr, min};
 ghost use Rattle.cut_definitions.specs.Cuts.{value};
 ghost use Rattle.edge_arrays.specs.Given.{given};
 ghost use Rattle.mincut_c.specs.Statuses.{HasCuts, IsReason, TellsFault, number_of};
@@ -8,25 +8,14 @@ ghost use Rattle.mincut_c.specs.Statuses.{HasCuts, IsReason, TellsFault, number_
 use crate::status::{Fault, OK, status_of};
 use cut_definitions::{EdgeList, NoMemory};
 use edge_arrays::{laws, list_of_arrays};
-use forest_contraction::{Contracted, contract_list};
-use least_cut::{least_weight, least_weight_below, value_of_dense};
+use least_cut::least_weight_below;
+use min_value::lesser_of_list;
 use std::alloc::Global;
 use weighted_graph::Graph;
+use worker_team::Alone;
 
 /// A list of at most so many edges is not contracted.
-const FEW_EDGES: usize = 1024;
-
-/// The lesser of a bound and the value of a list of edges, or the bound where that has fewer than two vertices.
-fn least_below(alloc: Global, list: EdgeList, bound: u64) -> Result<u64, NoMemory>
-    ensures { IfOk result (λ weight. weight ≡ (if nat_lt list.vertices 2 then bound else min bound (value list))) }
-{
-    if list.n() < 2 {
-        return Ok(bound);
-    }
-    let graph = Graph::from_list(alloc, list)?;
-    let weight = least_weight_below(alloc, &graph, bound)?;
-    Ok(weight)
-}
+pub(crate) const FEW_EDGES: usize = 1024;
 
 /// Whether forests are tried before a sweep: where there are few edges, in all or for each vertex, the sweep costs less. Either
 /// answer is right.
@@ -35,42 +24,16 @@ fn suits_forests(list: &EdgeList) -> bool {
     list.len() > FEW_EDGES && list.len() >= n + n / 2
 }
 
-/// The lesser of a bound and the value of a list of edges of two or more vertices. What forests show that no lighter cut parts
-/// is contracted before a graph has rows.
-pub(crate) fn lesser_of_list(alloc: Global, list: EdgeList, bound: u64) -> Result<u64, NoMemory>
+/// The lesser of a bound and the value of a list of edges of two or more vertices.
+pub(crate) fn least_below(alloc: Global, list: EdgeList, bound: u64) -> Result<u64, NoMemory>
     requires { 2 ≤ list.vertices }
     ensures { IfOk result (λ weight. weight ≡ min bound (value list)) }
 {
-    if let Some(weight) = value_of_dense(alloc, &list)? {
-        return Ok(bound.min(weight));
+    if suits_forests(&list) {
+        return lesser_of_list(&Alone { alloc }, list, bound);
     }
-    if !suits_forests(&list) {
-        return least_below(alloc, list, bound);
-    }
-    let Contracted {
-        bound: most,
-        list: smaller,
-    } = contract_list(alloc, &list)?;
-    least_below(alloc, smaller.unwrap_or(list), most.min(bound))
-}
-
-/// The value of a list of edges of two or more vertices.
-fn value_of_list(alloc: Global, list: EdgeList) -> Result<u64, NoMemory>
-    requires { 2 ≤ list.vertices }
-    ensures { IfOk result (λ weight. weight ≡ value list) }
-{
-    if let Some(weight) = value_of_dense(alloc, &list)? {
-        return Ok(weight);
-    }
-    if !suits_forests(&list) {
-        let graph = Graph::from_list(alloc, list)?;
-        return least_weight(alloc, &graph);
-    }
-    let Contracted {
-        bound,
-        list: smaller,
-    } = contract_list(alloc, &list)?;
-    least_below(alloc, smaller.unwrap_or(list), bound)
+    let graph = Graph::from_list(alloc, list)?;
+    least_weight_below(alloc, &graph, bound)
 }
 
 /// The value of the graph of the arrays.
@@ -85,7 +48,8 @@ fn value_of_arrays(alloc: Global, n: u32, us: &[u32], vs: &[u32], ws: &[u64]) ->
     if list.n() < 2 {
         return Err(Fault::NoCut);
     }
-    let weight = value_of_list(alloc, list)?;
+    // no cut weighs more than 2^61
+    let weight = least_below(alloc, list, u64::MAX)?;
     Ok(weight)
 }
 

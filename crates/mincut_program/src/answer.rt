@@ -16,62 +16,58 @@ use metis_reader::MetisGraph;
 use min_value::value_of_list;
 use outside::{Gate, NoMemory};
 use program_words::{Command, Job};
-use std::alloc::Global;
 use std::thread::Threads;
 use stop_lines::Stop;
+use worker_team::Crew;
 
 /// The line of the job `value`.
 fn value_reply<R: Threads + Sync, G: Gate>(
-    rt: &R,
-    alloc: Global,
+    crew: &Crew<R, G>,
     list: EdgeList,
-    workers: u32,
-    gate: &G,
 ) -> Result<Reply, NoMemory>
     requires enough { 2 ≤ list.vertices }
-    requires workers { (1 ≤ workers) × (workers ≤ 64) }
     ensures text { IfOk result (λ reply. text_of reply ≡ value_line (value list)) }
     ensures printable { IfOk result IsPrintable }
 {
-    let value = value_of_list(rt, alloc, list, workers, gate)?;
-    value_text(alloc, value)
+    let value = value_of_list(crew, list)?;
+    value_text(crew.threads.alloc, value)
 }
 
 /// The answer of a job on the cuts themselves.
 fn reply_on_cuts<R: Threads + Sync, G: Gate>(
-    rt: &R,
-    alloc: Global,
+    crew: &Crew<R, G>,
     command: Command,
     list: EdgeList,
     weights: &VertexWeights,
-    gate: &G,
 ) -> Result<Reply, Stop>
     requires enough { 2 ≤ list.vertices }
     requires weighed { length weights.now ≡ list.vertices }
     requires in_range { IsInRange command.job list.vertices }
     requires job { AsksCuts command.job }
-    requires workers { (1 ≤ command.workers) × (command.workers ≤ 64) }
     ensures text { IfOk result (λ reply. IsAnswerOf command weights.now list (text_of reply)) }
     ensures printable { IfOk result IsPrintable }
     ensures stop { IfErr result (IsStopFor command weights.now list) }
 {
-    let SolvedList { list, cuts } = tree_of_list(rt, alloc, list, command.workers, gate)?;
+    let SolvedList { list, cuts } = tree_of_list(crew, list)?;
     match cuts {
-        Cuts::Apart(components) => apart_reply(alloc, command, &list, components, weights),
-        Cuts::Joined(found) => joined_reply(alloc, command, &list, weights, found),
+        Cuts::Apart(components) => apart_reply(
+            crew.threads.alloc,
+            command,
+            &list,
+            components,
+            weights,
+        ),
+        Cuts::Joined(found) => joined_reply(crew.threads.alloc, command, &list, weights, found),
     }
 }
 
 /// What a command that reads a graph answers for it, or why it has no answer.
 pub fn answer<R: Threads + Sync, G: Gate>(
-    rt: &R,
-    alloc: Global,
+    crew: &Crew<R, G>,
     command: Command,
     read: MetisGraph,
-    gate: &G,
 ) -> Result<Reply, Stop>
     requires weighed { length read.weights ≡ read.edges.vertices }
-    requires workers { (1 ≤ command.workers) × (command.workers ≤ 64) }
     requires reading { IsReading command.job }
     requires makeable { IsMakeable command.job }
     ensures text { IfOk result (λ reply. IsAnswerOf command read.weights read.edges (text_of reply)) }
@@ -87,15 +83,15 @@ pub fn answer<R: Threads + Sync, G: Gate>(
         return Err(Stop::BadVertex { vertex, n });
     }
     if list.n() < 2 {
-        let reply = no_cut(alloc)?;
+        let reply = no_cut(crew.threads.alloc)?;
         return Ok(reply);
     }
     if let Job::Value = command.job {
-        let reply = value_reply(rt, alloc, list, command.workers, gate)?;
+        let reply = value_reply(crew, list)?;
         return Ok(reply);
     }
     if let Job::Grow(insertions) = &command.job {
-        return grow_reply(rt, alloc, insertions, list, command.workers, gate);
+        return grow_reply(crew, insertions, list);
     }
-    reply_on_cuts(rt, alloc, command, list, &weights, gate)
+    reply_on_cuts(crew, command, list, &weights)
 }

@@ -25,6 +25,7 @@ use program_words::Insertions;
 use std::alloc::Global;
 use std::thread::Threads;
 use stop_lines::Stop;
+use worker_team::Crew;
 
 /// The list of a graph with one insertion. The graph is given back.
 fn inserted(
@@ -46,19 +47,15 @@ fn inserted(
 
 /// The graph with one insertion.
 fn grow_by<R: Threads + Sync, G: Gate>(
-    rt: &R,
-    alloc: Global,
+    crew: &Crew<R, G>,
     growing: Growing,
     insertion: (u64, u64, u64),
-    workers: u32,
-    gate: &G,
 ) -> Result<Growing, NoMemory>
     requires growing { IsGrowing growing }
     requires first { IsVertex growing.graph.vertices insertion.0 }
     requires second { IsVertex growing.graph.vertices insertion.1 }
     requires insertion { IsInsertion insertion }
     requires fits { IsEdgeList (with_insertion growing.graph insertion) }
-    requires workers { (1 ≤ workers) × (workers ≤ 64) }
     ensures graph { IfOk result (λ next. next.graph ≡ with_insertion growing.graph insertion) }
     ensures growing { IfOk result IsGrowing }
 {
@@ -67,16 +64,16 @@ fn grow_by<R: Threads + Sync, G: Gate>(
     let Growing { graph, solved } = growing;
     // known by this call: there are at most 4,194,304 vertices
     let _n = graph.n();
-    let longer = inserted(alloc, graph, insertion)?;
+    let longer = inserted(crew.threads.alloc, graph, insertion)?;
     let value = solved.value;
     let (u, v, _) = insertion;
-    match grow(alloc, solved.cactus, u as u32, v as u32)? {
+    match grow(crew.threads.alloc, solved.cactus, u as u32, v as u32)? {
         Grown::Kept(cactus) => Ok(Growing {
             graph: longer,
             solved: Solved { value, cactus },
         }),
         Grown::Gone => {
-            let (graph, solved) = solve_connected(rt, alloc, longer, workers, gate)?;
+            let (graph, solved) = solve_connected(crew, longer)?;
             Ok(Growing { graph, solved })
         }
     }
@@ -84,73 +81,61 @@ fn grow_by<R: Threads + Sync, G: Gate>(
 
 /// The graph after all insertions, and what is told of it after each.
 fn grow_all<R: Threads + Sync, G: Gate>(
-    rt: &R,
-    alloc: Global,
+    crew: &Crew<R, G>,
     insertions: &Insertions,
     start: Growing,
-    workers: u32,
-    gate: &G,
 ) -> Result<(Growing, Vec<Step>), NoMemory>
     requires growing { IsGrowing start }
     requires in_range { AreInRange start.graph.vertices insertions.now }
     requires insertions { All IsInsertion insertions.now }
     requires within { StaysWithin start.graph insertions.now }
-    requires workers { (1 ≤ workers) × (workers ≤ 64) }
     ensures { IfOk result (λ r. HasGrown start.graph insertions.now r.0 r.1.items) }
 {
     let mut growing = start;
-    let mut steps = Vec::new(alloc);
+    let mut steps = Vec::new(crew.threads.alloc);
     'insertions: for i in 0..insertions.len() {
-        growing = grow_by(rt, alloc, growing, insertions.at(i), workers, gate)?;
-        steps.push(step_for(alloc, &growing)?)?;
+        growing = grow_by(crew, growing, insertions.at(i))?;
+        steps.push(step_for(crew.threads.alloc, &growing)?)?;
     }
     Ok((growing, steps))
 }
 
 /// The answer for a connected graph that stays within the limits.
 fn growth_reply<R: Threads + Sync, G: Gate>(
-    rt: &R,
-    alloc: Global,
+    crew: &Crew<R, G>,
     insertions: &Insertions,
     list: EdgeList,
-    workers: u32,
-    gate: &G,
 ) -> Result<Reply, NoMemory>
     requires enough { 2 ≤ list.vertices }
     requires connected { IsConnected list }
     requires in_range { AreInRange list.vertices insertions.now }
     requires insertions { All IsInsertion insertions.now }
     requires within { StaysWithin list insertions.now }
-    requires workers { (1 ≤ workers) × (workers ≤ 64) }
     ensures text { IfOk result (λ reply. IsGrowText list insertions.now (text_of reply)) }
     ensures printable { IfOk result IsPrintable }
 {
-    let (graph, solved) = solve_connected(rt, alloc, list, workers, gate)?;
+    let (graph, solved) = solve_connected(crew, list)?;
     let start = Growing { graph, solved };
-    let (growing, steps) = grow_all(rt, alloc, insertions, start, workers, gate)?;
-    grown_reply(alloc, growing, steps)
+    let (growing, steps) = grow_all(crew, insertions, start)?;
+    grown_reply(crew.threads.alloc, growing, steps)
 }
 
 /// What the job `grow` answers for a graph, or the first insertion after which the graph would be too large.
 pub fn grow_reply<R: Threads + Sync, G: Gate>(
-    rt: &R,
-    alloc: Global,
+    crew: &Crew<R, G>,
     insertions: &Insertions,
     list: EdgeList,
-    workers: u32,
-    gate: &G,
 ) -> Result<Reply, Stop>
     requires enough { 2 ≤ list.vertices }
     requires in_range { AreInRange list.vertices insertions.now }
     requires insertions { All IsInsertion insertions.now }
-    requires workers { (1 ≤ workers) × (workers ≤ 64) }
     ensures text { IfOk result (λ reply. IsGrowReply list insertions.now (text_of reply)) }
     ensures printable { IfOk result IsPrintable }
     ensures stop { IfErr result (IsGrowStop list insertions.now) }
 {
-    if let Some(reply) = apart_growth(alloc, insertions, &list)? {
+    if let Some(reply) = apart_growth(crew.threads.alloc, insertions, &list)? {
         return Ok(reply);
     }
-    let reply = growth_reply(rt, alloc, insertions, list, workers, gate)?;
+    let reply = growth_reply(crew, insertions, list)?;
     Ok(reply)
 }

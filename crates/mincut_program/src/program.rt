@@ -19,16 +19,14 @@ use program_words::{Command, Job, WordsRefusal, notice_of, read_words};
 use std::alloc::Global;
 use std::thread::Threads;
 use stop_lines::{Status, Stop};
+use worker_team::Crew;
 
 /// What a command that reads a graph answers for the one that the source gives.
 fn reading_reply<R: Threads + Sync, S: Source, G: Gate>(
-    rt: &R,
-    alloc: Global,
+    crew: &Crew<R, G>,
     command: Command,
     source: &mut S,
-    gate: &G,
 ) -> Result<Reply, Stop>
-    requires workers { (1 ≤ command.workers) × (command.workers ≤ 64) }
     requires reading { IsReading command.job }
     requires makeable { IsMakeable command.job }
     ensures text { IfOk result (λ reply. IfSome (S.left source.old) (λ bytes. IsJobAnswer command bytes (text_of reply))) }
@@ -39,8 +37,8 @@ fn reading_reply<R: Threads + Sync, S: Source, G: Gate>(
         → IsCause words (S.left source.old) (S.left source.new) (S.faults source.old) (S.faults source.new) stop) }
     ensures words { result ≢ Err Stop.BadWords }
 {
-    let graph = take_in(alloc, source)?;
-    answer(rt, alloc, command, graph, gate)
+    let graph = take_in(crew.threads.alloc, source)?;
+    answer(crew, command, graph)
 }
 
 /// What a command answers. A trial leaves the source as it is.
@@ -51,7 +49,6 @@ fn job_reply<R: Threads + Sync, S: Source, G: Gate>(
     source: &mut S,
     gate: &G,
 ) -> Result<Reply, Stop>
-    requires workers { (1 ≤ command.workers) × (command.workers ≤ 64) }
     requires number { IsMakeable command.job }
     ensures text { IfOk result (λ reply. IsJobReply command (S.left source.old) (text_of reply)) }
     ensures printable { IfOk result IsPrintable }
@@ -63,8 +60,9 @@ fn job_reply<R: Threads + Sync, S: Source, G: Gate>(
     ensures words { result ≢ Err Stop.BadWords }
     ensures unread { ¬ IsReading command.job → source.new ≡ source.old }
 {
+    let crew = Crew::new(rt, alloc, command.workers, gate);
     match command.job {
-        Job::Trial(number) => Ok(trial_reply(rt, alloc, number, command.workers, gate)?),
+        Job::Trial(number) => Ok(trial_reply(&crew, number)?),
         Job::Value
         | Job::Cactus
         | Job::Cuts
@@ -72,7 +70,7 @@ fn job_reply<R: Threads + Sync, S: Source, G: Gate>(
         | Job::Count
         | Job::Balanced
         | Job::Augment
-        | Job::Grow(_) => { reading_reply(rt, alloc, command, source, gate) }
+        | Job::Grow(_) => { reading_reply(&crew, command, source) }
     }
 }
 

@@ -7,24 +7,20 @@ ghost use Rattle.rooted_cactus.specs.Solving.{IsSolved};
 use cactus_solver::{Cuts, Solved, SolvedList, solve_list};
 use cut_definitions::EdgeList;
 use outside::{Gate, NoMemory};
-use std::alloc::Global;
 use std::thread::Threads;
+use worker_team::Crew;
 
 /// A connected graph, given back, and its minimum cuts.
 pub(crate) fn solve_connected<R: Threads + Sync, G: Gate>(
-    rt: &R,
-    alloc: Global,
+    crew: &Crew<R, G>,
     list: EdgeList,
-    workers: u32,
-    gate: &G,
 ) -> Result<(EdgeList, Solved), NoMemory>
     requires enough { 2 ≤ list.vertices }
     requires connected { IsConnected list }
-    requires workers { (1 ≤ workers) × (workers ≤ 64) }
     ensures graph { IfOk result (λ r. r.0 ≡ list) }
     ensures solved { IfOk result (λ r. IsSolved list r.1) }
 {
-    let SolvedList { list, cuts } = solve_list(rt, alloc, list, workers, gate)?;
+    let SolvedList { list, cuts } = solve_list(crew, list)?;
     match cuts {
         Cuts::Joined(solved) => Ok((list, solved)),
         Cuts::Apart(_) => unreachable!(),

@@ -7,28 +7,24 @@ ghost use Rattle.job_replies.specs.Trials.{IsTrialText};
 use crate::solving::solve_connected;
 use job_replies::{Reply, facts_reply, made_for};
 use outside::{Gate, NoMemory};
-use std::alloc::Global;
 use std::thread::Threads;
+use worker_team::Crew;
 
 /// The text for the graph that is made for a number: its numbers of vertices and edges, its value, the number of its
 /// minimum cuts and the greatest balance of one.
 ///
 /// It is refused only where memory is wanting.
 pub fn trial_reply<R: Threads + Sync, G: Gate>(
-    rt: &R,
-    alloc: Global,
+    crew: &Crew<R, G>,
     number: u32,
-    workers: u32,
-    gate: &G,
 ) -> Result<Reply, NoMemory>
     requires from { 12 ≤ number }
     requires to { number ≤ 100000 }
-    requires workers { (1 ≤ workers) × (workers ≤ 64) }
     ensures text { IfOk result (λ reply. IsTrialText number (text_of reply)) }
     ensures printable { IfOk result IsPrintable }
     ensures ready { IfOk result (λ reply. ¬ TakesMemory reply) }
 {
-    let list = made_for(alloc, number)?;
-    let (graph, solved) = solve_connected(rt, alloc, list, workers, gate)?;
-    facts_reply(alloc, graph, solved)
+    let list = made_for(crew.threads.alloc, number)?;
+    let (graph, solved) = solve_connected(crew, list)?;
+    facts_reply(crew.threads.alloc, graph, solved)
 }

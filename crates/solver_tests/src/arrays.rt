@@ -4,16 +4,15 @@ ghost use Rattle.std.specs.Prelude.{◌≤◌};
 ghost use Rattle.cactus_solver.specs.SolvedLists.{IsTreeSolved};
 
 use crate::graphs::edges_of;
-use cactus_solver::{Cuts, SolvedList, SolvedTree, tree_of_list};
+use cactus_solver::{Cuts, SolvedList, SolvedTree, tree_of_long_list};
 use canonical_cactus::canonical;
 use cut_definitions::{EdgeList, NoMemory};
 use flat_cactus::{FlatCactus, flatten};
-use outside::OpenGate;
 use region_sweep::cactus_by_tree;
 use std::alloc::Global;
 use std::test::Fail;
-use std::thread::Threads;
 use tree_flattening::canonical_flat;
+use worker_team::Alone;
 
 /// Files of graphs whose trees have a vertex in each node and no cycle of three: a path, a star and a ring, numbered at random, and
 /// two rings through vertex 1.
@@ -46,19 +45,14 @@ fn are_same(a: &FlatCactus, b: &FlatCactus) -> bool {
 }
 
 /// Whether the arrays tell the same flat cactus as the boxes, or nothing at all.
-fn tells<R: Threads + Sync>(
-    rt: &R,
-    alloc: Global,
-    text: &str,
-    plain: bool,
-) -> Result<bool, NoMemory> {
+fn tells(alloc: Global, text: &str, plain: bool) -> Result<bool, NoMemory> {
     let Some(list) = edges_of(alloc, text) else {
         return Ok(false);
     };
     if list.n() < 2 {
         return Ok(false);
     }
-    let SolvedList { list, cuts } = tree_of_list(rt, alloc, list, 1, &OpenGate)?;
+    let SolvedList { list, cuts } = tree_of_long_list(&Alone { alloc }, list)?;
     match cuts {
         Cuts::Joined(found) => agrees(alloc, &list, found, plain),
         Cuts::Apart(_) => Ok(false),
@@ -84,10 +78,10 @@ fn agrees(alloc: Global, list: &EdgeList, found: SolvedTree, plain: bool) -> Res
 #[test]
 fn arrays_tell_the_flat_cactus_of_the_boxes(rt: HostRuntime) -> Result<(), Fail> {
     for text in PLAIN {
-        assert!(rt; tells(&rt, rt.alloc(), text, true)?);
+        assert!(rt; tells(rt.alloc(), text, true)?);
     }
     for text in OTHER {
-        assert!(rt; tells(&rt, rt.alloc(), text, false)?);
+        assert!(rt; tells(rt.alloc(), text, false)?);
     }
     Ok(())
 }

@@ -1,12 +1,11 @@
 //! Lists of edges whose graphs need no rows.
 
 use crate::graphs::edges_of;
-use cactus_solver::{Cuts, Solved, SolvedList, solve_list};
+use cactus_solver::{Cuts, Solved, SolvedList, solve_long_list};
 use cut_definitions::NoMemory;
-use outside::OpenGate;
 use std::alloc::Global;
 use std::test::Fail;
-use std::thread::Threads;
+use worker_team::Alone;
 
 /// The weight of the edge from a vertex of the path to the next: the first and the last are lighter.
 fn weight_after(v: u32) -> u32 {
@@ -32,11 +31,7 @@ fn path(alloc: Global, gap: Option<u32>) -> Result<String, NoMemory> {
 }
 
 /// What is found of the path.
-fn solved_path<R: Threads + Sync>(
-    rt: &R,
-    alloc: Global,
-    gap: Option<u32>,
-) -> Result<Option<SolvedList<Solved>>, NoMemory> {
+fn solved_path(alloc: Global, gap: Option<u32>) -> Result<Option<SolvedList<Solved>>, NoMemory> {
     let text = path(alloc, gap)?;
     let Some(list) = edges_of(alloc, &text) else {
         return Ok(None);
@@ -44,13 +39,13 @@ fn solved_path<R: Threads + Sync>(
     if list.n() < 2 {
         return Ok(None);
     }
-    let found = solve_list(rt, alloc, list, 4, &OpenGate)?;
+    let found = solve_long_list(&Alone { alloc }, list)?;
     Ok(Some(found))
 }
 
 #[test]
 fn a_long_path_is_solved_by_its_list(rt: HostRuntime) -> Result<(), Fail> {
-    let Some(found) = solved_path(&rt, rt.alloc(), None)? else {
+    let Some(found) = solved_path(rt.alloc(), None)? else {
         return Err(Fail::from("no graph"));
     };
     let SolvedList { list, cuts } = found;
@@ -64,7 +59,7 @@ fn a_long_path_is_solved_by_its_list(rt: HostRuntime) -> Result<(), Fail> {
 
 #[test]
 fn a_path_with_a_gap_has_two_components(rt: HostRuntime) -> Result<(), Fail> {
-    let Some(found) = solved_path(&rt, rt.alloc(), Some(550))? else {
+    let Some(found) = solved_path(rt.alloc(), Some(550))? else {
         return Err(Fail::from("no graph"));
     };
     assert!(rt; found.list.len() == 1_099 && matches!(found.cuts, Cuts::Apart(2)));

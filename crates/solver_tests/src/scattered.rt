@@ -6,8 +6,8 @@ use cut_definitions::NoMemory;
 use outside::OpenGate;
 use std::alloc::Global;
 use std::test::Fail;
-use std::thread::Threads;
 use vertex_order::{NearGraph, near_graph};
+use worker_team::{Alone, Crew};
 
 const MANY: u32 = 70_001;
 
@@ -45,15 +45,11 @@ fn star(alloc: Global) -> Result<String, NoMemory> {
 }
 
 /// The labels of vertex 1 and the vertices beside it on the ring of 33,000 steps, where the graph of a file is renumbered.
-fn first_labels<R: Threads + Sync>(
-    rt: &R,
-    alloc: Global,
-    text: &str,
-) -> Result<Option<[u32; 3]>, Fail> {
+fn first_labels(alloc: Global, text: &str) -> Result<Option<[u32; 3]>, Fail> {
     let Some(list) = edges_of(alloc, text) else {
         return Err(Fail::from("no graph"));
     };
-    match near_graph(rt, alloc, list, 1)? {
+    match near_graph(&Alone { alloc }, list)? {
         NearGraph::AsListed(_) => Ok(None),
         NearGraph::Renumbered { labels, .. } => {
             let label = |v: usize| labels.as_slice().get(v - 1).copied().unwrap_or(0);
@@ -65,16 +61,16 @@ fn first_labels<R: Threads + Sync>(
 #[test]
 fn a_scattered_ring_is_numbered_along(rt: HostRuntime) -> Result<(), Fail> {
     let text = ring(rt.alloc(), 33_000)?;
-    assert!(rt; first_labels(&rt, rt.alloc(), &text)? == Some([1, 2, 3]));
+    assert!(rt; first_labels(rt.alloc(), &text)? == Some([1, 2, 3]));
     Ok(())
 }
 
 #[test]
 fn a_ring_numbered_along_and_a_star_keep_their_numbers(rt: HostRuntime) -> Result<(), Fail> {
     let along = ring(rt.alloc(), 1)?;
-    assert!(rt; first_labels(&rt, rt.alloc(), &along)?.is_none());
+    assert!(rt; first_labels(rt.alloc(), &along)?.is_none());
     let star = star(rt.alloc())?;
-    assert!(rt; first_labels(&rt, rt.alloc(), &star)?.is_none());
+    assert!(rt; first_labels(rt.alloc(), &star)?.is_none());
     Ok(())
 }
 
@@ -87,7 +83,7 @@ fn a_scattered_ring_is_solved(rt: HostRuntime) -> Result<(), Fail> {
     if list.n() < 2 {
         return Err(Fail::from("no cut"));
     }
-    let SolvedList { list, cuts } = solve_list(&rt, rt.alloc(), list, 4, &OpenGate)?;
+    let SolvedList { list, cuts } = solve_list(&Crew::new(&rt, rt.alloc(), 4, &OpenGate), list)?;
     assert!(rt; list.n() == MANY && list.len() == MANY as usize);
     match cuts {
         Cuts::Joined(solved) => assert!(rt;

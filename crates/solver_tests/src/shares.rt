@@ -8,6 +8,7 @@ use std::alloc::Global;
 use std::test::Fail;
 use std::thread::Threads;
 use weighted_graph::{Graph, laws};
+use worker_team::Crew;
 
 // Four rings of so many vertices, one vertex of each in a fifth ring of four.
 const LONG: u32 = 20_001;
@@ -53,22 +54,20 @@ fn rings(alloc: Global) -> Option<EdgeList> {
     }
 }
 
-/// Whether the solver finds the value 2 and a node for each vertex.
+/// Whether threads find the value 2 and a node for each vertex.
 fn is_solved<R: Threads + Sync>(
-    rt: &R,
-    alloc: Global,
+    crew: &Crew<R, OpenGate>,
     list: &EdgeList,
-    workers: u32,
 ) -> Result<bool, NoMemory> {
-    if list.n() < 2 || workers < 1 || workers > 64 {
+    if list.n() < 2 {
         return Ok(false);
     }
     laws::connected_is_one_component();
-    let graph = Graph::build(alloc, list)?;
-    if graph.components(alloc)? != 1 {
+    let graph = Graph::build(crew.threads.alloc, list)?;
+    if graph.components(crew.threads.alloc)? != 1 {
         return Ok(false);
     }
-    let solved = solve(rt, alloc, &graph, workers, &OpenGate)?;
+    let solved = solve(crew, &graph)?;
     Ok(solved.value == 2 && solved.cactus.nodes() == 80_004)
 }
 
@@ -77,7 +76,7 @@ fn large_regions_are_solved_side_by_side(rt: HostRuntime) -> Result<(), Fail> {
     let Some(list) = rings(rt.alloc()) else {
         return Err(Fail::from("no graph"));
     };
-    assert!(rt; is_solved(&rt, rt.alloc(), &list, 1)?);
-    assert!(rt; is_solved(&rt, rt.alloc(), &list, 4)?);
+    assert!(rt; is_solved(&Crew::new(&rt, rt.alloc(), 1, &OpenGate), &list)?);
+    assert!(rt; is_solved(&Crew::new(&rt, rt.alloc(), 4, &OpenGate), &list)?);
     Ok(())
 }

@@ -6,13 +6,14 @@ ghost use Rattle.cut_definitions.specs.Cuts.{value as least_value};
 
 use crate::graphs::{GRAPHS, Known, edges_of};
 use crate::sides::{all_sides, are_same};
-use cactus_solver::{Cuts, Solved, SolvedList, solve, solve_at, solve_list};
+use cactus_solver::{Cuts, Solved, SolvedList, solve, solve_at, solve_long_list};
 use cut_definitions::{EdgeList, NoMemory};
 use outside::OpenGate;
 use std::alloc::Global;
 use std::test::Fail;
 use std::thread::Threads;
 use weighted_graph::{Graph, laws};
+use worker_team::{Alone, Crew};
 
 /// Whether the value and just the sides were found.
 fn agrees(alloc: Global, solved: &Solved, known: &Known) -> Result<bool, NoMemory> {
@@ -22,8 +23,7 @@ fn agrees(alloc: Global, solved: &Solved, known: &Known) -> Result<bool, NoMemor
 
 /// Whether the solver finds what is known, where it is told the value.
 fn is_solved_at<R: Threads + Sync>(
-    rt: &R,
-    alloc: Global,
+    crew: &Crew<R, OpenGate>,
     graph: &Graph,
     value: u64,
     known: &Known,
@@ -32,21 +32,16 @@ fn is_solved_at<R: Threads + Sync>(
     requires enough { 2 ≤ graph.now.vertices }
     requires value { value ≡ least_value graph.now }
 {
-    let solved = solve_at(rt, alloc, graph, value, 1, &OpenGate)?;
-    agrees(alloc, &solved, known)
+    let solved = solve_at(crew, graph, value)?;
+    agrees(crew.threads.alloc, &solved, known)
 }
 
 /// Whether the solver finds what is known by the list of edges.
-fn is_solved_by_list<R: Threads + Sync>(
-    rt: &R,
-    alloc: Global,
-    list: EdgeList,
-    known: &Known,
-) -> Result<bool, NoMemory> {
+fn is_solved_by_list(alloc: Global, list: EdgeList, known: &Known) -> Result<bool, NoMemory> {
     if list.n() < 2 {
         return Ok(false);
     }
-    let SolvedList { cuts, .. } = solve_list(rt, alloc, list, 1, &OpenGate)?;
+    let SolvedList { cuts, .. } = solve_long_list(&Alone { alloc }, list)?;
     match cuts {
         Cuts::Joined(solved) => agrees(alloc, &solved, known),
         Cuts::Apart(_) => Ok(false),
@@ -68,8 +63,9 @@ fn is_solved<R: Threads + Sync>(
     if graph.components(alloc)? != 1 {
         return Ok(false);
     }
-    let solved = solve(rt, alloc, &graph, 4, &OpenGate)?;
-    Ok(agrees(alloc, &solved, known)? && is_solved_at(rt, alloc, &graph, solved.value, known)?)
+    let crew = Crew::new(rt, alloc, 4, &OpenGate);
+    let solved = solve(&crew, &graph)?;
+    Ok(agrees(alloc, &solved, known)? && is_solved_at(&crew, &graph, solved.value, known)?)
 }
 
 #[test]
@@ -81,7 +77,7 @@ fn graphs_are_solved(rt: HostRuntime) -> Result<(), Fail> {
         };
         let holds = is_solved(&rt, rt.alloc(), &list, known)?;
         assert!(rt; holds, "{}", known.name);
-        let holds_by_list = is_solved_by_list(&rt, rt.alloc(), list, known)?;
+        let holds_by_list = is_solved_by_list(rt.alloc(), list, known)?;
         assert!(rt; holds_by_list, "{}", known.name);
     }
     Ok(())

@@ -6,10 +6,9 @@ use crate::graphs::{edges_in, edges_of, feed_line, feed_number};
 use cut_definitions::EdgeList;
 use forest_contraction::{contract_list, tied_classes};
 use metis_reader::Reader;
-use min_value::value_by_list;
-use outside::OpenGate;
+use min_value::lesser_of_list;
 use std::alloc::Global;
-use std::thread::Threads;
+use worker_team::Alone;
 
 // Files, bounds, and the classes that are tied for these: the complete graph of four vertices, where the last edge alone finds
 // its ends joined twice before; two components; a triangle with the weights 5, 1 and 4.
@@ -98,13 +97,12 @@ fn leaves(alloc: Global, list: &EdgeList, bound: u64, vertices: Option<u32>) -> 
 }
 
 /// Whether contraction leaves this bound and so many vertices, and whether the list tells this value.
-fn is_contracted<R: Threads + Sync>(
-    rt: &R,
+fn is_contracted(
     alloc: Global,
     list: Option<EdgeList>,
     bound: u64,
     vertices: Option<u32>,
-    value: Option<u64>,
+    value: u64,
 ) -> bool {
     let Some(list) = list else {
         return false;
@@ -112,19 +110,19 @@ fn is_contracted<R: Threads + Sync>(
     if list.n() < 2 {
         return false;
     }
-    let found = value_by_list(rt, alloc, &list, 1, &OpenGate);
-    found == Ok(value) && leaves(alloc, &list, bound, vertices)
+    leaves(alloc, &list, bound, vertices)
+        && lesser_of_list(&Alone { alloc }, list, u64::MAX) == Ok(value)
 }
 
 #[test]
 fn a_star_becomes_one_vertex_and_a_ring_stays(rt: HostRuntime) {
     let alloc = rt.alloc();
-    assert!(rt; is_contracted(&rt, alloc, star(alloc), 1, Some(1), Some(1)));
-    assert!(rt; is_contracted(&rt, alloc, ring(alloc), 2, None, None));
+    assert!(rt; is_contracted(alloc, star(alloc), 1, Some(1), 1));
+    assert!(rt; is_contracted(alloc, ring(alloc), 2, None, 2));
 }
 
 #[test]
 fn the_ring_of_a_wheel_becomes_one_vertex(rt: HostRuntime) {
     let alloc = rt.alloc();
-    assert!(rt; is_contracted(&rt, alloc, wheel(alloc), 3, Some(2), Some(3)));
+    assert!(rt; is_contracted(alloc, wheel(alloc), 3, Some(2), 3));
 }

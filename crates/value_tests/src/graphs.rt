@@ -58,9 +58,9 @@ pub(crate) fn graph_of(alloc: Global, text: &str) -> Option<Graph> {
     Graph::from_list(alloc, list).ok()
 }
 
-/// Feeds a number of at most six digits, with zeros before it, and a blank.
+/// Feeds a number of at most seven digits, with zeros before it, and a blank.
 pub(crate) fn feed_number(reader: &mut Reader, number: u32) {
-    for power in [100_000, 10_000, 1_000, 100, 10, 1] {
+    for power in [1_000_000, 100_000, 10_000, 1_000, 100, 10, 1] {
         let digit = b'0' + (number / power % 10) as u8;
         let _ok = reader.feed(&[digit]).is_ok();
     }

@@ -10,6 +10,7 @@ use outside::OpenGate;
 use std::alloc::Global;
 use std::thread::Threads;
 use weighted_graph::Graph;
+use worker_team::Crew;
 
 // Two blocks, in each of which four vertices are joined to each of four others, and two edges from block to block. All
 // edges weigh 1, so the value is 2.
@@ -39,32 +40,29 @@ fn is_kernel(kernel: &Kernel, value: u64, classes: &[u32]) -> bool {
         && is_light(&kernel.graph, value)
 }
 
-/// Whether so many workers find the kernel with the value and these classes.
+/// Whether threads find the kernel with the value and these classes.
 fn has_kernel<R: Threads + Sync>(
-    rt: &R,
-    alloc: Global,
+    crew: &Crew<R, OpenGate>,
     graph: &Graph,
-    workers: u32,
     value: u64,
     classes: &[u32],
 ) -> bool
-    requires enough { 2 ≤ graph.now.vertices }
-    requires workers { (1 ≤ workers) × (workers ≤ 64) }
+    requires { 2 ≤ graph.now.vertices }
 {
-    match kernel(rt, alloc, graph, workers, &OpenGate) {
+    match kernel(crew, graph) {
         Ok(found) => is_kernel(&found, value, classes),
         Err(_) => false,
     }
 }
 
-/// Whether four workers reduce the graph to the kernel of the triangle.
-fn is_reduced<R: Threads + Sync>(rt: &R, alloc: Global, graph: &Graph) -> bool
+/// Whether threads reduce the graph to the kernel of the triangle.
+fn is_reduced<R: Threads + Sync>(crew: &Crew<R, OpenGate>, graph: &Graph) -> bool
     requires { 2 ≤ graph.now.vertices }
 {
-    let Ok(weight) = value(rt, alloc, graph, 1, &OpenGate) else {
+    let Ok(weight) = value(crew, graph) else {
         return false;
     };
-    match reduce(rt, alloc, graph, weight, 4, &OpenGate) {
+    match reduce(crew, graph, weight) {
         Ok(Some(kernel)) => is_kernel(&kernel, 5, &TRIANGLE_CLASSES),
         _ => false,
     }
@@ -73,9 +71,11 @@ fn is_reduced<R: Threads + Sync>(rt: &R, alloc: Global, graph: &Graph) -> bool
 #[test]
 fn the_kernel_of_a_triangle(rt: HostRuntime) -> Result<(), NoMemory> {
     let graph = uneven_triangle(rt.alloc())?;
-    let by_one = has_kernel(&rt, rt.alloc(), &graph, 1, 5, &TRIANGLE_CLASSES);
-    let by_four = has_kernel(&rt, rt.alloc(), &graph, 4, 5, &TRIANGLE_CLASSES);
-    assert!(rt; by_one && by_four && is_reduced(&rt, rt.alloc(), &graph));
+    let one = Crew::new(&rt, rt.alloc(), 1, &OpenGate);
+    let four = Crew::new(&rt, rt.alloc(), 4, &OpenGate);
+    let by_one = has_kernel(&one, &graph, 5, &TRIANGLE_CLASSES);
+    let by_four = has_kernel(&four, &graph, 5, &TRIANGLE_CLASSES);
+    assert!(rt; by_one && by_four && is_reduced(&four, &graph));
     Ok(())
 }
 
@@ -88,8 +88,9 @@ fn has_kernels_of_two_blocks<R: Threads + Sync>(rt: &R, alloc: Global) -> bool {
     if graph.n() < 2 || is_light(&graph, 2) || !none_is_certified(&graph, 2, 1) {
         return false;
     }
-    let by_one = has_kernel(rt, alloc, &graph, 1, 2, &BLOCK_CLASSES);
-    by_one && has_kernel(rt, alloc, &graph, 4, 2, &BLOCK_CLASSES)
+    let one = Crew::new(rt, alloc, 1, &OpenGate);
+    let four = Crew::new(rt, alloc, 4, &OpenGate);
+    has_kernel(&one, &graph, 2, &BLOCK_CLASSES) && has_kernel(&four, &graph, 2, &BLOCK_CLASSES)
 }
 
 #[test]

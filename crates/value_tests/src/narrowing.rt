@@ -6,10 +6,10 @@ use crate::graphs::{edges_in, feed_line, feed_number};
 use cut_definitions::EdgeList;
 use metis_reader::Reader;
 use min_value::{Kernel, ValueWithKernel, value_with_kernel};
-use outside::OpenGate;
 use std::alloc::Global;
 use std::thread::Threads;
 use weighted_graph::Graph;
+use worker_team::{Alone, Team, Threaded};
 
 // Two halves, of so many vertices each.
 const HALF: u32 = 40;
@@ -60,12 +60,12 @@ fn parts_halves(kernel: Option<Kernel>) -> bool {
     kernel.value == 320 && kernel.graph.n() < 2 * HALF && labels.first() != labels.last()
 }
 
-/// Whether so many workers find the value of a graph, 320, and a kernel that parts the halves.
-fn comes_with_kernel<R: Threads + Sync>(rt: &R, alloc: Global, graph: &Graph, workers: u32) -> bool
+/// Whether a team finds the value of a graph, 320, and a kernel that parts the halves.
+fn comes_with_kernel<T: Team>(team: &T, graph: &Graph) -> bool
+    requires ready { T.ready team.now }
     requires enough { 2 ≤ graph.now.vertices }
-    requires workers { (1 ≤ workers) × (workers ≤ 64) }
 {
-    match value_with_kernel(rt, alloc, graph, workers, &OpenGate) {
+    match value_with_kernel(team, graph) {
         Ok(ValueWithKernel { value, kernel }) => value == 320 && parts_halves(kernel),
         Err(_) => false,
     }
@@ -82,8 +82,13 @@ fn has_kernel<R: Threads + Sync>(rt: &R, alloc: Global) -> bool {
     if graph.n() < 2 {
         return false;
     }
-    let by_one = comes_with_kernel(rt, alloc, &graph, 1);
-    by_one && comes_with_kernel(rt, alloc, &graph, 4)
+    let four = Threaded {
+        rt,
+        alloc,
+        workers: 4,
+    };
+    let by_one = comes_with_kernel(&Alone { alloc }, &graph);
+    by_one && comes_with_kernel(&four, &graph)
 }
 
 /// Flows look far on a dense graph with weights, and so scans contract it.

@@ -13,6 +13,7 @@ use scan_forest::{LastPair, last_pair, plain_value};
 use std::alloc::Global;
 use std::thread::Threads;
 use weighted_graph::Graph;
+use worker_team::Crew;
 
 #[test]
 fn the_last_pair_of_a_triangle(rt: HostRuntime) -> Result<(), NoMemory> {
@@ -31,8 +32,8 @@ fn values_of_a_triangle(rt: HostRuntime) -> Result<(), NoMemory> {
     let graph = uneven_triangle(rt.alloc())?;
     let least = least_weight(rt.alloc(), &graph) == Ok(5);
     let below = least_weight_below(rt.alloc(), &graph, 3) == Ok(3);
-    let by_one = value(&rt, rt.alloc(), &graph, 1, &OpenGate) == Ok(5);
-    let by_four = value(&rt, rt.alloc(), &graph, 4, &OpenGate) == Ok(5);
+    let by_one = value(&Crew::new(&rt, rt.alloc(), 1, &OpenGate), &graph) == Ok(5);
+    let by_four = value(&Crew::new(&rt, rt.alloc(), 4, &OpenGate), &graph) == Ok(5);
     assert!(rt; least && below && by_one && by_four);
     Ok(())
 }
@@ -131,31 +132,33 @@ const FILES: [(&str, u64); 9] = [
 ];
 
 /// Whether the value by phases, by a sweep, and by all means is what is known.
-fn is_value<R: Threads + Sync>(rt: &R, alloc: Global, list: &EdgeList, known: u64) -> bool
+fn is_value<R: Threads + Sync>(crew: &Crew<R, OpenGate>, list: &EdgeList, known: u64) -> bool
     requires { 2 ≤ list.now.vertices }
 {
+    let alloc = crew.threads.alloc;
     let Ok(graph) = Graph::build(alloc, list) else {
         return false;
     };
     let phases = plain_value(alloc, list) == Ok(known);
     let sweep = least_weight(alloc, &graph) == Ok(known);
-    phases && sweep && value(rt, alloc, &graph, 1, &OpenGate) == Ok(known)
+    phases && sweep && value(crew, &graph) == Ok(known)
 }
 
 /// Whether the value of a file is known, also by all means of a list that is taken over.
-fn has_value<R: Threads + Sync>(rt: &R, alloc: Global, text: &str, known: u64) -> bool {
-    let Some(list) = edges_of(alloc, text) else {
+fn has_value<R: Threads + Sync>(crew: &Crew<R, OpenGate>, text: &str, known: u64) -> bool {
+    let Some(list) = edges_of(crew.threads.alloc, text) else {
         return false;
     };
-    if list.n() < 2 || !is_value(rt, alloc, &list, known) {
+    if list.n() < 2 || !is_value(crew, &list, known) {
         return false;
     }
-    value_of_list(rt, alloc, list, 1, &OpenGate) == Ok(known)
+    value_of_list(crew, list) == Ok(known)
 }
 
 #[test]
 fn values_of_files(rt: HostRuntime) {
+    let crew = Crew::new(&rt, rt.alloc(), 1, &OpenGate);
     for (text, known) in &FILES {
-        assert!(rt; has_value(&rt, rt.alloc(), text, *known));
+        assert!(rt; has_value(&crew, text, *known));
     }
 }

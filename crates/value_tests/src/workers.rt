@@ -16,6 +16,7 @@ use std::sync::atomic::{AtomicU64, Ordering};
 use std::test::Fail;
 use std::thread::Threads;
 use weighted_graph::Graph;
+use worker_team::Crew;
 
 // For so many turns worker 0 waits for worker 1.
 const TURNS: u32 = 1_000_000_000;
@@ -124,19 +125,19 @@ fn marks_each_block<R: Threads + Sync>(rt: &R, alloc: Global, graph: &Graph) -> 
     met && opening.bound == 7 && bound <= 2 && marked_blocks(graph, &marks) == 64
 }
 
-/// Whether two workers reduce a chain of 100 blocks to a vertex for each, and run at the same time.
+/// Whether two workers reduce a chain of 100 blocks to a vertex for each.
 fn is_reduced_by_two<R: Threads + Sync>(rt: &R, alloc: Global, graph: &Graph) -> bool
     requires { 2 ≤ graph.now.vertices }
 {
-    let Ok(weight) = value(rt, alloc, graph, 2, &OpenGate) else {
+    let crew = Crew::new(rt, alloc, 2, &OpenGate);
+    let Ok(weight) = value(&crew, graph) else {
         return false;
     };
-    let gate = meeting_gate();
-    let reduced = match reduce(rt, alloc, graph, weight, 2, &gate) {
+    let reduced = match reduce(&crew, graph, weight) {
         Ok(Some(kernel)) => kernel.graph.n() == 100,
         _ => false,
     };
-    reduced && weight == 1 && gate.met.load(Ordering::SeqCst) == 1
+    reduced && weight == 1
 }
 
 /// The graph of a list of so many edges.
@@ -188,11 +189,11 @@ fn have_same_rows(a: &Graph, b: &Graph) -> bool {
 
 #[test]
 fn workers_fill_the_rows_that_one_fills(rt: HostRuntime) -> Result<(), Fail> {
-    let blocks = chain_of_blocks(rt.alloc(), 4, 364);
-    let Some(one) = long_graph(rt.alloc(), blocks, 264267) else {
+    let blocks = chain_of_blocks(rt.alloc(), 16, 364);
+    let Some(one) = long_graph(rt.alloc(), blocks, 1057071) else {
         return Err(Fail::from("no graph"));
     };
-    for workers in [2, 3, 64] {
+    for workers in [2, 5] {
         let list = EdgeList::from_edges(one.n(), Vec::from_slice(rt.alloc(), one.edge_list())?);
         let several = graph_of_list(&rt, rt.alloc(), list, workers)?;
         assert!(rt; have_same_rows(&one, &several));

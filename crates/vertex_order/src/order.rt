@@ -4,7 +4,8 @@ ghost use Rattle.std.specs.Prelude.{IfOk, IfSome};
 ghost use Rattle.vertex_order.specs.Numbering.{IsNumbering};
 
 use crate::finding::Finding;
-use cut_definitions::{Edge, NoMemory};
+use cut_definitions::NoMemory;
+use row_ranges::most_lead_far;
 use std::alloc::Global;
 use weighted_graph::{Graph, Labels};
 
@@ -14,17 +15,6 @@ const FAR: u32 = 4_096;
 /// Where so large a part of the vertices waits at once, their order says little of who is near.
 const PART_WAITING: usize = 12;
 
-/// Whether the ends of most edges are far from each other.
-fn is_scattered(edges: &[Edge]) -> bool {
-    let mut far = 0usize;
-    for edge in edges {
-        if edge.v.saturating_sub(edge.u) >= FAR {
-            far += 1;
-        }
-    }
-    far > edges.len() / 2
-}
-
 /// Labels by which neighbours are nearer to each other: the vertices in the order of a breadth-first search from vertex 1. None
 /// where most edges lead to a near vertex already, where there are fewer edges than vertices, where the search does not find all
 /// vertices, or where too many wait at once.
@@ -32,7 +22,7 @@ pub(crate) fn nearer_order(alloc: Global, graph: &Graph) -> Result<Option<Labels
     ensures { IfOk result (λ found. IfSome found (IsNumbering graph.now.vertices)) }
 {
     let n = graph.n() as usize;
-    if n == 0 || graph.edges() < n || !is_scattered(graph.edge_list()) {
+    if n == 0 || graph.edges() < n || !most_lead_far(graph.edge_list(), FAR) {
         return Ok(None);
     }
     let mut finding = Finding::new(alloc, graph.n())?;

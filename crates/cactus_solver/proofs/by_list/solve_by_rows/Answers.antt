@@ -9,29 +9,29 @@ use Rattle.cactus_solver.proofs.Connected.{connected_by_count}
 use Rattle.cactus_solver.proofs.by_list.solve_by_rows.Goals as goal
 
 pub solve_as_listed-requires-clause-connected : goal.solve_as_listed-requires-clause-connected
-solve_as_listed-requires-clause-connected g c κs within =
+solve_as_listed-requires-clause-connected g c =
     subst IsConnected (sym (rw c.in-AsListed.is at c.in_ok-graph.ensures)) (connected_by_count c.args.list c.in_ok-components.components c.requires.enough c.in_ok-components.ensures.counted c.in_ok-components.ensures.none
     (omega (arith, c.if-components-ge2.false)))
 
 pub kernel_of_renumbered-requires-clause-enough : goal.kernel_of_renumbered-requires-clause-enough
-kernel_of_renumbered-requires-clause-enough g c κs within =
+kernel_of_renumbered-requires-clause-enough g c =
     let list = c.args.list in
     let near = rw c.in-Renumbered.is at c.in_ok-graph.ensures in
     (kept_by_numbering list (subst IsGraph c.list.view_is c.list.invariant.is_graph) c.requires.enough (least_value list) c.in-Renumbered.labels c.in-Renumbered.graph refl near.1 near.2).enough
 
 pub kernel_of_renumbered-requires-clause-counted : goal.kernel_of_renumbered-requires-clause-counted
-kernel_of_renumbered-requires-clause-counted g c κs within =
+kernel_of_renumbered-requires-clause-counted g c =
     let list = c.args.list in
     let near = rw c.in-Renumbered.is at c.in_ok-graph.ensures in
     (kept_by_numbering list (subst IsGraph c.list.view_is c.list.invariant.is_graph) c.requires.enough (least_value list) c.in-Renumbered.labels c.in-Renumbered.graph refl near.1 near.2).counted
 
 pub solve_by_smaller-requires-clause-connected : goal.solve_by_smaller-requires-clause-connected
-solve_by_smaller-requires-clause-connected g c κs within =
+solve_by_smaller-requires-clause-connected g c =
     subst IsConnected (sym (rw c.in-Renumbered.is at c.in_ok-graph.ensures).0) (connected_by_count c.args.list c.in_ok-components.components c.requires.enough c.in_ok-components.ensures.counted c.in_ok-components.ensures.none
     (omega (arith, c.if-components-ge2.false)))
 
 pub solve_by_smaller-requires-clause-kept : goal.solve_by_smaller-requires-clause-kept
-solve_by_smaller-requires-clause-kept g c κs within =
+solve_by_smaller-requires-clause-kept g c =
     let list = c.args.list in
     let graph = c.in-Renumbered.graph in
     let labels = c.in-Renumbered.labels in

@@ -6,7 +6,7 @@ use Rattle.min_value.proofs.Numbered.{kept_by_numbering}
 use Rattle.cactus_solver.proofs.by_list.solve_connected.Goals as goal
 
 pub solve_by_smaller-requires-in-Renumbered-clause-kept : goal.solve_by_smaller-requires-in-Renumbered-clause-kept
-solve_by_smaller-requires-in-Renumbered-clause-kept g c κs within =
+solve_by_smaller-requires-in-Renumbered-clause-kept g c =
     let list = c.args.list in
     let near = rw c.in-Renumbered.is at c.in_ok-graph.ensures in
     subst (λ (l : Graph). IsKept l c.args.found.value c.in-Renumbered.graph c.in-Renumbered.labels) (sym near.0)

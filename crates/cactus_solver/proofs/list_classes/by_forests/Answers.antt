@@ -1,6 +1,6 @@
 -- The value and one more fit.
 use Rattle.std.proofs.Common.{arith}
-use Rattle.cactus_solver.proofs.ByClasses.{value_fits}
+use Rattle.min_value.proofs.Scanned.{value_fits}
 use Rattle.cactus_solver.proofs.list_classes.by_forests.Goals as goal
 
 pub overflow_add-value : goal.overflow_add-value

@@ -7,11 +7,11 @@ use Rattle.cactus_solver.proofs.Smaller.{still_connected}
 use Rattle.cactus_solver.proofs.solver.tree_by_kernel.Goals as goal
 
 pub tree_of_cuts-requires-clause-connected : goal.tree_of_cuts-requires-clause-connected
-tree_of_cuts-requires-clause-connected g c = λ κs lives.
+tree_of_cuts-requires-clause-connected g c =
     still_connected c.args.list.now c.args.kernel.graph c.n-n.ensures.edge_list.is_graph c.n-small.ensures.edge_list.is_graph c.requires.enough c.requires.connected c.requires.kept.same_value
 
 pub tree_of_cuts-requires-clause-enough : goal.tree_of_cuts-requires-clause-enough
-tree_of_cuts-requires-clause-enough g c = λ κs lives. c.requires.kept.enough
+tree_of_cuts-requires-clause-enough g c = c.requires.kept.enough
 
 pub spread-requires : goal.spread-requires
 spread-requires g c =

@@ -3,7 +3,7 @@ use Rattle.min_value.proofs.Kept.{fair_is, low_is, safe_at}
 use Rattle.min_value.proofs.closing.marks_of_workers.Goals as goal
 
 pub scan_round-requires-clause-fair : goal.scan_round-requires-clause-fair
-scan_round-requires-clause-fair g c κs within = fair_is c.args.graph.now c.args.value c.requires.enough c.requires.value
+scan_round-requires-clause-fair g c = fair_is c.args.graph.now c.args.value c.requires.enough c.requires.value
 
 pub returns-clause-safe : goal.returns-clause-safe
 returns-clause-safe g c =

@@ -12,10 +12,10 @@ scans-preserved g c = record {
 }
 
 pub scan_again-requires-clause-enough : goal.scan_again-requires-clause-enough
-scan_again-requires-clause-enough g c κs within = c.scans.invariant.kept.enough
+scan_again-requires-clause-enough g c = c.scans.invariant.kept.enough
 
 pub scan_again-requires-clause-counted : goal.scan_again-requires-clause-counted
-scan_again-requires-clause-counted g c κs within = c.scans.invariant.kept.counted
+scan_again-requires-clause-counted g c = c.scans.invariant.kept.counted
 
 pub scan_again-requires-clause-value : goal.scan_again-requires-clause-value
-scan_again-requires-clause-value g c κs within = value_of_small c.args.graph.now c.scans.kept.graph c.scans.kept.value c.scans.kept.labels c.scans.invariant.kept
+scan_again-requires-clause-value g c = value_of_small c.args.graph.now c.scans.kept.graph c.scans.kept.value c.scans.kept.labels c.scans.invariant.kept

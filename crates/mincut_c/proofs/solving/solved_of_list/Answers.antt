@@ -1,14 +1,15 @@
-use Rattle.std.proofs.Common.{◌≡◌, ap, subst, arith}
-use Rattle.cut_definitions.specs.Graph.{Graph}
+-- A connected graph has a value above 0, and one with several components has not.
+use Rattle.std.proofs.Common.{subst}
+use Rattle.cactus_solver.specs.SolvedLists.{AreCutsOf}
+use Rattle.least_cut.proofs.Sweeping.{value_of_connected}
 use Rattle.rooted_cactus.specs.Solving.{IsSolved}
-use Rattle.mincut_c.proofs.Showing.{connected_by_value}
+use Rattle.mincut_c.proofs.Showing.{apart_value}
 use Rattle.mincut_c.proofs.solving.solved_of_list.Goals as goal
 
-pub solve_alone-requires-clause-connected : goal.solve_alone-requires-clause-connected
-solve_alone-requires-clause-connected c =
-    let same : c.in_ok-graph.graph.vertices ≡ c.args.list.vertices = ap (λ (g : Graph). g.vertices) c.in_ok-graph.ensures in
-    connected_by_value c.in_ok-graph.graph c.n-n.ensures.edge_list.is_graph (omega (arith, same, c.requires)) (omega (arith, c.in_ok-least.ensures, c.if-least-eq0.false))
+pub returns-in-Joined-clause-positive : goal.returns-in-Joined-clause-positive
+returns-in-Joined-clause-positive c = value_of_connected c.args.list c.requires (subst (AreCutsOf IsSolved c.args.list) c.in-Joined.is c.in_ok-cuts.ensures.cuts).0
 
-pub returns-clause-solved : goal.returns-clause-solved
-returns-clause-solved c =
-    subst (λ (g : Graph). IsSolved g c.in_ok-solved.solved) c.in_ok-graph.ensures c.in_ok-solved.ensures
+pub returns-in-Apart-clause-unsolved : goal.returns-in-Apart-clause-unsolved
+returns-in-Apart-clause-unsolved c =
+    let apart = subst (AreCutsOf IsSolved c.args.list) c.in-Apart.is c.in_ok-cuts.ensures.cuts in
+    apart_value c.args.list _ c.n-n.ensures.edge_list.is_graph c.requires apart.0 apart.1

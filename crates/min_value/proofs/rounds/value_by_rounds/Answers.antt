@@ -2,7 +2,7 @@ use Rattle.std.proofs.Common.{sym, subst, ℕ, arith}
 use Rattle.cut_definitions.specs.Cuts.{value}
 use Rattle.forest_contraction.specs.Left.{IsLesser}
 use Rattle.min_value.proofs.Contracted.{left_more, left_none, left_some, fewer_left}
-use Rattle.min_value.proofs.values.value_by_rounds.Goals as goal
+use Rattle.min_value.proofs.rounds.value_by_rounds.Goals as goal
 
 pub rounds-smaller : goal.rounds-smaller
 rounds-smaller g c =

@@ -1,7 +1,7 @@
 use Rattle.std.proofs.Common.{arith}
 use Rattle.round_workers.proofs.Marking.{fair_small}
 use Rattle.min_value.proofs.Kept.{fair_is}
-use Rattle.min_value.proofs.closing.contract_by_scans.Goals as goal
+use Rattle.min_value.proofs.closing.reduce_by_scans.Goals as goal
 
 pub is_bare-requires-clause-value : goal.is_bare-requires-clause-value
 is_bare-requires-clause-value g c =

@@ -1,0 +1,21 @@
+//! Threads that pass a gate.
+
+use crate::threaded::Threaded;
+use std::alloc::Global;
+
+/// Threads of a runtime, and the gate that each of them passes before its first step of a round.
+#[derive(Clone, Copy)]
+pub struct Crew<'a, R, G> {
+    pub threads: Threaded<'a, R>,
+    pub gate: &'a G,
+}
+
+impl<'a, R, G> Crew<'a, R, G> {
+    /// So many threads, and their gate.
+    pub fn new(rt: &'a R, alloc: Global, workers: u32, gate: &'a G) -> Crew<'a, R, G> {
+        Crew {
+            threads: Threaded { rt, alloc, workers },
+            gate,
+        }
+    }
+}

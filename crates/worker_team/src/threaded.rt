@@ -1,0 +1,52 @@
+//! Threads of a runtime.
+
+ghost use Rattle.std.specs.Thread.{IsSync};
+
+use crate::team::Team;
+use cut_definitions::{EdgeList, NoMemory};
+use mark_board::Marks;
+use outside::OpenGate;
+use round_contract::contracted_list;
+use round_workers::{Threshold, scan_round};
+use row_ranges::graph_of_list;
+use std::alloc::Global;
+use std::thread::Threads;
+use weighted_graph::{Graph, Labels};
+
+/// As many threads of a runtime as there are workers. A number below 1 counts as 1, and one above 64 as 64.
+#[derive(Clone, Copy)]
+pub struct Threaded<'a, R> {
+    pub rt: &'a R,
+    pub alloc: Global,
+    pub workers: u32,
+}
+
+impl<'a, R: Threads + Sync> Team for Threaded<'a, R> {
+    ghost ready = { λ t. IsSync R.row };
+
+    fn alloc(&self) -> Global {
+        self.alloc
+    }
+
+    fn workers(&self) -> u32 {
+        self.workers.max(1).min(64)
+    }
+
+    fn graph(&self, list: EdgeList) -> Result<Graph, NoMemory> {
+        graph_of_list(self.rt, self.alloc, list, self.workers)
+    }
+
+    fn contracted_list(&self, graph: &Graph, labels: &Labels) -> Result<EdgeList, NoMemory> {
+        contracted_list(self.rt, self.alloc, graph, labels, self.workers)
+    }
+
+    fn scan_round(
+        &self,
+        graph: &Graph,
+        opening: Threshold,
+        workers: u32,
+    ) -> Result<(u64, Marks), NoMemory> {
+        let workers = workers.max(1).min(64);
+        scan_round(self.rt, self.alloc, graph, opening, workers, &OpenGate)
+    }
+}
