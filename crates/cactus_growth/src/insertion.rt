@@ -6,7 +6,7 @@ ghost use Rattle.std.specs.List.Sorted.{IsPartitionPoint};
 ghost use Rattle.cut_definitions.specs.Graph.{IsBefore, IsEdgeList};
 ghost use Rattle.cactus_growth.specs.Insertion.{comes_before, edge_between, enlarged, inserted, same_ends, weight_there};
 
-use cut_definitions::{Edge, EdgeList, NoMemory};
+use cut_definitions::{Edge, EdgeList, MOST_EDGES, MOST_WEIGHT, NoMemory};
 use std::alloc::Global;
 
 /// Whether an edge comes before another by its ends.
@@ -94,12 +94,6 @@ fn inserted(alloc: Global, edges: &[Edge], added: &Edge) -> Result<Vec<Edge>, No
     Ok(list)
 }
 
-/// The most that the weights of a graph add up to.
-const MOST_WEIGHT: u64 = 1 << 61;
-
-/// The most edges of a graph.
-const MOST_EDGES: usize = 16777216;
-
 /// The weight of all edges of a list.
 fn total_weight(edges: &[Edge]) -> u64
     requires { sum_by (λ d. d.w) edges.now ≤ 2 ^ 61 }
@@ -143,7 +137,7 @@ pub fn is_within_limits(list: &EdgeList, u: u32, v: u32, w: u64) -> bool
     let edges = list.edges();
     let weight = total_weight(edges);
     let others = count_others(edges, &added);
-    w <= MOST_WEIGHT - weight && others < MOST_EDGES
+    w <= MOST_WEIGHT - weight && others < MOST_EDGES as usize
 }
 
 /// The list with the weight `w` added between `u` and `v`: to the edge that joins them, or as a new edge.

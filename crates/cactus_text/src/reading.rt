@@ -8,11 +8,9 @@ ghost use Rattle.cactus_text.specs.Reader.{IsReader, Takes};
 use crate::scan::{Lines, read_line, read_numbers};
 use crate::sets::Seen;
 use crate::tree::is_tree;
-use cut_definitions::NoMemory;
+use cut_definitions::{MOST_VERTICES, NoMemory};
 use flat_cactus::FlatCactus;
 use std::alloc::Global;
-
-const MOST_VERTICES: u64 = 4194304;
 
 const MOST_VALUE: u64 = 1 << 62;
 
@@ -51,7 +49,7 @@ fn read_counts(line: &[u8]) -> Option<Counts>
         return None;
     }
     let [value, vertices, nodes, bridges, cycles] = numbers;
-    if value > MOST_VALUE || vertices < 1 || vertices > MOST_VERTICES {
+    if value > MOST_VALUE || vertices < 1 || vertices > u64::from(MOST_VERTICES) {
         return None;
     }
     Some(Counts {

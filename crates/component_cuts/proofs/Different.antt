@@ -11,7 +11,7 @@ use Rattle.std.proofs.lemmas.Map.Keys.{IsDistinct-from_sorted, IsDistinct-cons, 
 use Rattle.std.proofs.lemmas.Map.Lookups.{exact_bytes}
 use Rattle.cut_definitions.proofs.Lists.{Contains-here, Contains-there, Contains-nil, Contains-cons_cases, Contains-from_map}
 use Rattle.cut_definitions.proofs.Orderings.{from_is_eq}
-use Rattle.component_cuts.specs.Doubling.{AreDifferent, IsAscending}
+use Rattle.cut_definitions.specs.Members.{AreDifferent, IsAscending}
 
 abbrev Lists : Type 0
 Lists = List (List ℕ)

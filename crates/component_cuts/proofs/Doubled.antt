@@ -22,7 +22,8 @@ use Rattle.cut_definitions.proofs.Bools.{in_minus, minus_first, minus_second, pu
 use Rattle.cut_definitions.proofs.Ascending.{least_has, member_within}
 use Rattle.cut_definitions.proofs.Orderings.{one_listed}
 use Rattle.component_cuts.specs.Parts.{Parts, part_at, keeps, unions, IsPart, IsDivision}
-use Rattle.component_cuts.specs.Doubling.{union_of, AreDifferent, IsAscending}
+use Rattle.component_cuts.specs.Doubling.{union_of}
+use Rattle.cut_definitions.specs.Members.{AreDifferent, IsAscending}
 use Rattle.component_cuts.specs.Laws.{LawOfNumber}
 use Rattle.component_cuts.proofs.Weightless.{all_parts, one_part, keeps_two, keeps_from, first_has_one, ascending_from_two, all_unions}
 use Rattle.component_cuts.proofs.Different.{different_append, different_map, different_ascending, no_more}

@@ -10,10 +10,10 @@ use Rattle.cut_definitions.specs.Cuts.{has}
 use Rattle.cut_definitions.specs.Scan.{single}
 use Rattle.cut_definitions.proofs.Bools.{or_nothing, and_kept}
 use Rattle.cut_definitions.proofs.Numbers.{later_same}
-use Rattle.vertex_set.specs.Side.{VertexList, listed}
+use Rattle.vertex_set.specs.Side.{VertexList, listed, members_of}
 use Rattle.vertex_set.proofs.Bits.{has-listed, listed-same, listed-none}
 use Rattle.component_cuts.specs.Parts.{divided, part_at}
-use Rattle.component_cuts.specs.Doubling.{joined_with, doubled, members_of, union_of}
+use Rattle.component_cuts.specs.Doubling.{joined_with, doubled, union_of}
 use Rattle.component_cuts.proofs.Divided.{part_divided}
 
 -- ---- the vertices of a number

@@ -13,9 +13,9 @@ use Rattle.std.proofs.lemmas.List.Sorted.{All-permutation, Contains-permutation,
 use Rattle.std.proofs.lemmas.Map.Lookups.{exact_bytes}
 use Rattle.cut_definitions.proofs.Lists.{Contains-map}
 use Rattle.cut_definitions.proofs.Orderings.{then_same}
-use Rattle.vertex_set.specs.Side.{VertexList}
+use Rattle.vertex_set.specs.Side.{VertexList, members_of}
 use Rattle.vertex_set.proofs.Compared.{side_cmp, side_total}
-use Rattle.component_cuts.specs.Doubling.{members_of, AreDifferent, IsAscending}
+use Rattle.cut_definitions.specs.Members.{AreDifferent, IsAscending}
 use Rattle.component_cuts.proofs.Different.{different_permuted}
 
 -- over one n the members alone decide

@@ -1,24 +1,9 @@
 -- Lists of sides that grow by a part at a time.
-use Rattle.std.specs.Prelude.{ℕ, Bool, false, ⊤, List, [], ◌∷◌, ◌++◌, map, slice_index, slice_index_or}
-use Rattle.std.specs.List.{Contains, filter, range_with_len}
-use Rattle.std.specs.List.Sorted.{IsStrictlySortedBy}
-use Rattle.std.specs.Ordering.{nat_cmp}
-use Rattle.std.specs.Cmp.Lexicographic.{slice_cmp}
+use Rattle.std.specs.Prelude.{ℕ, Bool, false, List, [], ◌∷◌, ◌++◌, map, slice_index, slice_index_or}
+use Rattle.std.specs.List.{filter, range_with_len}
 use Rattle.cut_definitions.specs.Weight.{VertexSet, either}
 use Rattle.cut_definitions.specs.Cuts.{has}
 use Rattle.vertex_set.specs.Side.{VertexList, listed}
-
-abbrev pub members_of : List VertexList → List (List ℕ)
-members_of = map (λ (s : VertexList). s.members)
-
--- strictly ascending by the order of lists, a list that another begins with first
-abbrev pub IsAscending : List (List ℕ) → Type 0
-IsAscending = IsStrictlySortedBy (slice_cmp nat_cmp)
-
--- no list stands twice
-abbrev pub AreDifferent : List (List ℕ) → Type 0
-AreDifferent [] = ⊤
-AreDifferent (x ∷ xs) = (Contains xs x → ⊥) × AreDifferent xs
 
 -- the union of two sets of the vertices 1 to n
 abbrev pub union_of : ℕ → List ℕ → List ℕ → List ℕ

@@ -3,10 +3,9 @@
 ghost use Rattle.std.specs.Prelude.{◌≡◌, ◌-◌, ◌*◌, ◌^◌, ◌<◌, ◌≤◌, All, length, true, IfOk, MatchOption, MatchResult};
 ghost use Rattle.cut_definitions.specs.Cuts.{has};
 ghost use Rattle.component_cuts.specs.Parts.{part_at, unions, AreComponents, IsDivision, IsNumberOfUnions, IsPart};
-ghost use Rattle.component_cuts.specs.Doubling.{members_of};
+ghost use Rattle.vertex_set.specs.Side.{members_of, VertexList};
 ghost use Rattle.component_cuts.specs.Sums.{IsSmall, IsBestRefusal};
 ghost use Rattle.cut_definitions.specs.Balance.{mass, IsBest};
-ghost use Rattle.vertex_set.specs.Side.{VertexList};
 
 use crate::best_refusal::BestRefusal;
 use crate::edge_classes::component_classes;

@@ -2,8 +2,9 @@
 
 ghost use Rattle.std.specs.Prelude.{◌≡◌, ℕ, ◌↔◌, ◌+◌, ◌<◌, List, All, IfOk, length, slice_index};
 ghost use Rattle.std.specs.List.{Contains};
-ghost use Rattle.vertex_set.specs.Side.{VertexList, listed};
-ghost use Rattle.component_cuts.specs.Doubling.{chosen_vertices, doubled, members_of, AreDifferent, IsAscending};
+ghost use Rattle.vertex_set.specs.Side.{VertexList, listed, members_of};
+ghost use Rattle.component_cuts.specs.Doubling.{chosen_vertices, doubled};
+ghost use Rattle.cut_definitions.specs.Members.{AreDifferent, IsAscending};
 
 use cut_definitions::NoMemory;
 use std::alloc::Global;

@@ -8,6 +8,10 @@ pub record Graph : Type 0 where
   pub vertices : ℕ
   pub edges : List Edge
 
+-- a vertex of 1 to n
+abbrev pub IsVertex : ℕ → ℕ → Type 0
+IsVertex n v = (1 ≤ v) × (v ≤ n)
+
 -- one edge comes before another by its ends
 abbrev pub IsBefore : Edge → Edge → Type 0
 IsBefore d e = (d.u < e.u) ⊎ ((d.u ≡ e.u) × (d.v < e.v))

@@ -2,6 +2,7 @@ pub mod Graph
 pub mod Weight
 pub mod Cuts
 pub mod Scan
+pub mod Degrees
 pub mod Chain
 pub mod Contraction
 pub mod Components

@@ -6,9 +6,11 @@
 
 mod edge_list;
 pub mod laws;
+mod limits;
 mod vertex_weights;
 
 pub use edge_list::{Edge, EdgeList};
+pub use limits::{MOST_EDGES, MOST_VERTICES, MOST_WEIGHT, MOST_WORKERS};
 pub use vertex_weights::VertexWeights;
 
 /// Memory was wanting.

@@ -11,7 +11,8 @@ use Rattle.std.proofs.lemmas.List.Elements.{All-push}
 use Rattle.cut_definitions.specs.declared.edge_list.Edge.{Edge}
 use Rattle.cut_definitions.specs.Graph.{IsEdgeWithin}
 use Rattle.cut_definitions.specs.Weight.{VertexSet, parts, weight}
-use Rattle.edge_arrays.specs.Given.{entry, given, term, free_weight, total_weight, HasEnds}
+use Rattle.edge_arrays.specs.Given.{entry, given, free_weight, total_weight, HasEnds}
+use Rattle.weighted_graph.specs.Merging.{term}
 
 -- what the first places hold, as edges that may cross a cut
 pub record IsCollected (n : ℕ) (us vs ws : List ℕ) (count : ℕ) (edges : List Edge) (total : ℕ) : Type 0 where

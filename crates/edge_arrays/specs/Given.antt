@@ -1,5 +1,5 @@
 -- The graph that three arrays give, and when another graph stands for it.
-use Rattle.std.specs.Prelude.{ℕ, Bool, ◌≡◌, ◌==◌, ◌+◌, ◌<◌, ◌≤◌, ◌^◌, List, map, length, slice_index, if◌then◌else◌}
+use Rattle.std.specs.Prelude.{ℕ, ◌≡◌, ◌==◌, ◌+◌, ◌<◌, ◌≤◌, ◌^◌, List, map, length, slice_index, if◌then◌else◌}
 use Rattle.std.specs.List.{range_with_len, sum_by}
 use Rattle.cut_definitions.specs.declared.edge_list.Edge.{Edge}
 use Rattle.cut_definitions.specs.Graph.{Graph}
@@ -12,10 +12,6 @@ entry us vs ws i = record { u = slice_index us i + 1; v = slice_index vs i + 1; 
 -- the graph of the arrays: each edge as it stands there, loops and repeated edges too
 abbrev pub given : ℕ → List ℕ → List ℕ → List ℕ → Graph
 given n us vs ws = record { vertices = n; edges = map (entry us vs ws) (range_with_len 0 (length us)) }
-
--- what an edge weighs for a test of pairs
-abbrev pub term : (ℕ → ℕ → Bool) → Edge → ℕ
-term f e = if f e.u e.v then e.w else 0
 
 -- the two graphs have the same vertices, and each set weighs the same in both
 pub record WeighsAs (g h : Graph) : Type 0 where

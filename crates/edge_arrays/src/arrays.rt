@@ -5,15 +5,9 @@ ghost use Rattle.edge_arrays.specs.Given.{IsGiven, WeighsAs, given};
 ghost use Rattle.edge_arrays.specs.Faults.{Explains};
 
 use crate::collecting::collect;
-use crate::merging::{merge, sort_by_ends};
-use cut_definitions::{EdgeList, NoMemory};
+use cut_definitions::{EdgeList, MOST_EDGES, MOST_VERTICES, NoMemory};
 use std::alloc::{AllocFailed, Global};
-
-/// The most vertices of a graph.
-const MOST_VERTICES: u32 = 4194304;
-
-/// The most edges of a graph.
-const MOST_EDGES: usize = 16777216;
+use weighted_graph::{merged_list, sort_by_ends};
 
 /// Why arrays give no graph.
 ///
@@ -77,12 +71,10 @@ pub fn list_of_arrays(
     if n > MOST_VERTICES {
         return Err(ArrayFault::TooManyVertices);
     }
-    if us.len() > MOST_EDGES {
+    if us.len() > MOST_EDGES as usize {
         return Err(ArrayFault::TooManyEdges);
     }
     let mut edges = collect(alloc, n, us, vs, ws)?;
-    let sorted = edges.as_mut_slice();
-    sort_by_ends(sorted);
-    let list = merge(alloc, n, sorted)?;
-    Ok(list)
+    sort_by_ends(&mut edges);
+    Ok(merged_list(n, edges))
 }

@@ -5,15 +5,13 @@ ghost use Rattle.std.specs.List.{All, sum_by};
 ghost use Rattle.cut_definitions.specs.Graph.{IsEdgeWithin};
 ghost use Rattle.cut_definitions.specs.Weight.{VertexSet, parts, weight};
 ghost use Rattle.cut_definitions.specs.declared.edge_list.Edge.{Edge};
-ghost use Rattle.edge_arrays.specs.Given.{HasEnds, given, term, total_weight};
+ghost use Rattle.edge_arrays.specs.Given.{HasEnds, given, total_weight};
+ghost use Rattle.weighted_graph.specs.Merging.{term};
 ghost use Rattle.edge_arrays.specs.Faults.{ExplainsEntry};
 
 use crate::ArrayFault;
-use cut_definitions::Edge;
+use cut_definitions::{Edge, MOST_WEIGHT};
 use std::alloc::Global;
-
-/// The most that the weights of a graph add up to, but for loops.
-const MOST_WEIGHT: u64 = 1 << 61;
 
 /// The edge between two vertices that are counted from 0, the lesser first.
 fn edge_between(u: u32, v: u32, w: u64) -> Edge

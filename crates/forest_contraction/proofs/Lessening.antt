@@ -12,7 +12,7 @@ use Rattle.cut_definitions.proofs.Numbers.{pick}
 use Rattle.cut_definitions.proofs.Values.{value_is_weight, Contains-mincuts, IsSide-from_mincuts}
 use Rattle.weighted_graph.specs.ContractionLaws.{IsLabelled, PartsNoClass}
 use Rattle.weighted_graph.proofs.Contraction.{law_of_contracted_minimum_cuts, value-le-contracted, kept_classes}
-use Rattle.least_cut.specs.Dense.{IsLeastDegree}
+use Rattle.cut_definitions.specs.Degrees.{IsLeastDegree}
 use Rattle.least_cut.proofs.Sweeping.{value-le_degree}
 use Rattle.forest_contraction.specs.Left.{IsLesser, IsLowered}
 

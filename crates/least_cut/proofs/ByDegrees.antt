@@ -6,8 +6,9 @@ use Rattle.cut_definitions.specs.Cuts.{value}
 use Rattle.cut_definitions.specs.Graph.{Graph, IsGraph}
 use Rattle.cut_definitions.specs.Scan.{single}
 use Rattle.cut_definitions.proofs.Running.{weight-le_total}
-use Rattle.least_cut.specs.Dense.{IsDense, IsLeastDegree}
-use Rattle.least_cut.specs.Sweep.{AreLight, HasDegrees}
+use Rattle.least_cut.specs.Dense.{IsDense}
+use Rattle.cut_definitions.specs.Degrees.{HasDegrees, IsLeastDegree}
+use Rattle.least_cut.specs.Sweep.{AreLight}
 use Rattle.least_cut.proofs.LightEdges.{value_of_dense}
 use Rattle.least_cut.proofs.Sweeping.{value-le_degree}
 

@@ -22,15 +22,9 @@ use Rattle.weighted_graph.specs.RowLaws.{no_edge, IsArcAt}
 use Rattle.weighted_graph.specs.Rows.{row_of, weight_in}
 use Rattle.weighted_graph.proofs.RowLaws.{row_arcs, row_ascends, to_term, to_term-le, weight_to_is}
 use Rattle.weighted_graph.proofs.RowSearch.{term_elsewhere}
-use Rattle.least_cut.specs.Sweep.{AreLight, HasDegrees}
+use Rattle.cut_definitions.specs.Degrees.{HasDegrees}
+use Rattle.least_cut.specs.Sweep.{AreLight}
 use Rattle.least_cut.proofs.Even.{alone}
-
-pub more_degrees : (g : Graph) (low v : ℕ) → ((u : ℕ) → 1 ≤ u → u < v → low ≤ weight g (single u)) → low ≤ weight g (single v) → (u : ℕ) → 1 ≤ u → u < v + 1 → low ≤ weight g (single u)
-more_degrees g low v before here u one l =
-    ⊎_elim
-    (λ (e : u ≡ v). rw e here)
-    (λ (ne : u ≢ v). before u one (omega arith))
-    (cases_eq u v)
 
 -- ---- the weight from a vertex to a list of vertices: at most the heaviest edge for each of these
 

@@ -35,10 +35,6 @@ TellsLeast g bound most (Part weight) = (min bound (value g) ≤ weight) × (wei
 abbrev pub HasEvenDegrees : Graph → Type 0
 HasEvenDegrees g = (v : ℕ) → 1 ≤ v → v ≤ g.vertices → weight g (single v) % 2 ≡ 0
 
--- no vertex has a lesser degree
-abbrev pub HasDegrees : Graph → ℕ → Type 0
-HasDegrees g low = (v : ℕ) → 1 ≤ v → v ≤ g.vertices → low ≤ weight g (single v)
-
 -- no edge is heavier
 abbrev pub AreLight : ℕ → List Edge → Type 0
 AreLight heavy edges = All (λ (e : Edge). e.w ≤ heavy) edges

@@ -4,10 +4,11 @@ ghost use Rattle.std.specs.Prelude.{◌≡◌, ◌↔◌, ℕ, ◌+◌, ◌-◌,
 ghost use Rattle.std.specs.List.{All, sum_by};
 ghost use Rattle.cut_definitions.specs.declared.edge_list.Edge.{Edge};
 ghost use Rattle.cut_definitions.specs.Cuts.{value};
+ghost use Rattle.cut_definitions.specs.Degrees.{IsLeastDegree};
 ghost use Rattle.cut_definitions.specs.Graph.{IsEdgeWithin};
 ghost use Rattle.cut_definitions.specs.Scan.{single};
 ghost use Rattle.cut_definitions.specs.Weight.{parts, weight};
-ghost use Rattle.least_cut.specs.Dense.{IsDense, IsLeastDegree};
+ghost use Rattle.least_cut.specs.Dense.{IsDense};
 ghost use Rattle.least_cut.specs.Sweep.{AreLight};
 
 use cut_definitions::{Edge, EdgeList, NoMemory};

@@ -3,8 +3,9 @@
 ghost use Rattle.std.specs.Prelude.{◌≡◌, ◌≤◌, ◌<◌, ◌-◌, ◌^◌, None, IfOk, IfSome, IsTrue, min, slice_index, slice_set};
 ghost use Rattle.cut_definitions.specs.Components.{IsConnected};
 ghost use Rattle.cut_definitions.specs.Cuts.{value};
+ghost use Rattle.cut_definitions.specs.Degrees.{HasDegrees};
 ghost use Rattle.region_flow.specs.Regions.{IsRegionFlow};
-ghost use Rattle.least_cut.specs.Sweep.{HasDegrees, HasEvenDegrees, IsSwept, TellsLeast};
+ghost use Rattle.least_cut.specs.Sweep.{HasEvenDegrees, IsSwept, TellsLeast};
 
 use crate::dense::are_light;
 use crate::front::Front;
@@ -26,20 +27,6 @@ fn busiest(graph: &Graph) -> u32
         }
     }
     busiest
-}
-
-/// The least degree of a vertex.
-fn least_degree(graph: &Graph) -> u64
-    requires { 2 ≤ graph.now.vertices }
-    ensures cut { value graph.now ≤ result }
-    ensures least { HasDegrees graph.now result }
-{
-    let n = graph.n();
-    let mut least = graph.degree(1);
-    for v in 1..n + 1 {
-        least = least.min(graph.degree(v));
-    }
-    least
 }
 
 /// Whether each vertex has an even degree, and so each set an even weight.
@@ -153,7 +140,7 @@ pub fn least_weight_within(
 {
     // known by this call: the graph is an edge list
     let _n = graph.n();
-    let mut best = least_degree(graph).min(bound);
+    let mut best = graph.least_degree().min(bound);
     if is_dense(graph, best) || is_settled(alloc, graph, best)? {
         return Ok(Swept::Whole(best));
     }
@@ -196,5 +183,6 @@ pub fn least_weight(alloc: Global, graph: &Graph) -> Result<u64, NoMemory>
     if graph.n() < 2 {
         return Ok(0);
     }
-    least_weight_below(alloc, graph, least_degree(graph))
+    let weight = least_weight_below(alloc, graph, graph.least_degree())?;
+    Ok(weight)
 }

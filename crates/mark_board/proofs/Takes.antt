@@ -6,10 +6,14 @@ use Rattle.atomic_table.specs.Table.{Me, step, Allows}
 use Rattle.atomic_table.specs.Seated.{TableId}
 use Rattle.mark_board.specs.declared.rule.View.{View}
 use Rattle.mark_board.specs.declared.rule.Opened.{Opened}
-use Rattle.mark_board.specs.Seen.{SeatView, BoardView, seat_view}
+use Rattle.mark_board.specs.Seen.{SeatView, BoardView, view_of, seat_view}
 use Rattle.mark_board.specs.Words.{word_of, mask_of, base_of, mark_words}
 use Rattle.mark_board.specs.Rule.{edge_count, IsBoard, took}
 use Rattle.mark_board.proofs.Steps.{takes_allowed}
+
+-- a view that lives is read back from what contracts see of it
+pub lives : (t : TableId) (v : View) → v.live ≡ true → v ≡ view_of (seat_view t v)
+lives t v live = λ i. record v { live = live i }
 
 -- a seat of a board has the graph of the board's key
 pub same_graph : (t t' : TableId) (v : View) (key : Opened) (s : SeatView) (b : BoardView) → seat_view t v ≡ s → s.board ≡ b →

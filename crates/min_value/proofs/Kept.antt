@@ -16,7 +16,7 @@ use Rattle.weighted_graph.specs.RowLaws.{no_edge, edge_at}
 use Rattle.weighted_graph.specs.ContractionLaws.{IsLabelled}
 use Rattle.weighted_graph.specs.Marks.{MarksAreSafe}
 use Rattle.weighted_graph.proofs.Contraction.{label_to_classes, vertex_of}
-use Rattle.weighted_graph.proofs.Labelling.{label-map, composed_are_labels, le_length}
+use Rattle.weighted_graph.proofs.Labelling.{classes_le, label-map, composed_are_labels, le_length}
 use Rattle.weighted_graph.proofs.MarkLaws.{law_of_marked_classes, law_of_kept_contraction}
 use Rattle.weighted_graph.proofs.SafeContraction.{law_of_composed_lifts}
 use Rattle.mark_board.specs.Marks.{MarkList}
@@ -155,11 +155,6 @@ fewer_classes labels h u v one lt le same =
     (cases_eq c (k + 1)) in
     let r = le_length (k + 1) xs all in
     omega arith
-
--- there are at most as many classes as vertices
-classes_le : (labels : List ℕ) → IsLabels labels → classes labels ≤ length labels
-classes_le labels h =
-    le_length (classes labels) labels (λ c c1 ck. let w = vertex_of labels h c c1 ck in at_place labels c (w.0 - 1) (omega (arith, w.1, w.2)) w.3)
 
 pub no_more_vertices : (g small : Graph) (labels : List ℕ) → IsLabelled g labels → small ≡ relabel g labels → small.vertices ≤ g.vertices
 unfolding relabel

@@ -6,8 +6,8 @@ ghost use Rattle.cut_definitions.specs.Graph.{Graph as EdgeGraph};
 ghost use Rattle.forest_contraction.specs.Left.{AreTies, Tells};
 
 use crate::rounds::{FEW_EDGES, value_by_rounds};
-use crate::values::{MOST_WEIGHT, lesser_away};
-use cut_definitions::{EdgeList, NoMemory};
+use crate::values::lesser_away;
+use cut_definitions::{EdgeList, MOST_WEIGHT, NoMemory};
 use forest_contraction::{Contracted, Ties, WithTies, contract_list, contract_with_ties};
 use least_cut::value_of_dense;
 use outside::Gate;

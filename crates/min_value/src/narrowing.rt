@@ -8,9 +8,9 @@ ghost use Rattle.min_value.specs.Kernels.{IsKept, IsNarrowed};
 use crate::kept_graph::{Kernel, is_worth_another};
 use crate::scanners::scanners;
 use crate::scans::{mark_by_links, scan_or_sweep, value_of_shrunk};
-use crate::values::{MOST_WEIGHT, least_degree, sweep, value_by_sweeps};
+use crate::values::{sweep, value_by_sweeps};
 use capped_scan::Scan;
-use cut_definitions::NoMemory;
+use cut_definitions::{MOST_WEIGHT, NoMemory};
 use least_cut::Swept;
 use mark_board::Marks;
 use round_contract::classes_of_marks;
@@ -93,7 +93,7 @@ fn narrow_together<T: Team>(
     ensures less { IfOk result (λ found. IfSome found (λ left. left.graph.vertices * 50 ≤ graph.now.vertices * 49)) }
 {
     let opening = Threshold {
-        bound: least_degree(graph),
+        bound: graph.least_degree(),
         slack: 1,
     };
     let (low, marks) = team.scan_round(graph, opening, workers)?;

@@ -4,7 +4,7 @@ ghost use Rattle.std.specs.Prelude.{◌≡◌, ◌≤◌, IfOk};
 ghost use Rattle.cut_definitions.specs.Cuts.{value};
 ghost use Rattle.forest_contraction.specs.Left.{IsLesser};
 
-use crate::values::{least_degree, value_by_sweeps};
+use crate::values::value_by_sweeps;
 use cut_definitions::NoMemory;
 use forest_contraction::is_tenth_less;
 use least_cut::least_weight_below;
@@ -30,7 +30,7 @@ fn contract_once<R: Threads + Sync, G: Gate>(
 {
     // known by this call: the graph is an edge list
     let _n = graph.n();
-    let bound = least_degree(graph);
+    let bound = graph.least_degree();
     let Threaded { rt, alloc, .. } = crew.threads;
     let (low, marks) = round(rt, alloc, graph, bound, 0, workers, crew.gate)?;
     let (smaller, _labels) = contract(&crew.threads, graph, &marks)?;

@@ -8,7 +8,6 @@ ghost use Rattle.min_value.specs.Left.{IsScanned, IsShrunk, IsToTell};
 
 use crate::kept_graph::is_worth_another;
 use crate::scanners::scanners;
-use crate::values::least_degree;
 use capped_scan::Scan;
 use cut_definitions::{EdgeList, NoMemory};
 use least_cut::least_weight_below;
@@ -114,7 +113,7 @@ fn scan_by_workers<T: Team>(
     ensures { IfOk result (λ s. IsShrunk graph.now bound s.best s.smaller) }
 {
     let opening = Threshold {
-        bound: least_degree(graph),
+        bound: graph.least_degree(),
         slack: 0,
     };
     let (low, marks) = team.scan_round(graph, opening, workers)?;

@@ -2,31 +2,14 @@
 
 ghost use Rattle.std.specs.Prelude.{◌≡◌, ◌≤◌, ◌^◌, IfOk, min};
 ghost use Rattle.cut_definitions.specs.Cuts.{value};
-ghost use Rattle.cut_definitions.specs.Safe.{IsFair};
 ghost use Rattle.min_value.specs.Left.{IsToTell, TellsLesser};
 
 use crate::scans::{Shrunk, scan_or_sweep, value_of_shrunk};
-use cut_definitions::NoMemory;
+use cut_definitions::{MOST_WEIGHT, NoMemory};
 use least_cut::{Swept, least_weight_within};
 use std::alloc::Global;
 use weighted_graph::Graph;
 use worker_team::Team;
-
-/// No cut weighs more, since all edges together do not.
-pub(crate) const MOST_WEIGHT: u64 = 1 << 61;
-
-/// The least degree of a vertex, which is the weight of a cut.
-pub(crate) fn least_degree(graph: &Graph) -> u64
-    requires { 2 ≤ graph.now.vertices }
-    ensures { IsFair graph.now result }
-{
-    let n = graph.n();
-    let mut least = graph.degree(1);
-    for v in 1..n {
-        least = least.min(graph.degree(v + 1));
-    }
-    least
-}
 
 /// The lesser of a bound and the value of a graph, by a sweep of flows, which are local on most graphs. It is cut short where
 /// they go along each row more than four times on the average.

@@ -5,12 +5,12 @@ ghost use Rattle.clap.specs.Words.{found_of, kind_of, rows_of};
 ghost use Rattle.program_words.specs.Numbers.{number_of};
 ghost use Rattle.program_words.specs.Words.{command_of, command_from, command_in, command_of_job, before_all, grow_of, insertion_of, insertions_of, job_named, job_of, long_job_of, named_job_of, part_of, texts, trial_of, with_least, within, workers_of};
 
-use crate::NoMemory;
 use crate::insertions::Insertions;
 use crate::line::command_line;
 use crate::number::read_number;
 use clap::ArgMatches;
 use clap::error::ErrorKind;
+use cut_definitions::{MOST_WORKERS, NoMemory};
 use std::alloc::Global;
 
 /// What is asked for.
@@ -57,7 +57,7 @@ fn read_workers(text: &str) -> Option<u32>
     ensures range { IfSome result (λ n. (1 ≤ n) × (n ≤ 64)) }
 {
     match read_number(text) {
-        Some(n) if 1 <= n && n <= 64 => Some(n as u32),
+        Some(n) if 1 <= n && n <= u64::from(MOST_WORKERS) => Some(n as u32),
         _ => None,
     }
 }

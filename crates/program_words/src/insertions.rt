@@ -2,7 +2,7 @@
 
 ghost use Rattle.std.specs.Prelude.{◌≡◌, ◌∷◌, ◌++◌, [], OnOk};
 
-use crate::NoMemory;
+use cut_definitions::NoMemory;
 use std::alloc::Global;
 use std::marker::Model;
 

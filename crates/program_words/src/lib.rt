@@ -1,7 +1,6 @@
 //! The words of the program `mincut`: which command they ask for, and the notices that it gives for help and version.
 //!
-//! `read_words` reads a command by way of `clap`, and `notice_of` finds the notice. Nothing here knows a graph, so it is
-//! proved beside all that does.
+//! `read_words` reads a command by way of `clap`, and `notice_of` finds the notice. Nothing here knows a graph.
 #![tactic(auto)]
 
 mod command;
@@ -13,6 +12,3 @@ mod number;
 pub use command::{Command, Job, WordsRefusal, read_words};
 pub use insertions::Insertions;
 pub use notice::{Notice, notice_of};
-
-/// Memory was wanting; the same as in the crates of graphs, which this crate does without.
-type NoMemory = std::alloc::AllocError;

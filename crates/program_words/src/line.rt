@@ -3,7 +3,7 @@ ghost use Rattle.std.specs.Prelude.{◌≡◌, IfOk, false};
 ghost use Rattle.clap.specs.Words.{app_of, rule_of};
 ghost use Rattle.program_words.specs.Line.{bare, job_rule, least_rule, mincut, values_rule, workers_rule};
 
-use crate::NoMemory;
+use cut_definitions::NoMemory;
 use std::alloc::Global;
 
 /// The job's name.

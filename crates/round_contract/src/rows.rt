@@ -9,7 +9,7 @@ ghost use Rattle.weighted_graph.specs.declared.graph.Arc.{Arc};
 ghost use Rattle.round_contract.specs.Rows.{AreFirst, AreMembers, AreNext, IsNext, edges_by, found_edges, run_rows, toward};
 
 use crate::threads::relabel_in_threads;
-use cut_definitions::{Edge, EdgeList, NoMemory};
+use cut_definitions::{Edge, EdgeList, MOST_WORKERS, NoMemory};
 use row_ranges::graph_of_list;
 use std::alloc::Global;
 use std::thread;
@@ -24,9 +24,6 @@ const EDGES_FOR_THREADS: usize = 4_194_304;
 
 /// On a dense graph of fewer edges threads cost more than they save.
 const EDGES_FOR_RUNS: usize = 1_048_576;
-
-/// Of a few thousand classes, more workers would have next to nothing to do each.
-const MOST_RUNS: u32 = 64;
 
 /// Writes for each class its first vertex, and for each vertex the next one of its class, or 0 where there is none.
 fn link(labels: &Labels, first: &mut [u32], next: &mut [u32])
@@ -297,7 +294,7 @@ pub fn contracted_list<R: Threads + Sync>(
         return contracted_alone(alloc, graph, labels);
     }
     if is_dense(graph, labels) {
-        return list_by_workers(rt, alloc, graph, labels, workers.min(MOST_RUNS));
+        return list_by_workers(rt, alloc, graph, labels, workers.min(MOST_WORKERS));
     }
     if graph.edges() >= EDGES_FOR_THREADS {
         return relabel_in_threads(rt, alloc, graph.list(), labels);

@@ -1,9 +1,9 @@
 -- Classes numbered by their first vertices.
-use Rattle.std.proofs.Common.{Bool, true, false, not, ◌&&◌, eqb, subst, ◌≡◌, ℕ, ◌+◌, ◌-◌, ◌<◌, ◌≤◌, ⊎_elim, List, [], ◌∷◌, ◌++◌, length, get_or, refl, sym, ◌∙◌, ap, arith, length-append}
+use Rattle.std.proofs.Common.{Bool, true, false, not, ◌&&◌, eqb, subst, ◌≡◌, ℕ, ◌+◌, ◌-◌, ◌<◌, ◌≤◌, ⊎_elim, List, [], ◌∷◌, ◌++◌, length, get_or, refl, sym, ◌∙◌, ap, arith}
 use Rattle.std.specs.Prelude.{◌≢◌}
 use Rattle.std.proofs.lemmas.Bool.{cases_eq, cases_lt, eq-eqb, eqb-true, false≢true}
 use Rattle.std.proofs.lemmas.Bool.Decides.{nat_tests}
-use Rattle.std.proofs.lemmas.List.{get_or_append_left, get_or_default}
+use Rattle.std.proofs.lemmas.List.{get_or_append_left, get_or_default, length_push}
 use Rattle.std.proofs.lemmas.List.Elements.{All-from_get_or}
 use Rattle.std.proofs.Math.Seq.{get_or-append_seam}
 use Rattle.cut_definitions.specs.Contraction.{label, classes, IsLabels}
@@ -46,13 +46,10 @@ before xs x k l = get_or_append_left xs (x ∷ []) 0 k l
 at_end : (xs : List ℕ) (x k : ℕ) → k ≡ length xs → get_or (xs ++ x ∷ []) k 0 ≡ x
 at_end xs x k e = rw e (get_or-append_seam xs x [] 0)
 
-longer : (xs : List ℕ) (x : ℕ) → length (xs ++ x ∷ []) ≡ length xs + 1
-longer xs x = length-append xs (x ∷ [])
-
 -- a first place stays with one number more
 place_kept : (numbers : List ℕ) (x c place : ℕ) → IsFirstPlace numbers c place → IsFirstPlace (numbers ++ x ∷ []) c place
 place_kept numbers x c place h = record {
-  within = omega (arith, longer numbers x, h.within);
+  within = omega (arith, length_push numbers x, h.within);
   there = before numbers x place h.within ∙ h.there;
   before = λ i l. omega (arith, before numbers x i (omega (arith, l, h.within)), h.before i l);
 }
@@ -77,10 +74,10 @@ numbered_as parents numbers count v p up h lv is one less =
     let with_new : (i : ℕ) → i < length numbers → get_or numbers i 0 ≡ x → AreJoined parents (i + 1) (length numbers + 1) =
     λ i l same s r. (h.joined i (p - 1) l lp same s r ∙ ap s e) ∙ (ap s (sym is) ∙ (r v lv ∙ ap s (sym ev))) in
     record {
-      long = omega (arith, longer numbers x, h.long);
+      long = omega (arith, length_push numbers x, h.long);
       few = omega (arith, h.few);
-      low = λ k l. one_more (λ k. 1 ≤ get_or (numbers ++ x ∷ []) k 0) (length numbers) (λ k l. omega (arith, before numbers x k l, h.low k l)) (omega (arith, at_end numbers x (length numbers) refl, h.low (p - 1) lp)) k (omega (arith, longer numbers x));
-      high = λ k l. one_more (λ k. get_or (numbers ++ x ∷ []) k 0 ≤ count) (length numbers) (λ k l. omega (arith, before numbers x k l, h.high k l)) (omega (arith, at_end numbers x (length numbers) refl, h.high (p - 1) lp)) k (omega (arith, longer numbers x));
+      low = λ k l. one_more (λ k. 1 ≤ get_or (numbers ++ x ∷ []) k 0) (length numbers) (λ k l. omega (arith, before numbers x k l, h.low k l)) (omega (arith, at_end numbers x (length numbers) refl, h.low (p - 1) lp)) k (omega (arith, length_push numbers x));
+      high = λ k l. one_more (λ k. get_or (numbers ++ x ∷ []) k 0 ≤ count) (length numbers) (λ k l. omega (arith, before numbers x k l, h.high k l)) (omega (arith, at_end numbers x (length numbers) refl, h.high (p - 1) lp)) k (omega (arith, length_push numbers x));
       least = λ c l u. let k = h.least c l u in (k.0, place_kept numbers x c k.0 k.1);
       first = λ l. before numbers x 0 (omega arith) ∙ h.first (omega arith);
       joined = λ i j li lj same.
@@ -89,19 +86,19 @@ numbered_as parents numbers count v p up h lv is one less =
           ⊎_elim
           (λ (b : j < length numbers). h.joined i j a b (omega (arith, before numbers x i a, before numbers x j b)))
           (λ (b : length numbers ≤ j).
-          let q : j ≡ length numbers = omega (arith, longer numbers x) in
+          let q : j ≡ length numbers = omega (arith, length_push numbers x) in
           rw q (with_new i a (omega (arith, before numbers x i a, at_end numbers x j q))))
           (cases_lt j (length numbers)))
           (λ (a : length numbers ≤ i).
-          let p0 : i ≡ length numbers = omega (arith, longer numbers x) in
+          let p0 : i ≡ length numbers = omega (arith, length_push numbers x) in
           ⊎_elim
           (λ (b : j < length numbers). λ s r. sym (rw p0 (with_new j b (omega (arith, before numbers x j b, at_end numbers x i p0)) s r)))
           (λ (b : length numbers ≤ j).
-          let q : j ≡ i = omega (arith, longer numbers x) in λ s r. rw q refl)
+          let q : j ≡ i = omega (arith, length_push numbers x) in λ s r. rw q refl)
           (cases_lt j (length numbers)))
           (cases_lt i (length numbers));
       same = λ w w1 wl pw.
-          let wv : w ≤ v = omega (arith, longer numbers x, h.long) in
+          let wv : w ≤ v = omega (arith, length_push numbers x, h.long) in
           let low = up w (omega arith) in
           ⊎_elim
           (λ (e : w ≡ v).
@@ -122,16 +119,16 @@ pub numbered_next : (parents numbers : List ℕ) (count v : ℕ) → AreParents 
 numbered_next parents numbers count v up lv first h =
     let x = count + 1 in
     record {
-      long = omega (arith, longer numbers x, h.long);
+      long = omega (arith, length_push numbers x, h.long);
       few = omega (arith, h.few);
-      low = λ k l. one_more (λ k. 1 ≤ get_or (numbers ++ x ∷ []) k 0) (length numbers) (λ k l. omega (arith, before numbers x k l, h.low k l)) (omega (arith, at_end numbers x (length numbers) refl)) k (omega (arith, longer numbers x));
-      high = λ k l. one_more (λ k. get_or (numbers ++ x ∷ []) k 0 ≤ x) (length numbers) (λ k l. omega (arith, before numbers x k l, h.high k l)) (omega (arith, at_end numbers x (length numbers) refl)) k (omega (arith, longer numbers x));
+      low = λ k l. one_more (λ k. 1 ≤ get_or (numbers ++ x ∷ []) k 0) (length numbers) (λ k l. omega (arith, before numbers x k l, h.low k l)) (omega (arith, at_end numbers x (length numbers) refl)) k (omega (arith, length_push numbers x));
+      high = λ k l. one_more (λ k. get_or (numbers ++ x ∷ []) k 0 ≤ x) (length numbers) (λ k l. omega (arith, before numbers x k l, h.high k l)) (omega (arith, at_end numbers x (length numbers) refl)) k (omega (arith, length_push numbers x));
       least = λ c l u.
           ⊎_elim
           (λ (e : c ≡ x). (
             length numbers,
             record {
-              within = omega (arith, longer numbers x);
+              within = omega (arith, length_push numbers x);
               there = at_end numbers x (length numbers) refl ∙ sym e;
               before = λ i li. omega (arith, before numbers x i li, h.high i li, e);
             },
@@ -149,19 +146,19 @@ numbered_next parents numbers count v up lv first h =
           ⊎_elim
           (λ (b : j < length numbers). h.joined i j a b (omega (arith, before numbers x i a, before numbers x j b)))
           (λ (b : length numbers ≤ j).
-          let q : j ≡ length numbers = omega (arith, longer numbers x) in
+          let q : j ≡ length numbers = omega (arith, length_push numbers x) in
           absurd (omega (arith, before numbers x i a, at_end numbers x j q, h.high i a)))
           (cases_lt j (length numbers)))
           (λ (a : length numbers ≤ i).
-          let p0 : i ≡ length numbers = omega (arith, longer numbers x) in
+          let p0 : i ≡ length numbers = omega (arith, length_push numbers x) in
           ⊎_elim
           (λ (b : j < length numbers). absurd (omega (arith, before numbers x j b, at_end numbers x i p0, h.high j b)))
           (λ (b : length numbers ≤ j).
-          let q : j ≡ i = omega (arith, longer numbers x) in λ s r. rw q refl)
+          let q : j ≡ i = omega (arith, length_push numbers x) in λ s r. rw q refl)
           (cases_lt j (length numbers)))
           (cases_lt i (length numbers));
       same = λ w w1 wl pw.
-          let wv : w ≤ v = omega (arith, longer numbers x, h.long) in
+          let wv : w ≤ v = omega (arith, length_push numbers x, h.long) in
           let low = up w (omega arith) in
           ⊎_elim
           (λ (e : w ≡ v).

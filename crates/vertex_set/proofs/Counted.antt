@@ -11,7 +11,8 @@ use Rattle.cut_definitions.specs.Weight.{VertexSet}
 use Rattle.vertex_set.specs.Side.{has_bit}
 use Rattle.vertex_set.proofs.Bits.{place_of}
 
-range-append : (m k a : ℕ) → range_with_len a (m + k) ≡ range_with_len a m ++ range_with_len (a + m) k
+-- a range in two parts
+pub range-append : (m k a : ℕ) → range_with_len a (m + k) ≡ range_with_len a m ++ range_with_len (a + m) k
 range-append zero k a = ap (λ (x : ℕ). range_with_len a x) (let q : 0 + k ≡ k = omega arith in q) ∙ ap (λ (x : ℕ). range_with_len x k) (let q : a ≡ a + 0 = omega arith in q)
 range-append (suc m) k a =
     ap (λ (x : ℕ). range_with_len a x) (let q : suc m + k ≡ suc (m + k) = omega arith in q) ∙ ap (λ (xs : List ℕ). a ∷ xs) (range-append m k (a + 1) ∙ ap (λ (x : ℕ). range_with_len (a + 1) m ++ range_with_len x k) (let q : (a + 1) + m ≡ a + suc m = omega arith in q))

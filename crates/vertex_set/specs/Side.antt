@@ -1,5 +1,5 @@
 -- Sets of the vertices 1 to n as ascending lists, and their bits in words.
-use Rattle.std.specs.Prelude.{ℕ, ◌==◌, ◌≢◌, ◌+◌, ◌/◌, ◌%◌, ◌^◌, ◌≤◌, ◌<◌, ◌≡◌, ◌⊎◌, false, true, List, length, slice_index}
+use Rattle.std.specs.Prelude.{ℕ, ◌==◌, ◌≢◌, ◌+◌, ◌/◌, ◌%◌, ◌^◌, ◌≤◌, ◌<◌, ◌≡◌, ◌⊎◌, false, true, List, length, map, slice_index}
 use Rattle.std.specs.declared.cmp.Ordering.{Ordering}
 use Rattle.std.specs.declared.cmp.Ordering.TheVariants.{Less, Greater}
 use Rattle.std.specs.Int.{bit_at}
@@ -11,6 +11,10 @@ use Rattle.cut_definitions.specs.Cuts.{has}
 pub record VertexList : Type 0 where
   pub vertices : ℕ
   pub members : List ℕ
+
+-- the lists of several sets
+abbrev pub members_of : List VertexList → List (List ℕ)
+members_of = map (λ (s : VertexList). s.members)
 
 -- the vertices of 1 to n that are in a set
 abbrev pub listed : ℕ → VertexSet → VertexList

@@ -2,12 +2,14 @@ pub mod Rows
 pub mod Filled
 pub mod Blocks
 pub mod Degrees
+pub mod LeastDegree
 pub mod RowLaws
 pub mod RowSearch
 pub mod Contraction
 pub mod Labelling
 pub mod Unique
 pub mod Merged
+pub mod MergedInPlace
 pub mod Sorted
 pub mod Relabelled
 pub mod Contracting

@@ -1,14 +1,14 @@
 -- Sorted edges merged one by one, and what merged edges weigh.
-use Rattle.std.proofs.Common.{◌≡◌, ℕ, ◌+◌, ◌-◌, ◌^◌, ◌<◌, ◌≤◌, ◌⊎◌, inl, inr, ⊎_elim, ◌&&◌, eqb, List, [], length, take, get_or, refl, sym, ◌∙◌, ap, arith}
-use Rattle.std.specs.Prelude.{◌≢◌, if◌then◌else◌}
+use Rattle.std.proofs.Common.{◌≡◌, ℕ, ◌+◌, ◌-◌, ◌^◌, ◌<◌, ◌≤◌, ◌⊎◌, inl, inr, ⊎_elim, List, [], length, take, get_or, refl, sym, ◌∙◌, ap, arith}
+use Rattle.std.specs.Prelude.{Bool, ◌≢◌, if◌then◌else◌}
 use Rattle.std.specs.List.{sum_by, All, AllPairs}
 use Rattle.std.proofs.lemmas.List.{length_push}
 use Rattle.std.proofs.lemmas.List.Quantifiers.{all_pairs_push}
-use Rattle.std.proofs.lemmas.List.Sums.{sum_by-take-le, sum_by_more, sum_by_push}
+use Rattle.std.proofs.lemmas.List.Sums.{sum_by_more, sum_by_push}
 use Rattle.std.proofs.lemmas.List.Elements.{All-push, All-weaker, All-nil}
 use Rattle.cut_definitions.specs.declared.edge_list.Edge.{Edge}
 use Rattle.cut_definitions.specs.Graph.{Graph, IsEdgeWithin, IsBefore, IsEdgeList, with_edge}
-use Rattle.weighted_graph.specs.Merging.{pair_term, pair_weight, AscendByEnds}
+use Rattle.weighted_graph.specs.Merging.{term, AscendByEnds}
 use Rattle.weighted_graph.specs.RowLaws.{no_edge}
 
 abbrev weight_of : Edge → ℕ
@@ -22,7 +22,7 @@ pub record IsMerged (n : ℕ) (sorted : List Edge) (count : ℕ) (merged : Graph
   pub current_within : IsEdgeWithin n current
   pub before : All (λ d. IsBefore d current) merged.edges
   pub few : length merged.edges + 1 ≤ count
-  pub weights : (a b : ℕ) → pair_weight merged.edges a b + pair_term a b current ≡ pair_weight (take count sorted) a b
+  pub weights : (f : ℕ → ℕ → Bool) → sum_by (term f) merged.edges + term f current ≡ sum_by (term f) (take count sorted)
   pub total : sum_by weight_of merged.edges + current.w ≡ sum_by weight_of (take count sorted)
   pub last_u : current.u ≡ (get_or sorted (count - 1) no_edge).u
   pub last_v : current.v ≡ (get_or sorted (count - 1) no_edge).v
@@ -41,17 +41,11 @@ merged_edge_list n sorted count merged current h few_n few_m total =
       few_edges = omega (arith, length_push merged.edges current, h.few);
     }
 
--- the list may take the current edge, where the edges before it may be all
-pub merged_edge_list_so_far : (n : ℕ) (sorted : List Edge) (count : ℕ) (merged : Graph) (current : Edge) → IsMerged n sorted count merged current →
-    n ≤ 4194304 → count ≤ 16777216 → sum_by weight_of sorted ≤ 2 ^ 61 → IsEdgeList (with_edge merged current)
-merged_edge_list_so_far n sorted count merged current h few_n few_m total =
-    merged_edge_list n sorted count merged current h few_n few_m (omega (arith, sum_by-take-le weight_of sorted count, total))
-
--- where all edges are merged each pair weighs what it weighed
+-- where all edges are merged each test weighs what it weighed
 pub merged_all : (n : ℕ) (sorted : List Edge) (count : ℕ) (merged longer : Graph) (current : Edge) → IsMerged n sorted count merged current → longer ≡ with_edge merged current → take count sorted ≡ sorted →
-    (a b : ℕ) → pair_weight longer.edges a b ≡ pair_weight sorted a b
-merged_all n sorted count merged longer current h longer_is whole a b =
-    rw longer_is (omega (arith, sum_by_push (pair_term a b) merged.edges current, h.weights a b, ap (λ (es : List Edge). pair_weight es a b) whole))
+    (f : ℕ → ℕ → Bool) → sum_by (term f) longer.edges ≡ sum_by (term f) sorted
+merged_all n sorted count merged longer current h longer_is whole f =
+    rw longer_is (omega (arith, sum_by_push (term f) merged.edges current, h.weights f, ap (λ (es : List Edge). sum_by (term f) es) whole))
 
 pub merged_start : (n : ℕ) (sorted : List Edge) (merged : Graph) → merged ≡ record { vertices = n; edges = [] } → All (IsEdgeWithin n) sorted → 0 < length sorted →
     IsMerged n sorted 1 merged (get_or sorted 0 no_edge)
@@ -64,14 +58,14 @@ merged_start n sorted merged e within some =
       current_within = within 0 no_edge some;
       before = All-nil (λ d. IsBefore d first);
       few = omega arith;
-      weights = λ a b. let m = sum_by_more (pair_term a b) sorted 0 no_edge some in sym m;
+      weights = λ f. let m = sum_by_more (term f) sorted 0 no_edge some in sym m;
       total = let m = sum_by_more weight_of sorted 0 no_edge some in sym m;
       last_u = refl;
       last_v = refl;
     })
 
-pair_term-add : (a b u v w x : ℕ) → (if eqb u a && eqb v b then w + x else 0) ≡ (if eqb u a && eqb v b then w else 0) + (if eqb u a && eqb v b then x else 0)
-pair_term-add a b u v w x = grind arith
+term-add : (f : ℕ → ℕ → Bool) (u v w x : ℕ) → (if f u v then w + x else 0) ≡ (if f u v then w else 0) + (if f u v then x else 0)
+term-add f u v w x = grind arith
 
 pub merged_same : (n : ℕ) (sorted : List Edge) (count : ℕ) (merged : Graph) (current next : Edge) → IsMerged n sorted count merged current → count < length sorted →
     next ≡ get_or sorted count no_edge → All (IsEdgeWithin n) sorted → next.u ≡ current.u → next.v ≡ current.v →
@@ -86,10 +80,10 @@ merged_same n sorted count merged current next h l is within eu ev =
       current_within = (h.current_within.0, h.current_within.1, h.current_within.2, omega (arith, h.current_within.3));
       before = h.before;
       few = omega (arith, h.few);
-      weights = λ a b.
-          let m = more (pair_term a b) in
-          let t : pair_term a b next ≡ (if eqb current.u a && eqb current.v b then next.w else 0) = rw (eu, ev) refl in
-          omega (arith, m, t, h.weights a b, pair_term-add a b current.u current.v current.w next.w);
+      weights = λ f.
+          let m = more (term f) in
+          let t : term f next ≡ (if f current.u current.v then next.w else 0) = rw (eu, ev) refl in
+          omega (arith, m, t, h.weights f, term-add f current.u current.v current.w next.w);
       total = omega (arith, more weight_of, h.total);
       last_u = rw here (sym eu ∙ ap (λ (e : Edge). e.u) is);
       last_v = rw here (sym ev ∙ ap (λ (e : Edge). e.v) is);
@@ -128,7 +122,7 @@ merged_next n sorted count merged longer current next h one l is within ascendin
       before = All-push (λ d. IsBefore d next) merged.edges current
           (All-weaker (λ d. IsBefore d current) (λ d. IsBefore d next) (λ d b. earlier d.u d.v current.u current.v next.u next.v b after) merged.edges h.before) after;
       few = omega (arith, length_push merged.edges current, h.few);
-      weights = λ a b. omega (arith, more (pair_term a b), sum_by_push (pair_term a b) merged.edges current, h.weights a b);
+      weights = λ f. omega (arith, more (term f), sum_by_push (term f) merged.edges current, h.weights f);
       total = omega (arith, more weight_of, sum_by_push weight_of merged.edges current, h.total);
       last_u = rw here (ap (λ (e : Edge). e.u) is);
       last_v = rw here (ap (λ (e : Edge). e.v) is);

@@ -1,6 +1,6 @@
 -- The merged edges between the classes are those of the contracted graph.
 use Rattle.std.proofs.Common.{◌≡◌, ℕ, ◌+◌, ◌<◌, ◌≤◌, ⊎_elim, ◌&&◌, eqb, ltb, min, max, List, [], ◌∷◌, map, length, sym, ◌∙◌, ap, arith, length-append}
-use Rattle.std.specs.Prelude.{◌≢◌, if◌then◌else◌}
+use Rattle.std.specs.Prelude.{Bool, ◌≢◌, if◌then◌else◌}
 use Rattle.std.specs.List.{sum_by, All, flat_map}
 use Rattle.std.specs.List.Sorted.{IsPermutation}
 use Rattle.std.proofs.lemmas.Bool.{cases_eq, cases_lt, eq-eqb, ne_eqb}
@@ -18,7 +18,7 @@ use Rattle.cut_definitions.proofs.Contracted.{sum_by-map, sum_by-filter, sum_by-
 use Rattle.cut_definitions.proofs.Numbers.{not_positive}
 use Rattle.cut_definitions.proofs.Bools.{counted_none}
 use Rattle.weighted_graph.specs.ContractionLaws.{IsLabelled}
-use Rattle.weighted_graph.specs.Merging.{pair_term, pair_weight, between_classes}
+use Rattle.weighted_graph.specs.Merging.{term, pair_term, pair_weight, between_classes}
 use Rattle.weighted_graph.proofs.Contraction.{law_of_contracted_graph}
 use Rattle.weighted_graph.proofs.Unique.{same_edges, pair_term-same, pair_term-other}
 
@@ -115,7 +115,7 @@ relabel_pair g labels a b one ab bk =
 
 pub merged_is_relabel : (g : Graph) → IsGraph g → (labels : List ℕ) → IsLabelled g labels → (sorted : List Edge) (merged : Graph) →
     IsPermutation (flat_map (between_classes labels) g.edges) sorted → merged.vertices ≡ classes labels → IsEdgeList merged →
-    ((a b : ℕ) → pair_weight merged.edges a b ≡ pair_weight sorted a b) → merged ≡ relabel g labels
+    ((f : ℕ → ℕ → Bool) → sum_by (term f) merged.edges ≡ sum_by (term f) sorted) → merged ≡ relabel g labels
 unfolding relabel
 merged_is_relabel g ok labels h sorted merged perm same_n is weights =
     let k = classes labels in
@@ -123,6 +123,6 @@ merged_is_relabel g ok labels h sorted merged perm same_n is weights =
     let within : All (IsEdgeWithin k) merged.edges = rw (← same_n) is.is_graph.in_range in
     let edges : merged.edges ≡ (relabel g labels).edges =
     same_edges k merged.edges (relabel g labels).edges within okr.in_range is.is_graph.ascending okr.ascending
-    (λ a b one ab bk. weights a b ∙ (sum_by-IsPermutation (pair_term a b) (flat_map (between_classes labels) g.edges) sorted perm ∙ (mapped_pair g labels a b ab ∙ sym (relabel_pair g labels a b one ab bk)))) in
+    (λ a b one ab bk. weights (λ u v. eqb u a && eqb v b) ∙ (sum_by-IsPermutation (pair_term a b) (flat_map (between_classes labels) g.edges) sorted perm ∙ (mapped_pair g labels a b ab ∙ sym (relabel_pair g labels a b one ab bk)))) in
     ap (λ (x : ℕ). let r : Graph = record { vertices = x; edges = merged.edges } in r) same_n
     ∙ ap (λ (xs : List Edge). let r : Graph = record { vertices = k; edges = xs } in r) edges

@@ -1,6 +1,6 @@
 -- What it says that one pair of numbers is not less than another.
 use Rattle.std.proofs.Common.{◌≡◌, ℕ, ◌<◌, ◌≤◌, ◌⊎◌, inl, inr, ⊎_elim, false, eqb, sym, arith, is_lt}
-use Rattle.std.proofs.Common.{List, [], ◌∷◌, ◌+◌, get_or, length, true, refl}
+use Rattle.std.proofs.Common.{List, ◌+◌, get_or}
 use Rattle.cut_definitions.specs.declared.edge_list.Edge.{Edge}
 use Rattle.weighted_graph.specs.Merging.{AscendByEnds, IsSortedByEnds}
 use denote.Ref.{Bor}
@@ -11,7 +11,7 @@ use Rattle.std.proofs.lemmas.Fn.{always_returns_same}
 use Rattle.std.specs.Ordering.{nat_cmp, ordering_then}
 use Rattle.std.specs.Cmp.{nat_cmp_is}
 use Rattle.std.specs.declared.cmp.Ordering.TheVariants.{Less, Equal}
-use Rattle.std.proofs.lemmas.Bool.{cases_order, cases_lt, eqb-true, false≢true}
+use Rattle.std.proofs.lemmas.Bool.{cases_order, cases_lt, false≢true}
 use Rattle.std.proofs.lemmas.Bool.Decides.{nat_tests}
 
 pub ends_from_cmp : (a b c d : ℕ) → is_lt (ordering_then (nat_cmp a c) (nat_cmp b d)) ≡ false → (c < a) ⊎ ((c ≡ a) × (d ≤ b))
@@ -30,10 +30,6 @@ ends_from_cmp a b c d h =
     let no = (rw less at h) in absurd (false≢true (sym no)))
     (λ (g : c < a). inl g))
     (cases_order a c)
-
-pub is_none : (es : List Edge) → eqb (length es) 0 ≡ true → es ≡ []
-is_none [] h = refl
-is_none (e ∷ es) h = absurd (let none : length (e ∷ es) ≡ 0 = eqb-true (length (e ∷ es)) 0 h in omega arith)
 
 pub not_empty : (n : ℕ) → eqb n 0 ≡ false → 0 < n
 not_empty n h = grind (arith, nat_tests)

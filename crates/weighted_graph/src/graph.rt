@@ -9,6 +9,8 @@ ghost use Rattle.cut_definitions.specs.Weight.{VertexSet, weight, between};
 ghost use Rattle.cut_definitions.specs.Cuts.{has};
 ghost use Rattle.cut_definitions.specs.Components.{HasComponents};
 ghost use Rattle.cut_definitions.specs.Contraction.{relabel};
+ghost use Rattle.cut_definitions.specs.Degrees.{IsLeastDegree};
+ghost use Rattle.cut_definitions.specs.Safe.{IsFair};
 ghost use Rattle.cut_definitions.specs.Scan.{single};
 ghost use Rattle.vertex_classes.specs.Classes.{no_vertex, Respects};
 ghost use Rattle.weighted_graph.specs.declared.graph.Arc.{Arc};
@@ -156,6 +158,19 @@ impl Graph {
         ensures { result ≡ weight self.now (single v) }
     {
         self.rows.degrees[v as usize]
+    }
+
+    /// The least degree of a vertex, which is the weight of a cut. O(n).
+    pub fn least_degree(&self) -> u64
+        requires { 2 ≤ self.now.vertices }
+        ensures least { IsLeastDegree self.now result }
+        ensures fair { IsFair self.now result }
+    {
+        let mut least = self.degree(1);
+        for v in 1..self.n() + 1 {
+            least = least.min(self.degree(v));
+        }
+        least
     }
 
     /// The weight of the edge between two vertices, or 0 where there is none. It is searched for in the shorter row,

@@ -9,11 +9,13 @@ mod components;
 pub mod graph;
 pub mod labels;
 pub mod laws;
+mod merging;
 mod relabel;
 mod row_blocks;
 pub mod row_index;
 
 pub use graph::{Arc, Graph};
 pub use labels::Labels;
+pub use merging::{merged_list, sort_by_ends};
 pub use relabel::relabel_list;
 pub use row_index::RowIndex;

@@ -2,7 +2,7 @@ use Rattle.std.proofs.Common.{◌≡◌, ◌∙◌}
 use Rattle.std.specs.Option.{option_to_list}
 use Rattle.weighted_graph.specs.Merging.{between_classes}
 use Rattle.rayon.proofs.ToStd.{slice-AllZip}
-use Rattle.round_contract.proofs.InPlace.{mapped_are}
+use Rattle.round_contract.proofs.Mapped.{mapped_are}
 use Rattle.round_contract.proofs.threads.class_edges.Goals as goal
 
 pub returns : goal.returns

@@ -1,8 +1,8 @@
 use Rattle.std.proofs.Common.{◌≡◌, ◌+◌, ◌≤◌, ℕ, List, ◌∷◌, [], ◌++◌, length, map, ap, sym, subst, ◌∙◌, arith}
 use Rattle.std.specs.List.{All}
-use Rattle.vertex_set.specs.Side.{VertexList}
+use Rattle.vertex_set.specs.Side.{VertexList, members_of}
 use Rattle.component_cuts.specs.Parts.{Parts, IsDivision}
-use Rattle.component_cuts.specs.Doubling.{members_of, union_of}
+use Rattle.component_cuts.specs.Doubling.{union_of}
 use Rattle.component_cuts.proofs.Divided.{length_divided, numbering_divides}
 use Rattle.component_cuts.proofs.Doubled.{AreUnionsTo, unions_start, unions_step, unions_sorted}
 use Rattle.component_cuts.proofs.Gathered.{members_doubled, over_doubled}

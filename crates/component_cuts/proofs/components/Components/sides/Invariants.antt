@@ -1,7 +1,6 @@
 use Rattle.std.proofs.Common.{◌≡◌}
 use Rattle.std.specs.List.{All}
-use Rattle.vertex_set.specs.Side.{VertexList}
-use Rattle.component_cuts.specs.Doubling.{members_of}
+use Rattle.vertex_set.specs.Side.{VertexList, members_of}
 use Rattle.component_cuts.proofs.Doubled.{AreUnionsTo}
 use Rattle.component_cuts.proofs.components.Components.sides.Given as goal
 

@@ -2,11 +2,11 @@ use Rattle.std.specs.Prelude.{◌==◌, Contains}
 use Rattle.std.proofs.lemmas.Nat.Bits.{shr_and_one}
 use Rattle.std.proofs.Common.{◌≡◌, ◌<◌, ◌+◌, ◌/◌, ◌%◌, ℕ, Bool, true, length, refl, sym, ap, ◌∙◌, subst, arith}
 use Rattle.mark_board.specs.Seen.{SeatView, BoardView, seat_view, view_of}
-use Rattle.atomic_table.specs.Seated.{TableId}
 use Rattle.mark_board.specs.declared.rule.View.{View}
 use Rattle.mark_board.specs.Words.{bit_of}
 use Rattle.mark_board.specs.Rule.{edge_count, IsSafeNow, IsLook}
 use Rattle.mark_board.proofs.Steps.{looks_allowed}
+use Rattle.mark_board.proofs.Takes.{lives}
 use Rattle.mark_board.proofs.board.Board.is_marked.Goals as goal
 
 pub load-word-requires : goal.load-word-requires
@@ -29,9 +29,6 @@ pub returns-clause-own : goal.returns-clause-own
 returns-clause-own c = λ has.
     let there = c.load-word.ensures.2.2 c.args.edge refl (subst (λ (x : SeatView). Contains x.own c.args.edge) (sym c.seat.view_is) has) in
     ap (λ (n : ℕ). n == 1) (shr_and_one c.load-word.result (c.args.edge % 64)) ∙ there
-
-lives : (t : TableId) (v : View) → v.live ≡ true → v ≡ view_of (seat_view t v)
-lives t v live = λ i. record v { live = live i }
 
 pub returns-clause-look : goal.returns-clause-look
 returns-clause-look c =

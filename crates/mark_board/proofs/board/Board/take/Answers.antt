@@ -12,7 +12,7 @@ use Rattle.mark_board.specs.Seen.{SeatView, BoardView, view_of, seat_view}
 use Rattle.mark_board.specs.Words.{words_for, base_of, mark_words, bit_of}
 use Rattle.mark_board.specs.Rule.{edge_count, IsStep, learning}
 use Rattle.mark_board.proofs.Bits.{bit_cases, not_zero_bit}
-use Rattle.mark_board.proofs.Takes.{same_graph, flag_word, flag_bit, flag_mask, take_allowed}
+use Rattle.mark_board.proofs.Takes.{lives, same_graph, flag_word, flag_bit, flag_mask, take_allowed}
 use Rattle.mark_board.proofs.board.Board.take.Goals as goal
 
 pub fetch_or-found-requires : goal.fetch_or-found-requires
@@ -30,9 +30,6 @@ fetch_or-found-requires c =
     let lt : u < me.0.graph.vertices = omega arith in
     let sized : board.table.shared.table_id.words ≡ words_for (edge_count me.0.graph) me.0.graph.vertices = c.self.invariant.0 ∙ sym (ap (λ (g : Graph). words_for (edge_count g) g.vertices) graphs) in
     (same, omega arith, take_allowed board.table.shared.key board.table.shared.table_id.slots c.seat.inside.seat.id me u c.words.result c.seat.invariant.1 lt words)
-
-lives : (t : TableId) (v : View) → v.live ≡ true → v ≡ view_of (seat_view t v)
-lives t v live = λ i. record v { live = live i }
 
 abbrev flag : goal.After-fetch_or-found → ℕ
 flag c = base_of (edge_count c.seat.inside.seat.me.0.graph) + (c.args.vertex - 1)

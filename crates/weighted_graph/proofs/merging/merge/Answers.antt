@@ -2,9 +2,9 @@ use Rattle.std.proofs.Common.{◌<◌, ◌≤◌, get_or, refl, sym, ◌∙◌, 
 use Rattle.std.proofs.lemmas.Bool.{false≢true}
 use Rattle.weighted_graph.specs.RowLaws.{no_edge}
 use Rattle.weighted_graph.proofs.Sorted.{not_empty}
-use Rattle.round_contract.proofs.InPlace.{in_place_start, in_place_same, in_place_next, in_place_edge_list, in_place_weights}
-use Rattle.round_contract.proofs.threads.merge.Goals as goal
-use Rattle.round_contract.proofs.threads.merge.Goals.{then-have_same_ends, else-have_same_ends}
+use Rattle.weighted_graph.proofs.MergedInPlace.{in_place_start, in_place_same, in_place_next, in_place_edge_list, in_place_weights}
+use Rattle.weighted_graph.proofs.merging.merge.Goals as goal
+use Rattle.weighted_graph.proofs.merging.merge.Goals.{then-have_same_ends, else-have_same_ends}
 
 pub loop-k-init : goal.loop-k-init
 loop-k-init c = in_place_start c.args.edges.now (not_empty (length c.args.edges.now) (sym c.is_empty.ensures ∙ c.if-is_empty.false))

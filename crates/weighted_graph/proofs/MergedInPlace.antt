@@ -1,32 +1,14 @@
--- What several threads map of a list of edges, and sorted edges merged into the front of their list.
-use Rattle.std.proofs.Common.{◌≡◌, ℕ, ◌+◌, ◌^◌, ◌<◌, ◌≤◌, List, [], ◌∷◌, ◌++◌, Option, Some, None, length, take, take_at, set, get_or, refl, sym, ◌∙◌, ap, subst, arith}
-use Rattle.std.specs.Prelude.{All, ◌≢◌}
-use Rattle.std.specs.List.{AllZip, filter_map, flat_map, sum_by}
-use Rattle.std.specs.Option.{option_to_list}
+-- Sorted edges merged into the front of their list.
+use Rattle.std.proofs.Common.{◌≡◌, ℕ, ◌+◌, ◌^◌, ◌<◌, ◌≤◌, List, ◌++◌, length, take, take_at, set, get_or, refl, sym, ◌∙◌, ap, subst, arith}
+use Rattle.std.specs.Prelude.{All, Bool, ◌≢◌}
+use Rattle.std.specs.List.{sum_by}
 use Rattle.std.proofs.lemmas.List.{get_or-set_other, length-set, take_all, take_more_set}
-use Rattle.std.proofs.lemmas.List.Concat.{flat_map-cons}
 use Rattle.std.proofs.lemmas.List.Sums.{sum_by_more, sum_by_push}
 use Rattle.cut_definitions.specs.declared.edge_list.Edge.{Edge}
 use Rattle.cut_definitions.specs.Graph.{Graph, IsEdgeWithin, IsEdgeList, with_edge}
-use Rattle.std.specs.List.Sorted.{IsPermutation}
-use Rattle.cut_definitions.specs.Contraction.{classes, relabel}
-use Rattle.weighted_graph.specs.ContractionLaws.{IsLabelled}
-use Rattle.weighted_graph.proofs.Contracting.{may_be_merged}
-use Rattle.weighted_graph.proofs.Relabelled.{merged_is_relabel}
-use Rattle.weighted_graph.specs.Merging.{between_classes, pair_weight, AscendByEnds}
+use Rattle.weighted_graph.specs.Merging.{term, AscendByEnds}
 use Rattle.weighted_graph.specs.RowLaws.{no_edge}
 use Rattle.weighted_graph.proofs.Merged.{IsMerged, merged_start, merged_same, merged_next, merged_edge_list, merged_all}
-
--- what each thread gives of an edge is the edge between its classes, or nothing
-pub mapped_are : (labels : List ℕ) (es : List Edge) (os : List (Option Edge)) → AllZip (λ e o. option_to_list o ≡ between_classes labels e) es os →
-    filter_map (λ o. o) os ≡ flat_map (between_classes labels) es
-mapped_are labels [] [] h = refl
-mapped_are labels [] (o ∷ os) h = absurd h
-mapped_are labels (e ∷ es) [] h = absurd h
-mapped_are labels (e ∷ es) (None ∷ os) h =
-    mapped_are labels es os h.1 ∙ (ap (λ l. l ++ flat_map (between_classes labels) es) h.0 ∙ sym (flat_map-cons (between_classes labels) e es))
-mapped_are labels (e ∷ es) (Some y ∷ os) h =
-    ap (λ l. y ∷ l) (mapped_are labels es os h.1) ∙ (ap (λ l. l ++ flat_map (between_classes labels) es) h.0 ∙ sym (flat_map-cons (between_classes labels) e es))
 
 abbrev weight_of : Edge → ℕ
 weight_of e = e.w
@@ -96,19 +78,9 @@ module _ (sorted slots : List Edge) (k kept n : ℕ) (current : Edge) (h : IsMer
       subst IsEdgeList (sym longer_is)
       (merged_edge_list n sorted k (front_of n kept slots) current (h.merged n within) few_n (omega (arith, h.to_end, few)) (omega (arith, ap (sum_by weight_of) whole, total)))
 
-  pub in_place_weights : (a b : ℕ) → pair_weight longer.edges a b ≡ pair_weight sorted a b
+  pub in_place_weights : (f : ℕ → ℕ → Bool) → sum_by (term f) longer.edges ≡ sum_by (term f) sorted
   in_place_weights = merged_all n sorted k (front_of n kept slots) longer current (h.merged n within) longer_is whole
 
 -- what stands in a list whose slice was written back, and that was cut off then
 pub taken_front : (slots ys : List Edge) (len count : ℕ) → length slots ≡ len → take count (take len (slots ++ ys)) ≡ take count slots
 taken_front slots ys len count long = ap (take count) (take_at slots ys len long)
-
--- what sorted edges between classes were merged into is the list of the contracted graph
-pub front_is_relabel : (g : Graph) → IsEdgeList g → (labels : List ℕ) → IsLabelled g labels → (sorted slots : List Edge) (n count : ℕ) → IsPermutation (flat_map (between_classes labels) g.edges) sorted → n ≡ classes labels →
-    ((m : ℕ) → m ≤ 4194304 → All (IsEdgeWithin m) sorted → IsEdgeList (front_of m count slots)) →
-    ((m : ℕ) → All (IsEdgeWithin m) sorted → (a b : ℕ) → pair_weight (take count slots) a b ≡ pair_weight sorted a b) →
-    IsEdgeList (front_of n count slots) × (front_of n count slots ≡ relabel g labels)
-front_is_relabel g is labels labelled sorted slots n count perm e lists weights =
-    let may = may_be_merged g is labels labelled sorted perm in
-    let list = subst (λ (m : ℕ). IsEdgeList (front_of m count slots)) (sym e) (lists (classes labels) may.few_vertices may.within) in
-    (list, merged_is_relabel g is.is_graph labels labelled sorted (front_of n count slots) perm e list (weights (classes labels) may.within))
