@@ -6,7 +6,7 @@ ghost use Rattle.weighted_graph.specs.Rows.{IsIndexed};
 use crate::distance::most_lead_far;
 use crate::halves::fill_ranges;
 use crate::range::Range;
-use cut_definitions::{EdgeList, NoMemory};
+use cut_definitions::{EdgeList, MOST_WORKERS, NoMemory};
 use std::alloc::Global;
 use std::thread::Threads;
 use weighted_graph::row_index::row_starts;
@@ -20,9 +20,6 @@ const EDGES_FOR_EACH_VERTEX: usize = 8;
 
 /// The writes into the rows of so many vertices stay in the nearer caches.
 const NEAR: u32 = 16_384;
-
-/// More workers would go over all edges for next to nothing.
-const MOST_WORKERS: u32 = 64;
 
 /// Whether several workers fill the rows sooner than one. Either answer is right.
 fn is_shared(list: &EdgeList) -> bool {

@@ -1,6 +1,6 @@
 //! The calling thread alone.
 
-ghost use Rattle.std.specs.Prelude.{⊤};
+ghost use Rattle.std.specs.Prelude.{◌≡◌, ◌≤◌, ⊤};
 
 use crate::team::Team;
 use cut_definitions::{EdgeList, NoMemory};
@@ -23,7 +23,10 @@ impl Team for Alone {
         self.alloc
     }
 
-    fn workers(&self) -> u32 {
+    fn workers(&self) -> u32
+        ensures range { (1 ≤ result) × (result ≤ 64) }
+        ensures number { result ≡ 1 }
+    {
         1
     }
 

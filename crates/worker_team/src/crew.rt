@@ -1,5 +1,7 @@
 //! Threads that pass a gate.
 
+ghost use Rattle.std.specs.Prelude.{◌≡◌};
+
 use crate::threaded::Threaded;
 use std::alloc::Global;
 
@@ -12,7 +14,11 @@ pub struct Crew<'a, R, G> {
 
 impl<'a, R, G> Crew<'a, R, G> {
     /// So many threads, and their gate.
-    pub fn new(rt: &'a R, alloc: Global, workers: u32, gate: &'a G) -> Crew<'a, R, G> {
+    pub fn new(rt: &'a R, alloc: Global, workers: u32, gate: &'a G) -> Crew<'a, R, G>
+        ensures runtime { result.threads.rt.now ≡ rt.now }
+        ensures workers { result.threads.workers ≡ workers }
+        ensures gate { result.gate.now ≡ gate.now }
+    {
         Crew {
             threads: Threaded { rt, alloc, workers },
             gate,

@@ -1,9 +1,10 @@
 //! Threads of a runtime.
 
+ghost use Rattle.std.specs.Prelude.{◌≡◌, ◌≤◌, max, min};
 ghost use Rattle.std.specs.Thread.{IsSync};
 
 use crate::team::Team;
-use cut_definitions::{EdgeList, NoMemory};
+use cut_definitions::{EdgeList, MOST_WORKERS, NoMemory};
 use mark_board::Marks;
 use outside::OpenGate;
 use round_contract::contracted_list;
@@ -28,8 +29,11 @@ impl<'a, R: Threads + Sync> Team for Threaded<'a, R> {
         self.alloc
     }
 
-    fn workers(&self) -> u32 {
-        self.workers.max(1).min(64)
+    fn workers(&self) -> u32
+        ensures range { (1 ≤ result) × (result ≤ 64) }
+        ensures number { result ≡ min (max self.now.workers 1) 64 }
+    {
+        self.workers.max(1).min(MOST_WORKERS)
     }
 
     fn graph(&self, list: EdgeList) -> Result<Graph, NoMemory> {
@@ -46,7 +50,7 @@ impl<'a, R: Threads + Sync> Team for Threaded<'a, R> {
         opening: Threshold,
         workers: u32,
     ) -> Result<(u64, Marks), NoMemory> {
-        let workers = workers.max(1).min(64);
+        let workers = workers.max(1).min(MOST_WORKERS);
         scan_round(self.rt, self.alloc, graph, opening, workers, &OpenGate)
     }
 }
