@@ -5,7 +5,7 @@ use Rattle.std.specs.List.{All, AllPairs, Contains}
 use Rattle.std.proofs.lemmas.Bool.{cases_lt, cases_eq, cases_Bool, false≢true}
 use Rattle.std.proofs.lemmas.List.{get_or-append_right, get_or_append_left, length-append, length-set, get_or-set_same, append_assoc, take_more}
 use Rattle.std.proofs.lemmas.List.Elements.{All-nil, All-cons, All-weaker, All-append, All-contains, All-contains_itself, All-get_or, Contains-append_left, Contains-append_right, Contains-push}
-use Rattle.cut_definitions.specs.Graph.{Graph, IsGraph}
+use Rattle.cut_definitions.specs.Graph.{Graph, IsGraph, IsVertex}
 use Rattle.cut_definitions.specs.Cuts.{has}
 use Rattle.cut_definitions.proofs.Bools.{at_most_one, one_seen}
 use Rattle.cut_definitions.proofs.Numbers.{cases_zero}
@@ -16,7 +16,7 @@ use Rattle.weighted_graph.specs.Searches.{is_seen}
 use Rattle.weighted_graph.proofs.Searched.{arc_within, seen-before, seen-more, unseen_fewer}
 use Rattle.weighted_graph.proofs.RowLaws.{row_arc}
 use Rattle.arc_search.proofs.Finding.{none_seen}
-use Rattle.arc_search.specs.Listing.{ListingState, IsVertex, IsBorder, IsKept, IsNothingListed, IsMet, IsRowMet, IsBordered, StaysAtBorder, HasMore, AreTaken}
+use Rattle.arc_search.specs.Listing.{ListingState, IsBorder, IsKept, IsNothingListed, IsMet, IsRowMet, IsBordered, StaysAtBorder, HasMore, AreTaken}
 
 -- an arc of a row leads to a vertex
 pub row_end : (g : Graph) → IsGraph g → (row : List Arc) (v k : ℕ) → row ≡ row_of g v → k < length row → IsVertex g.vertices (get_or row k no_arc).to

@@ -18,7 +18,8 @@ use Rattle.arc_search.specs.Split.{IsToSplit, IsSplitOff}
 use Rattle.arc_search.proofs.Agreeing.{IsClosed-agree, upto_same, upto_yes, upto_marked}
 use Rattle.cut_definitions.specs.Chain.{listed_upto}
 use Rattle.arc_search.specs.Further.{AreFurther}
-use Rattle.arc_search.specs.Listing.{IsVertex, AreTaken}
+use Rattle.arc_search.specs.Listing.{AreTaken}
+use Rattle.cut_definitions.specs.Graph.{IsVertex}
 
 -- ---- numbers from place 1 on
 

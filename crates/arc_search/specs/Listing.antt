@@ -1,7 +1,7 @@
 -- The parts of a region that are listed from one side, and the vertices at their border.
 use Rattle.std.specs.Prelude.{ℕ, Bool, ◌≡◌, ◌≢◌, ◌+◌, ◌<◌, ◌≤◌, ◌⊎◌, true, false, not, List, [], length, slice_index, IsTrue}
 use Rattle.std.specs.List.{All, AllPairs, Contains, count_by}
-use Rattle.cut_definitions.specs.Graph.{Graph}
+use Rattle.cut_definitions.specs.Graph.{Graph, IsVertex}
 use Rattle.cut_definitions.specs.Cuts.{has}
 use Rattle.weighted_graph.specs.declared.graph.Arc.{Arc}
 use Rattle.weighted_graph.specs.Rows.{row_of}
@@ -21,10 +21,6 @@ pub record ListingState : Type 0 where
 pub record IsLaidOut (turns marks : List ℕ) : Type 0 where
   pub as_long : length marks ≡ length turns
   pub marked : (v : ℕ) → 1 ≤ v → v < length marks → slice_index marks v ≢ 0
-
--- a vertex of 1 to n
-abbrev pub IsVertex : ℕ → ℕ → Type 0
-IsVertex n v = (1 ≤ v) × (v ≤ n)
 
 -- the border has just the vertices that are said to be at it, each once
 pub record IsBorder (n : ℕ) (border : List ℕ) (at_border : List Bool) : Type 0 where

@@ -6,7 +6,8 @@ ghost use Rattle.cut_definitions.specs.Weight.{VertexSet};
 ghost use Rattle.cut_definitions.specs.Cuts.{has};
 ghost use Rattle.weighted_graph.specs.Searches.{is_seen};
 ghost use Rattle.arc_search.specs.Closed.{IsClosed};
-ghost use Rattle.arc_search.specs.Listing.{ListingState, IsVertex, IsBorder, IsKept, IsNothingListed, IsMet, IsRowMet, IsBordered, StaysAtBorder, HasMore, AreTaken};
+ghost use Rattle.arc_search.specs.Listing.{ListingState, IsBorder, IsKept, IsNothingListed, IsMet, IsRowMet, IsBordered, StaysAtBorder, HasMore, AreTaken};
+ghost use Rattle.cut_definitions.specs.Graph.{IsVertex};
 
 use crate::path_memory::PathMemory;
 use crate::step_arcs::StepArcs;

@@ -1,13 +1,12 @@
 -- Searches around both lists from a hub, what they show of what is left between, and how much that is.
-use Rattle.std.proofs.Common.{◌≡◌, ℕ, zero, suc, ◌+◌, ◌<◌, ◌≤◌, ◌⊎◌, inl, inr, ⊎_elim, Bool, true, false, ◌&&◌, ltb, leb, [], length, get_or, refl, sym, ◌∙◌, subst, ap, arith}
-use Rattle.std.specs.Prelude.{◌≢◌, ◌==◌, if◌then◌else◌, Some, Result, Ok, Err, IfOk}
+use Rattle.std.proofs.Common.{◌≡◌, ℕ, zero, suc, ◌+◌, ◌<◌, ◌≤◌, ◌⊎◌, inl, inr, ⊎_elim, Bool, true, false, ◌&&◌, ltb, leb, List, [], length, get_or, refl, sym, ◌∙◌, subst, ap, arith}
+use Rattle.std.specs.Prelude.{◌≢◌, Some, Result, Ok, Err, IfOk, OnOk}
 use Rattle.std.specs.List.{Contains}
-use Rattle.std.proofs.lemmas.Bool.{cases_eq, cases_Bool, eq-eqb, eqb-true, not-true, not_from_false}
+use Rattle.std.proofs.lemmas.Bool.{cases_eq, cases_Bool, eqb-true, not-true, not_from_false}
 use Rattle.std.proofs.lemmas.Bool.Decides.{nat_tests}
-use Rattle.std.proofs.lemmas.List.{get_or_default}
 use Rattle.std.proofs.lemmas.Option.{slice_get-get_or}
 use Rattle.std.proofs.lemmas.List.Elements.{All-contains}
-use Rattle.cut_definitions.specs.Graph.{Graph}
+use Rattle.cut_definitions.specs.Graph.{Graph, IsVertex}
 use Rattle.cut_definitions.specs.Chain.{SameOn, listed_upto}
 use Rattle.cut_definitions.specs.Weight.{VertexSet, complement, minus, HasVertex}
 use Rattle.cut_definitions.proofs.Bools.{in_neither, minus_parts, contrary}
@@ -21,90 +20,28 @@ use Rattle.region_parts.specs.declared.hub.Hub.{Hub}
 use Rattle.region_parts.specs.declared.hub.Hub.TheVariants.{Outside, At}
 use Rattle.region_parts.specs.declared.hub.HubSearch.{HubSearch}
 use Rattle.region_parts.specs.declared.splitter.Splitter.{Splitter}
-use Rattle.region_parts.specs.Between.{IsInnerSettled, IsOuterSettled}
+use Rattle.region_parts.specs.Between.{IsSideSettled}
 use Rattle.region_flow.specs.Growing.{IsMember, IsPartOf}
 use Rattle.region_fronts.specs.Fronts.{FrontsState, list_at}
 use Rattle.region_parts.specs.Hubs.{HaveBegun, HasAll, IsHubSearch, hub_vertex}
-use Rattle.arc_search.specs.Listing.{ListingState, IsKept, IsVertex}
+use Rattle.arc_search.specs.Listing.{ListingState, IsKept}
 use Rattle.region_flow.specs.Parted.{AreLightParts}
 use Rattle.region_parts.specs.Sides.{IsListed}
+use Rattle.region_parts.specs.Passed.{IsListedIn}
 use Rattle.region_parts.specs.Regional.{IsRest, IsNoneBetween, BringsHub, outer_turn, two_sided}
 use Rattle.region_parts.specs.Sided.{AreHalves, IsRegionOf, IsSettled, fed_in, other_side}
-use Rattle.region_parts.specs.Split.{half_of, AreAtFront, GoesOnSettling, IsBetween, IsFurther, IsHub, IsHubIn, IsSearching, IsSettledIn, MayTakeHub, StaysListed, inner_set, outer_of, outer_set}
-use Rattle.region_parts.proofs.Halves.{outer_inside, outer_lacks_t, outer_one, outer_outside, is_fed}
+use Rattle.region_parts.specs.Split.{half_of, AreAtFront, GoesOnSettling, IsBetween, IsFurther, IsHub, IsHubIn, IsSameButHalf, IsSearching, IsSettledIn, MayTakeHub, StaysListed, inner_set, outer_of, outer_set}
+use Rattle.region_parts.proofs.Halves.{outer_inside, outer_lacks_t, outer_one, outer_outside, is_fed, zero_at}
 use Rattle.region_parts.proofs.Listings.{in_upto, upto_range}
+use Rattle.region_parts.proofs.RacesAround.{free_half, half_same, outer_not_inner}
 use Rattle.region_parts.proofs.Regional.{beside, minimum_of, none_between}
 use Rattle.region_parts.proofs.Rounds.{round_inner, round_outer}
 use Rattle.region_parts.proofs.TwoSides.{two_sides}
-
-abbrev first_if : Bool → ℕ
-first_if b = if b then 0 else 1
-
-zero_at : (count : ℕ) → count ≡ 0 → first_if (count == 0) ≡ 0
-zero_at count e = ap first_if (eq-eqb count 0 e)
 
 -- what several promises of a call show together
 pub if_five : {X E : Type 0} (r : Result X E) (P Q R S T U : X → Type 0) → ((x : X) → P x → Q x → R x → S x → T x → U x) → IfOk r P → IfOk r Q → IfOk r R → IfOk r S → IfOk r T → IfOk r U
 if_five (Ok x) P Q R S T U all p q r s t = all x p q r s t
 if_five (Err e) P Q R S T U all p q r s t = p
-
--- ---- a search from a hub
-
--- the same with another search of a hub
-abbrev pub restarted : Splitter → HubSearch → Splitter
-restarted s hub = record { near = s.near; hub = hub; inner = s.inner; outer = s.outer; good = s.good; touched = s.touched; memory = s.memory }
-
--- a search begins from a hub with nothing known of the vertices
-pub searching : (side : Side) (g : Graph) (f : RegionState) (t : ℕ) (old s : Splitter) (hub : Hub) → IsBetween g f t old → IsHub g f t old hub →
-    s.inner ≡ old.inner → s.outer ≡ old.outer → s.memory ≡ old.memory → length s.good.items ≡ length old.good.items → ((v : ℕ) → is_seen s.good.items v ≡ false) → s.touched.items ≡ [] →
-    s.hub.hub ≡ hub → IsHubSearch (other_side side) g f t (half_of (other_side side) s).turns s.hub → 1 ≤ (half_of side s).count → (hub ≡ Outside → side ≡ Inner) → IsSearching side g f t s
-searching side g f t old s hub h is inner outer memory long none touched same search some from_inner = record {
-  between = record {
-    region = h.region;
-    halves = subst (λ (x : ListingState). AreHalves g f t x s.outer) (sym inner) (subst (λ (x : ListingState). AreHalves g f t old.inner x) (sym outer) h.halves);
-    hub = search.seen_length;
-    good_length = long ∙ h.good_length;
-    touched = λ v k. absurd (contrary k (none v));
-    touched_within = λ v c. let l : length s.touched.items ≡ 0 = ap length touched in absurd (omega (arith, c.1, l));
-    memory = memory ∙ h.memory;
-  };
-  some = some;
-  good = λ v k. absurd (contrary k (none v));
-  hub_search = search;
-  outside = λ e. (from_inner (sym same ∙ e), ap (λ (x : ListingState). x.count) outer ∙ (is.outside (sym same ∙ e)).0);
-  inside = λ v e. is.inside v (sym same ∙ e);
-}
-
--- of fed vertices all have been found, where all entries of the front have been looked at
-pub fed_found : (g : Graph) (f : RegionState) (t : ℕ) (fronts : FrontsState) (s : Splitter) → IsRegionOf g f t → AreAtFront g f t fronts →
-    HaveBegun f t (list_at fronts.lists (get_or f.labels t 0)) s.hub → length (list_at fronts.lists (get_or f.labels t 0)) ≤ s.hub.place → (v : ℕ) → fed_in f t v ≡ true → is_seen s.hub.search.seen v ≡ true
-fed_found g f t fronts s r front begun all v k =
-    let fed = is_fed f t v k in
-    let at = r.at_border.in_region in
-    let stands = front.fed v fed.other (omega (arith, fed.inside, at)) fed.fed in
-    let c : Contains (list_at fronts.lists (get_or f.labels t 0)) v = subst (λ (x : ℕ). Contains (list_at fronts.lists x) v) fed.inside (front.covered v stands) in
-    begun c.0 v (omega (arith, c.1, all)) (slice_get-get_or (list_at fronts.lists (get_or f.labels t 0)) c.0 v c.1 ∙ ap (λ (x : ℕ). Some x) c.2) k
-
--- what the hub leads to may be taken into the list from the outside
-pub may_take_outer : (g : Graph) (f : RegionState) (t : ℕ) (old s : Splitter) (hub : Hub) (fronts : FrontsState) → IsSearching Inner g f t s → IsHub g f t old hub → s.hub.hub ≡ hub → s.outer ≡ old.outer →
-    AreAtFront g f t fronts → HaveBegun f t (list_at fronts.lists (get_or f.labels t 0)) s.hub → HasAll (list_at fronts.lists (get_or f.labels t 0)) s.hub →
-    ((h : ℕ) → hub ≡ At h → (get_or s.inner.turns h 0 ≡ 0) × (get_or s.outer.turns h 0 ≡ 0)) → ((h : ℕ) → hub ≡ At h → is_seen s.hub.search.seen h ≡ true) → MayTakeHub Outer g f t s
-may_take_outer g f t old s hub fronts h is same outer front begun all free seen = record {
-  other_some = h.some;
-  outside = λ e. (refl, (h.outside e).1, fed_found g f t fronts s h.between.region front begun (all.begun e));
-  inside = λ v e. (h.inside v e, (free v (sym same ∙ e)).0, seen v (sym same ∙ e));
-  first = λ v e z. let some = is.outer_some v (sym same ∙ e) in let c : s.outer.count ≡ old.outer.count = ap (λ (x : ListingState). x.count) outer in absurd (omega (arith, some, c, z));
-}
-
--- and what leads to it into that from t
-pub may_take_inner : (g : Graph) (f : RegionState) (t : ℕ) (old s : Splitter) (hub : Hub) → IsSearching Outer g f t s → IsHub g f t old hub → s.hub.hub ≡ hub → s.inner ≡ old.inner →
-    ((h : ℕ) → hub ≡ At h → (get_or s.inner.turns h 0 ≡ 0) × (get_or s.outer.turns h 0 ≡ 0)) → ((h : ℕ) → hub ≡ At h → is_seen s.hub.search.seen h ≡ true) → MayTakeHub Inner g f t s
-may_take_inner g f t old s hub h is same inner free seen = record {
-  other_some = h.some;
-  outside = λ e. let z = (h.outside e).1 in let some = h.some in absurd (omega (arith, z, some));
-  inside = λ v e. (h.inside v e, (free v (sym same ∙ e)).1, seen v (sym same ∙ e));
-  first = λ v e z. (refl, is.first v (sym same ∙ e) (sym (ap (λ (x : ListingState). x.count) inner) ∙ z));
-}
 
 -- ---- lists that get more
 
@@ -120,8 +57,93 @@ stays_from old s new inner outer h = record {
 pub stays_more : (s s' s'' : Splitter) → StaysListed s s' → StaysListed s' s'' → StaysListed s s''
 stays_more s s' s'' h k = record { inner = λ v l. k.inner v (h.inner v l); outer = λ v l. k.outer v (h.outer v l) }
 
+-- ---- a search from a hub
+
+-- the same with another search of a hub
+abbrev pub restarted : Splitter → HubSearch → Splitter
+restarted s hub = record { near = s.near; hub = hub; inner = s.inner; outer = s.outer; good = s.good; touched = s.touched; memory = s.memory }
+
+-- the outside is a hub only for the list from t
+from_t : (side : Side) (s : Splitter) → 1 ≤ (half_of side s).count → s.outer.count ≡ 0 → side ≡ Inner
+from_t Inner s some none = refl
+from_t Outer s some none = absurd (omega (arith, some, none))
+
+-- a search begins from a hub with nothing known of the vertices
+pub searching : (side : Side) (g : Graph) (f : RegionState) (t : ℕ) (old s : Splitter) (hub : Hub) → IsBetween g f t old → IsHub g f t old hub →
+    s.inner ≡ old.inner → s.outer ≡ old.outer → s.memory ≡ old.memory → length s.good.items ≡ length old.good.items → ((v : ℕ) → is_seen s.good.items v ≡ false) → s.touched.items ≡ [] →
+    s.hub.hub ≡ hub → ((turns : List ℕ) → ((h : ℕ) → hub ≡ At h → (1 ≤ h) × (h ≤ g.vertices) × (get_or turns h 0 ≡ 0)) → IsHubSearch (other_side side) g f t turns s.hub) →
+    1 ≤ (half_of side old).count → IsSearching side g f t s
+searching side g f t old s hub h is inner outer memory long none touched same start some =
+    let search = start (half_of (other_side side) s).turns (λ v e.
+    let in_region = is.inside v e in
+    let free = is.free v e in (
+      in_region.from_one,
+      in_region.to_n,
+      free_half (other_side side) s v (subst (λ (x : ListingState). get_or x.turns v 0 ≡ 0) (sym inner) free.0) (subst (λ (x : ListingState). get_or x.turns v 0 ≡ 0) (sym outer) free.1),
+    )) in
+    record {
+      between = record {
+        region = h.region;
+        halves = subst (λ (x : ListingState). AreHalves g f t x s.outer) (sym inner) (subst (λ (x : ListingState). AreHalves g f t old.inner x) (sym outer) h.halves);
+        hub = search.seen_length;
+        good_length = long ∙ h.good_length;
+        touched = λ v k. absurd (contrary k (none v));
+        touched_within = λ v c. let l : length s.touched.items ≡ 0 = ap length touched in absurd (omega (arith, c.1, l));
+        memory = memory ∙ h.memory;
+      };
+      some = subst (λ (x : ListingState). 1 ≤ x.count) (sym (half_same side old s (record { inner = inner; outer = outer; memory = memory }))) some;
+      good = λ v k. absurd (contrary k (none v));
+      hub_search = search;
+      outside = λ e. let z = (is.outside (sym same ∙ e)).0 in (from_t side old some z, ap (λ (x : ListingState). x.count) outer ∙ z);
+      inside = λ v e. is.inside v (sym same ∙ e);
+    }
+
+-- what stays while all around the list of a side is settled
+pub record IsOnlySettled (side : Side) (old new : Splitter) : Type 0 where
+  pub stays : StaysListed old new
+  pub other : half_of (other_side side) new ≡ half_of (other_side side) old
+
+pub only_settled : (side : Side) (old s new : Splitter) → GoesOnSettling side s new → s.inner ≡ old.inner → s.outer ≡ old.outer → s.memory ≡ old.memory → IsOnlySettled side old new
+only_settled side old s new on inner outer memory = record {
+  stays = stays_from old s new inner outer on.stays;
+  other = on.other ∙ half_same (other_side side) old s (record { inner = inner; outer = outer; memory = memory });
+}
+
+-- of fed vertices all have been found, where all entries of the front have been looked at
+pub fed_found : (g : Graph) (f : RegionState) (t : ℕ) (fronts : FrontsState) (s : Splitter) → IsRegionOf g f t → AreAtFront g f t fronts →
+    HaveBegun f t (list_at fronts.lists (get_or f.labels t 0)) s.hub → length (list_at fronts.lists (get_or f.labels t 0)) ≤ s.hub.place → (v : ℕ) → fed_in f t v ≡ true → is_seen s.hub.search.seen v ≡ true
+fed_found g f t fronts s r front begun all v k =
+    let fed = is_fed f t v k in
+    let at = r.at_border.in_region in
+    let stands = front.fed v fed.other (omega (arith, fed.inside, at)) fed.fed in
+    let c : Contains (list_at fronts.lists (get_or f.labels t 0)) v = subst (λ (x : ℕ). Contains (list_at fronts.lists x) v) fed.inside (front.covered v stands) in
+    begun c.0 v (omega (arith, c.1, all)) (slice_get-get_or (list_at fronts.lists (get_or f.labels t 0)) c.0 v c.1 ∙ ap (λ (x : ℕ). Some x) c.2) k
+
+-- what the search of the hub found may be taken into the list of the other side
+pub may_take : (side : Side) (g : Graph) (f : RegionState) (t : ℕ) (old s : Splitter) (hub : Hub) (fronts : FrontsState) → IsSearching side g f t s → IsHub g f t old hub → s.hub.hub ≡ hub →
+    half_of (other_side side) s ≡ half_of (other_side side) old → AreAtFront g f t fronts → HaveBegun f t (list_at fronts.lists (get_or f.labels t 0)) s.hub →
+    HasAll (list_at fronts.lists (get_or f.labels t 0)) s.hub → ((h : ℕ) → hub ≡ At h → (get_or s.inner.turns h 0 ≡ 0) × (get_or s.outer.turns h 0 ≡ 0)) →
+    ((h : ℕ) → hub ≡ At h → is_seen s.hub.search.seen h ≡ true) → MayTakeHub (other_side side) g f t s
+may_take Inner g f t old s hub fronts h is same other front begun all free seen = record {
+  other_some = h.some;
+  outside = λ e. (refl, (h.outside e).1, fed_found g f t fronts s h.between.region front begun (all.begun e));
+  inside = λ v e. (h.inside v e, (free v (sym same ∙ e)).0, seen v (sym same ∙ e));
+  first = λ v e z. let some = is.outer_some v (sym same ∙ e) in let c : s.outer.count ≡ old.outer.count = ap (λ (x : ListingState). x.count) other in absurd (omega (arith, some, c, z));
+}
+may_take Outer g f t old s hub fronts h is same other front begun all free seen = record {
+  other_some = h.some;
+  outside = λ e. let z = (h.outside e).1 in let some = h.some in absurd (omega (arith, z, some));
+  inside = λ v e. (h.inside v e, (free v (sym same ∙ e)).1, seen v (sym same ∙ e));
+  first = λ v e z. (refl, is.first v (sym same ∙ e) (sym (ap (λ (x : ListingState). x.count) other) ∙ z));
+}
+
+-- ---- what is settled
+
+pub listed_settled : (side : Side) (g : Graph) (f : RegionState) (t hub v : ℕ) (s : Splitter) → IsListedIn f t s v → IsSettled side g f t hub s.inner s.outer v
+listed_settled side g f t hub v s h e = ⊎_elim (λ l. inl l) (λ l. inr (inl l)) (h e)
+
 -- what is settled stays so
-pub settled_on : (side : Side) (g : Graph) (f : RegionState) (t hub v : ℕ) (s s' : Splitter) → StaysListed s s' → IsSettled side g f t hub s.inner s.outer v → IsSettled side g f t hub s'.inner s'.outer v
+settled_on : (side : Side) (g : Graph) (f : RegionState) (t hub v : ℕ) (s s' : Splitter) → StaysListed s s' → IsSettled side g f t hub s.inner s.outer v → IsSettled side g f t hub s'.inner s'.outer v
 settled_on side g f t hub v s s' stays h e = ⊎_elim (λ l. inl (stays.inner v l)) (λ k. ⊎_elim (λ l. inr (inl (stays.outer v l))) (λ good. inr (inr good)) k) (h e)
 
 -- a vertex is still settled for the same hub
@@ -129,13 +151,28 @@ pub settled_for : (side : Side) (g : Graph) (f : RegionState) (t v : ℕ) (s s' 
 settled_for side g f t v s s' hub same stays h =
     settled_on side g f t (hub_vertex hub) v s s' stays (subst (λ (x : Hub). IsSettled side g f t (hub_vertex x) s.inner s.outer v) same h)
 
--- all around the list from the outside has been settled, first what is open
-pub outer_settled : (g : Graph) (f : RegionState) (t : ℕ) (mid new : Splitter) → GoesOnSettling Outer mid new → ((v : ℕ) → IsOpenAt g f.labels v → IsSettledIn Outer g f t mid v) →
-    ((v : ℕ) → Contains new.outer.border v → IsSettledIn Outer g f t new v) → IsOuterSettled g f t new.hub.hub new
-outer_settled g f t mid new on at_open at_border = record {
-  at_border = at_border;
-  at_open = λ v is. settled_for Outer g f t v mid new new.hub.hub (sym on.hub) on.stays (at_open v is);
+-- all around the list of a side has been settled, first what is open
+pub side_settled : {E : Type 0} (side : Side) (g : Graph) (f : RegionState) (t : ℕ) (mid new : Splitter) (r : Result Bool E) →
+    (side ≡ Outer → (v : ℕ) → IsOpenAt g f.labels v → IsSettledIn side g f t mid v) → OnOk r (GoesOnSettling side mid new) →
+    IfOk r (λ done. done ≡ true → (v : ℕ) → Contains (half_of side new).border v → IsSettledIn side g f t new v) →
+    IfOk r (λ done. done ≡ true → IsSideSettled side g f t new.hub.hub new)
+side_settled side g f t mid new (Ok done) at_open on at_border = λ yes. record {
+  at_border = at_border yes;
+  at_open = λ e v is. settled_for side g f t v mid new new.hub.hub (sym on.hub) on.stays (at_open e v is);
 }
+side_settled side g f t mid new (Err e) at_open on at_border = on
+
+-- both sides keep a part where one has some and the other stays
+pub some_kept : (side : Side) (old s : Splitter) → 1 ≤ (half_of side s).count → half_of (other_side side) s ≡ half_of (other_side side) old →
+    (1 ≤ old.inner.count → 1 ≤ s.inner.count) × (1 ≤ old.outer.count → 1 ≤ s.outer.count)
+some_kept Inner old s some other = (λ k. some, λ k. subst (λ (x : ListingState). 1 ≤ x.count) (sym other) k)
+some_kept Outer old s some other = (λ k. subst (λ (x : ListingState). 1 ≤ x.count) (sym other) k, λ k. some)
+
+-- and both have a part once more was taken into the list of the other side
+pub some_taken : (side : Side) (s new : Splitter) → 1 ≤ (half_of side s).count → IsSameButHalf (other_side side) s new → 1 ≤ (half_of (other_side side) new).count →
+    (1 ≤ new.inner.count) × (1 ≤ new.outer.count)
+some_taken Inner s new some same taken = (subst (λ (x : ListingState). 1 ≤ x.count) (sym same.other) some, taken)
+some_taken Outer s new some same taken = (taken, subst (λ (x : ListingState). 1 ≤ x.count) (sym same.other) some)
 
 -- a hub that is not listed by now is one still
 pub hub_later : (g : Graph) (f : RegionState) (t : ℕ) (s s' : Splitter) (hub : Hub) → IsHub g f t s hub → (hub ≡ Outside → s'.outer.count ≡ 0) → (1 ≤ s.inner.count → 1 ≤ s'.inner.count) →
@@ -164,64 +201,55 @@ pub hub_further : (g : Graph) (f : RegionState) (t : ℕ) (s s' : Splitter) (hub
     (h : ℕ) × (hub ≡ At h) × ((1 ≤ get_or s'.inner.turns h 0) ⊎ (1 ≤ get_or s'.outer.turns h 0)) → IsFurther s s'
 hub_further g f t s s' hub is p = let free = is.free p.0 p.1 in inr (p.0, free.0, free.1, p.2)
 
--- so is what the search of the hub found, once it is taken
-pub outer_further : (g : Graph) (f : RegionState) (t : ℕ) (old mid new : Splitter) (hub : Hub) → IsHub g f t old hub → 1 ≤ new.outer.count →
-    ((v : ℕ) → is_seen mid.hub.search.seen v ≡ true → 1 ≤ get_or new.outer.turns v 0) → ((h : ℕ) → hub ≡ At h → is_seen mid.hub.search.seen h ≡ true) → IsFurther old new
-outer_further g f t old mid new Outside is some taken seen = inl ((is.outside refl).0, some)
-outer_further g f t old mid new (At v) is some taken seen = let free = is.free v refl in inr (v, free.0, free.1, inr (taken v (seen v refl)))
+-- so is what the search of the hub found, once it is taken into the list of the other side
+pub taken_further : (side : Side) (g : Graph) (f : RegionState) (t : ℕ) (old mid new : Splitter) (hub : Hub) → IsHub g f t old hub → (hub ≡ Outside → side ≡ Inner) → 1 ≤ (half_of (other_side side) new).count →
+    ((v : ℕ) → is_seen mid.hub.search.seen v ≡ true → 1 ≤ get_or (half_of (other_side side) new).turns v 0) → ((h : ℕ) → hub ≡ At h → is_seen mid.hub.search.seen h ≡ true) → IsFurther old new
+taken_further Inner g f t old mid new Outside is from some taken seen = inl ((is.outside refl).0, some)
+taken_further Inner g f t old mid new (At v) is from some taken seen = let free = is.free v refl in inr (v, free.0, free.1, inr (taken v (seen v refl)))
+taken_further Outer g f t old mid new Outside is from some taken seen = absurd (outer_not_inner (from refl))
+taken_further Outer g f t old mid new (At v) is from some taken seen = let free = is.free v refl in inr (v, free.0, free.1, inl (taken v (seen v refl)))
 
-pub inner_further : (g : Graph) (f : RegionState) (t : ℕ) (old mid new : Splitter) (hub : Hub) → IsHub g f t old hub → 1 ≤ old.outer.count →
-    ((v : ℕ) → is_seen mid.hub.search.seen v ≡ true → 1 ≤ get_or new.inner.turns v 0) → ((h : ℕ) → hub ≡ At h → is_seen mid.hub.search.seen h ≡ true) → IsFurther old new
-inner_further g f t old mid new Outside is some taken seen = let z = (is.outside refl).0 in absurd (omega (arith, z, some))
-inner_further g f t old mid new (At v) is some taken seen = let free = is.free v refl in inr (v, free.0, free.1, inl (taken v (seen v refl)))
-
--- what is settled around the list from t stays so while the other grows
-pub inner_settled : (g : Graph) (f : RegionState) (t : ℕ) (mid new : Splitter) (hub : Hub) → new.inner ≡ mid.inner → StaysListed mid new → (1 ≤ mid.inner.count → IsInnerSettled g f t hub mid) →
-    1 ≤ new.inner.count → IsInnerSettled g f t hub new
-inner_settled g f t mid new hub same stays h some v at = settled_on Inner g f t (hub_vertex hub) v mid new stays
-    (h (subst (λ (x : ListingState). 1 ≤ x.count) same some) v (subst (λ (x : ListingState). Contains x.border v) same at))
+-- what is settled around the list of a side stays so while the other grows
+pub settled_still : (side : Side) (g : Graph) (f : RegionState) (t : ℕ) (mid new : Splitter) (hub : Hub) → half_of side new ≡ half_of side mid → StaysListed mid new →
+    (1 ≤ (half_of side mid).count → IsSideSettled side g f t hub mid) → 1 ≤ (half_of side new).count → IsSideSettled side g f t hub new
+settled_still side g f t mid new hub same stays h some =
+    let was = h (subst (λ (x : ListingState). 1 ≤ x.count) same some) in
+    record {
+      at_border = λ v at. settled_on side g f t (hub_vertex hub) v mid new stays (was.at_border v (subst (λ (x : ListingState). Contains x.border v) same at));
+      at_open = λ e v is. settled_on side g f t (hub_vertex hub) v mid new stays (was.at_open e v is);
+    }
 
 -- ---- what is left
 
 -- where all around both lists is settled for a hub, no member is left between
-pub none_left : (g : Graph) (f : RegionState) (t : ℕ) (s : Splitter) (hub : Hub) → IsBetween g f t s → IsHub g f t s hub → (1 ≤ s.inner.count → IsInnerSettled g f t hub s) →
-    (1 ≤ s.outer.count → IsOuterSettled g f t hub s) → IsNoneBetween g f.labels t (get_or f.feed t 0) (inner_set s) (outer_set f t s)
+pub none_left : (g : Graph) (f : RegionState) (t : ℕ) (s : Splitter) (hub : Hub) → IsBetween g f t s → IsHub g f t s hub → (1 ≤ s.inner.count → IsSideSettled Inner g f t hub s) →
+    (1 ≤ s.outer.count → IsSideSettled Outer g f t hub s) → IsNoneBetween g f.labels t (get_or f.feed t 0) (inner_set s) (outer_set f t s)
 none_left g f t s Outside h is inner outer =
     let some = (is.outside refl).1 in
     none_between g f.labels t (get_or f.feed t 0) 1 (inner_set s) (outer_set f t s) h.region.at_border
-    (inr (h.halves.inner_half.listed.sets s.inner.count some (omega arith), round_inner g f t 1 s.inner s.outer h.region h.halves (inner some)))
+    (inr (h.halves.inner_half.listed.sets s.inner.count some (omega arith), round_inner g f t 1 s.inner s.outer h.region h.halves (inner some).at_border))
     (inl (λ e. absurd (omega (arith, e, h.region.at_border.root, h.region.at_border.in_region))))
 none_left g f t s (At v) h is inner outer =
     let some = is.outer_some v refl in
     none_between g f.labels t (get_or f.feed t 0) v (inner_set s) (outer_set f t s) h.region.at_border
     (⊎_elim
     (λ (z : s.inner.count ≡ 0). inl (is.first v refl z))
-    (λ ne. inr (h.halves.inner_half.listed.sets s.inner.count (omega (arith, ne)) (omega arith), round_inner g f t v s.inner s.outer h.region h.halves (inner (omega (arith, ne)))))
+    (λ ne. inr (h.halves.inner_half.listed.sets s.inner.count (omega (arith, ne)) (omega arith), round_inner g f t v s.inner s.outer h.region h.halves (inner (omega (arith, ne))).at_border))
     (cases_eq s.inner.count 0))
     (inr (
       h.halves.outer_half.listed.sets s.outer.count some (omega arith),
-      round_outer g f t v s.inner s.outer h.region h.halves some (λ u is e. (outer some).at_open u is) (outer some).at_border,
+      round_outer g f t v s.inner s.outer h.region h.halves some (λ u is e. (outer some).at_open refl u is) (outer some).at_border,
     ))
 
 -- all beside the list from t is listed
 abbrev pub IsAllBesideListed : RegionState → ℕ → Splitter → Type 0
-IsAllBesideListed f t s = (v : ℕ) → Contains s.inner.border v → get_or f.labels v 0 ≡ get_or f.labels t 0 → (1 ≤ get_or s.inner.turns v 0) ⊎ (1 ≤ get_or s.outer.turns v 0)
-
-pub beside_all : (f : RegionState) (t : ℕ) (s : Splitter) →
-    ((k : ℕ) → k < length s.inner.border → get_or f.labels (get_or s.inner.border k 0) 0 ≡ get_or f.labels t 0 →
-    (1 ≤ get_or s.inner.turns (get_or s.inner.border k 0) 0) ⊎ (1 ≤ get_or s.outer.turns (get_or s.inner.border k 0) 0)) → IsAllBesideListed f t s
-beside_all f t s h v c =
-    let same : get_or s.inner.border c.0 0 ≡ v = get_or_default s.inner.border c.0 0 v c.1 ∙ c.2 in
-    subst (λ (u : ℕ). get_or f.labels u 0 ≡ get_or f.labels t 0 → (1 ≤ get_or s.inner.turns u 0) ⊎ (1 ≤ get_or s.outer.turns u 0)) same (h c.0 c.1)
-
-listed_settled : (g : Graph) (f : RegionState) (t hub : ℕ) (s : Splitter) → IsAllBesideListed f t s → (v : ℕ) → Contains s.inner.border v → IsSettled Inner g f t hub s.inner s.outer v
-listed_settled g f t hub s h v c e = ⊎_elim (λ l. inl l) (λ l. inr (inl l)) (h v c e)
+IsAllBesideListed f t s = (v : ℕ) → Contains s.inner.border v → IsListedIn f t s v
 
 pub none_beyond : (g : Graph) (f : RegionState) (t : ℕ) (s : Splitter) → IsBetween g f t s → 1 ≤ s.inner.count → IsAllBesideListed f t s →
     IsNoneBetween g f.labels t (get_or f.feed t 0) (inner_set s) (outer_set f t s)
 none_beyond g f t s h some all =
     none_between g f.labels t (get_or f.feed t 0) 1 (inner_set s) (outer_set f t s) h.region.at_border
-    (inr (h.halves.inner_half.listed.sets s.inner.count some (omega arith), round_inner g f t 1 s.inner s.outer h.region h.halves (listed_settled g f t 1 s all)))
+    (inr (h.halves.inner_half.listed.sets s.inner.count some (omega arith), round_inner g f t 1 s.inner s.outer h.region h.halves (λ v c. listed_settled Inner g f t 1 v s (all v c))))
     (inl (λ e. absurd (omega (arith, e, h.region.at_border.root, h.region.at_border.in_region))))
 
 -- then each vertex is listed
@@ -247,7 +275,7 @@ nothing_left g f t s h some_inner some_outer all v one to_n z =
     record { vertex = v; from_one = one; to_n = to_n; is_in = in_neither (e v) (b v) k (upto_none (turn v) s.inner.count z) } in
     let holds : ℕ → Type 0 = λ u. ¬ (get_or f.labels u 0 ≡ region) ⊎ ((e u ≡ true) ⊎ BringsHub g f.labels t amount 1 u) in
     let r = beside g f.labels t amount at b (complement e) (minimum_of g f.labels t amount at b mb) (minimum_of g f.labels t amount at (complement e) rest) sub more holds
-    (round_inner g f t 1 s.inner s.outer h.region h.halves (listed_settled g f t 1 s all)) in
+    (round_inner g f t 1 s.inner s.outer h.region h.halves (λ v c. listed_settled Inner g f t 1 v s (all v c))) in
     absurd (⊎_elim
     (λ ne. ne (rest.around.inside.labelled r.0 r.1))
     (λ p. ⊎_elim

@@ -6,7 +6,7 @@ use Rattle.std.proofs.lemmas.Bool.{cases_Bool, eqb-true}
 use Rattle.std.proofs.lemmas.List.{get_or-take, get_or_default, length-take-le}
 use Rattle.std.proofs.lemmas.List.Elements.{All-from_get_or}
 use Rattle.std.proofs.lemmas.Option.{slice_get-get_or}
-use Rattle.cut_definitions.specs.Graph.{Graph}
+use Rattle.cut_definitions.specs.Graph.{Graph, IsVertex}
 use Rattle.cut_definitions.proofs.Lists.{Contains-nil}
 use Rattle.cut_definitions.specs.Weight.{VertexSet}
 use Rattle.cut_definitions.specs.Cuts.{has}
@@ -30,7 +30,7 @@ use Rattle.region_parts.specs.FirstRace.{IsFirstRace}
 use Rattle.arc_search.specs.Found.{SearchState, IsSearch}
 use Rattle.region_fronts.specs.Fronts.{FrontsState, list_at}
 use Rattle.region_parts.specs.Hubs.{HasAll, HaveBegun, KeepsFrontsFor}
-use Rattle.arc_search.specs.Listing.{ListingState, IsVertex, IsKept, IsBordered}
+use Rattle.arc_search.specs.Listing.{ListingState, IsKept, IsBordered}
 use Rattle.region_parts.specs.Regional.{BringsHub}
 use Rattle.region_parts.specs.Sided.{AreHalves, IsRegionOf, fed_in, goes_from, stops}
 use Rattle.region_parts.specs.Split.{AreAtFront, IsBetween}

@@ -63,13 +63,13 @@ outer_inside labels region turns count v e = ap (λ (k : Bool). if k then get_or
 pub outer_outside : (labels : List ℕ) (region : ℕ) (turns : List ℕ) (count v : ℕ) → get_or labels v 0 ≢ region → outer_turn labels region turns count v ≡ (if count == 0 then 0 else 1)
 outer_outside labels region turns count v ne = ap (λ (k : Bool). if k then get_or turns v 0 else (if count == 0 then 0 else 1)) (ne_eqb (get_or labels v 0) region ne)
 
-abbrev first_if : Bool → ℕ
+abbrev pub first_if : Bool → ℕ
 first_if b = if b then 0 else 1
 
-zero_at : (count : ℕ) → count ≡ 0 → first_if (count == 0) ≡ 0
+pub zero_at : (count : ℕ) → count ≡ 0 → first_if (count == 0) ≡ 0
 zero_at count e = ap first_if (eq-eqb count 0 e)
 
-one_at : (count : ℕ) → 1 ≤ count → first_if (count == 0) ≡ 1
+pub one_at : (count : ℕ) → 1 ≤ count → first_if (count == 0) ≡ 1
 one_at count h = ap first_if (ne_eqb count 0 (λ e. absurd (omega (arith, e, h))))
 
 pub outer_one : (labels : List ℕ) (region : ℕ) (turns : List ℕ) (count v : ℕ) → 1 ≤ count → get_or labels v 0 ≢ region → outer_turn labels region turns count v ≡ 1

@@ -34,9 +34,6 @@ fronts_more labels hub hub' f f' f'' e h k = record {
   same = λ no. k.same (λ o. no (sym e ∙ o)) ∙ h.same no;
 }
 
-pub fronts_same : (labels : List ℕ) (hub : Hub) (f : FrontsState) → KeepsFrontsFor labels hub f f
-fronts_same labels hub f = record { vertices = refl; kept = λ v is. is; same = λ no. refl }
-
 -- what a list read for the outside keeps
 pub fronts_read : (labels : List ℕ) (f f' : FrontsState) → f'.vertices ≡ f.vertices → KeepsFronts labels f f' → KeepsFrontsFor labels Outside f f'
 fronts_read labels f f' vertices kept = record { vertices = vertices; kept = kept; same = λ no. absurd (no refl) }

@@ -5,7 +5,7 @@ use Rattle.std.specs.Prelude.{◌≢◌, ◌==◌, if◌then◌else◌}
 use Rattle.std.proofs.lemmas.Bool.{cases_Bool, cases_lt, cases_eq, eq-eqb, ne_eqb, lt-ltb, ltb-true}
 use Rattle.std.proofs.lemmas.List.{get_or-take, get_or-set_same, get_or-set_other, get_or_default, length-take-le, take_all, get_or_past}
 use Rattle.std.proofs.lemmas.List.Elements.{All-contains, All-get_or}
-use Rattle.cut_definitions.specs.Graph.{Graph}
+use Rattle.cut_definitions.specs.Graph.{Graph, IsVertex}
 use Rattle.cut_definitions.specs.Cuts.{has}
 use Rattle.cut_definitions.proofs.Numbers.{cases_zero}
 use Rattle.cut_definitions.proofs.Ascending.{contains_has, has_contains}
@@ -16,10 +16,10 @@ use Rattle.region_parts.specs.declared.between.Between.TheVariants.{Nothing, One
 use Rattle.region_parts.specs.declared.splitter.Splitter.{Splitter}
 use Rattle.region_parts.specs.Between.{parts_between}
 use Rattle.region_fronts.specs.Listed.{PartsState, AreListed, IsPartList, part_in, part_list}
-use Rattle.arc_search.specs.Listing.{ListingState, IsVertex, IsKept}
+use Rattle.arc_search.specs.Listing.{ListingState, IsKept}
 use Rattle.region_parts.specs.Regional.{two_sided}
 use Rattle.region_parts.specs.Split.{IsBetween, outer_of}
-use Rattle.region_parts.proofs.Halves.{outer_inside, outer_outside}
+use Rattle.region_parts.proofs.Halves.{first_if, one_at, outer_inside, outer_outside, zero_at}
 
 -- ---- one list
 
@@ -194,17 +194,14 @@ left_out g f t s b p h v inside no_i no_o = ⊎_elim
     (λ (e : b ≡ One). h.one e)
     (cases_between b)
 
-abbrev first_if : Bool → ℕ
-first_if c = if c then 0 else 1
-
 -- what is outside the region is in the first part of the list from there, where there is one
 outside_turn : (outers o b : ℕ) → o ≡ first_if (outers == 0) → (if ltb 0 o then o else outers + 1) ≡ 1
 outside_turn outers o b h = ⊎_elim
     (λ (z : outers ≡ 0).
-    let no : o ≡ 0 = h ∙ ap first_if (eq-eqb outers 0 z) in
+    let no : o ≡ 0 = h ∙ zero_at outers z in
     if_none o o (outers + 1) no ∙ omega (arith, z))
     (λ nz.
-    let one : o ≡ 1 = h ∙ ap first_if (ne_eqb outers 0 nz) in
+    let one : o ≡ 1 = h ∙ one_at outers (omega (arith, nz)) in
     if_some o o (outers + 1) (omega (arith, one)) ∙ one)
     (cases_eq outers 0)
 

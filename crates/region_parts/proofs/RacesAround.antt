@@ -1,10 +1,9 @@
 -- What a race around the list of a side shows, and what stays while vertices are settled.
-use Rattle.std.proofs.Common.{◌≡◌, ℕ, ◌+◌, ◌-◌, ◌<◌, ◌≤◌, ◌⊎◌, inl, inr, ⊎_elim, Bool, true, false, eqb, List, take, length, get_or, refl, sym, ◌∙◌, subst, ap, arith}
-use Rattle.std.specs.Prelude.{◌≢◌, Result, Ok, Err, OnOk, None, Some, slice_get}
+use Rattle.std.proofs.Common.{◌≡◌, ℕ, ◌+◌, ◌-◌, ◌<◌, ◌≤◌, ◌⊎◌, inl, inr, ⊎_elim, Bool, true, false, eqb, List, length, get_or, refl, sym, ◌∙◌, subst, ap, arith}
+use Rattle.std.specs.Prelude.{◌≢◌, Result, Ok, Err, OnOk}
 use Rattle.std.specs.List.{Contains}
 use Rattle.std.proofs.lemmas.Bool.{cases_lt, eqb-true, eq-eqb, false≢true}
-use Rattle.std.proofs.lemmas.List.{get_or_past, get_or-take, get_or_default}
-use Rattle.std.proofs.lemmas.Option.{none-some, slice_get_within, slice_get-get_or, get_or_from_slice_get}
+use Rattle.std.proofs.lemmas.List.{get_or_past}
 use Rattle.std.proofs.lemmas.List.Elements.{All-contains, Contains-append_cases, Contains-append_left, Contains-append_right}
 use Rattle.cut_definitions.specs.Graph.{Graph}
 use Rattle.cut_definitions.specs.Weight.{VertexSet}
@@ -21,7 +20,7 @@ use Rattle.region_parts.specs.declared.splitter.Splitter.{Splitter}
 use Rattle.region_parts.specs.Steps.{steps_in}
 use Rattle.arc_search.specs.Found.{SearchState, IsSearch, IsNoneFound, IsQuiet, GoesOn, MayBegin}
 use Rattle.arc_search.specs.Way.{AreEarlier, IsOnWay, IsMarkedWay}
-use Rattle.arc_search.specs.Listing.{ListingState, HasMore, IsKept, IsVertex}
+use Rattle.arc_search.specs.Listing.{ListingState, HasMore}
 use Rattle.region_fronts.specs.Fronts.{FrontsState, KeepsFronts, list_at}
 use Rattle.region_parts.specs.Hubs.{HaveBegun, IsHubSearch, KeepsFrontsFor, hub_vertex, starts_of}
 use Rattle.region_parts.specs.Sided.{AreHalves, IsGood, IsRegionOf, fed_in, goes_from, other_side, stops}
@@ -60,7 +59,7 @@ pub half_same : (side : Side) (s s' : Splitter) → IsSameLists s s' → half_of
 half_same Inner s s' h = h.inner
 half_same Outer s s' h = h.outer
 
-more_same : (xs : List ℕ) → HasMore xs xs
+pub more_same : (xs : List ℕ) → HasMore xs xs
 more_same xs = record { longer = omega arith; same = λ i l. refl }
 
 -- ---- what goes on
@@ -101,16 +100,6 @@ goes_on_more side s s' s'' h k = record {
   seen = λ v is. k.seen v (h.seen v is);
   unread = λ no. k.unread (λ e. no (sym h.hub ∙ e)) ∙ h.unread no;
 }
-
--- what is settled stays so
-pub settled_on : (side : Side) (g : Graph) (f : RegionState) (t : ℕ) (s s' : Splitter) (v : ℕ) → GoesOnSettling side s s' → IsSettledIn side g f t s v → IsSettledIn side g f t s' v
-settled_on side g f t s s' v on h e = ⊎_elim
-    (λ l. inl (on.stays.inner v l))
-    (λ p. ⊎_elim
-    (λ l. inr (inl (on.stays.outer v l)))
-    (λ good. inr (inr (subst (λ (u : Hub). IsGood side g f.labels t (get_or f.feed t 0) (hub_vertex u) v) (sym on.hub) good)))
-    p)
-    (h e)
 
 -- a vertex that is listed or has its mark is settled
 pub known_settled : (side : Side) (g : Graph) (f : RegionState) (t : ℕ) (s : Splitter) (v : ℕ) → IsSearching side g f t s →
@@ -311,7 +300,7 @@ first_seen side g f t s x b = subst (λ (u : ℕ). is_seen s.near.seen u ≡ tru
 
 -- ---- the start of a race
 
-free_half : (side : Side) (s : Splitter) (v : ℕ) → get_or s.inner.turns v 0 ≡ 0 → get_or s.outer.turns v 0 ≡ 0 → get_or (half_of side s).turns v 0 ≡ 0
+pub free_half : (side : Side) (s : Splitter) (v : ℕ) → get_or s.inner.turns v 0 ≡ 0 → get_or s.outer.turns v 0 ≡ 0 → get_or (half_of side s).turns v 0 ≡ 0
 free_half Inner s v i o = i
 free_half Outer s v i o = o
 
@@ -363,51 +352,6 @@ pub front_read : (g : Graph) (f : RegionState) (t : ℕ) (fronts fronts' : Front
     AreAtFront g f t fronts'
 front_read g f t fronts fronts' h vertices kept = record { vertices = vertices ∙ h.vertices; covered = λ v is. kept v (h.covered v is); fed = h.fed }
 
--- ---- places beside a list
-
-kept_of : (side : Side) (g : Graph) (f : RegionState) (t : ℕ) (s : Splitter) → IsSearching side g f t s → IsKept g.vertices (half_of side s)
-kept_of Inner g f t s h = h.between.halves.inner_half.kept
-kept_of Outer g f t s h = h.between.halves.outer_half.kept
-
--- a vertex at a place is one of 1 to n, and there are no more places than vertices
-pub border_vertex : (side : Side) (g : Graph) (f : RegionState) (t : ℕ) (s : Splitter) → IsSearching side g f t s → (k v : ℕ) → slice_get (half_of side s).border k ≡ Some v →
-    IsVertex g.vertices v × (k < g.vertices + 1)
-border_vertex side g f t s h k v there =
-    let border = (half_of side s).border in
-    let kept = kept_of side g f t s h in
-    let l = slice_get_within border k v there in
-    (subst (λ (u : ℕ). IsVertex g.vertices u) (get_or_from_slice_get border k v 0 there) (kept.border.within k 0 l).0, omega (arith, l, kept.border.rest))
-
--- one place more is settled
-pub border_settled : (side : Side) (g : Graph) (f : RegionState) (t : ℕ) (s s' : Splitter) (place v : ℕ) → GoesOnSettling side s s' → slice_get (half_of side s).border place ≡ Some v →
-    IsSettledIn side g f t s' v → ((i : ℕ) → i < place → IsSettledIn side g f t s (get_or (half_of side s).border i 0)) →
-    (i : ℕ) → i < place + 1 → IsSettledIn side g f t s' (get_or (half_of side s').border i 0)
-border_settled side g f t s s' place v on there new before i l =
-    let border = (half_of side s).border in
-    let within = slice_get_within border place v there in
-    let same : get_or (half_of side s').border i 0 ≡ get_or border i 0 = on.border.same i (omega (arith, l, within)) in
-    ⊎_elim
-    (λ (q : i < place). subst (λ (u : ℕ). IsSettledIn side g f t s' u) (sym same) (settled_on side g f t s s' (get_or border i 0) on (before i q)))
-    (λ (q : place ≤ i).
-    let e : place ≡ i = omega (arith, l, q) in
-    let at : v ≡ get_or border i 0 = sym (get_or_from_slice_get border place v 0 there) ∙ ap (λ (k : ℕ). get_or border k 0) e in
-    subst (λ (u : ℕ). IsSettledIn side g f t s' u) (at ∙ sym same) new)
-    (cases_lt i place)
-
--- where there is no entry at a place, each entry stands before it
-before_end : (xs : List ℕ) (place k : ℕ) → slice_get xs place ≡ None → k < length xs → k < place
-before_end xs place k none l = ⊎_elim
-    (λ (q : k < place). q)
-    (λ (q : place ≤ k). absurd (none-some (get_or xs place 0) (sym none ∙ slice_get-get_or xs place 0 (omega (arith, q, l)))))
-    (cases_lt k place)
-
-pub all_settled : (side : Side) (g : Graph) (f : RegionState) (t : ℕ) (s : Splitter) (place : ℕ) → slice_get (half_of side s).border place ≡ None →
-    ((i : ℕ) → i < place → IsSettledIn side g f t s (get_or (half_of side s).border i 0)) → (v : ℕ) → Contains (half_of side s).border v → IsSettledIn side g f t s v
-all_settled side g f t s place none before v c =
-    let border = (half_of side s).border in
-    let e : get_or border c.0 0 ≡ v = get_or_default border c.0 0 v c.1 ∙ c.2 in
-    subst (λ (u : ℕ). IsSettledIn side g f t s u) e (before c.0 (before_end border place c.0 none c.1))
-
 -- ---- a hub inside
 
 -- the hub is inside where the list of the outer side is searched around
@@ -418,33 +362,7 @@ hub_inside g f t s h e = outer_not_inner (h.outside e).0
 pub begun_none : (f : RegionState) (t : ℕ) (list : List ℕ) (s : HubSearch) → s.place ≡ 0 → HaveBegun f t list s
 begun_none f t list s none k v l there fed = absurd (omega (arith, none, l))
 
--- of a front that was read at a place, and then kept, one entry more is settled
-pub front_settled : (side : Side) (g : Graph) (f : RegionState) (t : ℕ) (s s' : Splitter) (old new : List ℕ) (place v : ℕ) → GoesOnSettling side s s' → take place new ≡ take place old →
-    length new ≤ length old → slice_get new place ≡ Some v → IsSettledIn side g f t s' v →
-    ((i u : ℕ) → i < place → slice_get old i ≡ Some u → IsSettledIn side g f t s u) → (i u : ℕ) → i < place + 1 → slice_get new i ≡ Some u → IsSettledIn side g f t s' u
-front_settled side g f t s s' old new place v on before shorter there settled earlier i u l is = ⊎_elim
-    (λ (q : i < place).
-    let within = slice_get_within new i u is in
-    let same : get_or old i 0 ≡ u = sym (get_or-take place old i 0 q) ∙ ap (λ (xs : List ℕ). get_or xs i 0) (sym before) ∙ get_or-take place new i 0 q ∙ get_or_from_slice_get new i u 0 is in
-    settled_on side g f t s s' u on (earlier i u q (slice_get-get_or old i 0 (omega (arith, within, shorter)) ∙ ap (λ (x : ℕ). Some x) same)))
-    (λ (q : place ≤ i).
-    let e : place ≡ i = omega (arith, l, q) in
-    let same : v ≡ u = sym (get_or_from_slice_get new place v 0 there) ∙ ap (λ (k : ℕ). get_or new k 0) e ∙ get_or_from_slice_get new i u 0 is in
-    subst (λ (x : ℕ). IsSettledIn side g f t s' x) same settled)
-    (cases_lt i place)
-
--- each open vertex stands before the end of the front
-pub open_settled : (side : Side) (g : Graph) (f : RegionState) (t : ℕ) (s : Splitter) (fronts fronts' : FrontsState) (place : ℕ) → AreAtFront g f t fronts' →
-    length (list_at fronts'.lists (get_or f.labels t 0)) ≤ place →
-    take place (list_at fronts'.lists (get_or f.labels t 0)) ≡ take place (list_at fronts.lists (get_or f.labels t 0)) →
-    length (list_at fronts'.lists (get_or f.labels t 0)) ≤ length (list_at fronts.lists (get_or f.labels t 0)) →
-    ((i u : ℕ) → i < place → slice_get (list_at fronts.lists (get_or f.labels t 0)) i ≡ Some u → IsSettledIn side g f t s u) → (v : ℕ) → IsOpenAt g f.labels v → IsSettledIn side g f t s v
-open_settled side g f t s fronts fronts' place h end before shorter earlier v is e =
-    let region = get_or f.labels t 0 in
-    let old = list_at fronts.lists region in
-    let new = list_at fronts'.lists region in
-    let c : Contains new v = subst (λ (k : ℕ). Contains (list_at fronts'.lists k) v) e (h.covered v is) in
-    let q : c.0 < place = omega (arith, c.1, end) in
-    let at : get_or new c.0 0 ≡ v = get_or_default new c.0 0 v c.1 ∙ c.2 in
-    let same : get_or old c.0 0 ≡ v = sym (get_or-take place old c.0 0 q) ∙ ap (λ (xs : List ℕ). get_or xs c.0 0) (sym before) ∙ get_or-take place new c.0 0 q ∙ at in
-    earlier c.0 v q (slice_get-get_or old c.0 0 (omega (arith, c.1, shorter)) ∙ ap (λ (x : ℕ). Some x) same) e
+-- each open vertex stands in the front
+pub open_settled : (side : Side) (g : Graph) (f : RegionState) (t : ℕ) (s : Splitter) (fronts : FrontsState) → AreAtFront g f t fronts →
+    ((v : ℕ) → Contains (list_at fronts.lists (get_or f.labels t 0)) v → IsSettledIn side g f t s v) → (v : ℕ) → IsOpenAt g f.labels v → IsSettledIn side g f t s v
+open_settled side g f t s fronts h all v is e = all v (subst (λ (k : ℕ). Contains (list_at fronts.lists k) v) e (h.covered v is)) e

@@ -6,7 +6,7 @@ use Rattle.std.proofs.lemmas.Bool.{cases_eq, cases_Bool, eqb-true}
 use Rattle.std.proofs.lemmas.List.{get_or-take, get_or_default, length-take-le}
 use Rattle.std.proofs.lemmas.List.Elements.{All-contains}
 use Rattle.cut_definitions.proofs.Lists.{Contains-nil}
-use Rattle.cut_definitions.specs.Graph.{Graph}
+use Rattle.cut_definitions.specs.Graph.{Graph, IsVertex}
 use Rattle.cut_definitions.specs.Cuts.{has}
 use Rattle.cut_definitions.specs.Weight.{VertexSet}
 use Rattle.cut_definitions.proofs.Bools.{one_seen, same_tests}
@@ -20,7 +20,7 @@ use Rattle.region_parts.specs.declared.side.Side.TheVariants.{Inner, Outer}
 use Rattle.region_parts.specs.Steps.{steps_in}
 use Rattle.cut_definitions.specs.Chain.{listed_upto}
 use Rattle.arc_search.specs.Found.{SearchState, IsSearch}
-use Rattle.arc_search.specs.Listing.{ListingState, IsVertex, IsKept, IsNothingListed, IsBordered, AreTaken}
+use Rattle.arc_search.specs.Listing.{ListingState, IsKept, IsNothingListed, IsBordered, AreTaken}
 use Rattle.region_parts.specs.Sided.{IsRegionOf, IsHalf, AreHalves, direction_of, fed_in, goes_from, stops}
 use Rattle.region_parts.proofs.FewParts.{few_hit}
 use Rattle.region_parts.proofs.Listings.{in_upto}

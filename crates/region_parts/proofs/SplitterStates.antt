@@ -6,7 +6,7 @@ use Rattle.std.proofs.Math.ListN.{get_or-eq_default, replicate}
 use Rattle.std.proofs.lemmas.List.{get_or-replicate, length-replicate}
 use Rattle.std.proofs.lemmas.Bool.{cases_lt, eqb-true}
 use Rattle.std.proofs.lemmas.List.Elements.{All-contains_itself}
-use Rattle.cut_definitions.specs.Graph.{Graph}
+use Rattle.cut_definitions.specs.Graph.{Graph, IsVertex}
 use Rattle.cut_definitions.specs.Cuts.{has}
 use Rattle.cut_definitions.specs.Weight.{VertexSet}
 use Rattle.weighted_graph.specs.Searches.{is_seen}
@@ -20,7 +20,7 @@ use Rattle.region_parts.specs.Steps.{steps_in}
 use Rattle.region_parts.specs.declared.splitter.Splitter.{Splitter}
 use Rattle.arc_search.specs.Found.{SearchState, IsSearch}
 use Rattle.region_parts.specs.Hubs.{IsHubSearch, starts_of}
-use Rattle.arc_search.specs.Listing.{ListingState, IsKept, IsBordered, IsVertex, IsNothingListed, AreTaken, HasMore}
+use Rattle.arc_search.specs.Listing.{ListingState, IsKept, IsBordered, IsNothingListed, AreTaken, HasMore}
 use Rattle.region_parts.specs.Sided.{AreHalves, IsHalf, direction_of, fed_in, goes_from, other_side, stops}
 use Rattle.region_parts.specs.Split.{half_of, IsBetween, IsEnded, IsSameButHalf, MayTakeHub, StaysListed}
 use Rattle.region_parts.proofs.SplitterLemmas.{IsFit, IsFrom, found_within, found_apart, seen_has, fit_arcs, taken_arcs, inner_after, outer_after, nothing_of, first_all, inner_first, outer_first}

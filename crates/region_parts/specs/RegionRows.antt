@@ -1,13 +1,14 @@
 -- The rows of a graph as the arcs of a search inside regions.
-use Rattle.std.specs.Prelude.{ℕ, Bool, ◌≡◌, ◌<◌, ◌≤◌, ◌==◌, ◌&&◌, nat_lt, true, false, List, length, slice_index, IsTrue}
+use Rattle.std.specs.Prelude.{ℕ, ◌≡◌, ◌<◌, ◌≤◌, ◌==◌, ◌&&◌, nat_lt, true, List, length, slice_index, IsTrue}
 use Rattle.std.specs.List.{Contains}
 use Rattle.std.specs.Cmp.Derive.{both_true}
 use Rattle.std.proofs.Common.{inl, inr, ⊎_elim, refl, sym, ◌∙◌, subst, ap}
-use Rattle.std.proofs.lemmas.Bool.{eqb-true, eq-eqb, ltb-true, lt-ltb, false≢true}
+use Rattle.std.proofs.lemmas.Bool.{eqb-true, eq-eqb, ltb-true, lt-ltb}
 use Rattle.std.proofs.lemmas.List.{get_or_default}
 use Rattle.std.proofs.lemmas.List.Elements.{All-contains}
 use Rattle.std.proofs.lemmas.List.Folds.{list_any_at, Any-from_list_any}
 use Rattle.cut_definitions.specs.Graph.{Graph, IsGraph}
+use Rattle.cut_definitions.proofs.Bools.{and_first, and_second}
 use Rattle.weighted_graph.specs.declared.graph.Arc.{Arc}
 use Rattle.weighted_graph.specs.Rows.{row_of, no_arc, arc_at}
 use Rattle.weighted_graph.specs.RowLaws.{IsArcAt}
@@ -25,14 +26,6 @@ pub record IsStep (g : Graph) (f : RegionState) (d : Direction) (u v : ℕ) : Ty
   pub in_row : Contains (row_of g u) arc
   pub to : arc.to ≡ v
   pub taken : IsTrue (is_open_in f d u arc)
-
-and_first : (a b : Bool) → (a && b) ≡ true → a ≡ true
-and_first true b h = refl
-and_first false b h = h
-
-and_second : (a b : Bool) → (a && b) ≡ true → b ≡ true
-and_second true b h = h
-and_second false b h = absurd (false≢true h)
 
 pub same_label : (f : RegionState) (d : Direction) (u : ℕ) (a : Arc) → is_open_in f d u a ≡ true → slice_index f.labels a.to ≡ slice_index f.labels u
 same_label f d u a h =

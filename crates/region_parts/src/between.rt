@@ -3,19 +3,19 @@
 ghost use Rattle.std.specs.Prelude.{◌≡◌, ◌+◌, ◌<◌, ◌≤◌, ◌⊎◌, ℕ, None, IfOk, IfSome, OnOk, IsTrue, IsFalse, length, slice_get, slice_index};
 ghost use Rattle.std.specs.List.{Contains};
 ghost use Rattle.region_flow.specs.Regions.{IsRegionFlow};
-ghost use Rattle.region_parts.specs.declared.side.Side.TheVariants.{Outer};
 ghost use Rattle.region_parts.specs.declared.hub.Hub.TheVariants.{At};
 ghost use Rattle.arc_search.specs.Found.{IsNoneFound};
 ghost use Rattle.region_fronts.specs.Fronts.{list_at};
-ghost use Rattle.region_parts.specs.Hubs.{HaveBegun};
+ghost use Rattle.region_parts.specs.Hubs.{HasAll, HaveBegun};
 ghost use Rattle.region_flow.specs.Parted.{AreLightParts};
 ghost use Rattle.region_parts.specs.Passed.{ArePassed, IsLeft, IsPassed};
 ghost use Rattle.region_parts.specs.Regional.{IsNoneBetween, two_sided};
-ghost use Rattle.region_parts.specs.Between.{IsInnerSettled, IsOuterSettled, parts_between};
-ghost use Rattle.region_parts.specs.Split.{AreAtFront, GoesOnSettling, IsBetween, IsFurther, IsHub, IsSearching, StaysListed, inner_set, outer_of, outer_set};
+ghost use Rattle.region_parts.specs.Between.{IsSideSettled, parts_between};
+ghost use Rattle.region_parts.specs.Sided.{other_side};
+ghost use Rattle.region_parts.specs.Split.{half_of, AreAtFront, GoesOnSettling, IsBetween, IsFurther, IsHub, IsSearching, StaysListed, inner_set, outer_of, outer_set};
 
 use crate::hub::Hub;
-use crate::passed::Passed;
+use crate::passed::{Around, Passed};
 use crate::region::Region;
 use crate::side::Side;
 use crate::splitter::Splitter;
@@ -54,39 +54,47 @@ impl Splitter {
         Some(Hub::At(v))
     }
 
-    /// Settles all around the list from the outside. Answers false where the search of the hub ended first.
-    fn settle_outer(
+    /// Settles all around the list of a side. Answers false where the search of the hub ended first.
+    fn settle_side(
         &mut self,
         region: Region<'_>,
         fronts: &mut Fronts,
+        side: Side,
         passed: Passed,
     ) -> Result<bool, NoMemory>
         requires flow { IsRegionFlow region.graph.now region.flow.now }
-        requires searching { IsSearching Outer region.graph.now region.flow.now region.t self.old }
+        requires searching { IsSearching side region.graph.now region.flow.now region.t self.old }
         requires near { IsNoneFound region.graph.now.vertices self.old.near }
         requires front { AreAtFront region.graph.now region.flow.now region.t fronts.old }
         requires begun { HaveBegun region.flow.now region.t (list_at fronts.old.lists (slice_index region.flow.now.labels region.t)) self.old.hub }
         requires unread { self.old.hub.place ≡ 0 }
         requires passed { ArePassed region.flow.now region.t fronts.old self.old passed }
-        ensures searching { OnOk result (IsSearching Outer region.entry.graph.now region.entry.flow.now region.entry.t self.new) }
+        ensures searching { OnOk result (IsSearching side region.entry.graph.now region.entry.flow.now region.entry.t self.new) }
         ensures near { OnOk result (IsNoneFound region.entry.graph.now.vertices self.new.near) }
-        ensures goes_on { OnOk result (GoesOnSettling Outer self.old self.new) }
+        ensures goes_on { OnOk result (GoesOnSettling side self.old self.new) }
         ensures front { AreAtFront region.entry.graph.now region.entry.flow.now region.entry.t fronts.new }
+        ensures begun { OnOk result (HaveBegun region.entry.flow.now region.entry.t (list_at fronts.new.lists (slice_index region.entry.flow.now.labels region.entry.t)) self.new.hub) }
         ensures passed { OnOk result (ArePassed region.entry.flow.now region.entry.t fronts.new self.new passed) }
-        ensures settled { IfOk result (λ done. IsTrue done → IsOuterSettled region.entry.graph.now region.entry.flow.now region.entry.t self.new.hub.hub self.new) }
-        ensures ended { IfOk result (λ done. IsFalse done → self.new.hub.search.place ≡ self.new.hub.search.count) }
+        ensures settled { IfOk result (λ done. IsTrue done → IsSideSettled side region.entry.graph.now region.entry.flow.now region.entry.t self.new.hub.hub self.new) }
+        ensures ended { IfOk result (λ done. IsFalse done → HasAll (list_at fronts.new.lists (slice_index region.entry.flow.now.labels region.entry.t)) self.new.hub) }
     {
-        if !self.settle_front(region, fronts, passed.front)? {
-            return Ok(false);
+        match side {
+            Side::Inner => self.settle_around(region, fronts, Around::Border(side), passed),
+            Side::Outer => {
+                if !self.settle_around(region, fronts, Around::Front, passed)? {
+                    return Ok(false);
+                }
+                self.settle_around(region, fronts, Around::Border(side), passed)
+            }
         }
-        self.settle_border(region, fronts, Side::Outer, passed.outer)
     }
 
-    /// Searches around the list from `t`, where it has a part, from a hub. Answers false where more is listed instead.
-    fn search_inner(
+    /// Searches around the list of a side, where it has a part, from a hub. Answers false where more is listed instead.
+    fn search_side(
         &mut self,
         region: Region<'_>,
         fronts: &mut Fronts,
+        side: Side,
         hub: Hub,
         passed: Passed,
     ) -> Result<bool, NoMemory>
@@ -103,63 +111,23 @@ impl Splitter {
         ensures stays { OnOk result (StaysListed self.old self.new) }
         ensures some { OnOk result ((1 ≤ self.old.inner.count → 1 ≤ self.new.inner.count) × (1 ≤ self.old.outer.count → 1 ≤ self.new.outer.count)) }
         ensures hub { IfOk result (λ done. IsTrue done → IsHub region.entry.graph.now region.entry.flow.now region.entry.t self.new hub) }
-        ensures settled { IfOk result (λ done. IsTrue done → 1 ≤ self.new.inner.count → IsInnerSettled region.entry.graph.now region.entry.flow.now region.entry.t hub self.new) }
+        ensures other { IfOk result (λ done. IsTrue done → half_of (other_side side) self.new ≡ half_of (other_side side) self.old) }
+        ensures settled { IfOk result (λ done. IsTrue done → 1 ≤ (half_of side self.new).count → IsSideSettled side region.entry.graph.now region.entry.flow.now region.entry.t hub self.new) }
         ensures further { IfOk result (λ done. IsFalse done → IsFurther self.old self.new) }
     {
-        if self.inner.count() == 0 {
+        if self.listing(side).count() == 0 {
             return Ok(true);
         }
         self.forget();
         self.hub.start(hub);
-        let done = self.settle_border(region, fronts, Side::Inner, passed.inner)?;
+        let done = self.settle_side(region, fronts, side, passed)?;
         if self.is_hub_listed(hub) {
             return Ok(false);
         }
         if done {
             return Ok(true);
         }
-        self.take_hub(region, Side::Outer)?;
-        Ok(false)
-    }
-
-    /// Searches around the list from the outside, where it has a part, from a hub. Answers false where more is listed instead.
-    fn search_outer(
-        &mut self,
-        region: Region<'_>,
-        fronts: &mut Fronts,
-        hub: Hub,
-        passed: Passed,
-    ) -> Result<bool, NoMemory>
-        requires flow { IsRegionFlow region.graph.now region.flow.now }
-        requires between { IsBetween region.graph.now region.flow.now region.t self.old }
-        requires near { IsNoneFound region.graph.now.vertices self.old.near }
-        requires front { AreAtFront region.graph.now region.flow.now region.t fronts.old }
-        requires hub { IsHub region.graph.now region.flow.now region.t self.old hub }
-        requires passed { ArePassed region.flow.now region.t fronts.old self.old passed }
-        ensures between { OnOk result (IsBetween region.entry.graph.now region.entry.flow.now region.entry.t self.new) }
-        ensures near { OnOk result (IsNoneFound region.entry.graph.now.vertices self.new.near) }
-        ensures front { AreAtFront region.entry.graph.now region.entry.flow.now region.entry.t fronts.new }
-        ensures passed { OnOk result (ArePassed region.entry.flow.now region.entry.t fronts.new self.new passed) }
-        ensures stays { OnOk result (StaysListed self.old self.new) }
-        ensures some { OnOk result ((1 ≤ self.old.inner.count → 1 ≤ self.new.inner.count) × (1 ≤ self.old.outer.count → 1 ≤ self.new.outer.count)) }
-        ensures hub { IfOk result (λ done. IsTrue done → IsHub region.entry.graph.now region.entry.flow.now region.entry.t self.new hub) }
-        ensures inner { IfOk result (λ done. IsTrue done → self.new.inner ≡ self.old.inner) }
-        ensures settled { IfOk result (λ done. IsTrue done → 1 ≤ self.new.outer.count → IsOuterSettled region.entry.graph.now region.entry.flow.now region.entry.t hub self.new) }
-        ensures further { IfOk result (λ done. IsFalse done → IsFurther self.old self.new) }
-    {
-        if self.outer.count() == 0 {
-            return Ok(true);
-        }
-        self.forget();
-        self.hub.start(hub);
-        let done = self.settle_outer(region, fronts, passed)?;
-        if self.is_hub_listed(hub) {
-            return Ok(false);
-        }
-        if done {
-            return Ok(true);
-        }
-        self.take_hub(region, Side::Inner)?;
+        self.take_hub(region, side.other())?;
         Ok(false)
     }
 
@@ -190,10 +158,10 @@ impl Splitter {
             (slice_index region.entry.flow.now.feed region.entry.t) (inner_set self.new) (outer_set region.entry.flow.now region.entry.t self.new)) }
         ensures further { IfOk result (λ done. IsFalse done → IsFurther self.old self.new) }
     {
-        if !self.search_inner(region, fronts, hub, passed)? {
+        if !self.search_side(region, fronts, Side::Inner, hub, passed)? {
             return Ok(false);
         }
-        self.search_outer(region, fronts, hub, passed)
+        self.search_side(region, fronts, Side::Outer, hub, passed)
     }
 
     /// Lists parts from both sides, until nothing is left between the lists but at most one part.

@@ -1,19 +1,18 @@
 //! Searches around the list of a side, each in a race with that of the hub.
 
-ghost use Rattle.std.specs.Prelude.{◌≡◌, ◌≢◌, ◌+◌, ◌<◌, ◌≤◌, ◌^◌, ◌⊎◌, ℕ, true, IfOk, IfSome, OnOk, IsTrue, IsFalse, length, slice_get, slice_index};
+ghost use Rattle.std.specs.Prelude.{◌≡◌, ◌≢◌, ◌<◌, ◌≤◌, ◌⊎◌, ℕ, true, IfOk, OnOk, IsTrue, IsFalse, length, slice_index};
 ghost use Rattle.std.specs.List.{Contains};
 ghost use Rattle.weighted_graph.specs.Searches.{is_seen};
 ghost use Rattle.region_flow.specs.Regions.{IsRegionFlow};
-ghost use Rattle.cut_definitions.specs.Regions.{IsOpenAt};
-ghost use Rattle.region_parts.specs.declared.side.Side.TheVariants.{Outer};
 ghost use Rattle.arc_search.specs.Found.{IsNoneFound, IsQuiet};
 ghost use Rattle.region_fronts.specs.Fronts.{list_at};
 ghost use Rattle.region_parts.specs.Hubs.{HasAll, HaveBegun, KeepsFrontsFor};
-ghost use Rattle.region_parts.specs.Passed.{IsFrontPassed, IsPassed};
+ghost use Rattle.region_parts.specs.Passed.{ArePassed, list_around, side_around};
 ghost use Rattle.region_parts.specs.Settling.{IsBeside, HasMet};
 ghost use Rattle.region_parts.specs.Sided.{stops};
-ghost use Rattle.region_parts.specs.Split.{half_of, AreAtFront, GoesOnSettling, IsSearching, IsSettledIn};
+ghost use Rattle.region_parts.specs.Split.{AreAtFront, GoesOnSettling, IsSearching, IsSettledIn};
 
+use crate::passed::{Around, Passed};
 use crate::race::{NearTask, Race, run_race};
 use crate::region::Region;
 use crate::side::Side;
@@ -162,80 +161,35 @@ impl Splitter {
         Ok(has_settled(race))
     }
 
-    /// Settles all vertices beside the list of a side, where those before a place are listed. Answers false where the search
-    /// of the hub ended first.
-    pub(crate) fn settle_border(
+    /// Settles all vertices of those around, behind what is passed of them. Answers false where the search of the hub ended
+    /// first.
+    pub(crate) fn settle_around(
         &mut self,
         region: Region<'_>,
         fronts: &mut Fronts,
-        side: Side,
-        from: usize,
+        around: Around,
+        passed: Passed,
     ) -> Result<bool, NoMemory>
         requires flow { IsRegionFlow region.graph.now region.flow.now }
-        requires searching { IsSearching side region.graph.now region.flow.now region.t self.old }
-        requires near { IsNoneFound region.graph.now.vertices self.old.near }
-        requires front { AreAtFront region.graph.now region.flow.now region.t fronts.old }
-        requires begun { HaveBegun region.flow.now region.t (list_at fronts.old.lists (slice_index region.flow.now.labels region.t)) self.old.hub }
-        requires passed { IsPassed region.flow.now region.t self.old (half_of side self.old).border from }
-        ensures searching { OnOk result (IsSearching side region.entry.graph.now region.entry.flow.now region.entry.t self.new) }
-        ensures near { OnOk result (IsNoneFound region.entry.graph.now.vertices self.new.near) }
-        ensures goes_on { OnOk result (GoesOnSettling side self.old self.new) }
-        ensures fronts { KeepsFrontsFor region.entry.flow.now.labels self.old.hub.hub fronts.old fronts.new }
-        ensures begun { OnOk result (HaveBegun region.entry.flow.now region.entry.t (list_at fronts.new.lists (slice_index region.entry.flow.now.labels region.entry.t)) self.new.hub) }
-        ensures settled { IfOk result (λ done. IsTrue done → (v : ℕ) → Contains (half_of side self.new).border v →
-            IsSettledIn side region.entry.graph.now region.entry.flow.now region.entry.t self.new v) }
-        ensures ended { IfOk result (λ done. IsFalse done → HasAll (list_at fronts.new.lists (slice_index region.entry.flow.now.labels region.entry.t)) self.new.hub) }
-    {
-        let mut place = from;
-        'border: while let Some(v) = self.beside(side, place) {
-            if !self.settle(region, fronts, side, v)? {
-                return Ok(false);
-            }
-            place += 1;
-        }
-        Ok(true)
-    }
-
-    /// The vertex at a place beside the list of a side, counted from 0; none where there are no more.
-    pub(crate) fn beside(&self, side: Side, place: usize) -> Option<u32>
-        ensures at { result ≡ slice_get (half_of side self.now).border place }
-        ensures next { IfSome result (λ v. place + 1 < 2 ^ 64) }
-    {
-        let border = match side {
-            Side::Inner => self.inner.border(),
-            Side::Outer => self.outer.border(),
-        };
-        border.get(place).copied()
-    }
-
-    /// Settles the open vertices of the region, which are beside what is outside it, where those before a place of the front
-    /// are listed. Answers false where the search of the hub ended first.
-    pub(crate) fn settle_front(
-        &mut self,
-        region: Region<'_>,
-        fronts: &mut Fronts,
-        from: usize,
-    ) -> Result<bool, NoMemory>
-        requires flow { IsRegionFlow region.graph.now region.flow.now }
-        requires searching { IsSearching Outer region.graph.now region.flow.now region.t self.old }
+        requires searching { IsSearching (side_around around) region.graph.now region.flow.now region.t self.old }
         requires near { IsNoneFound region.graph.now.vertices self.old.near }
         requires front { AreAtFront region.graph.now region.flow.now region.t fronts.old }
         requires begun { HaveBegun region.flow.now region.t (list_at fronts.old.lists (slice_index region.flow.now.labels region.t)) self.old.hub }
         requires unread { self.old.hub.place ≡ 0 }
-        requires passed { IsFrontPassed region.flow.now region.t self.old (list_at fronts.old.lists (slice_index region.flow.now.labels region.t)) from }
-        ensures searching { OnOk result (IsSearching Outer region.entry.graph.now region.entry.flow.now region.entry.t self.new) }
+        requires passed { ArePassed region.flow.now region.t fronts.old self.old passed }
+        ensures searching { OnOk result (IsSearching (side_around around) region.entry.graph.now region.entry.flow.now region.entry.t self.new) }
         ensures near { OnOk result (IsNoneFound region.entry.graph.now.vertices self.new.near) }
-        ensures goes_on { OnOk result (GoesOnSettling Outer self.old self.new) }
-        ensures fronts { AreAtFront region.entry.graph.now region.entry.flow.now region.entry.t fronts.new }
+        ensures goes_on { OnOk result (GoesOnSettling (side_around around) self.old self.new) }
+        ensures front { AreAtFront region.entry.graph.now region.entry.flow.now region.entry.t fronts.new }
         ensures begun { OnOk result (HaveBegun region.entry.flow.now region.entry.t (list_at fronts.new.lists (slice_index region.entry.flow.now.labels region.entry.t)) self.new.hub) }
-        ensures passed { OnOk result (IsFrontPassed region.entry.flow.now region.entry.t self.new (list_at fronts.new.lists (slice_index region.entry.flow.now.labels region.entry.t)) from) }
-        ensures settled { IfOk result (λ done. IsTrue done → (v : ℕ) → IsOpenAt region.entry.graph.now region.entry.flow.now.labels v →
-            IsSettledIn Outer region.entry.graph.now region.entry.flow.now region.entry.t self.new v) }
+        ensures passed { OnOk result (ArePassed region.entry.flow.now region.entry.t fronts.new self.new passed) }
+        ensures settled { IfOk result (λ done. IsTrue done → (v : ℕ) → Contains (list_around around region.entry.flow.now region.entry.t fronts.new self.new) v →
+            IsSettledIn (side_around around) region.entry.graph.now region.entry.flow.now region.entry.t self.new v) }
         ensures ended { IfOk result (λ done. IsFalse done → HasAll (list_at fronts.new.lists (slice_index region.entry.flow.now.labels region.entry.t)) self.new.hub) }
     {
-        let mut place = from;
-        'front: while let Some(v) = fronts.read(region.labels(), region.label(), place) {
-            if !self.settle(region, fronts, Side::Outer, v)? {
+        let mut place = passed.place(around);
+        'places: while let Some(v) = self.vertex_at(region, fronts, around, place) {
+            if !self.settle(region, fronts, around.side(), v)? {
                 return Ok(false);
             }
             place += 1;

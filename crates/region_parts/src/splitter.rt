@@ -74,6 +74,16 @@ impl Splitter {
         self.hub.found().len()
     }
 
+    /// The list of a side.
+    pub(crate) fn listing(&self, side: Side) -> &Listing
+        ensures { result.now ≡ half_of side self.now }
+    {
+        match side {
+            Side::Inner => &self.inner,
+            Side::Outer => &self.outer,
+        }
+    }
+
     /// Whether a vertex is listed, from either side.
     pub(crate) fn is_listed(&self, v: u32) -> bool
         requires inner { v < length self.now.inner.turns }

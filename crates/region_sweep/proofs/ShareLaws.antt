@@ -5,7 +5,7 @@ use Rattle.std.specs.List.{All, AllPairs}
 use Rattle.std.proofs.lemmas.Bool.{cases_eq, cases_lt, cases_Bool, eq-eqb, eqb-true, ne_eqb}
 use Rattle.std.proofs.lemmas.List.Elements.{All-push}
 use Rattle.std.proofs.lemmas.List.Quantifiers.{all_pairs_push}
-use Rattle.std.proofs.lemmas.List.{append-nil, get_or-map, get_or_append_left, get_or_push, get_or_default, length-append, length-map, map-append}
+use Rattle.std.proofs.lemmas.List.{append-nil, get_or-map, get_or_append_left, get_or_push, get_or_default, length-append, length-map, length_push, map-append}
 use Rattle.std.proofs.Math.Bool.{or-true}
 use Rattle.cut_definitions.specs.Graph.{Graph}
 use Rattle.cut_definitions.specs.Contraction.{label, classes, relabel, IsLabels}
@@ -33,9 +33,6 @@ class_kept classes c v from to = get_or_append_left classes (c ∷ []) 0 (v - 1)
 class_next : (classes : List ℕ) (c v : ℕ) → length classes ≡ v → label (classes ++ c ∷ []) (v + 1) ≡ c
 class_next classes c v long = label_at (classes ++ c ∷ []) v ∙ get_or_push classes c 0 v long
 
-one_longer : (xs : List ℕ) (x : ℕ) → length (xs ++ x ∷ []) ≡ length xs + 1
-one_longer xs x = length-append xs (x ∷ [])
-
 module _ (labels : List ℕ) (region upto : ℕ) (own classes : List ℕ) (h : AreClasses labels region upto own classes) where
   -- the next vertex is outside the region
   without : ¬ (get_or labels (upto + 1) 0 ≡ region) → AreClasses labels region (upto + 1) own (classes ++ 1 ∷ [])
@@ -43,7 +40,7 @@ module _ (labels : List ℕ) (region upto : ℕ) (own classes : List ℕ) (h : A
       let kept = λ (v : ℕ) (from : 1 ≤ v) (to : v ≤ upto). class_kept classes 1 v from (omega (arith, to, h.long)) in
       let next = class_next classes 1 upto h.long in
       record {
-        long = omega (arith, one_longer classes 1, h.long);
+        long = omega (arith, length_push classes 1, h.long);
         few = omega (arith, h.few);
         inside = λ v from to e. ⊎_elim
             (λ (is : v ≡ upto + 1). absurd (out (sym (ap (λ (k : ℕ). get_or labels k 0) is) ∙ e)))
@@ -70,10 +67,10 @@ module _ (labels : List ℕ) (region upto : ℕ) (own classes : List ℕ) (h : A
       let classes' = classes ++ c ∷ [] in
       let kept = λ (v : ℕ) (from : 1 ≤ v) (to : v ≤ upto). class_kept classes c v from (omega (arith, to, h.long)) in
       let next : label classes' (upto + 1) ≡ c = class_next classes c upto h.long in
-      let longer = one_longer own (upto + 1) in
+      let longer = length_push own (upto + 1) in
       let at_end : get_or own' (length own) 0 ≡ upto + 1 = get_or_push own (upto + 1) 0 (length own) refl in
       record {
-        long = omega (arith, one_longer classes c, h.long);
+        long = omega (arith, length_push classes c, h.long);
         few = omega (arith, h.few, longer);
         inside = λ v from to e. ⊎_elim
             (λ (is : v ≡ upto + 1).

@@ -5,7 +5,7 @@ use Rattle.std.specs.List.{All, AllPairs}
 use Rattle.cut_definitions.specs.Cuts.{has}
 use Rattle.weighted_graph.specs.Searches.{is_seen}
 use Rattle.region_parts.specs.declared.side.Side.TheVariants.{Inner, Outer}
-use Rattle.arc_search.specs.Listing.{IsVertex}
+use Rattle.cut_definitions.specs.Graph.{IsVertex}
 use Rattle.region_parts.specs.Sided.{fed_in, goes_from, stops}
 use Rattle.region_parts.proofs.FirstRaces.{found_within, found_apart, fed_brings, stop_reached, none_halves, inner_halves, outer_halves, between_of}
 use Rattle.region_parts.proofs.splitter.Splitter.take_first_part.Goals as goal

@@ -1,5 +1,5 @@
 -- The region is split.
-use Rattle.std.proofs.Common.{◌≡◌, ℕ, ◌⊎◌, inl, ◌<◌, List, length, get_or, set, ◌∙◌, ap, subst, arith}
+use Rattle.std.proofs.Common.{◌≡◌, ℕ, inl, ◌<◌, List, length, get_or, set, ◌∙◌, ap, subst, arith}
 use Rattle.std.proofs.lemmas.List.{length-set, get_or-set_same}
 use Rattle.std.specs.Vec.{with_items}
 use Rattle.node_tree.specs.Flat.{AreLinked}
