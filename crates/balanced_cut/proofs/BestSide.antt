@@ -7,7 +7,8 @@ use Rattle.cut_definitions.specs.Weight.{complement}
 use Rattle.cut_definitions.specs.Cuts.{has}
 use Rattle.cut_definitions.proofs.Lists.{Contains-map}
 use Rattle.rooted_cactus.specs.CutRanges.{Range}
-use Rattle.rooted_cactus.specs.Places.{AreOnce, IsVertex, side_at}
+use Rattle.rooted_cactus.specs.Places.{AreOnce, side_at}
+use Rattle.cut_definitions.specs.Graph.{IsVertex}
 use Rattle.cactus_walk.proofs.RangeMasses.{before_no_less, side_balance}
 use Rattle.balanced_cut.specs.Ends.{IsRangeOf, IsScale, IsScaleOf, NoneGreater, mass_to, places_of, range_balance, span_mass}
 use Rattle.balanced_cut.specs.declared.scale.Scale.{Scale}

@@ -5,13 +5,13 @@ use Rattle.std.proofs.lemmas.List.{append-nil}
 use Rattle.std.proofs.lemmas.List.Elements.{All-nil, All-cons, All-append, All-weaker, All-contains, Contains-append_left, Contains-append_right}
 use Rattle.std.proofs.lemmas.Bool.{cases_lt}
 use Rattle.cut_definitions.proofs.Lists.{Contains-here, Contains-there}
-use Rattle.rooted_cactus.specs.Borders.{ranges_to, ranges_between, border_at}
+use Rattle.rooted_cactus.specs.Borders.{ranges_to, ranges_between, border_at, range_between}
 use Rattle.rooted_cactus.specs.CutRanges.{Range}
 use Rattle.cactus_walk.specs.Walking.{AreBorders, AreChained}
 use Rattle.rooted_cactus.specs.declared.tree.border.Border.{Border}
 use Rattle.cactus_walk.proofs.Stepping.{end_there, place_within}
 use Rattle.cactus_walk.proofs.Chains.{next_at, no_less}
-use Rattle.balanced_cut.specs.Ends.{IsBestBefore, IsLesserPart, IsRangeOf, IsScale, NoneGreater, mass_to, range_balance, range_between}
+use Rattle.balanced_cut.specs.Ends.{IsBestBefore, IsLesserPart, IsRangeOf, IsScale, NoneGreater, mass_to, range_balance}
 use Rattle.balanced_cut.specs.declared.scale.Scale.{Scale}
 
 -- ---- borders of one block

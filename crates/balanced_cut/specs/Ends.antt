@@ -2,7 +2,7 @@
 use Rattle.std.specs.Prelude.{ℕ, ◌+◌, ◌-◌, ◌≤◌, ◌<◌, ◌≡◌, ◌++◌, List, drop, length, min, slice_index}
 use Rattle.std.specs.List.{All, Contains}
 use Rattle.balanced_cut.specs.declared.scale.Scale.{Scale}
-use Rattle.rooted_cactus.specs.Borders.{border_at, ranges_between}
+use Rattle.rooted_cactus.specs.Borders.{border_at, ranges_between, range_between}
 use Rattle.rooted_cactus.specs.CutRanges.{Range}
 use Rattle.cactus_walk.specs.RangeMasses.{mass_before}
 use Rattle.rooted_cactus.specs.declared.tree.border.Border.{Border}
@@ -53,10 +53,6 @@ abbrev pub NoneGreater : Scale → List Range → Range → Type 0
 NoneGreater s ranges best = All (λ (r : Range). range_balance s r ≤ range_balance s best) ranges
 
 -- ---- two ends
--- the range from one border to another
-abbrev pub range_between : List Border → ℕ → ℕ → Range
-range_between borders start end = record { from = (border_at borders start).place; to = (border_at borders end).place }
-
 -- the best of the ranges that begin before a border is known, and an end up to which those from this border on have less mass than the others
 pub record IsBestBefore (s : Scale) (borders : List Border) (start : ℕ) (best : Range) (end : ℕ) : Type 0 where
   pub member : Contains (ranges_between borders) best

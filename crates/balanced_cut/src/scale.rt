@@ -3,7 +3,7 @@
 ghost use Rattle.std.specs.Prelude.{◌≡◌, ◌≤◌, ◌↔◌, IfOk, IsTrue, length};
 ghost use Rattle.std.specs.List.{All};
 ghost use Rattle.balanced_cut.specs.Ends.{IsLesserPart, IsRangeOf, IsScale, IsScaleOf, places_of, range_balance, range_of, span_mass};
-ghost use Rattle.rooted_cactus.specs.Places.{IsVertex};
+ghost use Rattle.cut_definitions.specs.Graph.{IsVertex};
 
 use crate::NoMemory;
 use cactus_walk::{Span, masses_before};

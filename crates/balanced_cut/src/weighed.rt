@@ -2,8 +2,8 @@
 
 ghost use Rattle.std.specs.Prelude.{◌≡◌, ◌≢◌, ◌+◌, ◌-◌, ◌<◌, ◌≤◌, [], IfOk, length};
 ghost use Rattle.std.specs.List.{Contains};
-ghost use Rattle.balanced_cut.specs.Ends.{IsBestBefore, IsLesserPart, IsRangeOf, IsScale, NoneGreater, places_of, range_balance, range_between, range_of};
-ghost use Rattle.rooted_cactus.specs.Borders.{border_at, ranges_between};
+ghost use Rattle.balanced_cut.specs.Ends.{IsBestBefore, IsLesserPart, IsRangeOf, IsScale, NoneGreater, places_of, range_balance, range_of};
+ghost use Rattle.rooted_cactus.specs.Borders.{range_between, border_at, ranges_between};
 ghost use Rattle.rooted_cactus.specs.Rooted.{sides_of};
 ghost use Rattle.rooted_cactus.specs.Trees.{blocks};
 ghost use Rattle.cactus_walk.specs.Walking.{AreBorders, AreChained};

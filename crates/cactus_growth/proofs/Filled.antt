@@ -14,7 +14,7 @@ use Rattle.cut_definitions.proofs.Ascending.{has_contains}
 use Rattle.rooted_cactus.specs.Different.{HasNoEmptySide}
 use Rattle.rooted_cactus.specs.Entered.{entered}
 use Rattle.rooted_cactus.specs.Normal.{is_normal}
-use Rattle.rooted_cactus.specs.Places.{IsVertex}
+use Rattle.cut_definitions.specs.Graph.{IsVertex}
 use Rattle.rooted_cactus.specs.Rooted.{Rooted, IsCactus, sides_of}
 use Rattle.rooted_cactus.specs.Sides.{Part, part, block_part, all_of, belows, all_cuts, cuts}
 use Rattle.rooted_cactus.specs.Trees.{vertices, blocks, nodes_in}

@@ -18,20 +18,20 @@ use Rattle.rooted_cactus.specs.Trees.{vertices, blocks, nodes_in}
 use Rattle.rooted_cactus.specs.Widths.{widths, block_widths}
 use Rattle.rooted_cactus.specs.declared.tree.Node.{Node}
 use Rattle.rooted_cactus.specs.declared.tree.Block.{Block}
-use Rattle.rooted_cactus.specs.declared.tree.Block.TheVariants.{Bridge}
 use Rattle.rooted_cactus.proofs.Built.{ring_widths}
 use Rattle.rooted_cactus.proofs.Entries.{nodes_bridge, nodes_cycle}
 use Rattle.rooted_cactus.proofs.Layouts.{laid_out}
-use Rattle.rooted_cactus.proofs.Orders.{entered_out, entered_cycle, in_order_map}
+use Rattle.rooted_cactus.proofs.Orders.{entered_out, in_order_map}
 use Rattle.rooted_cactus.proofs.Parts.{all_cuts_append, cycle_part}
 use Rattle.rooted_cactus.proofs.Segments.{cycle_laid}
 use Rattle.rooted_cactus.proofs.Views.{view}
+use Rattle.rooted_cactus.proofs.Walks.{by_nodes, entered_nodes}
 use Rattle.rooted_cactus.proofs.Widths.{widths_bridge}
 use Rattle.rooted_cactus.proofs.BlockLaws.{widths_flat, nodes_laid, block_laid}
 use Rattle.rooted_cactus.proofs.Trims.{cuts_out}
 use Rattle.cactus_growth.specs.Growth.{times, AreOnce, AreAscending, AreWide, AreHung, IsOpened}
 use Rattle.cactus_growth.proofs.Counts.{count_both, count_some}
-use Rattle.cactus_growth.proofs.Hung.{one_part, one_entered}
+use Rattle.cactus_growth.proofs.Hung.{one_part}
 use Rattle.cactus_growth.proofs.Pulled.{times_more}
 use Rattle.rooted_cactus.proofs.Within.{block_within, of_lists, of_append}
 use Rattle.cactus_growth.proofs.WaysDown.{below_at}
@@ -95,16 +95,7 @@ own_lacks x v inside once s c =
 
 -- ---- a block as the closed walk through its nodes
 pub walk_part : (b : Block) → block_part b ≡ cycle_of (map part (nodes_of b))
-walk_part b = elim (view b) [
-  | inl h ↦ ap block_part h.1 ∙ one_part (nodes_of (Bridge h.0)) h.0.value h.0 (nodes_bridge h.0) refl ∙ sym (ap (λ c. cycle_of (map part (nodes_of c))) h.1)
-  | inr h ↦ ap block_part h.1 ∙ cycle_part h.0 ∙ sym (ap (λ l. cycle_of (map part l)) (nodes_cycle h.0)) ∙ sym (ap (λ c. cycle_of (map part (nodes_of c))) h.1)
-]
-
-pub walk_entered : (b : Block) → entered_block b ≡ flat_map entered (nodes_of b)
-walk_entered b = elim (view b) [
-  | inl h ↦ ap entered_block h.1 ∙ one_entered (nodes_of (Bridge h.0)) h.0.value h.0 (nodes_bridge h.0) refl ∙ sym (ap (λ c. flat_map entered (nodes_of c)) h.1)
-  | inr h ↦ ap entered_block h.1 ∙ entered_cycle h.0 ∙ sym (ap (flat_map entered) (nodes_cycle h.0)) ∙ sym (ap (λ c. flat_map entered (nodes_of c)) h.1)
-]
+walk_part = by_nodes block_part (λ xs. cycle_of (map part xs)) (λ child. one_part (child.value ∷ []) child.value child refl refl) cycle_part
 
 pub walk_wide : (b : Block) → AreWide (block_widths b) → AreWide (flat_map widths (nodes_of b))
 walk_wide b a = elim (view b) [
@@ -172,7 +163,7 @@ module _ (old bare mid top : Node) (xs ys : List Block) (b : Block) (before afte
   part_is = walk_part b ∙ ap (λ l. cycle_of (map part l)) nodes
 
   lists_are : entered_block b ≡ flat_map entered walk
-  lists_are = walk_entered b ∙ ap (flat_map entered) nodes
+  lists_are = entered_nodes b ∙ ap (flat_map entered) nodes
 
   pub opened : IsOpened old top before child after
   opened = record {

@@ -53,11 +53,7 @@ pub none_says : {X : Type 0} {P : Type 0} (o : Option X) → ((x : X) → o ≡ 
 none_says None n h = h
 none_says (Some x) n h = absurd (n x refl)
 
-pub none_then : {X : Type 0} {P Q : Type 0} (o : Option X) → IfNone o P → (P → Q) → IfNone o Q
-none_then None h f = f h
-none_then (Some x) h f = tt
-
--- one more node of a cycle
+-- one more node of a block
 pub visited_node : (v : ℕ) (x y : Node) (depth : ℕ) (xs : List Node) (i : ℕ) (old cur new : List Visit) → AreVisited v x depth (take i xs) old cur → slice_get xs i ≡ Some y → AreVisited v x depth (y ∷ []) cur new →
     AreVisited v x depth (take (i + 1) xs) old new
 visited_node v x y depth xs i old cur new h a k =

@@ -1,5 +1,5 @@
 -- Ways down a tree, and what is below their ends.
-use Rattle.std.proofs.Common.{◌≡◌, ℕ, zero, suc, true, ◌||◌, List, [], ◌∷◌, ◌++◌, Some, map, refl, ap, ◌∙◌, sym, subst, inl, inr, arith}
+use Rattle.std.proofs.Common.{◌≡◌, ℕ, zero, suc, true, ◌||◌, List, [], ◌∷◌, ◌++◌, Some, map, refl, ap, ◌∙◌, sym, subst, arith}
 use Rattle.std.specs.Prelude.{slice_get}
 use Rattle.std.proofs.lemmas.Option.{same_Some, slice_get_within}
 use Rattle.std.proofs.lemmas.Bool.{or_left, or_right}
@@ -11,8 +11,7 @@ use Rattle.rooted_cactus.specs.Entries.{nodes_of}
 use Rattle.rooted_cactus.specs.declared.tree.Node.{Node}
 use Rattle.rooted_cactus.specs.declared.tree.Block.{Block}
 use Rattle.rooted_cactus.proofs.Parts.{part_out, bridge_part, cycle_part}
-use Rattle.rooted_cactus.proofs.Entries.{nodes_bridge, nodes_cycle}
-use Rattle.rooted_cactus.proofs.Views.{view}
+use Rattle.rooted_cactus.proofs.Walks.{by_nodes}
 use Rattle.cactus_growth.specs.Ways.{HasChild, IsWay}
 use Rattle.cactus_growth.specs.declared.ways.Step.{Step}
 
@@ -43,10 +42,9 @@ one_of_all f (y ∷ ys) (suc i) x v a h = or_right ((f y).below v) (all_of (belo
 
 -- what a block has is what its nodes have
 pub block_below : (b : Block) (v : ℕ) → (block_part b).below v ≡ all_of (belows (map part (nodes_of b))) v
-block_below b v = elim (view b) [
-  | inl h ↦ ap (λ c. (block_part c).below v) h.1 ∙ ap (λ (p : Part). p.below v) (bridge_part h.0) ∙ sym (or-false ((part h.0.value).below v)) ∙ sym (ap (λ xs. all_of (belows (map part xs)) v) (ap nodes_of h.1 ∙ nodes_bridge h.0))
-  | inr h ↦ ap (λ c. (block_part c).below v) h.1 ∙ ap (λ (p : Part). p.below v) (cycle_part h.0) ∙ sym (ap (λ xs. all_of (belows (map part xs)) v) (ap nodes_of h.1 ∙ nodes_cycle h.0))
-]
+block_below b v =
+    by_nodes (λ c. (block_part c).below v) (λ xs. all_of (belows (map part xs)) v) (λ child. ap (λ (p : Part). p.below v) (bridge_part child) ∙ sym (or-false ((part child.value).below v)))
+    (λ nodes. ap (λ (p : Part). p.below v) (cycle_part nodes)) b
 
 pub below_at : (x : Node) (v : ℕ) → (part x).below v ≡ (has (vertices x) v || all_of (belows (map block_part (blocks x))) v)
 below_at x v = ap (λ (p : Part). p.below v) (part_out x)

@@ -7,11 +7,11 @@ ghost use Rattle.rooted_cactus.specs.declared.tree.Node.{Node};
 ghost use Rattle.rooted_cactus.specs.declared.tree.Block.{Block};
 ghost use Rattle.rooted_cactus.specs.Entries.{nodes_of};
 ghost use Rattle.rooted_cactus.specs.Sides.{below};
-ghost use Rattle.rooted_cactus.specs.Trees.{blocks, nodes_in};
+ghost use Rattle.rooted_cactus.specs.Trees.{blocks};
 ghost use Rattle.cactus_growth.specs.Ways.{AreVisited, HasChild, IsStepTo, LeadsTo, same_step};
 
 use cut_definitions::NoMemory;
-use rooted_cactus::{Block, Children, Node, VertexList};
+use rooted_cactus::{Node, VertexList};
 use std::alloc::Global;
 
 /// A step from a node to a node right below it.
@@ -65,52 +65,25 @@ fn visit_node<'a>(
     Ok(None)
 }
 
-/// Looks at the nodes of a cycle: gives the step to one that has a vertex. Where none has, those with a block below
+/// Looks at the nodes of a block: gives the step to one that has a vertex. Where none has, those with a block below
 /// them are put on the stack.
 fn visit_nodes<'a>(
     stack: &mut Vec<Visit<'a>>,
-    nodes: &'a Children,
+    nodes: &'a [Node],
     block: usize,
     depth: usize,
     v: u32,
 ) -> Result<Option<Step>, NoMemory>
-    ensures found { IfOk result (λ f. IfSome f (λ s. (x : Node) (b : Block) → slice_get (blocks x) block ≡ Some b → nodes_of b ≡ nodes_in nodes.now → IsStepTo v x s)) }
-    ensures none { IfOk result (λ f. IfNone f ((x : Node) (b : Block) → slice_get (blocks x) block ≡ Some b → nodes_of b ≡ nodes_in nodes.now → AreVisited v x depth (nodes_in nodes.now) stack.old.items stack.new.items)) }
+    ensures found { IfOk result (λ f. IfSome f (λ s. (x : Node) (b : Block) → slice_get (blocks x) block ≡ Some b → nodes_of b ≡ nodes.now → IsStepTo v x s)) }
+    ensures none { IfOk result (λ f. IfNone f ((x : Node) (b : Block) → slice_get (blocks x) block ≡ Some b → nodes_of b ≡ nodes.now → AreVisited v x depth nodes.now stack.old.items stack.new.items)) }
 {
     'each_node: for child in 0..nodes.len() {
         let step = Step { block, child };
-        if let Some(found) = visit_node(stack, nodes.at(child), depth, step, v)? {
+        if let Some(found) = visit_node(stack, &nodes[child], depth, step, v)? {
             return Ok(Some(found));
         }
     }
     Ok(None)
-}
-
-/// Looks at the nodes of a block, as `visit_nodes` does.
-fn visit_block<'a>(
-    stack: &mut Vec<Visit<'a>>,
-    block: &'a Block,
-    place: usize,
-    depth: usize,
-    v: u32,
-) -> Result<Option<Step>, NoMemory>
-    ensures found { IfOk result (λ f. IfSome f (λ s. (x : Node) → slice_get (blocks x) place ≡ Some block.now → IsStepTo v x s)) }
-    ensures none { IfOk result (λ f. IfNone f ((x : Node) → slice_get (blocks x) place ≡ Some block.now → AreVisited v x depth (nodes_of block.now) stack.old.items stack.new.items)) }
-{
-    match block {
-        Block::Bridge(node) => {
-            let step = Step {
-                block: place,
-                child: 0,
-            };
-            let found = visit_node(stack, node, depth, step, v)?;
-            Ok(found)
-        }
-        Block::Cycle(nodes) => {
-            let found = visit_nodes(stack, nodes, place, depth, v)?;
-            Ok(found)
-        }
-    }
 }
 
 /// Looks at the nodes right below a node, to which so many steps lead: gives the step to one that has a vertex. Where
@@ -125,7 +98,7 @@ fn visit_below<'a>(
     ensures none { IfOk result (λ f. IfNone f (AreVisited v node.now depth (flat_map nodes_of (blocks node.now)) stack.old.items stack.new.items)) }
 {
     'each_block: for place in 0..node.blocks.len() {
-        if let Some(found) = visit_block(stack, node.blocks.at(place), place, depth, v)? {
+        if let Some(found) = visit_nodes(stack, node.blocks.at(place).nodes(), place, depth, v)? {
             return Ok(Some(found));
         }
     }

@@ -2,7 +2,7 @@
 use Rattle.std.proofs.Common.{◌≡◌, ◌+◌, ◌≤◌, ◌⊎◌, inl, inr, List, [], ◌∷◌, length, sym, ◌∙◌, subst, arith}
 use Rattle.std.specs.List.{Contains}
 use Rattle.cut_definitions.proofs.Lists.{Contains-here, Contains-there, Contains-cons_cases, Contains-nil}
-use Rattle.rooted_cactus.specs.Different.{AreDifferent}
+use Rattle.cut_definitions.specs.Members.{AreDifferent}
 
 -- a list without one place at which it has the element
 record Without {X : Type 0} (xs : List X) (x : X) : Type 0 where

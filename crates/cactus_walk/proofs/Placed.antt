@@ -7,11 +7,12 @@ use Rattle.cut_definitions.proofs.Lists.{Contains-map, Contains-from_map}
 use Rattle.rooted_cactus.specs.Entered.{entered}
 use Rattle.rooted_cactus.specs.Outlines.{outlined, sizes}
 use Rattle.rooted_cactus.specs.Borders.{all_borders, borders_along, borders_at, placed, ranges_between}
-use Rattle.rooted_cactus.specs.Places.{AreOnce, IsVertex, places_from, side_at}
+use Rattle.rooted_cactus.specs.Places.{AreOnce, places_from, side_at}
+use Rattle.cut_definitions.specs.Graph.{IsVertex}
 use Rattle.cactus_walk.specs.Repeats.{all_marks, is_between, marks_along, marks_at, ranges_kept}
 use Rattle.rooted_cactus.specs.Rooted.{IsCactus, sides_of}
 use Rattle.rooted_cactus.specs.Normal.{is_normal}
-use Rattle.rooted_cactus.specs.Different.{AreDifferent}
+use Rattle.cut_definitions.specs.Members.{AreDifferent}
 use Rattle.cactus_walk.specs.Walking.{AreBorders, AreChained}
 use Rattle.rooted_cactus.specs.declared.tree.Node.{Node}
 use Rattle.rooted_cactus.specs.declared.tree.outline.NodeOutline.{NodeOutline}

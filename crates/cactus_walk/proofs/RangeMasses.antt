@@ -13,7 +13,8 @@ use Rattle.cut_definitions.specs.Weight.{complement}
 use Rattle.cut_definitions.proofs.Masses.{mass-agree, mass-complement, mass-none, mass-put}
 use Rattle.vertex_set.proofs.Bits.{has-listed}
 use Rattle.rooted_cactus.specs.CutRanges.{Range, elements_at}
-use Rattle.rooted_cactus.specs.Places.{AreOnce, IsVertex, side_at}
+use Rattle.rooted_cactus.specs.Places.{AreOnce, side_at}
+use Rattle.cut_definitions.specs.Graph.{IsVertex}
 use Rattle.cactus_walk.specs.RangeMasses.{mass_before, range_mass}
 use Rattle.rooted_cactus.proofs.Elements.{elements_more, elements_none, has_push}
 use Rattle.rooted_cactus.proofs.Masses.{not_before, take_whole}

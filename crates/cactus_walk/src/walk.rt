@@ -2,7 +2,7 @@
 
 ghost use Rattle.std.specs.Prelude.{◌≡◌, ◌↔◌, ◌≤◌, ℕ, List, [], ◌∷◌, true, false, length, IfOk};
 ghost use Rattle.std.specs.List.{Contains};
-ghost use Rattle.rooted_cactus.specs.Different.{AreDifferent};
+ghost use Rattle.cut_definitions.specs.Members.{AreDifferent};
 ghost use Rattle.rooted_cactus.specs.Normal.{is_normal};
 ghost use Rattle.rooted_cactus.specs.Rooted.{sides_of};
 
@@ -52,7 +52,8 @@ pub struct Walk {
 impl Model for Walk {
     ghost use Rattle.cactus_walk.specs.Walks.{SidesToCome};
     ghost use Rattle.rooted_cactus.specs.CutRanges.{elements_at};
-    ghost use Rattle.rooted_cactus.specs.Places.{AreOnce, IsVertex};
+    ghost use Rattle.rooted_cactus.specs.Places.{AreOnce};
+    ghost use Rattle.cut_definitions.specs.Graph.{IsVertex};
     ghost use Rattle.cactus_walk.specs.Walking.{AreBorders, IsStart, sides_left};
     ghost use Rattle.cut_definitions.specs.Cuts.{has};
     ghost use Rattle.std.specs.List.{All};

@@ -4,11 +4,12 @@ use Rattle.std.proofs.lemmas.Bool.{cases_eq, cases_lt}
 use Rattle.std.proofs.lemmas.List.Elements.{All-get_or}
 use Rattle.cut_definitions.specs.Cuts.{has}
 use Rattle.rooted_cactus.specs.CutRanges.{Range, elements_at}
-use Rattle.rooted_cactus.specs.Places.{IsVertex}
+use Rattle.cut_definitions.specs.Graph.{IsVertex}
 use Rattle.cactus_walk.proofs.Chains.{later, no_less}
 use Rattle.cactus_walk.proofs.Stepping.{place_within}
 use Rattle.cactus_walk.specs.declared.walk.shown.Span.{Span}
-use Rattle.balanced_cut.specs.Ends.{IsRangeOf, range_between, range_of}
+use Rattle.balanced_cut.specs.Ends.{IsRangeOf, range_of}
+use Rattle.rooted_cactus.specs.Borders.{range_between}
 use Rattle.canonical_cactus.specs.Minima.{IsLeast}
 use Rattle.balanced_cut.proofs.Moving.{behind_there}
 use Rattle.canonical_cactus.specs.FirstBest.{HasUpTo, IsBeyond, IsNoLater, IsRanked, IsTaken, IsWithin, NoneEmpty, count_of, last_of, place_at, range_at, side_between, side_of, vertex_at}

@@ -9,7 +9,8 @@ use Rattle.cut_definitions.specs.Cuts.{has}
 use Rattle.cut_definitions.proofs.Ascending.{has_one}
 use Rattle.vertex_set.proofs.Bits.{filter-same}
 use Rattle.rooted_cactus.specs.CutRanges.{Range, elements_at}
-use Rattle.rooted_cactus.specs.Places.{IsVertex, is_inside}
+use Rattle.rooted_cactus.specs.Places.{is_inside}
+use Rattle.cut_definitions.specs.Graph.{IsVertex}
 use Rattle.rooted_cactus.proofs.Elements.{drop_nothing, elements_more, elements_none}
 use Rattle.canonical_cactus.specs.FirstBest.{IsBeyond, IsNoLater, IsRanked, count_of, side_of, vertex_at}
 use Rattle.canonical_cactus.specs.declared.first_side.Ranked.{Ranked}

@@ -7,7 +7,6 @@ pub mod Unique
 pub mod OneTree
 pub mod Ascending
 pub mod Inner
-pub mod Moved
 pub mod Turned
 pub mod Spared
 pub mod Spaced

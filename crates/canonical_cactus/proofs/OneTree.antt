@@ -6,9 +6,9 @@ use Rattle.std.specs.declared.alloc.Global.{Global}
 use Rattle.cut_definitions.specs.Weight.{VertexSet}
 use Rattle.cut_definitions.proofs.Lists.{Contains-map, Contains-from_map}
 use Rattle.rooted_cactus.specs.Sides.{part}
-use Rattle.rooted_cactus.specs.Rooted.{IsCactus, sides_of}
+use Rattle.rooted_cactus.specs.Rooted.{IsCactus, sides_of, over}
 use Rattle.rooted_cactus.specs.Different.{HaveSameSides}
-use Rattle.rooted_cactus.specs.Places.{IsVertex}
+use Rattle.cut_definitions.specs.Graph.{IsVertex}
 use Rattle.rooted_cactus.specs.Entered.{entered, entered_block, in_order}
 use Rattle.flat_cactus.specs.Flat.{Flat}
 use Rattle.flat_cactus.specs.Flattened.{TreeJoins, BlockJoins, tree_joins, block_joins, node_joins, bridge_joins, cycle_joins}
@@ -24,7 +24,7 @@ use Rattle.rooted_cactus.proofs.Orders.{entered_out, entered_bridge, entered_cyc
 use Rattle.flat_cactus.proofs.JoinsOut.{joins_out, joins_bridge, joins_cycle}
 use Rattle.canonical_cactus.specs.Canonical.{is_canonical}
 use Rattle.canonical_cactus.specs.Plain.{Tree, Branches, Ring, node, bridge, cycle, plain, plain_block, hung, ring_of, plain_block_step, plain_blocks_step, plain_children_step, plain_node_step}
-use Rattle.canonical_cactus.specs.Laws.{over, LawOfOneTree, LawOfOneFlat}
+use Rattle.canonical_cactus.specs.Laws.{LawOfOneTree, LawOfOneFlat}
 use Rattle.rooted_cactus.proofs.Distinct.{AreVertices, listed_same, root_vertices}
 use Rattle.rooted_cactus.proofs.Fits.{root_solid}
 use Rattle.rooted_cactus.proofs.Sets.{same_set}

@@ -1,10 +1,10 @@
 -- The blocks of a node in the order of their least vertices, and the children of a cycle in the one direction that is meant.
-use Rattle.std.proofs.Common.{◌≡◌, ℕ, suc, ◌-◌, ◌≤◌, ◌<◌, inl, inr, true, false, cond, get_or, Option, None, List, [], ◌∷◌, ◌++◌, length, map, reverse, ap, ◌∙◌, sym, refl, subst, arith}
+use Rattle.std.proofs.Common.{◌≡◌, ℕ, suc, ◌-◌, ◌≤◌, ◌<◌, inl, inr, Bool, true, false, cond, get_or, Option, None, List, [], ◌∷◌, ◌++◌, length, map, ap, ◌∙◌, sym, refl, subst, arith}
 use Rattle.std.specs.Prelude.{nat_lt}
 use Rattle.std.specs.List.{Contains, flat_map}
 use Rattle.std.specs.List.Sorted.{IsPermutation, IsNonDecreasingBy}
 use Rattle.std.proofs.lemmas.Bool.{cases_Bool, lt-ltb, false≢true, cases_lt}
-use Rattle.std.proofs.lemmas.List.{append_assoc, append-nil, reverse-append}
+use Rattle.std.proofs.lemmas.List.{append_assoc, append-nil}
 use Rattle.std.proofs.lemmas.List.Elements.{All-head, All-tail}
 use Rattle.std.proofs.lemmas.List.Sorted.{Contains-permutation, IsPermutation-map, IsPermutation-sym, IsPermutation-refl, IsPermutation-trans, IsPermutation-cons, IsPermutation-to_front}
 use Rattle.std.proofs.lemmas.List.Folds.{flat_map-map}
@@ -14,28 +14,37 @@ use Rattle.rooted_cactus.specs.Sides.{part, block_part, nothing}
 use Rattle.rooted_cactus.specs.Trees.{vertices, blocks, nodes_in}
 use Rattle.rooted_cactus.specs.Entered.{entered, entered_block}
 use Rattle.rooted_cactus.specs.Entries.{Read, top_first, lists_read, counts_read, cycle_read, node_read}
-use Rattle.rooted_cactus.specs.Trims.{Each, SameSets}
+use Rattle.rooted_cactus.specs.Trims.{Each, SameSets, trimmed_node}
 use Rattle.rooted_cactus.specs.declared.tree.Node.{Node}
 use Rattle.rooted_cactus.specs.declared.tree.Block.{Block}
 use Rattle.rooted_cactus.specs.declared.tree.Children.{Children}
 use Rattle.rooted_cactus.specs.declared.tree.Block.TheVariants.{Cycle}
 use Rattle.rooted_cactus.proofs.Cycles.{cycle_cuts}
-use Rattle.rooted_cactus.proofs.Trims.{own_cut}
+use Rattle.rooted_cactus.proofs.Trims.{own_cut, each_shows, lists_together}
+use Rattle.rooted_cactus.proofs.Makes.{each_length, each_map}
+use Rattle.rooted_cactus.proofs.Tops.{top_map}
 use Rattle.rooted_cactus.proofs.Covered.{block_listed, node_listed}
 use Rattle.canonical_cactus.specs.Canonical.{Arranged, arranged, arranged_block, all_vertices, ascend, leasts, rises}
 use Rattle.canonical_cactus.specs.Standing.{least_in, lesser_of, or_zero}
-use Rattle.canonical_cactus.specs.Making.{AreApart, ShowsChild, ShowsBlock, IsGood, IsNodeOf, IsChildOf, IsBlockOf, AreBlocksOf, AreChildrenOf, key_of, last_of, ends_rise, faced}
+use Rattle.canonical_cactus.specs.Making.{AreApart, ShowsChild, ShowsBlock, IsGood, IsNodeOf, IsChildOf, IsBlockOf, AreBlocksOf, AreChildrenOf, AreNodesOf, key_of, last_of, ends_rise, faced}
 use Rattle.canonical_cactus.specs.declared.parts.Placed.{Placed}
 use Rattle.canonical_cactus.specs.declared.parts.Hung.{Hung}
 use Rattle.canonical_cactus.proofs.Arrangement.{node_covered, block_covered, arranged_out, arranged_cycle}
 use Rattle.canonical_cactus.proofs.Ascending.{least_both, zero_least}
-use Rattle.canonical_cactus.proofs.Moved.{count_moved}
+use Rattle.rooted_cactus.proofs.Moved.{count_moved}
 use Rattle.canonical_cactus.proofs.Spaced.{apart_right, differ, ascends, last_there, rises_forth, rises_back}
-use Rattle.canonical_cactus.proofs.Turned.{cycle_turned, top_twice, top_map}
-use Rattle.canonical_cactus.proofs.Finished.{together, beside, each_shows, GoodChildren, GoodBlocks, children_head, children_tail, blocks_head, blocks_tail, cycle_made, node_made}
+use Rattle.canonical_cactus.proofs.Turned.{cycle_turned}
+use Rattle.canonical_cactus.proofs.Spared.{in_cycle, trimmed_shows}
+use Rattle.canonical_cactus.proofs.Finished.{GoodChildren, GoodBlocks, children_head, children_tail, blocks_head, blocks_tail, cycle_made, node_made}
 
 abbrev pub node_in : Placed → Node
 node_in p = p.node
+
+abbrev pub child_in : Placed → Node
+child_in p = trimmed_node p.node
+
+abbrev pub least_at : Placed → Option ℕ
+least_at p = p.least
 
 abbrev pub block_in : Hung → Block
 block_in h = h.block
@@ -74,7 +83,7 @@ module _ {X : Type 0} (f : X → Arranged) (least_of : X → Option ℕ) where
 -- ---- the blocks of a node
 block_some : (r : Read) (b : Block) → IsGood r.part.cuts r → ShowsBlock r b → (arranged_block b).vertices ≡ [] → ⊥
 block_some r b g s e =
-    g.cuts (subst (λ t. Contains r.part.cuts t) (sym (block_covered b) ∙ ap has e) ((s.cuts (block_part b).below).0 (own_cut b s.fine)))
+    g.normal.cuts (subst (λ t. Contains r.part.cuts t) (sym (block_covered b) ∙ ap has e) ((s.normal.cuts (block_part b).below).0 (own_cut b s.normal.fine)))
 
 blocks_some : (rs : List Read) (hs : List Hung) → AreBlocksOf rs hs → GoodBlocks rs → (h : Hung) → Contains hs h → (arranged_block h.block).vertices ≡ [] → ⊥
 blocks_some [] [] a g h k = absurd (Contains-nil h k)
@@ -107,16 +116,15 @@ node_finished own rs hs ks p moves sorted v bs l a =
           ∙ ap (λ o. least_in (o ++ all_vertices (map arranged_block (blocks x)))) (sym v)
           ∙ sym (ap (λ (k : Arranged). least_in k.vertices) (arranged_out x));
       shows = λ good.
-          let g : GoodBlocks rs = ((λ c. good.cuts (Contains-there _ _ nothing c)), good.wide, apart_tail own (lists_read rs) good.apart) in
+          let g : GoodBlocks rs = (record { cuts = λ c. good.normal.cuts (Contains-there _ _ nothing c); wide = good.normal.wide }, apart_tail own (lists_read rs) good.apart) in
           let shown : Each ShowsBlock rs (map block_in hs) = each_shows (λ (r : Read). IsGood r.part.cuts r) IsBlockOf ShowsBlock block_in GoodBlocks blocks_head blocks_tail (λ r h n. n.shows) rs hs a g in
-          let together = beside rs (map block_in hs) shown in
           let moved : IsPermutation (map block_in hs) (blocks x) = subst (IsPermutation (map block_in hs)) (sym bs) (IsPermutation-map block_in hs ks moves) in
-          let apart : AreApart (flat_map (λ (h : Hung). entered_block h.block) ks) = moved_apart hs ks moves (subst AreApart (flat_map-map entered_block block_in hs) (λ n. subst (λ m. m ≤ 1) (sym (together.lists.often n)) (g.2 n))) in
+          let apart : AreApart (flat_map (λ (h : Hung). entered_block h.block) ks) = moved_apart hs ks moves (subst AreApart (flat_map-map entered_block block_in hs) (λ n. subst (λ m. m ≤ 1) (sym ((lists_together ShowsBlock entered_block (λ r b h. h.normal.lists) rs (map block_in hs) shown).often n)) (g.1 n))) in
           let up : ascend (map key_of ks) ≡ true = ascends f (λ (h : Hung). entered_block h.block) (λ h. block_covered h.block ∙ sym (block_listed h.block)) key_of ks sorted
           (λ h k. ap or_zero (right h k) ∙ zero_least (f h).vertices)
           (λ h k. blocks_some rs hs a g h (Contains-permutation ks hs h (IsPermutation-sym hs ks moves) k))
           apart in
-          node_made own rs (map block_in hs) x v together moved (ap (λ l. ascend (leasts l)) (sym same) ∙ ap ascend (sym (keys_are f (λ (h : Hung). h.least) ks right)) ∙ up);
+          node_made own rs (map block_in hs) x v shown moved (ap (λ l. ascend (leasts l)) (sym same) ∙ ap ascend (sym (keys_are f (λ (h : Hung). h.least) ks right)) ∙ up);
     } where
       apart_tail : (l : List ℕ) (ls : List (List ℕ)) → AreApart (l ∷ ls) → AreApart ls
       apart_tail l ls c = apart_right (l ∷ []) ls c
@@ -127,7 +135,7 @@ node_finished own rs hs ks p moves sorted v bs l a =
 -- ---- the children of a cycle
 child_some : (r : Read) (x : Node) → IsGood (r.part.below ∷ r.part.cuts) r → ShowsChild r x → (arranged x).vertices ≡ [] → ⊥
 child_some r x g s e =
-    g.cuts (subst (λ t. Contains (t ∷ r.part.cuts) nothing) (sym (ap has e) ∙ node_covered x ∙ s.below) (Contains-here nothing r.part.cuts))
+    g.normal.cuts (subst (λ t. Contains (t ∷ r.part.cuts) nothing) (sym (ap has e) ∙ node_covered x ∙ s.normal.below) (Contains-here nothing r.part.cuts))
 
 children_some : (rs : List Read) (ps : List Placed) → AreChildrenOf rs ps → GoodChildren rs → (p : Placed) → Contains ps p → (arranged p.node).vertices ≡ [] → ⊥
 children_some [] [] a g p k = absurd (Contains-nil p k)
@@ -162,12 +170,12 @@ ring_made rs ps qs nodes h b ns l many a moves turn up =
       least = l ∙ lessers_are f (λ (p : Placed). p.least) [] qs right ∙ ap (λ ls. least_in (all_vertices ls)) same
           ∙ sym (ap (λ (k : Arranged). least_in k.vertices) (ap arranged_block b ∙ arranged_cycle nodes));
       shows = λ good.
-          let wide : 2 ≤ length rs = All-head (λ k. 2 ≤ k) (length rs) (counts_read rs) good.wide in
-          let g : GoodChildren rs = (good.cuts, All-tail (λ k. 2 ≤ k) (length rs) (counts_read rs) good.wide, good.apart) in
+          let wide : 2 ≤ length rs = All-head (λ k. 2 ≤ k) (length rs) (counts_read rs) good.normal.wide in
+          let g : GoodChildren rs = (record { cuts = good.normal.cuts; wide = All-tail (λ k. 2 ≤ k) (length rs) (counts_read rs) good.normal.wide }, good.apart) in
           let shown : Each ShowsChild rs (map node_in ps) = each_shows (λ (r : Read). IsGood (r.part.below ∷ r.part.cuts) r) IsChildOf ShowsChild node_in GoodChildren children_head children_tail (λ r p n. n.shows) rs ps a g in
           let moved : IsPermutation (map node_in ps) (nodes_in nodes) = subst (IsPermutation (map node_in ps)) (sym ns) (IsPermutation-map node_in ps qs moves) in
           subst (ShowsBlock (cycle_read rs)) (sym b)
-          (cycle_made rs (map node_in ps) nodes (together rs (map node_in ps) shown) (omega (arith, wide, many)) moved
+          (cycle_made rs (map node_in ps) nodes shown (omega (arith, wide, many)) moved
           (subst (λ xs. SameSets (cycle_cuts (map part xs)) (cycle_cuts (map part (map node_in ps)))) (sym ns) turn)
           (ap (λ l. rises (leasts l)) (sym same) ∙ ap rises (sym (keys_are f (λ (p : Placed). p.least) qs right)) ∙ up g wide));
     }
@@ -181,66 +189,74 @@ ends_differ rs p (q ∷ qs) a g some e =
     let inside : Contains (q ∷ qs) z = last_there q qs in
     let f : Placed → Arranged = λ (w : Placed). arranged w.node in
     let shown : Each ShowsChild rs (map node_in all) = each_shows (λ (r : Read). IsGood (r.part.below ∷ r.part.cuts) r) IsChildOf ShowsChild node_in GoodChildren children_head children_tail (λ r w n. n.shows) rs all a g in
-    let apart : AreApart (flat_map (λ (w : Placed). entered w.node) all) = subst AreApart (flat_map-map entered node_in all) (λ n. subst (λ m. m ≤ 1) (sym ((together rs (map node_in all) shown).lists.often n)) (g.2 n)) in
+    let apart : AreApart (flat_map (λ (w : Placed). entered w.node) all) = subst AreApart (flat_map-map entered node_in all) (λ n. subst (λ m. m ≤ 1) (sym ((lists_together ShowsChild entered (λ r x h. h.normal.lists) rs (map node_in all) shown).often n)) (g.1 n)) in
     let key : (w : Placed) → Contains all w → place_key w ≡ least (f w).vertices = λ w k. ap or_zero (children_right rs all a w k) ∙ zero_least (f w).vertices in
     differ f (λ (w : Placed). entered w.node) (λ w. node_covered w.node ∙ sym (node_listed w.node)) p (q ∷ qs) z apart
     (children_some rs all a g p (Contains-here p (q ∷ qs))) (children_some rs all a g z (Contains-there p (q ∷ qs) z inside)) inside
     (sym (key p (Contains-here p (q ∷ qs))) ∙ e ∙ key z (Contains-there p (q ∷ qs) z inside))
-
-each_many : (rs : List Read) (ps : List Placed) → AreChildrenOf rs ps → length ps ≡ length rs
-each_many [] [] a = refl
-each_many [] (p ∷ ps) a = absurd a
-each_many (r ∷ rs) [] a = absurd a
-each_many (r ∷ rs) (p ∷ ps) a = omega (arith, each_many rs ps a.1)
 
 up_forth : (rs : List Read) (ps : List Placed) → ends_rise ps ≡ true → rises (map place_key ps) ≡ true
 up_forth rs [] e = absurd (false≢true e)
 up_forth rs (p ∷ ps) e = rises_forth place_key p ps e
 
 up_back : (rs : List Read) (ps : List Placed) → AreChildrenOf rs ps → ends_rise ps ≡ false → GoodChildren rs → 2 ≤ length rs → rises (map place_key (top_first ps)) ≡ true
-up_back rs [] a e g w = absurd (omega (arith, w, each_many rs [] a))
+up_back rs [] a e g w = absurd (omega (arith, w, each_length IsChildOf rs [] a))
 up_back rs (p ∷ ps) a e g w =
-    let some : 0 < length ps = omega (arith, w, each_many rs (p ∷ ps) a) in
+    let some : 0 < length ps = omega (arith, w, each_length IsChildOf rs (p ∷ ps) a) in
     let last = place_key (last_of p ps) in
     elim (cases_lt (place_key p) last) [
       | inl less ↦ absurd (false≢true (sym e ∙ lt-ltb (place_key p) last less))
       | inr more ↦ rises_back place_key p ps (omega (arith, more, ends_differ rs p ps a g some))
     ]
 
-pub cycle_finished : (rs : List Read) (ps : List Placed) (nodes : Children) (h : Hung) → h.block ≡ Cycle nodes → nodes_in nodes ≡ map node_in (top_first (faced ps)) →
-    h.least ≡ lessers None (map (λ (p : Placed). p.least) (top_first (faced ps))) → (length rs ≡ 2 → ⊥) → AreChildrenOf rs ps → IsBlockOf (cycle_read rs) h
-cycle_finished rs ps nodes h b ns l many a = elim (cases_Bool (ends_rise ps)) [
+-- nodes as they may stand in a cycle have the same ends
+last_kept : (p : Placed) (ps : List Placed) → last_of (in_cycle p) (map in_cycle ps) ≡ in_cycle (last_of p ps)
+last_kept p [] = refl
+last_kept p (q ∷ qs) = last_kept q qs
+
+ends_kept : (ps : List Placed) → ends_rise (map in_cycle ps) ≡ ends_rise ps
+ends_kept [] = refl
+ends_kept (p ∷ ps) = ap (λ (q : Placed). nat_lt (or_zero p.least) (or_zero q.least)) (last_kept p ps)
+
+cond_map : {X Y : Type 0} (f : X → Y) (b : Bool) (xs ys : List X) → cond b (map f xs) (map f ys) ≡ map f (cond b xs ys)
+cond_map f true xs ys = refl
+cond_map f false xs ys = refl
+
+faced_map : (ps : List Placed) → map in_cycle (faced ps) ≡ faced (map in_cycle ps)
+faced_map ps =
+    let qs = map in_cycle ps in
+    sym (cond_map in_cycle (ends_rise ps) ps (top_first ps)) ∙ ap (cond (ends_rise ps) qs) (top_map in_cycle ps) ∙ ap (λ b. cond b qs (top_first qs)) (sym (ends_kept ps))
+
+pub ring_finished : (rs : List Read) (ps : List Placed) (nodes : Children) (h : Hung) → h.block ≡ Cycle nodes → nodes_in nodes ≡ map node_in (faced ps) → h.least ≡ lessers None (map least_at (faced ps)) → (length rs ≡ 2 → ⊥) → AreChildrenOf rs ps →
+    IsBlockOf (cycle_read rs) h
+ring_finished rs ps nodes h b ns l many a = elim (cases_Bool (ends_rise ps)) [
   | inl rising ↦ (
-      let order : top_first (faced ps) ≡ ps = ap (λ k. top_first (cond k (top_first ps) ps)) rising ∙ top_twice ps in
-      ring_made rs ps ps nodes h b (ns ∙ ap (map node_in) order) (l ∙ ap (λ (qs : List Placed). lessers None (map (λ (p : Placed). p.least) qs)) order) many a
+      let order : faced ps ≡ ps = ap (λ k. cond k ps (top_first ps)) rising in
+      ring_made rs ps ps nodes h b (ns ∙ ap (map node_in) order) (l ∙ ap (λ (qs : List Placed). lessers None (map least_at qs)) order) many a
       (IsPermutation-refl ps) (λ t. ((λ k. k), (λ k. k))) (λ g w. up_forth rs ps rising))
   | inr falling ↦ (
-      let order : top_first (faced ps) ≡ top_first ps = ap (λ k. top_first (cond k (top_first ps) ps)) falling in
-      let qs = top_first ps in
-      ring_made rs ps qs nodes h b (ns ∙ ap (map node_in) order) (l ∙ ap (λ (zs : List Placed). lessers None (map (λ (p : Placed). p.least) zs)) order) many a
+      let order : faced ps ≡ top_first ps = ap (λ k. cond k ps (top_first ps)) falling in
+      ring_made rs ps (top_first ps) nodes h b (ns ∙ ap (map node_in) order) (l ∙ ap (λ (qs : List Placed). lessers None (map least_at qs)) order) many a
       (turned_moves ps)
       (subst (λ xs. SameSets (cycle_cuts xs) (cycle_cuts (map part (map node_in ps)))) (sym (ap (map part) (top_map node_in ps) ∙ top_map part (map node_in ps))) (cycle_turned (map part (map node_in ps))))
       (up_back rs ps a falling))
 ]
 
--- ---- one more of a row that is taken from its end
-pub filled_one : {X Y : Type 0} (f : X → Y) (done more : List Y) (before after : List X) (x : X) (all : List Y) → more ≡ done ++ f x ∷ [] → before ≡ x ∷ after → done ++ map f before ≡ all → more ++ map f after ≡ all
-filled_one f done more before after x all m b h =
-    ap (λ l. l ++ map f after) m ∙ append_assoc done (f x ∷ []) (map f after) ∙ ap (λ l. done ++ map f l) (sym b) ∙ h
+pub cycle_finished : (rs : List Read) (ps : List Placed) (nodes : Children) (h : Hung) → h.block ≡ Cycle nodes → nodes_in nodes ≡ map child_in (faced ps) → h.least ≡ lessers None (map least_at (faced ps)) → (length ps ≡ 2 → ⊥) → AreNodesOf rs ps →
+    IsBlockOf (cycle_read rs) h
+cycle_finished rs ps nodes h b ns l many a =
+    ring_finished rs (map in_cycle ps) nodes h b (ns ∙ sym (map_twice node_in in_cycle (faced ps)) ∙ ap (map node_in) (faced_map ps))
+    (l ∙ ap (lessers None) (sym (map_twice least_at in_cycle (faced ps)) ∙ ap (map least_at) (faced_map ps)))
+    (λ e. many (omega (arith, e, each_length IsNodeOf rs ps a)))
+    (each_map IsNodeOf IsChildOf in_cycle trimmed_shows rs ps a)
 
+-- ---- one more of a row that is taken from its end
 pub lessers_one : {X : Type 0} (g : X → Option ℕ) (old new : Option ℕ) (before after : List X) (x : X) (all : Option ℕ) → new ≡ lesser_of old (g x) → before ≡ x ∷ after → lessers old (map g before) ≡ all → lessers new (map g after) ≡ all
 lessers_one g old new before after x all e b h =
     ap (λ o. lessers o (map g after)) e ∙ ap (λ l. lessers old (map g l)) (sym b) ∙ h
 
-pub filled_all : {X Y : Type 0} (f : X → Y) (done : List Y) (row : List X) (all : List Y) → row ≡ [] → done ++ map f row ≡ all → done ≡ all
-filled_all f done row all e h = sym (append-nil done) ∙ ap (λ l. done ++ map f l) (sym e) ∙ h
-
 pub lessers_all : {X : Type 0} (g : X → Option ℕ) (o : Option ℕ) (row : List X) (all : Option ℕ) → row ≡ [] → lessers o (map g row) ≡ all → o ≡ all
 lessers_all g o row all e h = ap (λ l. lessers o (map g l)) (sym e) ∙ h
-
-pub reversed_top : {X : Type 0} (xs : List X) → reverse xs ≡ top_first xs
-reversed_top [] = refl
-reversed_top (x ∷ xs) = reverse-append (x ∷ []) xs ∙ ap (λ l. l ++ x ∷ []) (reversed_top xs)
 
 -- ---- the ends of a list by their places
 last_at : (p : Placed) (ps : List Placed) (e : Placed) → get_or (p ∷ ps) (length ps) e ≡ last_of p ps
@@ -249,9 +265,23 @@ last_at p (q ∷ qs) e =
     let many : length (q ∷ qs) ≡ suc (length qs) = omega arith in
     ap (λ k. get_or (p ∷ (q ∷ qs)) k e) many ∙ last_at q qs e
 
-pub ends_at : (ps : List Placed) (d e : Placed) (a b k : ℕ) → 0 < length ps → k ≡ length ps - 1 → a ≡ or_zero (get_or ps 0 d).least → b ≡ or_zero (get_or ps k e).least → nat_lt a b ≡ ends_rise ps
+last_push : (p : Placed) (ps : List Placed) (q : Placed) → last_of p (ps ++ q ∷ []) ≡ q
+last_push p [] q = refl
+last_push p (r ∷ ps) q = last_push r ps q
+
+turned_ends : (p : Placed) (ps : List Placed) → (qs : List Placed) × (top_first (p ∷ ps) ≡ last_of p ps ∷ qs) × (last_of (last_of p ps) qs ≡ p)
+turned_ends p [] = ([], refl, refl)
+turned_ends p (q ∷ ps) =
+    let t = turned_ends q ps in
+    (t.0 ++ p ∷ [], ap (λ l. l ++ p ∷ []) t.1, last_push (last_of q ps) t.0 p)
+
+-- of nodes that are listed with the last first
+pub ends_at : (ps : List Placed) (d e : Placed) (a b k : ℕ) → 0 < length ps → k ≡ length ps - 1 → a ≡ or_zero (get_or ps k d).least → b ≡ or_zero (get_or ps 0 e).least → nat_lt a b ≡ ends_rise (top_first ps)
 ends_at [] d e a b k some at first last = absurd (omega (arith, some))
 ends_at (p ∷ ps) d e a b k some at first last =
     let place : k ≡ length ps = omega (arith, at) in
-    let end : b ≡ or_zero (last_of p ps).least = last ∙ ap (λ i. or_zero (get_or (p ∷ ps) i e).least) place ∙ ap (λ (q : Placed). or_zero q.least) (last_at p ps e) in
-    ap (λ i. nat_lt i b) first ∙ ap (nat_lt (or_zero p.least)) end
+    let t = turned_ends p ps in
+    let z = last_of p ps in
+    let start : a ≡ or_zero z.least = first ∙ ap (λ i. or_zero (get_or (p ∷ ps) i d).least) place ∙ ap (λ (q : Placed). or_zero q.least) (last_at p ps d) in
+    let end : b ≡ or_zero (last_of z t.0).least = last ∙ ap (λ (q : Placed). or_zero q.least) (sym t.2) in
+    ap (λ i. nat_lt i b) start ∙ ap (nat_lt (or_zero z.least)) end ∙ ap ends_rise (sym t.1)

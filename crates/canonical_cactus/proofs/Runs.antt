@@ -2,10 +2,10 @@
 use Rattle.std.specs.Prelude.{Option, None, Some}
 use Rattle.std.proofs.Common.{◌≡◌, ℕ, ◌+◌, ◌≤◌, ◌<◌, inl, inr, length, ap, sym, subst, arith}
 use Rattle.std.proofs.lemmas.Bool.{cases_lt}
-use Rattle.rooted_cactus.specs.Borders.{border_at}
+use Rattle.rooted_cactus.specs.Borders.{border_at, range_between}
 use Rattle.rooted_cactus.specs.CutRanges.{Range}
 use Rattle.cactus_walk.specs.declared.walk.shown.Span.{Span}
-use Rattle.balanced_cut.specs.Ends.{range_between, range_of}
+use Rattle.balanced_cut.specs.Ends.{range_of}
 use Rattle.canonical_cactus.specs.FirstBest.{AreLess, IsFirstBefore, IsFirstOfRun, IsFound, IsNoLater, IsNotAfter, IsNotAfterAt, IsRanked, IsRun, last_of, mass_of, range_at, side_of}
 use Rattle.canonical_cactus.specs.declared.first_side.Ends.{Ends}
 use Rattle.canonical_cactus.specs.declared.first_side.Ranked.{Ranked}

@@ -5,12 +5,13 @@ use Rattle.std.specs.List.{All, Contains}
 use Rattle.std.proofs.lemmas.List.Elements.{All-nil, All-append, All-contains}
 use Rattle.cut_definitions.specs.Balance.{balance, IsBest}
 use Rattle.cut_definitions.proofs.Lists.{Contains-map, Contains-from_map}
-use Rattle.rooted_cactus.specs.Borders.{border_at, ranges_between}
+use Rattle.rooted_cactus.specs.Borders.{border_at, ranges_between, range_between}
 use Rattle.rooted_cactus.specs.CutRanges.{Range}
-use Rattle.rooted_cactus.specs.Places.{AreOnce, IsVertex, side_at}
+use Rattle.rooted_cactus.specs.Places.{AreOnce, side_at}
+use Rattle.cut_definitions.specs.Graph.{IsVertex}
 use Rattle.cactus_walk.specs.Walking.{AreBorders}
 use Rattle.cactus_walk.specs.declared.walk.shown.Span.{Span}
-use Rattle.balanced_cut.specs.Ends.{IsScale, range_between, range_of}
+use Rattle.balanced_cut.specs.Ends.{IsScale, range_of}
 use Rattle.balanced_cut.proofs.BestSide.{IsWeighed, same_balance, scale_of, scale_places}
 use Rattle.balanced_cut.proofs.Moving.{best_fits, from_here}
 use Rattle.canonical_cactus.specs.FirstBest.{IsFirstBefore, IsFirstBest, IsFound, IsNoLater, IsNotAfter, IsRanked, IsRankedOf, IsWanted, count_of, last_of, mass_of, side_of}

@@ -13,8 +13,9 @@ use Rattle.cut_definitions.proofs.Ascending.{least_has}
 use Rattle.rooted_cactus.specs.Entries.{top_first}
 use Rattle.rooted_cactus.proofs.Segments.{has_append_at, has_both}
 use Rattle.canonical_cactus.specs.Canonical.{Arranged, ascend, rises, last_from}
-use Rattle.canonical_cactus.specs.Making.{count_with, AreApart, last_of}
-use Rattle.canonical_cactus.proofs.Moved.{count_both, each_passes}
+use Rattle.canonical_cactus.specs.Making.{AreApart, last_of}
+use Rattle.rooted_cactus.specs.Trims.{count_with}
+use Rattle.rooted_cactus.proofs.Moved.{count_both, each_passes}
 use Rattle.canonical_cactus.proofs.Ascending.{first_or_zero, last_or_zero, last_more, first_more}
 
 -- ---- a vertex in two lists

@@ -10,7 +10,8 @@ use Rattle.rooted_cactus.specs.Entries.{Read, bridge_read, cycle_read, node_read
 use Rattle.rooted_cactus.specs.declared.tree.Block.{Block}
 use Rattle.rooted_cactus.proofs.Parts.{either_nothing}
 use Rattle.rooted_cactus.proofs.Cycles.{here_first, cycle_cuts, cycle_cases, cycle_here, cycle_own, cycle_rest, cycle_whole}
-use Rattle.canonical_cactus.specs.Making.{ShowsBlock, IsBlockOf, SameLists}
+use Rattle.rooted_cactus.specs.Trims.{SameLists}
+use Rattle.canonical_cactus.specs.Making.{ShowsBlock, IsBlockOf}
 use Rattle.canonical_cactus.specs.declared.parts.Hung.{Hung}
 
 -- the cuts of a bridge down to an empty node with two bridges
@@ -81,11 +82,13 @@ star_read r s = bridge_read (node_read has [] (bridge_read r ∷ (bridge_read s 
 
 ring_shown : (r s : Read) (b : Block) → ShowsBlock (star_read r s) b → ShowsBlock (cycle_read (r ∷ (s ∷ []))) b
 ring_shown r s b h = record {
-  below = h.below;
-  cuts = λ t. ((λ k. in_ring r.part s.part t ((h.cuts t).0 k)), (λ k. (h.cuts t).1 (in_star r.part s.part t k)));
-  lists = without_empty _ _ h.lists;
-  wide = h.wide;
-  fine = h.fine;
+  normal = record {
+    below = h.normal.below;
+    cuts = λ t. ((λ k. in_ring r.part s.part t ((h.normal.cuts t).0 k)), (λ k. (h.normal.cuts t).1 (in_star r.part s.part t k)));
+    lists = without_empty _ _ h.normal.lists;
+    wide = h.normal.wide;
+    fine = h.normal.fine;
+  };
   in_order = h.in_order;
 }
 
@@ -93,8 +96,10 @@ pub star_shown : (r s : Read) (h : Hung) → IsBlockOf (bridge_read (node_read h
 star_shown r s h n = record {
   least = n.least;
   shows = λ g. ring_shown r s h.block (n.shows record {
-    cuts = λ c. g.cuts (in_ring r.part s.part nothing c);
-    wide = All-tail (λ k. 2 ≤ k) (length (r ∷ (s ∷ []))) (counts_read (r ∷ (s ∷ []))) g.wide;
+    normal = record {
+      cuts = λ c. g.normal.cuts (in_ring r.part s.part nothing c);
+      wide = All-tail (λ k. 2 ≤ k) (length (r ∷ (s ∷ []))) (counts_read (r ∷ (s ∷ []))) g.normal.wide;
+    };
     apart = g.apart;
   });
 }

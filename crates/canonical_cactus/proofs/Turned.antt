@@ -1,30 +1,20 @@
 -- A cycle that is turned round has the same cuts.
-use Rattle.std.proofs.Common.{◌≡◌, ℕ, inl, inr, true, List, [], ◌∷◌, ◌++◌, map, ap, ◌∙◌, sym, refl, subst}
+use Rattle.std.proofs.Common.{◌≡◌, ℕ, inl, inr, true, List, [], ◌∷◌, ◌++◌, ap, ◌∙◌, sym, subst}
 use Rattle.std.specs.List.{Contains}
 use Rattle.std.proofs.lemmas.Bool.{or_cases, or_left, or_right}
-use Rattle.std.proofs.lemmas.List.{append_assoc, append-nil, map-append}
+use Rattle.std.proofs.lemmas.List.{append_assoc}
 use Rattle.std.proofs.lemmas.List.Elements.{Contains-append_left, Contains-append_right, Contains-append_cases}
 use Rattle.cut_definitions.specs.Weight.{VertexSet, either}
 use Rattle.cut_definitions.proofs.Lists.{Contains-here, Contains-there, Contains-cons_cases, Contains-nil}
 use Rattle.rooted_cactus.specs.Sides.{Part, all_of, belows, all_cuts, from_here, intervals}
 use Rattle.rooted_cactus.specs.Entries.{top_first}
+use Rattle.rooted_cactus.proofs.Tops.{top_twice, top_map}
 use Rattle.rooted_cactus.specs.Trims.{SameSets}
 use Rattle.rooted_cactus.proofs.Parts.{either_nothing, all_cuts_push}
 use Rattle.rooted_cactus.proofs.Sets.{same_set}
 use Rattle.rooted_cactus.proofs.Cycles.{cycle_cuts, here_whole}
 
 -- ---- lists turned round
-pub top_both : {X : Type 0} (xs ys : List X) → top_first (xs ++ ys) ≡ top_first ys ++ top_first xs
-top_both [] ys = sym (append-nil (top_first ys))
-top_both (x ∷ xs) ys = ap (λ l. l ++ x ∷ []) (top_both xs ys) ∙ append_assoc (top_first ys) (top_first xs) (x ∷ [])
-
-pub top_twice : {X : Type 0} (xs : List X) → top_first (top_first xs) ≡ xs
-top_twice [] = refl
-top_twice (x ∷ xs) = top_both (top_first xs) (x ∷ []) ∙ ap (λ l. x ∷ l) (top_twice xs)
-
-pub top_map : {X Y : Type 0} (f : X → Y) (xs : List X) → map f (top_first xs) ≡ top_first (map f xs)
-top_map f [] = refl
-top_map f (x ∷ xs) = map-append f (top_first xs) (x ∷ []) ∙ ap (λ l. l ++ f x ∷ []) (top_map f xs)
 
 -- ---- intervals
 either_turned : (s t : VertexSet) → either s t ≡ either t s

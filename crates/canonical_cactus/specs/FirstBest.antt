@@ -5,12 +5,13 @@ use Rattle.std.specs.Ordering.{is_gt, nat_cmp}
 use Rattle.std.specs.Cmp.Lexicographic.{slice_cmp}
 use Rattle.cut_definitions.specs.Balance.{IsBest}
 use Rattle.cut_definitions.specs.Cuts.{has}
-use Rattle.rooted_cactus.specs.Borders.{border_at, ranges_between}
+use Rattle.rooted_cactus.specs.Borders.{border_at, ranges_between, range_between}
 use Rattle.rooted_cactus.specs.CutRanges.{Range}
-use Rattle.rooted_cactus.specs.Places.{AreOnce, IsVertex, side_at}
+use Rattle.rooted_cactus.specs.Places.{AreOnce, side_at}
+use Rattle.cut_definitions.specs.Graph.{IsVertex}
 use Rattle.cactus_walk.specs.Walking.{AreBorders, AreChained}
 use Rattle.cactus_walk.specs.declared.walk.shown.Span.{Span}
-use Rattle.balanced_cut.specs.Ends.{IsScale, IsScaleOf, places_of, range_balance, range_between, range_of, span_mass}
+use Rattle.balanced_cut.specs.Ends.{IsScale, IsScaleOf, places_of, range_balance, range_of, span_mass}
 use Rattle.canonical_cactus.specs.Minima.{IsMinTree, leaf_at}
 use Rattle.canonical_cactus.specs.declared.first_side.Ranked.{Ranked}
 use Rattle.canonical_cactus.specs.declared.first_side.Ends.{Ends}

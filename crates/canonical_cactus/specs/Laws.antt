@@ -1,7 +1,7 @@
 -- The laws of canonical cactuses, as facts that the functions of the module `laws` state.
 use Rattle.std.specs.Prelude.{ℕ, ◌≡◌, true}
 use Rattle.cut_definitions.specs.Cuts.{has}
-use Rattle.rooted_cactus.specs.Rooted.{Rooted, IsCactus}
+use Rattle.rooted_cactus.specs.Rooted.{over, IsCactus}
 use Rattle.rooted_cactus.specs.Different.{HaveSameSides}
 use Rattle.flat_cactus.specs.Flattened.{flat_of}
 use Rattle.rooted_cactus.specs.Sides.{below, block_part}
@@ -9,9 +9,6 @@ use Rattle.rooted_cactus.specs.declared.tree.Node.{Node}
 use Rattle.rooted_cactus.specs.declared.tree.Block.{Block}
 use Rattle.canonical_cactus.specs.Canonical.{arranged, arranged_block, is_canonical}
 use Rattle.canonical_cactus.specs.Plain.{plain}
-
-abbrev pub over : ℕ → Node → Rooted
-over n root = record { vertices = n; root = root }
 
 -- two canonical cactuses over the same vertices that have the same sides are one tree
 abbrev pub LawOfOneTree : Type 0

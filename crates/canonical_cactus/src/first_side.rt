@@ -14,10 +14,11 @@
 
 ghost use Rattle.std.specs.Prelude.{◌≡◌, ◌≢◌, ◌+◌, ◌<◌, ◌≤◌, ◌⊎◌, [], ℕ, IfOk, IsFalse, IsTrue, Some, length, slice_index};
 ghost use Rattle.std.specs.List.{All, Contains};
-ghost use Rattle.balanced_cut.specs.Ends.{IsRangeOf, range_between, range_of, span_mass};
-ghost use Rattle.rooted_cactus.specs.Borders.{border_at, ranges_between};
+ghost use Rattle.balanced_cut.specs.Ends.{IsRangeOf, range_of, span_mass};
+ghost use Rattle.rooted_cactus.specs.Borders.{range_between, border_at, ranges_between};
 ghost use Rattle.rooted_cactus.specs.CutRanges.{Range};
-ghost use Rattle.rooted_cactus.specs.Places.{IsVertex, side_at};
+ghost use Rattle.rooted_cactus.specs.Places.{side_at};
+ghost use Rattle.cut_definitions.specs.Graph.{IsVertex};
 ghost use Rattle.rooted_cactus.specs.Rooted.{sides_of};
 ghost use Rattle.rooted_cactus.specs.Trees.{blocks};
 ghost use Rattle.canonical_cactus.specs.FirstBest.{AreLess, HasUpTo, IsBeyond, IsEmptyOne, IsFirstBefore, IsFirstBest, IsFirstOfRun, IsFound, IsFoundAt, IsNoLater, IsNotAfter, IsNotAfterAt, IsRanked, IsRankedOf, IsRun, IsTaken, IsWanted, IsWithin, NoneEmpty, count_of, last_of, mass_of, range_at, side_between, side_of, vertex_at};

@@ -15,8 +15,9 @@
 //! Lomonosov (1976) leaves.
 //!
 //! `canonical` gives a canonical cactus back as it is. Else it takes the tree apart into entries (`rooted_cactus::entries_of`),
-//! but for leaves below bridges, and puts it together from the last one (`put`): each node and block is finished with its
-//! least vertex (`parts`), and blocks and cycles are put in order as they are made (`rows`).
+//! but for leaves below bridges, and lets `rooted_cactus::put_together` put it together from the last one by a maker of its own
+//! (`maker`): each node and block is finished with its least vertex (`parts`), and blocks and cycles are put in order as they
+//! are made (`rows`).
 //! It takes O(n log n) for n vertices, in loops; `is_canonical` one step for each node and vertex, and a call for each
 //! level (`order`), and `is_canonical_within` the same by loops (`standing`).
 //!
@@ -31,11 +32,11 @@ ghost use Rattle.canonical_cactus.specs.Canonical.{is_canonical};
 
 mod first_side;
 pub mod laws;
+mod maker;
 mod making;
 mod minima;
 mod order;
 mod parts;
-mod put;
 mod rows;
 mod standing;
 

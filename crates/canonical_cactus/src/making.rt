@@ -5,9 +5,9 @@ ghost use Rattle.rooted_cactus.specs.Different.{HasNoEmptySide, HaveSameSides};
 ghost use Rattle.canonical_cactus.specs.Canonical.{is_canonical};
 
 use crate::is_canonical_within;
-use crate::put::put_in_order;
+use crate::maker::CanonicalMaker;
 use cut_definitions::NoMemory;
-use rooted_cactus::{Cactus, entries_of};
+use rooted_cactus::{Cactus, entries_of, put_together};
 use std::alloc::Global;
 
 /// The canonical cactus with the same set of sides.
@@ -31,6 +31,6 @@ pub fn canonical(alloc: Global, cactus: Cactus) -> Result<Cactus, NoMemory>
     }
     let n = cactus.n();
     let entries = entries_of(alloc, cactus.into_root(), n as usize)?;
-    let placed = put_in_order(alloc, entries)?;
+    let placed = put_together::<CanonicalMaker>(alloc, entries)?;
     Ok(Cactus::from_root(n, placed.node))
 }

@@ -2,10 +2,10 @@
 
 ghost use Rattle.std.specs.Prelude.{IfOk};
 ghost use Rattle.rooted_cactus.specs.Entries.{Read, bridge_read};
-ghost use Rattle.canonical_cactus.specs.Making.{IsBlockOf, IsChildOf, IsNodeOf};
+ghost use Rattle.canonical_cactus.specs.Making.{IsBlockOf, IsNodeOf};
 
 use cut_definitions::NoMemory;
-use rooted_cactus::{Block, Node, bare_node, hung, trimmed};
+use rooted_cactus::{Block, Node, bare_node, hung};
 use std::alloc::Global;
 
 /// A finished node, with the least vertex at or under it, if there is one.
@@ -37,13 +37,4 @@ pub fn hang(alloc: Global, placed: Placed) -> Result<Hung, NoMemory>
 {
     let place = Box::new(alloc, bare_node(alloc))?;
     Ok(hang_in(placed, place))
-}
-
-/// The node as it may stand in a cycle: what is below its bridge, where it has no vertex and nothing but that bridge.
-pub fn in_cycle(placed: Placed) -> Placed
-    ensures { (r : Read) → IsNodeOf r placed → IsChildOf r result }
-{
-    let Placed { node, least } = placed;
-    let node = trimmed(node);
-    Placed { node, least }
 }

@@ -1,15 +1,15 @@
 //! The blocks of a node in the order of their least vertices, and cycles in the one of their two directions that is meant.
 
-ghost use Rattle.std.specs.Prelude.{◌≡◌, [], ◌∷◌, length, IfOk, OnOk, List};
+ghost use Rattle.std.specs.Prelude.{◌≡◌, ◌≢◌, [], length, IfOk, OnOk, List};
 ghost use Rattle.std.specs.List.Sorted.{IsPermutation, IsNonDecreasingBy};
 ghost use Rattle.cut_definitions.specs.Cuts.{has};
 ghost use Rattle.rooted_cactus.specs.Entries.{Read, cycle_read, node_read, top_first};
-ghost use Rattle.canonical_cactus.specs.Making.{AreBlocksOf, AreChildrenOf, IsBlockOf, IsNodeOf, key_of, ends_rise, faced};
+ghost use Rattle.canonical_cactus.specs.Making.{AreBlocksOf, AreNodesOf, IsBlockOf, IsNodeOf, key_of, ends_rise, faced};
 
 use crate::order::{least_vertex, lesser, vertex_or_zero};
 use crate::parts::{Hung, Placed, hang};
 use cut_definitions::NoMemory;
-use rooted_cactus::{Block, Blocks, Children, Node, VertexList};
+use rooted_cactus::{Block, Blocks, Children, Node, VertexList, trimmed};
 use std::alloc::Global;
 
 /// Sorts blocks by their least vertices, the greatest first.
@@ -39,29 +39,31 @@ pub fn node_of(alloc: Global, vertices: VertexList, row: &mut Vec<Hung>) -> Resu
     })
 }
 
-/// Whether the least vertex at or under the first node is less than that at or under the last.
+/// Whether the least vertex at or under the first node is less than that at or under the last. They are listed with the last
+/// first.
 fn rises(nodes: &[Placed]) -> bool
-    ensures { result ≡ ends_rise nodes.now }
+    ensures { result ≡ ends_rise (top_first nodes.now) }
 {
     if nodes.is_empty() {
         return false;
     }
-    vertex_or_zero(nodes[0].least) < vertex_or_zero(nodes[nodes.len() - 1].least)
+    vertex_or_zero(nodes[nodes.len() - 1].least) < vertex_or_zero(nodes[0].least)
 }
 
-/// Turns the nodes round where they are to be closed from the last to the first.
+/// Turns the nodes, of which the last is first, round where they are to be closed from the last to the first.
 fn face(nodes: &mut Vec<Placed>)
-    ensures { nodes.new.items ≡ faced nodes.old.items }
+    ensures { top_first nodes.new.items ≡ faced (top_first nodes.old.items) }
 {
-    if rises(nodes) {
+    if !rises(nodes) {
         nodes.reverse();
     }
 }
 
 /// The cycle through three or more nodes, in the direction in which the least vertex at or under the first is less than
-/// that at or under the last.
+/// that at or under the last. They are listed with the last first.
 pub fn cycle_of(alloc: Global, nodes: Vec<Placed>) -> Result<Hung, NoMemory>
-    ensures { IfOk result (λ b. (rs : List Read) → (length rs ≡ 2 → ⊥) → AreChildrenOf rs nodes.items → IsBlockOf (cycle_read rs) b) }
+    requires { length nodes.items ≢ 2 }
+    ensures { IfOk result (λ b. (rs : List Read) → AreNodesOf rs (top_first nodes.items) → IsBlockOf (cycle_read rs) b) }
 {
     let mut nodes = nodes;
     face(&mut nodes);
@@ -69,7 +71,7 @@ pub fn cycle_of(alloc: Global, nodes: Vec<Placed>) -> Result<Hung, NoMemory>
     let mut children = Children::with_capacity(alloc, nodes.len())?;
     'close: while let Some(next) = nodes.pop() {
         least = lesser(least, next.least);
-        children.push(next.node)?;
+        children.push(trimmed(next.node))?;
     }
     Ok(Hung {
         block: Block::Cycle(children),
@@ -77,10 +79,15 @@ pub fn cycle_of(alloc: Global, nodes: Vec<Placed>) -> Result<Hung, NoMemory>
     })
 }
 
-/// A bridge to an empty node with two bridges, which stands for a cycle through two nodes and the node above.
-pub fn star_of(alloc: Global, first: Placed, second: Placed) -> Result<Hung, NoMemory>
-    ensures { IfOk result (λ b. (r s : Read) → IsNodeOf r first → IsNodeOf s second → IsBlockOf (cycle_read (r ∷ s ∷ [])) b) }
+/// A bridge to an empty node with two bridges, which stands for a cycle through two nodes and the node above. They are listed
+/// with the last first.
+pub fn star_of(alloc: Global, nodes: Vec<Placed>) -> Result<Hung, NoMemory>
+    requires { length nodes.items ≡ 2 }
+    ensures { IfOk result (λ b. (rs : List Read) → AreNodesOf rs (top_first nodes.items) → IsBlockOf (cycle_read rs) b) }
 {
+    let mut nodes = nodes;
+    let first = nodes.pop().unwrap();
+    let second = nodes.pop().unwrap();
     let first = hang(alloc, first)?;
     let second = hang(alloc, second)?;
     let mut blocks = Vec::with_capacity(alloc, 2)?;

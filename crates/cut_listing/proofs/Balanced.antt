@@ -10,11 +10,12 @@ use Rattle.cut_definitions.specs.Cuts.{has}
 use Rattle.cut_definitions.specs.Weight.{complement}
 use Rattle.rooted_cactus.specs.Borders.{border_at, ranges_to}
 use Rattle.rooted_cactus.specs.CutRanges.{Range}
-use Rattle.rooted_cactus.specs.Different.{AreDifferent}
+use Rattle.cut_definitions.specs.Members.{AreDifferent}
 use Rattle.rooted_cactus.specs.Entered.{entered}
 use Rattle.rooted_cactus.specs.Normal.{is_normal}
 use Rattle.rooted_cactus.specs.Numbers.{number}
-use Rattle.rooted_cactus.specs.Places.{AreOnce, IsVertex, side_at}
+use Rattle.rooted_cactus.specs.Places.{AreOnce, side_at}
+use Rattle.cut_definitions.specs.Graph.{IsVertex}
 use Rattle.cactus_walk.specs.RangeMasses.{mass_before}
 use Rattle.cactus_walk.specs.Repeats.{passed_over, ranges_kept}
 use Rattle.rooted_cactus.specs.Rooted.{IsCactus, Rooted, sides_of}

@@ -5,7 +5,7 @@ use Rattle.std.proofs.lemmas.Bool.{cases_Bool, cases_lt, le-leb, lt-leb}
 use Rattle.std.proofs.lemmas.List.{length-append, length-drop, length-map, length-take, map-append}
 use Rattle.std.proofs.lemmas.List.Elements.{filter-append}
 use Rattle.std.proofs.Math.Seq.{take-suc}
-use Rattle.rooted_cactus.specs.Borders.{border_at, ranges_to}
+use Rattle.rooted_cactus.specs.Borders.{border_at, ranges_to, range_between}
 use Rattle.rooted_cactus.specs.CutRanges.{Range}
 use Rattle.cactus_walk.specs.Repeats.{mark_at, passed_over, ranges_kept}
 use Rattle.cactus_walk.specs.Walking.{AreBorders, AreChained}
@@ -13,7 +13,7 @@ use Rattle.rooted_cactus.specs.declared.tree.border.Border.{Border}
 use Rattle.rooted_cactus.proofs.Elements.{drop_nothing}
 use Rattle.cactus_walk.proofs.Stepping.{end_there, place_within}
 use Rattle.cactus_walk.proofs.Chains.{next_at, no_less}
-use Rattle.cut_listing.specs.Bands.{AreEnds, AreRising, AreShort, IsShort, is_heavy, mass_at, range_balance, range_between, ranges_of, whole}
+use Rattle.cut_listing.specs.Bands.{AreEnds, AreRising, AreShort, IsShort, is_heavy, mass_at, range_balance, ranges_of, whole}
 
 -- ---- borders of one block
 -- a border of a block is there

@@ -13,8 +13,8 @@ use Rattle.std.proofs.lemmas.Map.Keys.{sorted_head, sorted_tail}
 use Rattle.std.proofs.lemmas.Map.Lookups.{exact_bytes}
 use Rattle.cut_definitions.proofs.Lists.{Contains-here, Contains-there, Contains-cons_cases, Contains-nil}
 use Rattle.cut_definitions.proofs.Orderings.{one_listed}
-use Rattle.rooted_cactus.specs.Different.{AreDifferent}
-use Rattle.cut_listing.specs.Listings.{IsAscending, IsListing, put, put_by, different}
+use Rattle.cut_definitions.specs.Members.{AreDifferent, IsAscending}
+use Rattle.cut_listing.specs.Listings.{IsListing, put, put_by, different}
 
 abbrev Lists : Type 0
 Lists = List (List ℕ)

@@ -9,12 +9,12 @@ use Rattle.std.proofs.lemmas.Bool.{cases_Bool, eq-eqb, eqb-true}
 use Rattle.std.proofs.lemmas.List.{append_assoc, length-map, map-append, nil_from_length}
 use Rattle.std.proofs.lemmas.List.Elements.{All-nil, All-contains, All-head, All-map, All-tail, filter-append}
 use Rattle.cut_definitions.proofs.Lists.{Contains-filter, Contains-from_filter}
-use Rattle.rooted_cactus.specs.Different.{AreDifferent}
-use Rattle.vertex_set.specs.Side.{VertexList}
+use Rattle.cut_definitions.specs.Members.{AreDifferent}
+use Rattle.vertex_set.specs.Side.{VertexList, members_of}
 use Rattle.cut_listing.specs.declared.ask.Ask.{Ask}
 use Rattle.cut_listing.specs.declared.list_refusal.ListRefusal.{ListRefusal}
 use Rattle.cut_listing.specs.declared.list_refusal.ListRefusal.TheVariants.{TooLarge, NoMemory}
-use Rattle.cut_listing.specs.Listings.{IsList, IsListing, IsRefusal, asked_sides, different, members_of}
+use Rattle.cut_listing.specs.Listings.{IsList, IsListing, IsRefusal, asked_sides, different}
 use Rattle.cut_listing.proofs.Listed.{all_from, is_different, same_different, different_is_listing}
 use Rattle.cut_definitions.specs.Weight.{VertexSet}
 use Rattle.cut_definitions.specs.Cuts.{IsAscendingWithin}

@@ -16,10 +16,10 @@ use Rattle.std.proofs.lemmas.Map.Keys.{sorted_head, sorted_tail}
 use Rattle.std.proofs.lemmas.Map.Lookups.{exact_bytes, exact_unsigned}
 use Rattle.cut_definitions.proofs.Lists.{Contains-map, Contains-from_map}
 use Rattle.cut_definitions.proofs.Orderings.{then_parts, then_same, from_is_eq}
-use Rattle.vertex_set.specs.Side.{VertexList}
+use Rattle.vertex_set.specs.Side.{VertexList, members_of}
 use Rattle.vertex_set.proofs.Compared.{side_cmp, side_total}
-use Rattle.rooted_cactus.specs.Different.{AreDifferent}
-use Rattle.cut_listing.specs.Listings.{IsAscending, members_of, different}
+use Rattle.cut_definitions.specs.Members.{AreDifferent, IsAscending}
+use Rattle.cut_listing.specs.Listings.{different}
 use Rattle.cut_listing.proofs.Listed.{all_different, ascending_cons, ascending_nil, is_different}
 
 equal_sides : (x y : VertexList) → x.members ≡ y.members → x.vertices ≡ y.vertices → x ≡ y

@@ -26,10 +26,6 @@ is_heavy before least r = nat_le least (range_balance before r)
 abbrev pub mass_at : List ℕ → List Border → ℕ → ℕ
 mass_at before bs e = get_or before (border_at bs e).place 0
 
--- the range from one border to another
-abbrev pub range_between : List Border → ℕ → ℕ → Range
-range_between bs start end = record { from = (border_at bs start).place; to = (border_at bs end).place }
-
 -- the ranges from a border to those from one on that are before another
 abbrev pub ranges_of : List Border → ℕ → ℕ → ℕ → List Range
 ranges_of bs start from to = ranges_to (border_at bs start).place (take (to - from) (drop from bs))

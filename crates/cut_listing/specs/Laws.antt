@@ -7,7 +7,8 @@ use Rattle.rooted_cactus.specs.Different.{HasDifferent}
 use Rattle.rooted_cactus.specs.Rooted.{Rooted, sides_of}
 use Rattle.cut_listing.specs.declared.ask.Ask.{Ask}
 use Rattle.cut_listing.specs.Asks.{lets}
-use Rattle.cut_listing.specs.Listings.{IsAscending, IsListing, HaveDifferent, asked_sides}
+use Rattle.cut_listing.specs.Listings.{IsListing, HaveDifferent, asked_sides}
+use Rattle.cut_definitions.specs.Members.{IsAscending}
 
 -- there is one listing of some sides
 abbrev pub LawOfOneListing : Type 0

@@ -1,21 +1,17 @@
 -- Listings: the different lists of several, each once, in the order of lists.
-use Rattle.std.specs.Prelude.{ℕ, ◌≡◌, ◌↔◌, ◌*◌, ◌<◌, ◌≤◌, List, [], ◌∷◌, length, map}
+use Rattle.std.specs.Prelude.{ℕ, ◌≡◌, ◌↔◌, ◌*◌, ◌<◌, ◌≤◌, List, [], ◌∷◌, length}
 use Rattle.std.specs.List.{All, Contains, filter}
-use Rattle.std.specs.List.Sorted.{IsStrictlySortedBy}
 use Rattle.std.specs.Ordering.{nat_cmp}
 use Rattle.std.specs.Cmp.Lexicographic.{slice_cmp}
 use Rattle.std.specs.declared.cmp.Ordering.{Ordering}
 use Rattle.std.specs.declared.cmp.Ordering.TheVariants.{Less, Equal, Greater}
+use Rattle.cut_definitions.specs.Members.{IsAscending}
 use Rattle.rooted_cactus.specs.Rooted.{Rooted, sides_of}
-use Rattle.vertex_set.specs.Side.{VertexList}
+use Rattle.vertex_set.specs.Side.{VertexList, members_of}
 use Rattle.cut_listing.specs.declared.ask.Ask.{Ask}
 use Rattle.cut_listing.specs.declared.list_refusal.ListRefusal.{ListRefusal}
 use Rattle.cut_listing.specs.declared.list_refusal.ListRefusal.TheVariants.{TooLarge, NoMemory}
 use Rattle.cut_listing.specs.Asks.{lets}
-
--- strictly ascending by the order of lists, a list that another begins with first
-abbrev pub IsAscending : List (List ℕ) → Type 0
-IsAscending = IsStrictlySortedBy (slice_cmp nat_cmp)
 
 -- a listing of some sides: it ascends, so it has each once, and it has the same members
 pub record IsListing (sides listing : List (List ℕ)) : Type 0 where
@@ -31,9 +27,6 @@ pub record HaveDifferent (sides : List (List ℕ)) (count : ℕ) : Type 0 where
 -- the sides of the cuts of a cactus that an ask lets through
 abbrev pub asked_sides : Ask → Rooted → List (List ℕ)
 asked_sides ask cactus = filter (lets ask) (sides_of cactus)
-
-abbrev pub members_of : List VertexList → List (List ℕ)
-members_of = map (λ (s : VertexList). s.members)
 
 -- a listing of so many sides over n as it is handed out: no larger than allowed, as sides over n
 pub record IsList (largest n : ℕ) (ask : Ask) (cactus : Rooted) (list : List VertexList) : Type 0 where

@@ -3,10 +3,11 @@
 ghost use Rattle.std.specs.Prelude.{◌≡◌, ◌≤◌, ◌^◌, ◌++◌, ◌&&◌, ◌==◌, [], ◌∷◌, true, IfOk, IfErr};
 ghost use Rattle.std.specs.List.{All, filter};
 ghost use Rattle.cut_definitions.specs.Cuts.{IsAscendingWithin};
-ghost use Rattle.rooted_cactus.specs.Different.{AreDifferent};
+ghost use Rattle.cut_definitions.specs.Members.{AreDifferent};
 ghost use Rattle.rooted_cactus.specs.Normal.{is_normal};
 ghost use Rattle.cut_listing.specs.Asks.{AnswersAsk, HasMasses, IsOver, TakesSides, has_masses-prop, lets};
-ghost use Rattle.cut_listing.specs.Listings.{IsList, IsRefusal, asked_sides, different, members_of};
+ghost use Rattle.cut_listing.specs.Listings.{IsList, IsRefusal, asked_sides, different};
+ghost use Rattle.vertex_set.specs.Side.{members_of};
 
 use crate::ask::Ask;
 use crate::limit::is_too_large;

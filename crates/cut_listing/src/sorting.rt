@@ -2,8 +2,9 @@
 
 ghost use Rattle.std.specs.Prelude.{◌≡◌};
 ghost use Rattle.std.specs.List.{All};
-ghost use Rattle.rooted_cactus.specs.Different.{AreDifferent};
-ghost use Rattle.cut_listing.specs.Listings.{different, members_of};
+ghost use Rattle.cut_definitions.specs.Members.{AreDifferent};
+ghost use Rattle.cut_listing.specs.Listings.{different};
+ghost use Rattle.vertex_set.specs.Side.{members_of};
 
 use vertex_set::Side;
 

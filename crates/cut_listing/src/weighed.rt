@@ -9,11 +9,13 @@ ghost use Rattle.std.specs.Prelude.{◌≡◌, ◌+◌, ◌-◌, ◌<◌, ◌≤
 ghost use Rattle.std.specs.List.{All, filter};
 ghost use Rattle.rooted_cactus.specs.Borders.{border_at};
 ghost use Rattle.rooted_cactus.specs.Normal.{is_normal};
-ghost use Rattle.rooted_cactus.specs.Places.{IsVertex, side_at};
+ghost use Rattle.rooted_cactus.specs.Places.{side_at};
+ghost use Rattle.cut_definitions.specs.Graph.{IsVertex};
 ghost use Rattle.cactus_walk.specs.Repeats.{mark_at, passed_over, ranges_kept};
 ghost use Rattle.cactus_walk.specs.Walking.{AreBorders, AreChained};
 ghost use Rattle.cut_listing.specs.Bands.{AreEnds, AreRising, AreShort, IsShort, is_heavy, mass_at, ranges_of};
-ghost use Rattle.cut_listing.specs.Listings.{IsList, IsRefusal, members_of};
+ghost use Rattle.cut_listing.specs.Listings.{IsList, IsRefusal};
+ghost use Rattle.vertex_set.specs.Side.{members_of};
 
 use crate::ask::Ask;
 use crate::limit::is_too_large;

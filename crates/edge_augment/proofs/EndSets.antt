@@ -14,8 +14,8 @@ use Rattle.cut_definitions.proofs.Ascending.{contains_has, has_contains}
 use Rattle.rooted_cactus.specs.Sides.{Part, part, block_part, all_cuts}
 use Rattle.rooted_cactus.specs.Normal.{block_shape, is_normal}
 use Rattle.rooted_cactus.specs.Entered.{entered, entered_block}
-use Rattle.rooted_cactus.specs.Places.{IsVertex}
-use Rattle.rooted_cactus.specs.Rooted.{IsCactus, sides_of}
+use Rattle.cut_definitions.specs.Graph.{IsVertex}
+use Rattle.rooted_cactus.specs.Rooted.{IsCactus, sides_of, over}
 use Rattle.rooted_cactus.specs.Trees.{vertices, blocks}
 use Rattle.rooted_cactus.specs.declared.tree.Node.{Node}
 use Rattle.rooted_cactus.specs.declared.tree.Block.{Block}
@@ -25,7 +25,7 @@ use Rattle.rooted_cactus.proofs.Parts.{part_out}
 use Rattle.rooted_cactus.proofs.Segments.{has_append_at}
 use Rattle.rooted_cactus.proofs.Shapes.{root_normal}
 use Rattle.edge_augment.specs.Ends.{end_sets}
-use Rattle.edge_augment.specs.Laws.{over, IsCutSet, IsSublist, LawOfEndSets}
+use Rattle.edge_augment.specs.Laws.{IsCutSet, IsSublist, LawOfEndSets}
 use Rattle.rooted_cactus.proofs.Sets.{Apart}
 use Rattle.rooted_cactus.proofs.Clean.{IsClean, count, clean_apart, root_clean}
 use Rattle.rooted_cactus.proofs.Trims.{own_cut}

@@ -8,7 +8,7 @@ use Rattle.cut_definitions.specs.Cuts.{has, side_of}
 use Rattle.cut_definitions.proofs.Bridge.{has-side_of}
 use Rattle.cut_definitions.proofs.Lists.{Contains-here, Contains-there, Contains-cons_cases, Contains-nil, Contains-from_filter}
 use Rattle.cut_definitions.proofs.Bools.{not_then_never}
-use Rattle.rooted_cactus.specs.Places.{IsVertex}
+use Rattle.cut_definitions.specs.Graph.{IsVertex}
 use Rattle.edge_augment.specs.Ends.{end_sets}
 use Rattle.edge_augment.specs.Laws.{LawOfFewest}
 use Rattle.rooted_cactus.proofs.Clean.{count}

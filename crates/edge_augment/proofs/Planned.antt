@@ -10,7 +10,7 @@ use Rattle.cut_definitions.specs.Cuts.{has, least, IsAscendingWithin}
 use Rattle.cut_definitions.proofs.Lists.{Contains-map}
 use Rattle.cut_definitions.proofs.Bools.{parts_flip}
 use Rattle.rooted_cactus.specs.Normal.{is_normal}
-use Rattle.rooted_cactus.specs.Places.{IsVertex}
+use Rattle.cut_definitions.specs.Graph.{IsVertex}
 use Rattle.rooted_cactus.specs.Rooted.{Rooted, IsCactus}
 use Rattle.rooted_cactus.specs.Trees.{blocks}
 use Rattle.rooted_cactus.specs.declared.tree.Node.{Node}

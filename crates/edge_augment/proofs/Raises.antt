@@ -5,10 +5,9 @@ use Rattle.std.specs.List.{All, Contains}
 use Rattle.std.proofs.lemmas.List.Elements.{All-contains, All-weaker}
 use Rattle.std.proofs.lemmas.List.{get_or_default}
 use Rattle.cut_definitions.specs.Cuts.{has, mincuts, side_of, IsAscendingWithin}
-use Rattle.cut_definitions.specs.Graph.{Graph}
+use Rattle.cut_definitions.specs.Graph.{Graph, IsVertex}
 use Rattle.cut_definitions.specs.Members.{SameMembers}
 use Rattle.cut_definitions.proofs.ChainLists.{first_parts_side}
-use Rattle.rooted_cactus.specs.Places.{IsVertex}
 use Rattle.rooted_cactus.specs.Rooted.{Rooted, sides_of}
 use Rattle.edge_augment.proofs.Raising.{raising}
 use Rattle.edge_augment.specs.Augmentations.{Augmentation, IsAugmentation, IsLeast, LawOfAugmentation}

@@ -1,34 +1,23 @@
 -- The end nodes that a walk through a tree has passed, and those that are still to be entered.
 use Rattle.std.proofs.Common.{◌≡◌, ℕ, ◌==◌, Bool, false, List, [], ◌∷◌, ◌++◌, length, map, refl, ap, ◌∙◌, sym, arith}
 use Rattle.std.specs.List.{flat_map}
-use Rattle.std.specs.Borrow.{Bor}
 use Rattle.std.proofs.lemmas.Bool.Decides.{nat_tests}
 use Rattle.std.proofs.lemmas.List.{append-nil, append_assoc}
+use Rattle.rooted_cactus.specs.Entries.{nodes_of}
 use Rattle.rooted_cactus.specs.Trees.{vertices, blocks, nodes_in}
 use Rattle.rooted_cactus.specs.declared.tree.Node.{Node}
 use Rattle.rooted_cactus.specs.declared.tree.Block.{Block}
-use Rattle.rooted_cactus.specs.declared.tree.Children.{Children}
-use Rattle.rooted_cactus.specs.declared.tree.Block.TheVariants.{Cycle}
 use Rattle.rooted_cactus.proofs.Orders.{in_order_map}
-use Rattle.edge_augment.specs.Ends.{leaves, block_leaves, leaves_of, ends_of, end_sets}
-use Rattle.edge_augment.specs.Walks.{leaves_waiting, alone_if}
-use Rattle.edge_augment.proofs.Leaves.{leaves_out, leaves_cycle}
+use Rattle.rooted_cactus.proofs.Walks.{by_nodes, read_stacked}
+use Rattle.edge_augment.specs.Ends.{alone_if, leaves, block_leaves, leaves_of, ends_of, end_sets}
+use Rattle.edge_augment.proofs.Leaves.{leaves_out, leaves_bridge, leaves_cycle}
 
 abbrev Lists : Type 0
 Lists = List (List ℕ)
 
--- the end nodes of the nodes of a cycle, one node after another
-pub cycle_leaves : (nodes : Children) → block_leaves (Cycle nodes) ≡ flat_map leaves (nodes_in nodes)
-cycle_leaves nodes = leaves_cycle nodes ∙ in_order_map leaves (nodes_in nodes)
-
--- ---- the stack
-waiting_both : (xs ys : List (Bor Node)) → leaves_waiting (xs ++ ys) ≡ leaves_waiting ys ++ leaves_waiting xs
-waiting_both [] ys = sym (append-nil (leaves_waiting ys))
-waiting_both (x ∷ xs) ys = ap (λ l. l ++ leaves x.now) (waiting_both xs ys) ∙ append_assoc (leaves_waiting ys) (leaves_waiting xs) (leaves x.now)
-
--- a node is put on top
-pub leaves_push : (xs : List (Bor Node)) (x : Bor Node) → leaves_waiting (xs ++ x ∷ []) ≡ leaves x.now ++ leaves_waiting xs
-leaves_push xs x = waiting_both xs (x ∷ [])
+-- the end nodes below a block, node by node
+leaves_nodes : (b : Block) → block_leaves b ≡ flat_map leaves (nodes_of b)
+leaves_nodes = by_nodes block_leaves (flat_map leaves) (λ child. leaves_bridge child ∙ sym (append-nil (leaves child.value))) (λ nodes. leaves_cycle nodes ∙ in_order_map leaves (nodes_in nodes))
 
 -- ---- a node, and what is below it
 left_out : (b : Bool) (own : List ℕ) (rest : Lists) → b ≡ false → alone_if b own ++ rest ≡ rest
@@ -48,16 +37,18 @@ ends_by_blocks own (b ∷ (c ∷ cs)) =
     in_order_map block_leaves (b ∷ (c ∷ cs)) ∙ sym (left_out (length (b ∷ (c ∷ cs)) == 1) own (flat_map block_leaves (b ∷ (c ∷ cs))) more)
 
 -- the root is taken where it has one block, and what is below it is put on the empty stack
-pub begun : (root : Node) (ends after : Lists) → ends ≡ [] ++ alone_if (length (blocks root) == 1) (vertices root) → after ≡ flat_map block_leaves (blocks root) ++ [] → ends ++ after ≡ end_sets root
+pub begun : (root : Node) (ends : Lists) (after : List Node) → ends ≡ [] ++ alone_if (length (blocks root) == 1) (vertices root) → after ≡ flat_map nodes_of (blocks root) ++ [] → ends ++ flat_map leaves after ≡ end_sets root
 begun root ends after e a =
-    ap (λ l. l ++ after) e ∙ ap (λ l. alone_if (length (blocks root) == 1) (vertices root) ++ l) (a ∙ append-nil (flat_map block_leaves (blocks root)))
+    let below = read_stacked leaves block_leaves leaves_nodes (blocks root) after [] a in
+    ap (λ l. l ++ flat_map leaves after) e ∙ ap (λ l. alone_if (length (blocks root) == 1) (vertices root) ++ l) (below ∙ append-nil (flat_map block_leaves (blocks root)))
     ∙ sym (ends_by_blocks (vertices root) (blocks root))
 
 -- a node is taken off the stack, it is kept where it is a leaf, and what is below it put there
-pub passed : (x : Node) (kept more before after rest : Lists) → before ≡ leaves x ++ rest → after ≡ flat_map block_leaves (blocks x) ++ rest →
-    more ≡ kept ++ alone_if (length (blocks x) == 0) (vertices x) → more ++ after ≡ kept ++ before
+pub passed : (x : Node) (kept more : Lists) (before after rest : List Node) → before ≡ x ∷ rest → after ≡ flat_map nodes_of (blocks x) ++ rest → more ≡ kept ++ alone_if (length (blocks x) == 0) (vertices x) →
+    more ++ flat_map leaves after ≡ kept ++ flat_map leaves before
 passed x kept more before after rest b a m =
     let here = alone_if (length (blocks x) == 0) (vertices x) in
     let below = flat_map block_leaves (blocks x) in
-    ap (λ l. l ++ after) m ∙ append_assoc kept here after ∙ ap (λ l. kept ++ (here ++ l)) a
-    ∙ ap (λ l. kept ++ l) (sym (append_assoc here below rest) ∙ ap (λ l. l ++ rest) (sym (leaves_out x ∙ leaves_by_blocks (vertices x) (blocks x))) ∙ sym b)
+    let left = flat_map leaves rest in
+    ap (λ l. l ++ flat_map leaves after) m ∙ append_assoc kept here (flat_map leaves after) ∙ ap (λ l. kept ++ (here ++ l)) (read_stacked leaves block_leaves leaves_nodes (blocks x) after rest a)
+    ∙ ap (λ l. kept ++ l) (sym (append_assoc here below left) ∙ ap (λ l. l ++ left) (sym (leaves_out x ∙ leaves_by_blocks (vertices x) (blocks x))) ∙ sym (ap (flat_map leaves) b))

@@ -5,10 +5,9 @@ use Rattle.std.specs.List.Sorted.{IsStrictlySortedBy}
 use Rattle.std.specs.Ordering.{nat_cmp, ordering_then}
 use Rattle.std.specs.Cmp.Lexicographic.{slice_cmp}
 use Rattle.std.specs.declared.cmp.Ordering.{Ordering}
-use Rattle.cut_definitions.specs.Graph.{Graph}
+use Rattle.cut_definitions.specs.Graph.{Graph, IsVertex}
 use Rattle.cut_definitions.specs.Cuts.{has, value, mincuts}
 use Rattle.rooted_cactus.specs.Rooted.{Rooted, sides_of}
-use Rattle.rooted_cactus.specs.Places.{IsVertex}
 use Rattle.edge_augment.specs.Ends.{end_sets}
 use Rattle.edge_augment.specs.Laws.{AreDisjoint, IsMinimalSet}
 use Rattle.edge_augment.specs.NewEdges.{new_edges, with_unit_edges, IsParted}

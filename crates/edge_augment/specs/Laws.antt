@@ -1,18 +1,14 @@
 -- The laws of augmentation, as facts that the functions of the module `laws` state.
 use Rattle.std.specs.Prelude.{ℕ, ◌≡◌, ◌-◌, ◌/◌, ◌*◌, ◌<◌, ◌≤◌, ◌≢◌, ◌↔◌, true, List, length}
 use Rattle.std.specs.List.{All, AllPairs, Contains}
-use Rattle.cut_definitions.specs.Graph.{Graph}
+use Rattle.cut_definitions.specs.Graph.{Graph, IsVertex}
 use Rattle.cut_definitions.specs.Cuts.{has, value, mincuts, side_of, IsAscendingWithin}
-use Rattle.rooted_cactus.specs.Rooted.{Rooted, IsCactus, sides_of}
-use Rattle.rooted_cactus.specs.Places.{IsVertex}
+use Rattle.rooted_cactus.specs.Rooted.{over, IsCactus, sides_of}
 use Rattle.rooted_cactus.specs.Normal.{is_normal}
 use Rattle.rooted_cactus.specs.Trees.{blocks}
 use Rattle.rooted_cactus.specs.declared.tree.Node.{Node}
 use Rattle.edge_augment.specs.Ends.{end_sets}
 use Rattle.edge_augment.specs.NewEdges.{with_unit_edges, IsParted, opposite_pairs, new_edges}
-
-abbrev pub over : ℕ → Node → Rooted
-over n root = record { vertices = n; root = root }
 
 -- a list of unit edges raises the value exactly where every minimum cut has exactly one end of one of them
 abbrev pub LawOfRaising : Type 0

@@ -2,5 +2,4 @@ pub mod Ends
 pub mod NewEdges
 pub mod Laws
 pub mod Augmentations
-pub mod Walks
 pub mod Raises

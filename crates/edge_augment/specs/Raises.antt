@@ -2,8 +2,7 @@
 use Rattle.std.specs.Prelude.{ℕ, ◌≡◌, ◌<◌, ◌≤◌, ◌-◌, ◌/◌, ◌↔◌, List, length}
 use Rattle.std.specs.List.{All, AllPairs, Contains}
 use Rattle.cut_definitions.specs.Cuts.{IsAscendingWithin, has, mincuts, side_of, value}
-use Rattle.cut_definitions.specs.Graph.{Graph}
-use Rattle.rooted_cactus.specs.Places.{IsVertex}
+use Rattle.cut_definitions.specs.Graph.{Graph, IsVertex}
 use Rattle.edge_augment.specs.Augmentations.{Augmentation}
 use Rattle.edge_augment.specs.Laws.{AreDisjoint, IsSublist}
 use Rattle.edge_augment.specs.NewEdges.{IsParted, with_unit_edges}

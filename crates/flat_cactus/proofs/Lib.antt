@@ -10,3 +10,4 @@ pub mod Flats
 pub mod Tasked
 pub mod Members
 pub mod SomeBlock
+pub mod Shown

@@ -3,3 +3,4 @@ pub mod FlatCuts
 pub mod Flattened
 pub mod FlatLaws
 pub mod Tasks
+pub mod Shown

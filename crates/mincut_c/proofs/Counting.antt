@@ -5,7 +5,8 @@ use Rattle.cut_definitions.specs.Graph.{Graph}
 use Rattle.flat_cactus.specs.Flat.{Flat, cut_at, items_in}
 use Rattle.flat_cactus.proofs.Flats.{cut_length}
 use Rattle.mincut_c.specs.Filled.{AreSmall, BeginsWithBridges, Counts, CountsCactus, HasRoomBy, HoldsCycles, HoldsFlat, HoldsNodes, IsShort}
-use Rattle.mincut_c.specs.Shown.{HasFewParts, ShowsCuts}
+use Rattle.flat_cactus.specs.Shown.{ShowsCuts}
+use Rattle.mincut_c.specs.Shown.{HasFewParts}
 use Rattle.mincut_c.specs.declared.filling.Bridge.{Bridge}
 use Rattle.mincut_c.specs.declared.filling.CactusSizes.{CactusSizes}
 

@@ -9,7 +9,7 @@ use Rattle.std.proofs.lemmas.Map.Made.{IsDistinct-from_AllPairs}
 use Rattle.std.proofs.lemmas.Map.Steps.{length-le_from_distinct_below}
 use Rattle.std.proofs.lemmas.Map.Views.{Contains-from_any}
 use Rattle.cut_definitions.specs.Cuts.{IsAscendingWithin, has, mincuts, side_of}
-use Rattle.cut_definitions.specs.Graph.{Graph}
+use Rattle.cut_definitions.specs.Graph.{Graph, IsVertex}
 use Rattle.cut_definitions.proofs.Ascending.{contains_has}
 use Rattle.cut_definitions.proofs.Bridge.{has_first_of}
 use Rattle.cut_definitions.proofs.Values.{IsSide-from_mincuts}
@@ -17,7 +17,6 @@ use Rattle.edge_augment.proofs.EndSets.{ascending_vertex}
 use Rattle.edge_augment.specs.Augmentations.{Augmentation}
 use Rattle.edge_augment.specs.Laws.{AreDisjoint}
 use Rattle.edge_augment.specs.Raises.{IsLeastRaise, IsMinimalCutSet}
-use Rattle.rooted_cactus.specs.Places.{IsVertex}
 
 -- a set of vertices of 1 to n that has its first entry
 record IsLed (n : ℕ) (set : List ℕ) : Type 0 where

@@ -9,12 +9,12 @@ use Rattle.std.proofs.lemmas.Bool.Decides.{nat_tests}
 use Rattle.cut_definitions.specs.Balance.{balance}
 use Rattle.cut_definitions.specs.Cuts.{mincuts, value}
 use Rattle.cut_definitions.specs.Graph.{Graph}
-use Rattle.vertex_set.specs.Side.{VertexList}
+use Rattle.vertex_set.specs.Side.{VertexList, members_of}
 use Rattle.rooted_cactus.specs.Solving.{IsSolved}
 use Rattle.rooted_cactus.specs.declared.solved.Solved.{Solved}
 use Rattle.cut_listing.specs.Asks.{is_balanced, lets}
 use Rattle.cut_listing.specs.Laws.{LawOfCount, LawOfMinimumCuts}
-use Rattle.cut_listing.specs.Listings.{IsList, IsRefusal, members_of}
+use Rattle.cut_listing.specs.Listings.{IsList, IsRefusal}
 use Rattle.cut_listing.specs.declared.ask.Ask.{Ask}
 use Rattle.cut_listing.specs.declared.list_refusal.ListRefusal.{ListRefusal}
 use Rattle.cut_listing.specs.declared.list_refusal.ListRefusal.TheVariants.{TooLarge, NoMemory}

@@ -4,8 +4,7 @@ use Rattle.std.proofs.Math.Nat.{add-mul, mul_comm, mul-le-mul_right}
 use Rattle.std.proofs.lemmas.Bool.{cases_lt}
 use Rattle.std.proofs.lemmas.List.{get_or-map}
 use Rattle.std.proofs.lemmas.Nat.{mul-add-lt}
-use Rattle.vertex_set.specs.Side.{VertexList}
-use Rattle.cut_listing.specs.Listings.{members_of}
+use Rattle.vertex_set.specs.Side.{VertexList, members_of}
 use Rattle.mincut_c.specs.Rows.{byte_of}
 
 -- the rows of the first sides

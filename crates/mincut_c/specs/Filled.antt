@@ -5,7 +5,7 @@ use Rattle.cut_definitions.specs.Graph.{Graph}
 use Rattle.flat_cactus.specs.Flat.{Flat, cut_at, items_in}
 use Rattle.mincut_c.specs.declared.filling.Bridge.{Bridge}
 use Rattle.mincut_c.specs.declared.filling.CactusSizes.{CactusSizes}
-use Rattle.mincut_c.specs.Shown.{ShowsCuts}
+use Rattle.flat_cactus.specs.Shown.{ShowsCuts}
 
 -- an array begins with the list
 abbrev pub Begins : List ℕ → List ℕ → Type 0

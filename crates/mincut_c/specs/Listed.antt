@@ -6,12 +6,11 @@ use Rattle.cut_definitions.specs.Cuts.{has, mincuts, value}
 use Rattle.cut_definitions.specs.Graph.{Graph}
 use Rattle.cut_definitions.specs.Weight.{parts}
 use Rattle.cut_listing.specs.Asks.{is_balanced}
-use Rattle.cut_listing.specs.Listings.{members_of}
+use Rattle.vertex_set.specs.Side.{members_of, VertexList}
 use Rattle.cut_listing.specs.declared.list_refusal.ListRefusal.{ListRefusal}
 use Rattle.cut_listing.specs.declared.list_refusal.ListRefusal.TheVariants.{TooLarge, NoMemory}
 use Rattle.mincut_c.specs.declared.listings.Listing.{Listing}
 use Rattle.mincut_c.specs.Rows.{TellsRows}
-use Rattle.vertex_set.specs.Side.{VertexList}
 
 -- the minimum cuts whose balance by the masses is at least a number, in the order of lists
 abbrev pub balanced_cuts : Graph → List ℕ → ℕ → List (List ℕ)

@@ -7,7 +7,7 @@ ghost use Rattle.edge_arrays.specs.Given.{given};
 ghost use Rattle.edge_augment.specs.Augmentations.{Augmentation};
 ghost use Rattle.edge_augment.specs.Laws.{AreDisjoint};
 ghost use Rattle.edge_augment.specs.Raises.{IsLeastRaise};
-ghost use Rattle.rooted_cactus.specs.Places.{IsVertex};
+ghost use Rattle.cut_definitions.specs.Graph.{IsVertex};
 ghost use Rattle.mincut_c.specs.Raised.{CountsRaise, HasEnds, HoldsRaise, IsInOrder, LacksEnds, TellsEnds, TellsSets};
 ghost use Rattle.mincut_c.specs.Statuses.{HasCuts, IsReason, TellsFault, number_of};
 

@@ -2,7 +2,7 @@
 
 ghost use Rattle.std.specs.Prelude.{ℕ, ◌≡◌, ◌+◌, ◌*◌, ◌<◌, ◌≤◌, length, slice_index};
 ghost use Rattle.std.specs.List.{All};
-ghost use Rattle.cut_listing.specs.Listings.{members_of};
+ghost use Rattle.vertex_set.specs.Side.{members_of};
 ghost use Rattle.mincut_c.specs.Rows.{IsLeftBefore, IsLeftFrom, TellsRows, byte_of};
 
 use vertex_set::Side;

@@ -4,7 +4,8 @@ ghost use Rattle.std.specs.Prelude.{◌≡◌, ◌≤◌, IfOk, IfErr};
 ghost use Rattle.cut_definitions.specs.Cuts.{value};
 ghost use Rattle.edge_arrays.specs.Given.{WeighsAs, given};
 ghost use Rattle.rooted_cactus.specs.Solving.{IsSolved};
-ghost use Rattle.mincut_c.specs.Shown.{HasFewParts, ShowsCuts};
+ghost use Rattle.flat_cactus.specs.Shown.{ShowsCuts};
+ghost use Rattle.mincut_c.specs.Shown.{HasFewParts};
 ghost use Rattle.mincut_c.specs.Statuses.{HasCuts, IsReason, IsUnsolved, number_of};
 
 use crate::status::Fault;

@@ -1,12 +1,12 @@
 //! The value.
 
-ghost use Rattle.std.specs.Prelude.{◌≡◌, ◌≢◌, ◌≤◌, IfOk, IfErr, min};
+ghost use Rattle.std.specs.Prelude.{◌≡◌, ◌≢◌, ◌≤◌, ◌^◌, IfOk, IfErr, min};
 ghost use Rattle.cut_definitions.specs.Cuts.{value};
 ghost use Rattle.edge_arrays.specs.Given.{given};
 ghost use Rattle.mincut_c.specs.Statuses.{HasCuts, IsReason, TellsFault, number_of};
 
 use crate::status::{Fault, OK, status_of};
-use cut_definitions::{EdgeList, NoMemory};
+use cut_definitions::{EdgeList, MOST_WEIGHT, NoMemory};
 use edge_arrays::{laws, list_of_arrays};
 use least_cut::least_weight_below;
 use min_value::lesser_of_list;
@@ -25,7 +25,7 @@ fn suits_forests(list: &EdgeList) -> bool {
 }
 
 /// The lesser of a bound and the value of a list of edges of two or more vertices.
-pub(crate) fn least_below(alloc: Global, list: EdgeList, bound: u64) -> Result<u64, NoMemory>
+fn least_below(alloc: Global, list: EdgeList, bound: u64) -> Result<u64, NoMemory>
     requires { 2 ≤ list.vertices }
     ensures { IfOk result (λ weight. weight ≡ min bound (value list)) }
 {
@@ -36,10 +36,18 @@ pub(crate) fn least_below(alloc: Global, list: EdgeList, bound: u64) -> Result<u
     least_weight_below(alloc, &graph, bound)
 }
 
-/// The value of the graph of the arrays.
-fn value_of_arrays(alloc: Global, n: u32, us: &[u32], vs: &[u32], ws: &[u64]) -> Result<u64, Fault>
+/// The lesser of a bound and the value of the graph of the arrays.
+pub(crate) fn lesser_of_arrays(
+    alloc: Global,
+    n: u32,
+    us: &[u32],
+    vs: &[u32],
+    ws: &[u64],
+    bound: u64,
+) -> Result<u64, Fault>
     ensures given { IfOk result (λ weight. HasCuts n us.now vs.now ws.now) }
-    ensures value { IfOk result (λ weight. weight ≡ value (given n us.now vs.now ws.now)) }
+    ensures value { IfOk result (λ weight. weight ≡ min bound (value (given n us.now vs.now ws.now))) }
+    ensures fits { IfOk result (λ weight. value (given n us.now vs.now ws.now) ≤ 2 ^ 61) }
     ensures reason { IfErr result (λ fault. IsReason fault n us.now vs.now ws.now) }
     ensures known { IfErr result (λ fault. number_of fault ≤ 7) }
 {
@@ -48,8 +56,7 @@ fn value_of_arrays(alloc: Global, n: u32, us: &[u32], vs: &[u32], ws: &[u64]) ->
     if list.n() < 2 {
         return Err(Fault::NoCut);
     }
-    // no cut weighs more than 2^61
-    let weight = least_below(alloc, list, u64::MAX)?;
+    let weight = least_below(alloc, list, bound)?;
     Ok(weight)
 }
 
@@ -74,7 +81,7 @@ pub extern "C" fn mincut_raw_value(
     ensures fault { result ≢ 0 → TellsFault result n us.now vs.now ws.now }
     ensures known { result ≤ 7 }
 {
-    match value_of_arrays(alloc, n, us, vs, ws) {
+    match lesser_of_arrays(alloc, n, us, vs, ws, MOST_WEIGHT) {
         Ok(weight) => {
             *least = weight;
             OK

@@ -1,23 +1,19 @@
 -- Whether a tree is normal, node by node.
-use Rattle.std.proofs.Common.{◌≡◌, ℕ, ◌+◌, inl, inr, Bool, true, false, ◌&&◌, ◌∷◌, List, [], ◌++◌, Some, length, take, get_or, ap, ◌∙◌, sym, refl}
+use Rattle.std.proofs.Common.{◌≡◌, ℕ, ◌+◌, inl, inr, Bool, true, false, not, ◌&&◌, ◌||◌, ◌∷◌, List, [], ◌++◌, Some, length, take, get_or, ap, ◌∙◌, sym, refl}
 use Rattle.std.specs.Prelude.{nat_le, slice_get, cond}
 use Rattle.std.specs.List.{filter, list_all, flat_map}
 use Rattle.std.proofs.lemmas.List.Folds.{list_all_more, list_all_at, list_all-append}
 use Rattle.std.proofs.lemmas.Option.{get_or_from_slice_get, slice_get_within}
-use Rattle.std.specs.declared.boxed.Box.{Box}
-use Rattle.std.specs.declared.alloc.Global.{Global}
 use Rattle.std.proofs.Math.Bool.{and-false, and-true, and_assoc}
 use Rattle.cut_definitions.proofs.Bools.{four_and}
 use Rattle.rooted_cactus.specs.Normal.{shape, block_shape, child_fine}
-use Rattle.rooted_cactus.specs.Placed.{is_placed, is_set, placed_step}
+use Rattle.rooted_cactus.specs.Placed.{is_placed, is_set}
 use Rattle.rooted_cactus.specs.Trees.{blocks, nodes_in}
 use Rattle.rooted_cactus.specs.Entries.{nodes_of}
 use Rattle.rooted_cactus.specs.declared.tree.Node.{Node}
 use Rattle.rooted_cactus.specs.declared.tree.Block.{Block}
-use Rattle.rooted_cactus.specs.declared.tree.Children.{Children}
-use Rattle.rooted_cactus.specs.declared.tree.Block.TheVariants.{Bridge, Cycle, outs-Bridge, outs-Cycle}
 use Rattle.rooted_cactus.proofs.Entries.{nodes_bridge, nodes_cycle}
-use Rattle.rooted_cactus.proofs.Shapes.{bridge_shape, cycle_fine, node_fine, child_parts, length_shapes}
+use Rattle.rooted_cactus.proofs.Shapes.{bridge_shape, cycle_shape, cycle_fine, node_fine, child_parts, length_shapes}
 use Rattle.rooted_cactus.specs.Numbers.{is_inner}
 use Rattle.rooted_cactus.proofs.Tallies.{no_blocks}
 use Rattle.rooted_cactus.proofs.Views.{view}
@@ -38,24 +34,25 @@ children_are (x ∷ xs) =
     ap (λ b. b && list_all (λ y. child_fine true (shape y)) xs) (child_is true x) ∙ ap (λ b. (is_set true x && is_fine x) && b) (children_are xs)
     ∙ four_and (is_set true x) (is_fine x) (list_all (is_set true) xs) (all_fine xs)
 
-pub placed_bridge : (child : Box Node Global) → is_placed (Bridge child) ≡ is_set false child.value
-placed_bridge child = ap placed_step (outs-Bridge child)
+-- what a block is where its kind and its nodes are known
+placed_as : (b : Block) (cycle : Bool) (xs : List Node) → (block_shape b).is_cycle ≡ cycle → nodes_of b ≡ xs → is_placed b ≡ ((not cycle || nat_le 2 (length xs)) && list_all (is_set cycle) xs)
+placed_as b cycle xs k n =
+    ap (λ c. (not c || nat_le 2 (length (nodes_of b))) && list_all (is_set c) (nodes_of b)) k ∙ ap (λ ys. (not cycle || nat_le 2 (length ys)) && list_all (is_set cycle) ys) n
 
-pub placed_cycle : (nodes : Children) → is_placed (Cycle nodes) ≡ (nat_le 2 (length (nodes_in nodes)) && list_all (is_set true) (nodes_in nodes))
-placed_cycle nodes = ap placed_step (outs-Cycle nodes)
-
-block_fine : (b : Block) → (block_shape b).fine ≡ (is_placed b && all_fine (nodes_of b))
+pub block_fine : (b : Block) → (block_shape b).fine ≡ (is_placed b && all_fine (nodes_of b))
 block_fine b = elim (view b) [
   | inl h ↦ (
       let x = h.0.value in
-      ap (λ c. (block_shape c).fine) h.1 ∙ ap (λ s. s.fine) (bridge_shape h.0) ∙ child_is false x
-      ∙ ap (λ k. is_set false x && k) (sym (and-true (is_fine x)))
-      ∙ sym (ap (λ c. is_placed c && all_fine (nodes_of c)) h.1 ∙ ap (λ k. k && all_fine (nodes_of (Bridge h.0))) (placed_bridge h.0) ∙ ap (λ l. is_set false x && all_fine l) (nodes_bridge h.0)))
+      let shape_is = ap block_shape h.1 ∙ bridge_shape h.0 in
+      let nodes = ap nodes_of h.1 ∙ nodes_bridge h.0 in
+      ap (λ s. s.fine) shape_is ∙ child_is false x ∙ sym (ap (λ k. k && is_fine x) (and-true (is_set false x))) ∙ sym (ap (λ k. (is_set false x && true) && k) (and-true (is_fine x)))
+      ∙ sym (ap (λ k. k && all_fine (nodes_of b)) (placed_as b false (x ∷ []) (ap (λ s. s.is_cycle) shape_is) nodes) ∙ ap (λ l. (is_set false x && true) && all_fine l) nodes))
   | inr h ↦ (
       let xs = nodes_in h.0 in
+      let nodes = ap nodes_of h.1 ∙ nodes_cycle h.0 in
       ap (λ c. (block_shape c).fine) h.1 ∙ cycle_fine h.0 ∙ ap (λ k. nat_le 2 k && list_all (λ x. child_fine true (shape x)) xs) (length_shapes xs) ∙ ap (λ k. nat_le 2 (length xs) && k) (children_are xs)
       ∙ sym (and_assoc (nat_le 2 (length xs)) (list_all (is_set true) xs) (all_fine xs))
-      ∙ sym (ap (λ c. is_placed c && all_fine (nodes_of c)) h.1 ∙ ap (λ k. k && all_fine (nodes_of (Cycle h.0))) (placed_cycle h.0) ∙ ap (λ l. (nat_le 2 (length xs) && list_all (is_set true) xs) && all_fine l) (nodes_cycle h.0)))
+      ∙ sym (ap (λ k. k && all_fine (nodes_of b)) (placed_as b true xs (ap (λ c. (block_shape c).is_cycle) h.1 ∙ ap (λ s. s.is_cycle) (cycle_shape h.0)) nodes) ∙ ap (λ l. (nat_le 2 (length xs) && list_all (is_set true) xs) && all_fine l) nodes))
 ]
 
 blocks_fine : (bs : List Block) → list_all (λ b. (block_shape b).fine) bs ≡ (list_all is_placed bs && all_fine (flat_map nodes_of bs))

@@ -1,16 +1,9 @@
 -- Trees that are built in tests: their lists, and a test of the lists that shows a cactus.
-use Rattle.std.proofs.Common.{◌≡◌, ℕ, ◌+◌, ◌-◌, ◌≤◌, ◌==◌, ◌&&◌, Bool, true, List, [], ◌∷◌, ◌++◌, length, map, take, zero, suc, ◌<◌, get_or, refl, sym, ◌∙◌, ap, subst, arith}
-use Rattle.std.specs.Prelude.{nat_le, slice_index_or}
-use Rattle.std.specs.List.{All, filter, flat_map, list_all, range_with_len}
-use Rattle.std.proofs.lemmas.Bool.{and_parts, leb-true, eqb-true}
-use Rattle.std.proofs.lemmas.List.{append-nil, length-map, map-append, take_more}
-use Rattle.std.proofs.Math.Seq.{take-length}
+use Rattle.std.proofs.Common.{◌≡◌, ℕ, List, [], ◌∷◌, ◌++◌, length, map, refl, sym, ◌∙◌, ap}
+use Rattle.std.specs.List.{flat_map}
+use Rattle.std.proofs.lemmas.List.{append-nil, length-map}
 use Rattle.std.proofs.lemmas.List.Concat.{flat_map-append}
-use Rattle.std.proofs.lemmas.List.FromFn.{length-range_with_len, get_or-range_with_len}
-use Rattle.cut_definitions.specs.Cuts.{has, IsAscendingWithin}
-use Rattle.cut_definitions.proofs.Ascending.{has_contains}
 use Rattle.rooted_cactus.specs.Entered.{entered, entered_block}
-use Rattle.rooted_cactus.specs.Rooted.{IsCactus}
 use Rattle.rooted_cactus.specs.Trees.{vertices, blocks, nodes_in}
 use Rattle.rooted_cactus.specs.Widths.{widths, block_widths, joined}
 use Rattle.rooted_cactus.specs.declared.tree.Node.{Node}

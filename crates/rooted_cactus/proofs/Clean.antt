@@ -9,7 +9,7 @@ use Rattle.cut_definitions.proofs.Values.{least-le, Contains-least}
 use Rattle.cut_definitions.proofs.ListLaws.{longer, All-front, All-back}
 use Rattle.cut_definitions.proofs.Ascending.{contains_has, has_contains}
 use Rattle.rooted_cactus.specs.Rooted.{IsCactus}
-use Rattle.rooted_cactus.specs.Places.{IsVertex}
+use Rattle.cut_definitions.specs.Graph.{IsVertex}
 use Rattle.rooted_cactus.specs.Entered.{entered}
 use Rattle.rooted_cactus.specs.declared.tree.Node.{Node}
 use Rattle.rooted_cactus.proofs.Once.{all_vertices_within}

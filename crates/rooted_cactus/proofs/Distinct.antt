@@ -16,7 +16,7 @@ use Rattle.cut_definitions.proofs.Ascending.{has_contains, length-has}
 use Rattle.rooted_cactus.specs.Sides.{Part, part, block_part, nothing, all_of, belows, all_cuts, from_here}
 use Rattle.rooted_cactus.specs.Trees.{vertices, blocks, nodes_in}
 use Rattle.rooted_cactus.specs.Entered.{entered, entered_block}
-use Rattle.rooted_cactus.specs.Places.{IsVertex}
+use Rattle.cut_definitions.specs.Graph.{IsVertex}
 use Rattle.rooted_cactus.specs.Rooted.{IsCactus}
 use Rattle.rooted_cactus.specs.declared.tree.Node.{Node}
 use Rattle.rooted_cactus.specs.declared.tree.Block.{Block}
@@ -24,7 +24,7 @@ use Rattle.rooted_cactus.specs.declared.tree.Children.{Children}
 use Rattle.rooted_cactus.specs.declared.tree.Block.TheVariants.{Bridge, Cycle}
 use Rattle.rooted_cactus.proofs.Once.{all_vertices_within}
 use Rattle.rooted_cactus.proofs.Parts.{bridge_part, cycle_part, either_nothing}
-use Rattle.rooted_cactus.specs.Different.{AreDifferent}
+use Rattle.cut_definitions.specs.Members.{AreDifferent}
 use Rattle.rooted_cactus.specs.NormalLaws.{LawOfCount}
 use Rattle.rooted_cactus.specs.Numbers.{Tally, number, tally, triangle, between, all_own, all_under, own_of}
 use Rattle.rooted_cactus.proofs.Sets.{IsIn, HasOne, Apart, same_set}

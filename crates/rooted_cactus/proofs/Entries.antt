@@ -248,9 +248,6 @@ first_entered names root es none stack e n s =
     (subst (λ (l : List Node). Shows names root [] (top_first l)) (sym (s ∙ ap (λ l. l ++ root ∷ []) n)) (none_entered names root))
 
 -- ---- nodes are drawn from the front of a list
-pub drawn_front : {X : Type 0} (front rest all : List X) (k : ℕ) → length front ≡ k → front ++ rest ≡ all → front ≡ take k all
-drawn_front front rest all k n h = sym (take-append_seam front rest) ∙ ap (λ m. take m (front ++ rest)) n ∙ ap (take k) h
-
 pub dropped_more : {X : Type 0} (js rest : List Joint) (j : Joint) (before after all : List X) → js ≡ j ∷ rest → after ≡ drop (used j) before → drop (wanted js) before ≡ all → drop (wanted rest) after ≡ all
 dropped_more js rest j before after all jj a h =
     ap (drop (wanted rest)) a ∙ drop-drop (wanted rest) (used j) before ∙ ap (λ l. drop (wanted l) before) (sym jj) ∙ h

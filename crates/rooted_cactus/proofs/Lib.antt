@@ -35,7 +35,9 @@ pub mod Covered
 pub mod Fits
 pub mod Few
 pub mod Tallies
+pub mod Moved
 pub mod Trims
+pub mod Tops
 pub mod Makes
 pub mod Stands
 pub mod Normals
@@ -46,5 +48,5 @@ pub mod Formula
 pub mod BlockLaws
 pub mod Within
 pub mod SizesOut
-pub mod NodePlaces
+pub mod Walks
 pub mod Steps

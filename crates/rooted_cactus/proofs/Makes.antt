@@ -1,10 +1,10 @@
 -- A tree is put together from entries: each finished node or block stands, in one way or another, for what was read off them.
-use Rattle.std.proofs.Common.{ne_eqb, ◌≡◌, ℕ, zero, suc, ◌+◌, ◌-◌, ◌≤◌, ◌==◌, ◌&&◌, Bool, true, not, List, [], ◌∷◌, ◌++◌, length, take, drop, Some, ap, ◌∙◌, sym, refl, subst, arith}
+use Rattle.std.proofs.Common.{ne_eqb, ◌≡◌, ℕ, zero, suc, ◌+◌, ◌-◌, ◌≤◌, ◌==◌, ◌&&◌, Bool, true, not, List, [], ◌∷◌, ◌++◌, length, map, take, drop, Some, ap, ◌∙◌, sym, refl, subst, arith}
 use Rattle.std.specs.Prelude.{slice_get, slice_index_or}
 use Rattle.std.specs.List.{list_all}
 use Rattle.std.proofs.lemmas.Bool.{false≢true, and_parts}
 use Rattle.std.proofs.lemmas.Option.{get_or_from_slice_get}
-use Rattle.std.proofs.lemmas.List.{append_assoc, append-nil, drop-drop}
+use Rattle.std.proofs.lemmas.List.{append_assoc, append-nil}
 use Rattle.std.proofs.Math.Bool.{and-true}
 use Rattle.cut_definitions.specs.Weight.{VertexSet}
 use Rattle.rooted_cactus.specs.Normal.{block_shape}
@@ -12,7 +12,7 @@ use Rattle.rooted_cactus.specs.Entries.{Read, bridge_read, node_read, nothing_re
 use Rattle.rooted_cactus.specs.declared.tree.Block.{Block}
 use Rattle.rooted_cactus.specs.declared.tree.entries.Joint.{Joint}
 use Rattle.rooted_cactus.specs.declared.tree.entries.ShedNode.{ShedNode}
-use Rattle.rooted_cactus.proofs.Entries.{drawn_front, read_push, left_push, ready_pop}
+use Rattle.rooted_cactus.proofs.Entries.{read_push, left_push, ready_pop}
 use Rattle.rooted_cactus.specs.Trims.{Each, is_spare, is_above_bridge}
 
 -- ---- pairs, one by one
@@ -21,6 +21,12 @@ each_push P [] [] x y h p = (p, tt)
 each_push P [] (z ∷ ys) x y h p = absurd h
 each_push P (w ∷ xs) [] x y h p = absurd h
 each_push P (w ∷ xs) (z ∷ ys) x y h p = (h.0, each_push P xs ys x y h.1 p)
+
+pub each_weaker : {X Y : Type 0} (P Q : X → Y → Type 0) → ((x : X) (y : Y) → P x y → Q x y) → (xs : List X) (ys : List Y) → Each P xs ys → Each Q xs ys
+each_weaker P Q f [] [] h = tt
+each_weaker P Q f [] (y ∷ ys) h = absurd h
+each_weaker P Q f (x ∷ xs) [] h = absurd h
+each_weaker P Q f (x ∷ xs) (y ∷ ys) h = (f x y h.0, each_weaker P Q f xs ys h.1)
 
 pub each_length : {X Y : Type 0} (P : X → Y → Type 0) (xs : List X) (ys : List Y) → Each P xs ys → length xs ≡ length ys
 each_length P [] [] h = refl
@@ -39,8 +45,18 @@ pub each_first : {X Y : Type 0} (P : X → Y → Type 0) (xs : List X) (y : Y) (
 each_first P [] y ys h = absurd h
 each_first P (x ∷ xs) y ys h = (x, xs, refl, h.0, h.1)
 
-pub dropped_one : {X : Type 0} (all before after : List X) (x : X) (k : ℕ) → before ≡ drop k all → before ≡ x ∷ after → after ≡ drop (k + 1) all
-dropped_one all before after x k b e = sym (ap (drop 1) e) ∙ ap (drop 1) b ∙ drop-drop 1 k all
+pub each_take : {X Y : Type 0} (P : X → Y → Type 0) (k : ℕ) (xs : List X) (ys : List Y) → Each P xs ys → Each P (take k xs) (take k ys)
+each_take P zero xs ys h = tt
+each_take P (suc k) [] [] h = tt
+each_take P (suc k) [] (y ∷ ys) h = absurd h
+each_take P (suc k) (x ∷ xs) [] h = absurd h
+each_take P (suc k) (x ∷ xs) (y ∷ ys) h = (h.0, each_take P k xs ys h.1)
+
+pub each_map : {X Y Z : Type 0} (P : X → Y → Type 0) (Q : X → Z → Type 0) (f : Y → Z) → ((x : X) (y : Y) → P x y → Q x (f y)) → (xs : List X) (ys : List Y) → Each P xs ys → Each Q xs (map f ys)
+each_map P Q f g [] [] h = tt
+each_map P Q f g [] (y ∷ ys) h = absurd h
+each_map P Q f g (x ∷ xs) [] h = absurd h
+each_map P Q f g (x ∷ xs) (y ∷ ys) h = (g x y h.0, each_map P Q f g xs ys h.1)
 
 -- ---- tests of a node
 pub above_first : (vs : List ℕ) (bs : List Block) (b : Block) (r : Bool) → is_spare vs bs ≡ true → slice_get bs 0 ≡ Some b → r ≡ not (block_shape b).is_cycle → r ≡ is_above_bridge vs bs
@@ -50,33 +66,6 @@ above_first vs bs b r spare at e =
       one [] h a = absurd (false≢true h)
       one (c ∷ []) h a = and-true (not (block_shape c).is_cycle) ∙ ap (λ d. not (block_shape d).is_cycle) (get_or_from_slice_get (c ∷ []) 0 b b a)
       one (c ∷ (d ∷ cs)) h a = absurd (false≢true (sym (ne_eqb (length (c ∷ (d ∷ cs))) 1 (λ k. omega (arith, k))) ∙ h))
-
--- ---- nodes are drawn for a cycle
-pub record DrawsNodes {X Y : Type 0} (N : Read → X → Type 0) (C : Read → Y → Type 0) (rs : List Read) (nodes : List Y) (stack : List X) : Type 0 where
-  pub done : List Read
-  pub rest : List Read
-  pub children : Each C done nodes
-  pub nodes_left : Each N rest stack
-  pub whole : done ++ rest ≡ rs
-
-pub draws_none : {X Y : Type 0} (N : Read → X → Type 0) (C : Read → Y → Type 0) (rs : List Read) (nodes : List Y) (stack : List X) → nodes ≡ [] → Each N rs stack → DrawsNodes N C rs nodes stack
-draws_none N C rs nodes stack e a = record { done = []; rest = rs; children = subst (Each C []) (sym e) tt; nodes_left = a; whole = refl }
-
-pub draws_one : {X Y : Type 0} (N : Read → X → Type 0) (C : Read → Y → Type 0) (rs : List Read) (nodes more : List Y) (before after : List X) (x : X) (y : Y) → DrawsNodes N C rs nodes before → before ≡ x ∷ after → more ≡ nodes ++ y ∷ [] →
-    ((r : Read) → N r x → C r y) → DrawsNodes N C rs more after
-draws_one N C rs nodes more before after x y d b m f =
-    let v = each_first N d.rest x after (subst (Each N d.rest) b d.nodes_left) in
-    record {
-      done = d.done ++ v.0 ∷ [];
-      rest = v.1;
-      children = subst (Each C (d.done ++ v.0 ∷ [])) (sym m) (each_push C d.done nodes v.0 y d.children (f v.0 v.3));
-      nodes_left = v.4;
-      whole = append_assoc d.done (v.0 ∷ []) v.1 ∙ ap (λ l. d.done ++ l) (sym v.2) ∙ d.whole;
-    }
-
-pub draws_all : {X Y : Type 0} (N : Read → X → Type 0) (C : Read → Y → Type 0) (rs : List Read) (nodes : List Y) (stack : List X) (k : ℕ) → length nodes ≡ k → DrawsNodes N C rs nodes stack → Each C (take k rs) nodes
-draws_all N C rs nodes stack k n d =
-    subst (λ l. Each C l nodes) (drawn_front d.done d.rest rs k (each_length C d.done nodes d.children ∙ n) d.whole) d.children
 
 -- ---- a bridge is drawn
 pub bridge_drawn : {X B : Type 0} (N : Read → X → Type 0) (K : Read → B → Type 0) (b : B) (x : X) (after all : List X) (rs : List Read) → all ≡ x ∷ after → ((r : Read) → N r x → K (bridge_read r) b) → Each N rs all →

@@ -12,7 +12,8 @@ use Rattle.cut_definitions.proofs.Bools.{or_nothing}
 use Rattle.vertex_set.specs.Side.{VertexList}
 use Rattle.vertex_set.proofs.Bits.{filter-same, listed-none}
 use Rattle.rooted_cactus.specs.CutRanges.{Range, elements_at}
-use Rattle.rooted_cactus.specs.Places.{AreOnce, IsVertex, side_at}
+use Rattle.rooted_cactus.specs.Places.{AreOnce, side_at}
+use Rattle.cut_definitions.specs.Graph.{IsVertex}
 use Rattle.rooted_cactus.specs.Entered.{entered}
 use Rattle.rooted_cactus.specs.Rooted.{IsCactus}
 use Rattle.rooted_cactus.specs.declared.tree.Node.{Node}

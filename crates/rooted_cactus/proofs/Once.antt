@@ -7,7 +7,8 @@ use Rattle.std.proofs.lemmas.Bool.{eqb-true, ne_eqb, false≢true, le-leb, lt-le
 use Rattle.std.proofs.Math.Bool.{and-false}
 use Rattle.cut_definitions.proofs.Numbers.{cases_le}
 use Rattle.cut_definitions.specs.Cuts.{has, IsAscendingWithin}
-use Rattle.rooted_cactus.specs.Places.{AreOnce, IsVertex}
+use Rattle.rooted_cactus.specs.Places.{AreOnce}
+use Rattle.cut_definitions.specs.Graph.{IsVertex}
 use Rattle.rooted_cactus.specs.Entered.{entered}
 use Rattle.rooted_cactus.specs.Rooted.{IsCactus}
 use Rattle.rooted_cactus.specs.declared.tree.Node.{Node}

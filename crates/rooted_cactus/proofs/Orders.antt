@@ -1,13 +1,11 @@
 -- The equations of the order of entering.
-use Rattle.std.proofs.Common.{◌≡◌, ℕ, ◌-◌, ◌≤◌, ◌<◌, suc, length, drop, get_or, arith, List, [], ◌∷◌, ◌++◌, map, ap, ◌∙◌, sym}
-use Rattle.std.specs.List.{flat_map, concat}
-use Rattle.std.proofs.Math.Seq.{drop-cons}
-use Rattle.std.specs.Borrow.{Bor}
-use Rattle.std.proofs.lemmas.List.{append-nil, append_assoc}
+use Rattle.std.proofs.Common.{◌≡◌, ℕ, List, [], ◌∷◌, ◌++◌, map, ap, ◌∙◌, sym}
+use Rattle.std.specs.List.{flat_map}
+use Rattle.std.proofs.lemmas.List.{append-nil}
 use Rattle.std.proofs.lemmas.List.Concat.{flat_map-append}
 use Rattle.std.specs.declared.boxed.Box.{Box}
 use Rattle.std.specs.declared.alloc.Global.{Global}
-use Rattle.rooted_cactus.specs.Entered.{entered, entered_block, in_order, waiting, entered_block_step, entered_blocks_step, entered_children_step, entered_node_step}
+use Rattle.rooted_cactus.specs.Entered.{entered, entered_block, in_order, entered_block_step, entered_blocks_step, entered_children_step, entered_node_step}
 use Rattle.rooted_cactus.specs.Trees.{vertices, blocks, nodes_in}
 use Rattle.rooted_cactus.specs.declared.tree.Node.{Node, out-Node}
 use Rattle.rooted_cactus.specs.declared.tree.Block.{Block}
@@ -40,26 +38,6 @@ entered_cycle nodes = ap (fold-Block Lists Lists Lists Lists entered_block_step 
     ∙ fold-roll-Block Lists Lists Lists Lists entered_block_step entered_blocks_step entered_children_step entered_node_step (Open.Cycle nodes)
     ∙ fold_out-Children Lists Lists Lists Lists entered_block_step entered_blocks_step entered_children_step entered_node_step nodes
     ∙ in_order_map (fold-Node Lists Lists Lists Lists entered_block_step entered_blocks_step entered_children_step entered_node_step) (nodes_in nodes)
-
-pub waiting_append : (xs ys : List (Bor Node)) → waiting (xs ++ ys) ≡ waiting ys ++ waiting xs
-waiting_append [] ys = sym (append-nil (waiting ys))
-waiting_append (x ∷ xs) ys = ap (λ l. l ++ entered x.now) (waiting_append xs ys) ∙ append_assoc (waiting ys) (waiting xs) (entered x.now)
-
-pub waiting_push : (xs : List (Bor Node)) (x : Bor Node) → waiting (xs ++ x ∷ []) ≡ entered x.now ++ waiting xs
-waiting_push xs x = waiting_append xs (x ∷ [])
-
--- one more element before those that were stacked
-pub stacked : {X : Type 0} (f : X → Lists) (xs : List X) (i : ℕ) (x : X) (before after rest : Lists) → 0 < i → i ≤ length xs → x ≡ get_or xs (i - 1) x → before ≡ flat_map f (drop i xs) ++ rest → after ≡ f x ++ before → after ≡ flat_map f (drop (i - 1) xs) ++ rest
-stacked f xs i x before after rest some within is b a =
-    let next : suc (i - 1) ≡ i = omega arith in
-    let here : drop (i - 1) xs ≡ x ∷ drop i xs = drop-cons xs (i - 1) x (omega arith) ∙ ap (λ y. y ∷ drop (suc (i - 1)) xs) (sym is) ∙ ap (λ k. x ∷ drop k xs) next in
-    a ∙ ap (λ l. f x ++ l) b ∙ sym (append_assoc (f x) (flat_map f (drop i xs)) rest) ∙ ap (λ l. flat_map f l ++ rest) (sym here)
-
--- a node is taken off the stack, and what is below it put there
-pub walked : (node : Node) (order more : List ℕ) (before after rest : Lists) → before ≡ entered node ++ rest → after ≡ flat_map entered_block (blocks node) ++ rest → more ≡ order ++ vertices node → (length after < length before) × (more ++ concat after ≡ order ++ concat before)
-walked node order more before after rest b a m =
-    let whole : before ≡ vertices node ∷ after = b ∙ ap (λ l. l ++ rest) (entered_out node) ∙ ap (λ l. vertices node ∷ l) (sym a) in
-    (omega (arith, ap length whole), ap (λ l. l ++ concat after) m ∙ append_assoc order (vertices node) (concat after) ∙ ap (λ l. order ++ concat l) (sym whole))
 
 -- one more block at the end of a node's list
 pub hung_entered : (x y : Node) (b : Block) → vertices y ≡ vertices x → blocks y ≡ blocks x ++ b ∷ [] → entered y ≡ entered x ++ entered_block b

@@ -1,5 +1,5 @@
 -- The equations of the shape of a tree.
-use Rattle.std.proofs.Common.{ne_eqb, ◌≡◌, ℕ, Bool, true, false, ◌&&◌, ◌==◌, ◌≤◌, ◌<◌, arith, List, ◌∷◌, length, map, ap, ◌∙◌, sym}
+use Rattle.std.proofs.Common.{ne_eqb, ◌≡◌, ℕ, Bool, true, false, ◌&&◌, ◌==◌, ◌≤◌, arith, List, ◌∷◌, length, map, ap, ◌∙◌, sym}
 use Rattle.std.specs.Prelude.{nat_le}
 use Rattle.std.specs.List.{list_all, Contains}
 use Rattle.std.proofs.lemmas.Simd.{map-map}
@@ -7,7 +7,7 @@ use Rattle.std.proofs.lemmas.List.{length-map}
 use Rattle.std.proofs.lemmas.List.Folds.{list_all-map}
 use Rattle.std.specs.declared.boxed.Box.{Box}
 use Rattle.std.specs.declared.alloc.Global.{Global}
-use Rattle.std.proofs.lemmas.Bool.{le-leb, lt-leb}
+use Rattle.std.proofs.lemmas.Bool.{le-leb}
 use Rattle.rooted_cactus.specs.Normal.{NodeShape, BlockShape, shape, block_shape, child_fine, well_placed, is_normal, shape_block_step, shape_blocks_step, shape_children_step, shape_node_step}
 use Rattle.rooted_cactus.specs.Trees.{vertices, blocks, nodes_in}
 use Rattle.rooted_cactus.specs.declared.tree.Node.{Node, out-Node}
@@ -58,11 +58,6 @@ pub wide_fine : (nodes : Children) → 2 ≤ length (nodes_in nodes) → (block_
 wide_fine nodes h =
     let yes : nat_le 2 (length (map shape (nodes_in nodes))) ≡ true = le-leb 2 _ (omega (arith, length_shapes (nodes_in nodes))) in
     cycle_fine nodes ∙ ap (λ b. b && list_all (λ x. child_fine true (shape x)) (nodes_in nodes)) yes
-
-pub narrow_fine : (nodes : Children) → length (nodes_in nodes) < 2 → (block_shape (Cycle nodes)).fine ≡ false
-narrow_fine nodes h =
-    let no : nat_le 2 (length (map shape (nodes_in nodes))) ≡ false = lt-leb 2 _ (omega (arith, length_shapes (nodes_in nodes))) in
-    cycle_fine nodes ∙ ap (λ b. b && list_all (λ x. child_fine true (shape x)) (nodes_in nodes)) no
 
 pub child_parts : (above : Bool) (x : Node) → child_fine above (shape x) ≡ (well_placed (length (vertices x) == 0) (above ∷ map (λ b. (block_shape b).is_cycle) (blocks x)) && list_all (λ b. (block_shape b).fine) (blocks x))
 child_parts above x =

@@ -1,15 +1,18 @@
 -- Nodes and blocks that are put on a stack from the last to the first.
 use Rattle.std.proofs.Common.{◌≡◌, ℕ, zero, suc, ◌+◌, ◌-◌, ◌≤◌, ◌<◌, List, [], ◌∷◌, ◌++◌, length, get_or, drop, map, ap, ◌∙◌, sym, refl, arith}
 use Rattle.std.specs.List.{flat_map}
-use Rattle.std.proofs.lemmas.List.{append-nil, append_assoc, length-append}
+use Rattle.std.proofs.lemmas.List.{append_assoc, length-append}
 use Rattle.rooted_cactus.specs.Outlines.{Outline, outline, block_outline, entries_with, block_entries, all_outlines}
 use Rattle.rooted_cactus.specs.Heads.{entries_waiting}
 use Rattle.rooted_cactus.specs.Trees.{blocks}
+use Rattle.rooted_cactus.specs.Entries.{nodes_of}
 use Rattle.rooted_cactus.specs.declared.tree.outline.NodeOutline.{NodeOutline}
 use Rattle.rooted_cactus.specs.declared.tree.outline.Seen.{Seen}
 use Rattle.rooted_cactus.specs.declared.tree.Node.{Node}
 use Rattle.rooted_cactus.specs.declared.tree.Block.{Block}
-use Rattle.rooted_cactus.proofs.Outlined.{outline_out}
+use Rattle.rooted_cactus.proofs.Outlined.{outline_out, outline_bridge, outline_cycle}
+use Rattle.rooted_cactus.proofs.Walks.{by_nodes}
+use Rattle.rooted_cactus.proofs.Entries.{top_push}
 use Rattle.rooted_cactus.proofs.Drops.{drop_at}
 
 -- the entries of the nodes of a block from a place on
@@ -17,12 +20,8 @@ abbrev pub entries_from : ℕ → List Outline → List NodeOutline
 entries_from zero os = block_entries os
 entries_from (suc _) os = flat_map (entries_with 0) os
 
-waiting_both : (xs ys : List Seen) → entries_waiting (xs ++ ys) ≡ entries_waiting ys ++ entries_waiting xs
-waiting_both [] ys = sym (append-nil (entries_waiting ys))
-waiting_both (x ∷ xs) ys = ap (λ l. l ++ entries_with x.head (outline x.node.now)) (waiting_both xs ys) ∙ append_assoc (entries_waiting ys) (entries_waiting xs) (entries_with x.head (outline x.node.now))
-
 pub waiting_push : (xs : List Seen) (x : Seen) → entries_waiting (xs ++ x ∷ []) ≡ entries_with x.head (outline x.node.now) ++ entries_waiting xs
-waiting_push xs x = waiting_both xs (x ∷ [])
+waiting_push xs x = ap (flat_map (λ (s : Seen). entries_with s.head (outline s.node.now))) (top_push xs x)
 
 from_place : (i head : ℕ) (o : Outline) (os : List Outline) → (i ≡ 0 → head ≡ length (o ∷ os)) → (0 < i → head ≡ 0) → entries_with head o ++ flat_map (entries_with 0) os ≡ entries_from i (o ∷ os)
 from_place zero head o os f g = ap (λ k. entries_with k o ++ flat_map (entries_with 0) os) (f refl)
@@ -32,11 +31,10 @@ rest_from : (i : ℕ) (os : List Outline) → 0 < i → entries_from i os ≡ fl
 rest_from zero os h = absurd (omega (arith, h))
 rest_from (suc i) os h = refl
 
--- the node of a bridge
-pub one_node : (o : Outline) (rest : List NodeOutline) → entries_with 1 o ++ rest ≡ block_entries (o ∷ []) ++ rest
-one_node o rest = ap (λ l. (let y : NodeOutline = record { children = o.children; head = 1 } in y) ∷ (l ++ rest)) (sym (append-nil o.inner))
+pub outline_nodes : (b : Block) → block_outline b ≡ map outline (nodes_of b)
+outline_nodes = by_nodes block_outline (map outline) outline_bridge outline_cycle
 
--- one more node of a cycle, with its head
+-- one more node of a block, with its head
 pub stacked_node : (xs : List Node) (i head : ℕ) (x : Node) (before after rest : List NodeOutline) → 0 < i → i ≤ length xs → x ≡ get_or xs (i - 1) x →
     (i - 1 ≡ 0 → head ≡ length xs) → (0 < i - 1 → head ≡ 0) →
     before ≡ entries_from i (map outline (drop i xs)) ++ rest → after ≡ entries_with head (outline x) ++ before → after ≡ entries_from (i - 1) (map outline (drop (i - 1) xs)) ++ rest

@@ -1,9 +1,8 @@
 -- Lists that a loop makes of the first elements of another, with one element more.
-use Rattle.std.proofs.Common.{◌≡◌, ◌<◌, ◌+◌, ◌&&◌, ℕ, zero, suc, Bool, true, List, [], ◌∷◌, ◌++◌, length, get_or, take, map, ap, sym, ◌∙◌, refl, append-nil}
-use Rattle.std.specs.List.{flat_map, list_all}
+use Rattle.std.proofs.Common.{◌≡◌, ◌<◌, ◌+◌, ℕ, zero, suc, List, [], ◌∷◌, ◌++◌, length, get_or, take, map, ap, sym, ◌∙◌, refl, append-nil}
+use Rattle.std.specs.List.{flat_map}
 use Rattle.std.specs.Global.{Vec}
 use Rattle.std.proofs.lemmas.List.{length-append, map-append, take_more}
-use Rattle.std.proofs.lemmas.List.Folds.{list_all-append}
 use Rattle.std.proofs.lemmas.Grind.{flat_map-append}
 use Rattle.rooted_cactus.specs.Spread.{group_at}
 
@@ -20,14 +19,6 @@ flat_next f xs i d old h so =
     ap (λ l. l ++ f x) so
     ∙ ap (λ l. flat_map f (take i xs) ++ l) (sym (append-nil (f x)))
     ∙ sym (ap (flat_map f) (take_more xs i d h) ∙ flat_map-append f (take i xs) (x ∷ []))
-
-pub all_next : {X : Type 0} (p : X → Bool) (xs : List X) (i : ℕ) (x : X) → i < length xs → x ≡ get_or xs i x → p x ≡ true → list_all p (take i xs) ≡ true
-    → list_all p (take (i + 1) xs) ≡ true
-all_next p xs i x h is now so =
-    ap (list_all p) (take_more xs i x h ∙ ap (λ y. take i xs ++ y ∷ []) (sym is))
-    ∙ list_all-append p (take i xs) (x ∷ [])
-    ∙ ap (λ (b : Bool). b && (p x && true)) so
-    ∙ ap (λ (b : Bool). b && true) now
 
 -- a list without an element put behind others changes none of them
 pub no_group_next : (groups : List (Vec ℕ)) (v : Vec ℕ) → v.items ≡ [] → ((k : ℕ) → group_at groups k ≡ []) → (k : ℕ) → group_at (groups ++ v ∷ []) k ≡ []

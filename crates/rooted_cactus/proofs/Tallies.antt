@@ -1,11 +1,10 @@
 -- The equations of the number of the cuts of a tree.
-use Rattle.std.proofs.Common.{◌≡◌, Bool, true, false, ◌&&◌, ◌==◌, Some, take, inl, inr, ℕ, zero, suc, ◌+◌, ◌-◌, ◌*◌, ◌<◌, ◌≤◌, List, [], ◌∷◌, ◌++◌, length, map, ap, ◌∙◌, sym, refl, arith, append-nil}
+use Rattle.std.proofs.Common.{◌≡◌, Bool, true, false, ◌&&◌, ◌==◌, Some, get_or, take, inl, inr, ℕ, zero, suc, ◌+◌, ◌-◌, ◌*◌, ◌<◌, ◌≤◌, List, [], ◌∷◌, ◌++◌, length, map, ap, ◌∙◌, sym, refl, arith, append-nil}
 use Rattle.std.specs.Prelude.{slice_get, if◌then◌else◌, nat_lt, cond}
 use Rattle.std.specs.List.{filter, flat_map, list_all}
 use Rattle.std.proofs.lemmas.Bool.{and_parts, eqb-true, ltb-false, false≢true}
-use Rattle.std.specs.Borrow.{Bor}
 use Rattle.std.proofs.lemmas.Option.{get_or_from_slice_get, slice_get_within}
-use Rattle.std.proofs.lemmas.List.{length-map, length-append, map-append, append_assoc, take_more}
+use Rattle.std.proofs.lemmas.List.{length-map, length-append, append_assoc, take_more}
 use Rattle.std.proofs.lemmas.List.Concat.{flat_map-append}
 use Rattle.std.proofs.lemmas.List.Elements.{filter-append}
 use Rattle.std.specs.declared.boxed.Box.{Box}
@@ -20,13 +19,13 @@ use Rattle.rooted_cactus.specs.declared.tree.Block.TheVariants.{Bridge, Cycle, r
 use Rattle.rooted_cactus.specs.declared.tree.Block.TheOpen as Open
 use Rattle.rooted_cactus.specs.declared.tree.Block.TheFolds.{fold_out-Node, fold_out-Blocks, fold_out-Children, fold-roll-Block, fold-Block}
 use Rattle.rooted_cactus.specs.Entered.{entered, entered_block}
-use Rattle.rooted_cactus.proofs.Orders.{entered_out, entered_bridge, entered_cycle}
-use Rattle.rooted_cactus.proofs.Entries.{nodes_bridge, nodes_cycle}
-use Rattle.rooted_cactus.specs.Numbers.{Tally, number, tally, total, triangle, between, seen, is_inner, all_own, all_under, own_of, number_of, tally_block_step, tally_blocks_step, tally_children_step, tally_node_step}
+use Rattle.rooted_cactus.proofs.Orders.{entered_out}
+use Rattle.rooted_cactus.specs.Numbers.{Tally, number, tally, total, triangle, between, is_inner, all_own, all_under, own_of, number_of, tally_block_step, tally_blocks_step, tally_children_step, tally_node_step}
 use Rattle.rooted_cactus.specs.Trims.{is_spare}
 use Rattle.rooted_cactus.specs.Normal.{BlockShape, block_shape}
 use Rattle.rooted_cactus.proofs.Shapes.{bridge_shape, cycle_shape}
 use Rattle.rooted_cactus.proofs.Views.{view}
+use Rattle.rooted_cactus.proofs.Walks.{by_nodes, entered_nodes}
 
 pub number_out : (x : Node) → number x ≡ number_of (vertices x) (map tally (blocks x))
 unfolding number tally
@@ -53,6 +52,9 @@ tally_cycle nodes = ap (fold-Block Tally (List Tally) (List ℕ) ℕ tally_block
 pub cycle_own_is : (nodes : Children) → (tally (Cycle nodes)).own ≡ triangle (length (nodes_in nodes))
 cycle_own_is nodes = ap (λ (t : Tally). t.own) (tally_cycle nodes) ∙ ap triangle (length-map (nodes_in nodes) number)
 
+pub own_is : (b : Block) → (tally b).own ≡ triangle (length (nodes_of b))
+own_is = by_nodes (λ b. (tally b).own) (λ xs. triangle (length xs)) (λ child. ap (λ (t : Tally). t.own) (tally_bridge child)) cycle_own_is
+
 -- both folds tell which blocks are cycles
 pub kind_is : (b : Block) → (block_shape b).is_cycle ≡ (tally b).is_cycle
 kind_is b = elim (view b) [
@@ -74,14 +76,9 @@ numbers_append (x ∷ xs) ys = omega (arith, numbers_append xs ys)
 
 -- what is under a block are its nodes
 pub under_is : (b : Block) → (tally b).under ≡ all_numbers (nodes_of b)
-under_is b = elim (view b) [
-  | inl h ↦ (
-      let x = h.0.value in
-      let here : all_numbers (nodes_of b) ≡ number x + 0 = ap all_numbers (ap nodes_of h.1 ∙ nodes_bridge h.0) in
-      let there : (tally b).under ≡ number x = ap (λ (t : Tally). t.under) (ap tally h.1 ∙ tally_bridge h.0) in
-      omega (arith, here, there))
-  | inr h ↦ ap (λ (t : Tally). t.under) (ap tally h.1 ∙ tally_cycle h.0) ∙ ap all_numbers (sym (ap nodes_of h.1 ∙ nodes_cycle h.0))
-]
+under_is = by_nodes (λ b. (tally b).under) all_numbers (λ child. ap (λ (t : Tally). t.under) (tally_bridge child) ∙ one_number child.value) (λ nodes. ap (λ (t : Tally). t.under) (tally_cycle nodes)) where
+  one_number : (x : Node) → number x ≡ all_numbers (x ∷ [])
+  one_number x = omega arith
 
 pub all_under_is : (bs : List Block) → all_under (map tally bs) ≡ all_numbers (flat_map nodes_of bs)
 all_under_is [] = refl
@@ -134,13 +131,10 @@ between_no vs bs h =
     ap (λ k. (length vs == 0) && ((k == 1) && list_all (λ (t : Tally). t.is_cycle) (map tally bs))) (length-map bs tally)
     ∙ and_no (length vs == 0) (length bs == 1) (list_all (λ (t : Tally). t.is_cycle) (map tally bs)) h
 
-pub seen_push : (stack : List (Bor Node)) (x : Bor Node) → seen (stack ++ x ∷ []) ≡ seen stack ++ x.now ∷ []
-seen_push stack x = map-append (λ (y : Bor Node). y.now) stack (x ∷ [])
-
 -- one more node of a list, and one more block, of those that have a block below them
-pub inner_node : (before after start xs : List Node) (i : ℕ) (x : Node) → after ≡ before ++ filter is_inner (x ∷ []) → slice_get xs i ≡ Some x → before ≡ start ++ filter is_inner (take i xs) → after ≡ start ++ filter is_inner (take (i + 1) xs)
-inner_node before after start xs i x e a h =
-    let more : take (i + 1) xs ≡ take i xs ++ x ∷ [] = take_more xs i x (slice_get_within xs i x a) ∙ ap (λ y. take i xs ++ y ∷ []) (get_or_from_slice_get xs i x x a) in
+pub inner_node : (before after start xs : List Node) (i : ℕ) (x : Node) → after ≡ before ++ filter is_inner (x ∷ []) → i < length xs → x ≡ get_or xs i x → before ≡ start ++ filter is_inner (take i xs) → after ≡ start ++ filter is_inner (take (i + 1) xs)
+inner_node before after start xs i x e within is h =
+    let more : take (i + 1) xs ≡ take i xs ++ x ∷ [] = take_more xs i x within ∙ ap (λ y. take i xs ++ y ∷ []) (sym is) in
     e ∙ ap (λ l. l ++ filter is_inner (x ∷ [])) h ∙ append_assoc start (filter is_inner (take i xs)) (filter is_inner (x ∷ []))
     ∙ ap (λ l. start ++ l) (sym (ap (filter is_inner) more ∙ filter-append is_inner (take i xs) (x ∷ [])))
 
@@ -203,11 +197,8 @@ nodes_to_come xs = length (flat_map entered xs)
 come_append : (xs ys : List Node) → nodes_to_come (xs ++ ys) ≡ nodes_to_come xs + nodes_to_come ys
 come_append xs ys = ap length (flat_map-append entered xs ys) ∙ length-append (flat_map entered xs) (flat_map entered ys)
 
-pub come_block : (b : Block) → nodes_to_come (nodes_of b) ≡ length (entered_block b)
-come_block b = elim (view b) [
-  | inl h ↦ ap nodes_to_come (ap nodes_of h.1 ∙ nodes_bridge h.0) ∙ ap length (append-nil (entered h.0.value)) ∙ sym (ap length (ap entered_block h.1 ∙ entered_bridge h.0))
-  | inr h ↦ ap nodes_to_come (ap nodes_of h.1 ∙ nodes_cycle h.0) ∙ sym (ap length (ap entered_block h.1 ∙ entered_cycle h.0))
-]
+come_block : (b : Block) → nodes_to_come (nodes_of b) ≡ length (entered_block b)
+come_block b = ap length (sym (entered_nodes b))
 
 come_blocks : (bs : List Block) → nodes_to_come (flat_map nodes_of bs) ≡ length (flat_map entered_block bs)
 come_blocks [] = refl

@@ -49,3 +49,7 @@ pub record HopsAt (sizes : List ℕ) (k : ℕ) (e : NodeOutline) : Type 0 where
 pub data AllHop : List ℕ → ℕ → List NodeOutline → Type 0 where
   hops_end : (sizes : List ℕ) (k : ℕ) → AllHop sizes k []
   hops_more : (sizes : List ℕ) (k : ℕ) (e : NodeOutline) (es : List NodeOutline) → HopsAt sizes k e → AllHop sizes (k + 1) es → AllHop sizes k (e ∷ es)
+
+-- the range from one border to another
+abbrev pub range_between : List Border → ℕ → ℕ → Range
+range_between bs start end = record { from = (border_at bs start).place; to = (border_at bs end).place }

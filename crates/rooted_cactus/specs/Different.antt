@@ -1,12 +1,8 @@
 -- The number of the different members of a list, and lists with the same members.
-use Rattle.std.specs.Prelude.{ℕ, ◌≡◌, ◌<◌, ◌↔◌, ⊤, List, [], ◌∷◌, length}
+use Rattle.std.specs.Prelude.{ℕ, ◌≡◌, ◌<◌, ◌↔◌, List, length}
 use Rattle.std.specs.List.{All, Contains}
+use Rattle.cut_definitions.specs.Members.{AreDifferent}
 use Rattle.rooted_cactus.specs.Rooted.{Rooted, sides_of}
-
--- no member is there twice
-abbrev pub AreDifferent : {X : Type 0} → List X → Type 0
-AreDifferent [] = ⊤
-AreDifferent (x ∷ xs) = (Contains xs x → ⊥) × AreDifferent xs
 
 -- a list of k different members has the members of the list
 pub record HasDifferent (k : ℕ) (xs : List (List ℕ)) : Type 0 where

@@ -1,7 +1,6 @@
 -- The nodes of a tree in the order in which it is entered: a node, then its blocks in order.
-use Rattle.std.specs.Prelude.{ℕ, slice_index_or, map, List, [], ◌∷◌, ◌++◌}
+use Rattle.std.specs.Prelude.{ℕ, slice_index_or, map, List, ◌∷◌}
 use Rattle.std.specs.List.{flat_map}
-use Rattle.std.specs.Borrow.{Bor}
 use Rattle.rooted_cactus.specs.declared.tree.Node.{Node}
 use Rattle.rooted_cactus.specs.declared.tree.Block.{Block}
 use Rattle.rooted_cactus.specs.declared.tree.Block.TheOpen.{Block-F, Blocks-F, Children-F, Node-F, Bridge, Cycle}
@@ -31,11 +30,6 @@ entered = fold-Node (List (List ℕ)) (List (List ℕ)) (List (List ℕ)) (List 
 -- the same of the nodes of a block, without the node above
 unfoldable pub entered_block : Block → List (List ℕ)
 entered_block = fold-Block (List (List ℕ)) (List (List ℕ)) (List (List ℕ)) (List (List ℕ)) entered_block_step entered_blocks_step entered_children_step entered_node_step
-
--- the nodes on a stack and all below them, the last on the stack first
-abbrev pub waiting : List (Bor Node) → List (List ℕ)
-waiting [] = []
-waiting (x ∷ xs) = waiting xs ++ entered x.now
 
 -- the entry of the table at the place of the number, or the number where there is none
 abbrev pub name_of : List ℕ → ℕ → ℕ

@@ -70,6 +70,13 @@ read_block sets names b = record { part = block_part_by (λ l. sets (names l)) b
 abbrev pub kept : List ℕ → List ℕ
 kept l = l
 
+-- off a node or a block this is read
+abbrev pub NodeReads : (List ℕ → VertexSet) → Read → Node → Type 0
+NodeReads sets r x = read_node sets kept x ≡ r
+
+abbrev pub BlockReads : (List ℕ → VertexSet) → Read → Block → Type 0
+BlockReads sets r b = read_block sets kept b ≡ r
+
 -- how many nodes a block takes from the front of a list
 abbrev pub used : Joint → ℕ
 used (Joints.Bridge _) = 1

@@ -3,6 +3,7 @@ use Rattle.std.specs.Prelude.{ℕ, zero, suc, ◌+◌, ◌-◌, Bool, true, fals
 use Rattle.std.specs.List.{list_all}
 use Rattle.std.specs.Borrow.{Bor}
 use Rattle.rooted_cactus.specs.Trees.{blocks}
+use Rattle.rooted_cactus.specs.Entries.{top_first}
 use Rattle.rooted_cactus.specs.declared.tree.Node.{Node}
 use Rattle.rooted_cactus.specs.declared.tree.Block.{Block}
 use Rattle.rooted_cactus.specs.declared.tree.Block.TheOpen.{Block-F, Blocks-F, Children-F, Node-F, Bridge, Cycle}
@@ -64,6 +65,10 @@ tally = fold-Block Tally (List Tally) (List ℕ) ℕ tally_block_step tally_bloc
 -- the nodes on a stack
 abbrev pub seen : List (Bor Node) → List Node
 seen = map (λ (x : Bor Node). x.now)
+
+-- the same, the last first
+abbrev pub waiting : List (Bor Node) → List Node
+waiting xs = top_first (seen xs)
 
 -- whether a node has a block below it
 abbrev pub is_inner : Node → Bool

@@ -1,22 +1,16 @@
 -- Whether a block is as it must be for a tree to be normal, without what is below its nodes.
-use Rattle.std.specs.Prelude.{Bool, ◌&&◌, ◌==◌, true, false, nat_le, ◌∷◌, length, map}
+use Rattle.std.specs.Prelude.{Bool, ◌&&◌, ◌||◌, ◌==◌, not, nat_le, ◌∷◌, length, map}
 use Rattle.std.specs.List.{list_all}
 use Rattle.rooted_cactus.specs.declared.tree.Node.{Node}
-use Rattle.rooted_cactus.specs.declared.tree.Block.{Block, out-Block}
-use Rattle.rooted_cactus.specs.declared.tree.Blocks.{Blocks}
-use Rattle.rooted_cactus.specs.declared.tree.Children.{Children}
-use Rattle.rooted_cactus.specs.declared.tree.Block.TheOpen.{Block-F, Bridge, Cycle}
-use Rattle.rooted_cactus.specs.Trees.{vertices, blocks, nodes_in}
+use Rattle.rooted_cactus.specs.declared.tree.Block.{Block}
+use Rattle.rooted_cactus.specs.Entries.{nodes_of}
+use Rattle.rooted_cactus.specs.Trees.{vertices, blocks}
 use Rattle.rooted_cactus.specs.Normal.{block_shape, well_placed}
 
 -- a node below a block, which is a cycle or a bridge, lies in blocks enough
 abbrev pub is_set : Bool → Node → Bool
 is_set above x = well_placed (length (vertices x) == 0) (above ∷ map (λ b. (block_shape b).is_cycle) (blocks x))
 
-abbrev pub placed_step : Block-F Block Blocks Children Node → Bool
-placed_step (Bridge child) = is_set false child.value
-placed_step (Cycle nodes) = nat_le 2 (length (nodes_in nodes)) && list_all (is_set true) (nodes_in nodes)
-
 -- the nodes below the upper node of a block lie in blocks enough, and there are two or more of them where it is a cycle
 abbrev pub is_placed : Block → Bool
-is_placed b = placed_step (out-Block b)
+is_placed b = (not (block_shape b).is_cycle || nat_le 2 (length (nodes_of b))) && list_all (is_set (block_shape b).is_cycle) (nodes_of b)

@@ -17,10 +17,6 @@ is_inside r p = nat_le r.from p && not (nat_le r.to p)
 abbrev pub AreOnce : ℕ → List ℕ → Type 0
 AreOnce n order = (v : ℕ) → 1 ≤ v → v ≤ n → (p : ℕ) × ((r : Range) → has (elements_at order r) v ≡ is_inside r p)
 
--- a vertex of 1 to n
-abbrev pub IsVertex : ℕ → ℕ → Type 0
-IsVertex n v = (1 ≤ v) × (v ≤ n)
-
 -- the vertices at the places of a range, as an ascending list
 abbrev pub side_at : ℕ → List ℕ → Range → List ℕ
 side_at n order r = filter (has (elements_at order r)) (range_with_len 1 n)

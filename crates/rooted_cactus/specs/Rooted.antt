@@ -13,6 +13,10 @@ pub record Rooted : Type 0 where
   pub vertices : ℕ
   pub root : Node
 
+-- the tree of a node over the vertices 1 to n
+abbrev pub over : ℕ → Node → Rooted
+over n root = record { vertices = n; root = root }
+
 -- the number of the nodes that have a vertex
 abbrev pub places : Node → ℕ → ℕ
 places root v = length (filter (λ l. has l v) (entered root))

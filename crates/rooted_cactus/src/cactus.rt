@@ -15,8 +15,8 @@ ghost use Rattle.rooted_cactus.specs.Formula.{census};
 ghost use Rattle.rooted_cactus.specs.Numbers.{number, total, triangle};
 
 use crate::tree::{
-    Blocks, Node, blocks_are_normal, count_cuts, count_node, entries_of, is_normal_below,
-    number_of, put_together, spread_node,
+    Blocks, Node, TrimmingMaker, blocks_are_normal, count_cuts, count_node, entries_of,
+    is_normal_below, number_of, put_together, spread_node,
 };
 use crate::vertex_list::VertexList;
 use cut_definitions::NoMemory;
@@ -149,7 +149,7 @@ impl Cactus {
     {
         let n = self.n();
         let entries = entries_of(alloc, self.into_root(), n as usize)?;
-        let root = put_together(alloc, entries, true)?;
+        let root = put_together::<TrimmingMaker>(alloc, entries)?;
         Ok(Cactus::from_root(n, root))
     }
 

@@ -8,9 +8,9 @@
 //! For these two it also lists the vertices with the place at which each node begins, `in_order`, and tells of each node,
 //! in the same order, how many nodes are right below it and in its block, `outline_of`, and from it down, `sizes_along`.
 //!
-//! Where a tree is made anew it is taken apart into entries, `entries_of`, and put together from the last one: as it was with
-//! other vertices, or without the nodes and bridges that can be spared (`hung`, `trimmed`). `canonical_cactus` puts the same
-//! entries together in its own order.
+//! Where a tree is made anew it is taken apart into entries, `entries_of`, and put together from the last one, `put_together`.
+//! What nodes and blocks are made into is a `Maker`'s to say: one puts the tree together as it was with other vertices, one
+//! without the nodes and bridges that can be spared (`hung`, `trimmed`), and that of `canonical_cactus` in an order of its own.
 //!
 //! `Solved` has a cactus of all minimum cuts of a graph beside its value: the solver makes it, and what prints it needs no
 //! more of the solver than this.
@@ -25,8 +25,8 @@ mod vertex_list;
 pub use cactus::Cactus;
 pub use solved::Solved;
 pub use tree::{
-    Block, Blocks, Border, Children, InOrder, Joint, Node, NodeOutline, ShedNode, bare_node,
-    entries_of, hung, in_order, outline_of, rename_node, sizes_along, stack_inner, subtree_sizes,
-    trimmed, vertices_by_class, vertices_in_order,
+    Block, Blocks, Border, Children, InOrder, Joint, Maker, Node, NodeOutline, ShedNode, bare_node,
+    entries_of, hung, in_order, leaf_bridge, outline_of, put_together, rename_node, sizes_along,
+    stack_blocks, stack_inner, subtree_sizes, trimmed, vertices_by_class, vertices_in_order,
 };
 pub use vertex_list::VertexList;

@@ -2,34 +2,41 @@
 
 ghost use Rattle.std.specs.Prelude.{◌≡◌, [], ◌∷◌, ◌++◌, ◌<◌, length, option_to_list, IsSome, ◌↔◌, OnOk, OnErr, IfOk, slice_get, take, drop, ◌≤◌};
 ghost use Rattle.rooted_cactus.specs.Trees.{blocks_in, nodes_in};
+ghost use Rattle.rooted_cactus.specs.Entries.{nodes_of};
 
 use crate::vertex_list::VertexList;
 use cut_definitions::NoMemory;
 use std::alloc::Global;
+use std::slice;
 
 mod border;
 mod count;
 mod entries;
+mod maker;
 mod normal;
 mod number;
 mod order;
 mod outline;
+mod plain;
 mod put;
 mod rename;
 mod spare;
 mod spread;
+mod trimming;
 
 pub use border::Border;
 pub use count::count_node;
 pub use entries::{Joint, ShedNode, bare_node, entries_of};
+pub use maker::Maker;
 pub use normal::{blocks_are_normal, is_normal_below};
 pub use number::{count_cuts, number_of, stack_inner};
-pub use order::{InOrder, in_order, vertices_in_order};
+pub use order::{InOrder, in_order, stack_blocks, vertices_in_order};
 pub use outline::{NodeOutline, outline_of, sizes_along, subtree_sizes};
 pub use put::put_together;
 pub use rename::rename_node;
-pub use spare::{hung, trimmed};
+pub use spare::{hung, leaf_bridge, trimmed};
 pub use spread::{spread_node, vertices_by_class};
+pub use trimming::TrimmingMaker;
 
 /// A node: its vertices, and the blocks below it.
 #[cycle(tree)]
@@ -81,6 +88,18 @@ impl Drop for Blocks {
     }
 }
 
+impl Block {
+    /// The nodes below the upper node, in order, lent without a copy.
+    pub fn nodes(&self) -> &[Node]
+        ensures { result.now ≡ nodes_of self.now }
+    {
+        match self {
+            Block::Bridge(node) => slice::from_ref(&**node),
+            Block::Cycle(nodes) => nodes.as_slice(),
+        }
+    }
+}
+
 impl Blocks {
     /// The empty list. It takes no memory.
     pub fn new(alloc: Global) -> Blocks
@@ -97,6 +116,13 @@ impl Blocks {
     {
         let items = Vec::with_capacity(alloc, count)?;
         Ok(Blocks { items })
+    }
+
+    /// The list of these blocks, taken over without a copy.
+    pub fn from_vec(items: Vec<Block>) -> Blocks
+        ensures { blocks_in result ≡ items.items }
+    {
+        Blocks { items }
     }
 
     /// Appends a block. Where memory is wanting the list stays as it was, and the block is dropped.
@@ -160,6 +186,13 @@ impl Children {
     {
         let items = Vec::with_capacity(alloc, count)?;
         Ok(Children { items })
+    }
+
+    /// The list of these nodes, taken over without a copy.
+    pub fn from_vec(items: Vec<Node>) -> Children
+        ensures { nodes_in result ≡ items.items }
+    {
+        Children { items }
     }
 
     /// Appends a node. Where memory is wanting the list stays as it was, and the node is dropped.

@@ -10,11 +10,10 @@ use Rattle.cut_definitions.proofs.Lists.{Contains-here, Contains-filter, Contain
 use Rattle.cut_definitions.proofs.ListLaws.{All-from_each, length-filter_le}
 use Rattle.rooted_cactus.specs.declared.tree.Node.{Node}
 use Rattle.rooted_cactus.specs.Sides.{cuts}
-use Rattle.rooted_cactus.specs.Rooted.{sides_of}
+use Rattle.rooted_cactus.specs.Rooted.{sides_of, over}
 use Rattle.rooted_cactus.specs.Different.{HasNoEmptySide}
 use Rattle.rooted_cactus.proofs.Ranges.{IsWithin}
 use Rattle.canonical_cactus.specs.Canonical.{arranged as arranged_in}
-use Rattle.canonical_cactus.specs.Laws.{over}
 use Rattle.canonical_cactus.specs.Standing.{least_in}
 use Rattle.canonical_cactus.proofs.Canonicals.{finished}
 use Rattle.node_tree.specs.Flat.{NodeArrays, TreeLinks, is_below, is_follower, sets_of}

@@ -1,23 +1,23 @@
 -- Least vertices of several parts in any order, and cycles that are faced by those at their ends.
-use Rattle.std.proofs.Common.{◌≡◌, ℕ, zero, suc, ◌+◌, ◌-◌, ◌<◌, ◌≤◌, Bool, true, false, cond, get_or, Some, List, [], ◌∷◌, ◌++◌, length, map, reverse, ap, ◌∙◌, sym, refl, arith}
+use Rattle.std.proofs.Common.{◌≡◌, ℕ, zero, suc, ◌+◌, ◌<◌, ◌≤◌, Bool, true, false, cond, get_or, Some, List, [], ◌∷◌, ◌++◌, length, map, reverse, ap, ◌∙◌, sym, refl, arith}
 use Rattle.std.specs.Prelude.{nat_lt}
 use Rattle.std.specs.List.{Contains}
 use Rattle.std.specs.List.Sorted.{IsPermutation, IsNonDecreasingBy}
-use Rattle.std.proofs.lemmas.List.{length-map, length-reverse, get_or-map, get_or-reverse}
+use Rattle.std.proofs.lemmas.List.{length-map, length-reverse, get_or-map}
 use Rattle.std.proofs.lemmas.List.Sorted.{Contains-permutation, IsPermutation-sym, IsPermutation-refl, IsPermutation-reverse, IsNonDecreasingBy-from_default}
 use Rattle.cut_definitions.specs.Cuts.{least}
 use Rattle.cut_definitions.proofs.Lists.{Contains-here, Contains-there, Contains-nil}
 use Rattle.cut_definitions.proofs.Values.{least-le, Contains-least}
 use Rattle.rooted_cactus.specs.Entries.{top_first}
 use Rattle.rooted_cactus.specs.Trims.{Each}
+use Rattle.rooted_cactus.proofs.Tops.{reversed_top, top_twice, top_map}
 use Rattle.canonical_cactus.specs.Canonical.{Arranged, all_vertices}
 use Rattle.canonical_cactus.specs.Standing.{least_in, lesser_of, or_zero}
 use Rattle.canonical_cactus.specs.Making as Making
 use Rattle.canonical_cactus.specs.Making.{ends_rise}
 use Rattle.canonical_cactus.specs.declared.parts.Placed.{Placed}
 use Rattle.canonical_cactus.proofs.Ascending.{least_both}
-use Rattle.canonical_cactus.proofs.Ordered.{reversed_top, ends_at}
-use Rattle.canonical_cactus.proofs.Turned.{top_twice, top_map}
+use Rattle.canonical_cactus.proofs.Ordered.{ends_at}
 use Rattle.tree_flattening.specs.Arranged.{last_or, faced}
 
 -- ---- lists
@@ -103,27 +103,19 @@ faced_long f h xs = long (nat_lt (f (last_or h xs)) (f h)) xs
 
 -- children that were taken from the last on, turned by their ends
 pub faces : (placed : ℕ → Placed) (f : ℕ → ℕ) (h : ℕ) (rest : List ℕ) → (placed h).least ≡ Some (f h) → (placed (last_or h rest)).least ≡ Some (f (last_or h rest)) →
-    top_first (Making.faced (map placed (reverse (h ∷ rest)))) ≡ map placed (faced f h (h ∷ rest))
+    Making.faced (map placed (reverse (h ∷ rest))) ≡ map placed (faced f h (h ∷ rest))
 faces placed f h rest first last =
     let run = h ∷ rest in
-    let ps = map placed (reverse run) in
-    let many : length (reverse run) ≡ length rest + 1 = omega (arith, length-reverse run) in
-    let long : length ps ≡ length rest + 1 = omega (arith, many, length-map (reverse run) placed) in
-    let at_first : get_or ps 0 (placed 0) ≡ placed (last_or h rest) =
-    get_or-map placed (reverse run) 0 0 (placed 0) (omega (arith, many)) ∙ ap placed (get_or-reverse run 0 0 (omega arith) ∙ ap (λ k. get_or run k 0) (end rest) ∙ last_at h rest 0) in
-    let at_last : get_or ps (length rest) (placed 0) ≡ placed h =
-    get_or-map placed (reverse run) (length rest) 0 (placed 0) (omega (arith, many)) ∙ ap placed (get_or-reverse run (length rest) 0 (omega arith) ∙ ap (λ k. get_or run k 0) (begin rest)) in
-    let rise : nat_lt (f (last_or h rest)) (f h) ≡ ends_rise ps =
-    ends_at ps (placed 0) (placed 0) (f (last_or h rest)) (f h) (length rest) (omega (arith, long)) (omega (arith, long))
-    (sym (ap (λ (q : Placed). or_zero q.least) at_first ∙ ap or_zero last)) (sym (ap (λ (q : Placed). or_zero q.least) at_last ∙ ap or_zero first)) in
-    ap (λ b. top_first (cond b (top_first ps) ps)) (sym rise) ∙ turned placed run (nat_lt (f (last_or h rest)) (f h))
+    let ps = map placed run in
+    let long : length ps ≡ length rest + 1 = omega (arith, length-map run placed) in
+    let at_last : get_or ps (length rest) (placed 0) ≡ placed (last_or h rest) = get_or-map placed run (length rest) 0 (placed 0) (omega arith) ∙ ap placed (last_at h rest 0) in
+    let rise : nat_lt (f (last_or h rest)) (f h) ≡ ends_rise (top_first ps) =
+    ends_at ps (placed 0) (placed 0) (f (last_or h rest)) (f h) (length rest) (omega (arith, long)) (omega (arith, long)) (sym (ap (λ (q : Placed). or_zero q.least) at_last ∙ ap or_zero last)) (sym (ap or_zero first)) in
+    ap Making.faced (turned run) ∙ ap (λ b. cond b (top_first ps) (top_first (top_first ps))) (sym rise) ∙ closed run (nat_lt (f (last_or h rest)) (f h))
   where
-    end : (rest : List ℕ) → length (h ∷ rest) - 1 - 0 ≡ length rest
-    end rest = omega arith
+    turned : (run : List ℕ) → map placed (reverse run) ≡ top_first (map placed run)
+    turned run = ap (map placed) (reversed_top run) ∙ top_map placed run
 
-    begin : (rest : List ℕ) → length (h ∷ rest) - 1 - length rest ≡ 0
-    begin rest = omega arith
-
-    turned : (placed : ℕ → Placed) (run : List ℕ) (b : Bool) → top_first (cond b (top_first (map placed (reverse run))) (map placed (reverse run))) ≡ map placed (cond b (reverse run) run)
-    turned placed run true = top_twice (map placed (reverse run))
-    turned placed run false = sym (top_map placed (reverse run)) ∙ ap (λ l. map placed (top_first l)) (reversed_top run) ∙ ap (map placed) (top_twice run)
+    closed : (run : List ℕ) (b : Bool) → cond b (top_first (map placed run)) (top_first (top_first (map placed run))) ≡ map placed (cond b (reverse run) run)
+    closed run true = sym (turned run)
+    closed run false = top_twice (map placed run)

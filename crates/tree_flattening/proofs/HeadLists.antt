@@ -4,31 +4,25 @@ use Rattle.std.specs.List.{filter, range_with_len}
 use Rattle.std.proofs.lemmas.Bool.{ne_eqb, eq-eqb}
 use Rattle.std.proofs.lemmas.List.Elements.{filter-append}
 use Rattle.std.proofs.lemmas.List.{map-append}
+use Rattle.vertex_set.proofs.Counted.{range-append}
 use Rattle.node_tree.specs.Flat.{TreeLinks, is_follower}
 use Rattle.node_tree.specs.Forest.{AreFrom}
 use Rattle.node_tree.proofs.ForestChanges.{reverse_more}
 use Rattle.tree_flattening.specs.Plans.{run_from, run_of}
 
 -- ---- ranges
-range_parts : (m k a : ℕ) → range_with_len a (m + k) ≡ range_with_len a m ++ range_with_len (a + m) k
-range_parts zero k a = let n : zero + k ≡ k = omega arith in let b : a ≡ a + zero = omega arith in ap (range_with_len a) n ∙ ap (λ (b : ℕ). range_with_len b k) b
-range_parts (suc m) k a =
-    let n : suc m + k ≡ suc (m + k) = omega arith in
-    let b : a + 1 + m ≡ a + suc m = omega arith in
-    ap (range_with_len a) n ∙ ap (λ l. a ∷ l) (range_parts m k (a + 1) ∙ ap (λ (b : ℕ). range_with_len (a + 1) m ++ range_with_len b k) b)
-
 -- a range that is cut at a number
 range_cut : (a b c : ℕ) → a ≤ b → b ≤ c → range_with_len a (c - a) ≡ range_with_len a (b - a) ++ range_with_len b (c - b)
 range_cut a b c l m =
     let n : c - a ≡ (b - a) + (c - b) = omega (arith, l, m) in
     let at : a + (b - a) ≡ b = omega (arith, l) in
-    ap (range_with_len a) n ∙ range_parts (b - a) (c - b) a ∙ ap (λ (k : ℕ). range_with_len a (b - a) ++ range_with_len k (c - b)) at
+    ap (range_with_len a) n ∙ range-append (b - a) (c - b) a ∙ ap (λ (k : ℕ). range_with_len a (b - a) ++ range_with_len k (c - b)) at
 
 pub range_front : (b c : ℕ) → b ≤ c → range_with_len 0 c ≡ range_with_len 0 b ++ range_with_len b (c - b)
 range_front b c l =
     let n : c ≡ b + (c - b) = omega (arith, l) in
     let at : 0 + b ≡ b = omega arith in
-    ap (range_with_len 0) n ∙ range_parts b (c - b) 0 ∙ ap (λ (k : ℕ). range_with_len 0 b ++ range_with_len k (c - b)) at
+    ap (range_with_len 0) n ∙ range-append b (c - b) 0 ∙ ap (λ (k : ℕ). range_with_len 0 b ++ range_with_len k (c - b)) at
 
 pub range_first : (a c : ℕ) → a < c → range_with_len a (c - a) ≡ a ∷ range_with_len (a + 1) (c - (a + 1))
 range_first a c l = let n : c - a ≡ suc (c - (a + 1)) = omega (arith, l) in ap (range_with_len a) n

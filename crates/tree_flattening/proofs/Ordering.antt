@@ -12,7 +12,7 @@ use Rattle.cut_definitions.proofs.Lists.{Contains-here}
 use Rattle.rooted_cactus.specs.declared.tree.Node.{Node}
 use Rattle.rooted_cactus.specs.declared.tree.Block.{Block}
 use Rattle.rooted_cactus.specs.Trees.{vertices, blocks, nodes_in}
-use Rattle.rooted_cactus.specs.Entries.{top_first, nodes_of, read_node, read_block, bridge_read, cycle_read, node_read, kept}
+use Rattle.rooted_cactus.specs.Entries.{nodes_of, read_node, read_block, bridge_read, cycle_read, node_read, kept}
 use Rattle.rooted_cactus.specs.Normal.{block_shape}
 use Rattle.rooted_cactus.specs.Trims.{is_above_bridge}
 use Rattle.rooted_cactus.proofs.Entries.{read_out, read_bridge, read_cycle, nodes_cycle}
@@ -24,7 +24,7 @@ use Rattle.canonical_cactus.specs.Making.{IsNodeOf, IsChildOf, IsBlockOf, AreChi
 use Rattle.canonical_cactus.specs.declared.parts.Placed.{Placed}
 use Rattle.canonical_cactus.specs.declared.parts.Hung.{Hung}
 use Rattle.canonical_cactus.proofs.Arrangement.{arranged_out, arranged_bridge, arranged_cycle}
-use Rattle.canonical_cactus.proofs.Ordered.{node_in, block_in, lessers, lessers_are, node_finished, cycle_finished}
+use Rattle.canonical_cactus.proofs.Ordered.{node_in, block_in, lessers, lessers_are, node_finished, ring_finished}
 use Rattle.canonical_cactus.proofs.Spared.{hung_kept, trimmed_kept}
 use Rattle.node_tree.specs.Flat.{NodeArrays, is_follower}
 use Rattle.tree_flattening.specs.Plans.{Plan, IsDrawn, own_of, heads_of, run_of}
@@ -107,20 +107,20 @@ module _ (n : ℕ) (a : NodeArrays) (l : LeastVertices) (p : Plan) (node : ℕ �
       let back : (j : ℕ) → Contains (reverse run) j → Contains run j = λ j k. Contains-permutation (reverse run) run j (IsPermutation-sym run (reverse run) (IsPermutation-reverse run)) k in
       let children : AreChildrenOf rs ps = each_mapped IsChildOf (λ j. read_node has kept (node j)) placed (reverse run)
       (λ j k. trimmed_kept (read_node has kept (node j)) (placed j) (stays j (run_within a.links h j lt (back j k)).1) (known j (back j k)).0) in
-      let turned : top_first (Making.faced ps) ≡ map placed qs =
-      ap (λ r. top_first (Making.faced (map placed (reverse r)))) starts
+      let turned : Making.faced ps ≡ map placed qs =
+      ap (λ r. Making.faced (map placed (reverse r))) starts
       ∙ faces placed l.nodes h rest (known h (in_run run starts h (Contains-here h rest))).1 (known (last_or h rest) (in_run run starts (last_or h rest) (last_in h rest))).1
       ∙ ap (λ r. map placed (faced l.nodes h r)) (sym starts) in
       let whole : (hung h).least ≡ least_in (all_vertices (map f qs)) =
       ap (λ b. least_in (arranged_block b).vertices) y.1 ∙ ap (λ (k : Arranged). least_in k.vertices) (arranged_cycle y.0)
       ∙ ap (λ zs. least_in (all_vertices (map arranged zs))) under1 ∙ ap (λ ks. least_in (all_vertices ks)) (map-map arranged node1 qs) in
       let moved : IsPermutation run qs = faced_moves l.nodes h run in
-      let one_by_one : lessers None (map (λ (q : Placed). q.least) (top_first (Making.faced ps))) ≡ least_in (all_vertices (map f qs)) =
+      let one_by_one : lessers None (map (λ (q : Placed). q.least) (Making.faced ps)) ≡ least_in (all_vertices (map f qs)) =
       ap (λ (zs : List Placed). lessers None (map (λ (q : Placed). q.least) zs)) turned
       ∙ ap (lessers None) (map-map (λ (q : Placed). q.least) placed qs)
       ∙ lessers_are f (λ j. (placed j).least) [] qs (λ j k. refl) in (
         subst (λ r. IsBlockOf r (hung h)) (sym read)
-            (cycle_finished rs ps y.0 (hung h) y.1 (under1 ∙ sym (ap (map node_in) turned ∙ map-map node_in placed qs)) (whole ∙ sym one_by_one)
+            (ring_finished rs ps y.0 (hung h) y.1 (under1 ∙ sym (ap (map node_in) turned ∙ map-map node_in placed qs)) (whole ∙ sym one_by_one)
             (λ two. wide h some lt first (sym (length-reverse run) ∙ sym (length-map (reverse run) (λ j. read_node has kept (node j))) ∙ two)) children),
         whole ∙ leasts_known f l.nodes qs (λ j k. (known j (Contains-permutation qs run j (IsPermutation-sym run qs moved) k)).1) []
             ∙ sym (least_moved (map l.nodes run) (map l.nodes qs) (IsPermutation-map l.nodes run qs moved))

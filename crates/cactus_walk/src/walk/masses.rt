@@ -2,7 +2,7 @@
 
 ghost use Rattle.std.specs.Prelude.{◌≡◌, ℕ, ◌+◌, ◌≤◌, IfOk, get_or, length};
 ghost use Rattle.std.specs.List.{All};
-ghost use Rattle.rooted_cactus.specs.Places.{IsVertex};
+ghost use Rattle.cut_definitions.specs.Graph.{IsVertex};
 ghost use Rattle.cactus_walk.specs.RangeMasses.{mass_before};
 
 use cut_definitions::{NoMemory, VertexWeights};

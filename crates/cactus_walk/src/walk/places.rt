@@ -3,11 +3,12 @@
 ghost use Rattle.std.specs.Prelude.{◌≡◌, ◌↔◌, ◌≤◌, List, ℕ, IfOk, length, map, true};
 ghost use Rattle.std.specs.List.{All, Contains, concat};
 ghost use Rattle.rooted_cactus.specs.Borders.{ranges_between};
-ghost use Rattle.rooted_cactus.specs.Different.{AreDifferent};
+ghost use Rattle.cut_definitions.specs.Members.{AreDifferent};
 ghost use Rattle.rooted_cactus.specs.Entered.{entered};
 ghost use Rattle.rooted_cactus.specs.Normal.{is_normal};
 ghost use Rattle.rooted_cactus.specs.Outlines.{outlined, sizes};
-ghost use Rattle.rooted_cactus.specs.Places.{AreOnce, IsVertex, places_from, side_at};
+ghost use Rattle.rooted_cactus.specs.Places.{AreOnce, places_from, side_at};
+ghost use Rattle.cut_definitions.specs.Graph.{IsVertex};
 ghost use Rattle.cactus_walk.specs.Repeats.{ranges_kept};
 ghost use Rattle.rooted_cactus.specs.Rooted.{IsCactus, sides_of};
 ghost use Rattle.cactus_walk.specs.Walking.{AreBorders, AreChained};

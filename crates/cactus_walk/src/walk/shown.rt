@@ -6,7 +6,8 @@ ghost use Rattle.cut_definitions.specs.Weight.{VertexSet, either, minus};
 ghost use Rattle.cut_definitions.specs.Cuts.{has};
 ghost use Rattle.vertex_set.specs.Side.{listed};
 ghost use Rattle.rooted_cactus.specs.CutRanges.{elements_at};
-ghost use Rattle.rooted_cactus.specs.Places.{AreOnce, IsVertex};
+ghost use Rattle.rooted_cactus.specs.Places.{AreOnce};
+ghost use Rattle.cut_definitions.specs.Graph.{IsVertex};
 
 use vertex_set::Side;
 

@@ -1,13 +1,13 @@
 //! Whether a tree is normal: no node and no block of it can be spared.
 
-ghost use Rattle.std.specs.Prelude.{◌≡◌, ◌==◌, ◌∷◌, length, map, true, IfOk};
+ghost use Rattle.std.specs.Prelude.{◌≡◌, ◌==◌, ◌∷◌, length, map, IfOk};
 ghost use Rattle.std.specs.List.{list_all};
-ghost use Rattle.rooted_cactus.specs.Trees.{blocks, blocks_in, nodes_in, vertices};
-ghost use Rattle.rooted_cactus.specs.Normal.{shape, block_shape, child_fine, well_placed};
-ghost use Rattle.rooted_cactus.specs.Placed.{is_placed, is_set};
+ghost use Rattle.rooted_cactus.specs.Trees.{blocks, blocks_in, vertices};
+ghost use Rattle.rooted_cactus.specs.Normal.{shape, block_shape, well_placed};
+ghost use Rattle.rooted_cactus.specs.Placed.{is_placed};
 
 use super::number::stack_inner;
-use super::{Block, Blocks, Children, Node};
+use super::{Block, Blocks, Node};
 use cut_definitions::NoMemory;
 use std::alloc::Global;
 
@@ -35,11 +35,30 @@ pub fn is_cycle(block: &Block) -> bool
     }
 }
 
-#[cycle(normal)]
-fn child_is_normal(node: &Node, above_is_cycle: bool) -> bool
-    ensures { result ≡ child_fine above_is_cycle (shape node.now) }
+/// Whether the nodes of a block below its upper node are well placed, and enough of them where it is a cycle.
+fn block_is_placed(block: &Block) -> bool
+    ensures { result ≡ is_placed block.now }
 {
-    is_well_placed(node, above_is_cycle) && blocks_are_normal(&node.blocks)
+    let above_is_cycle = is_cycle(block);
+    let nodes = block.nodes();
+    'each_node: for i in 0..nodes.len() {
+        if !is_well_placed(&nodes[i], above_is_cycle) {
+            return false;
+        }
+    }
+    !above_is_cycle || nodes.len() >= 2
+}
+
+/// Whether this holds of all blocks.
+fn blocks_are_placed(blocks: &Blocks) -> bool
+    ensures { result ≡ list_all is_placed (blocks_in blocks.now) }
+{
+    'each_block: for i in 0..blocks.len() {
+        if !block_is_placed(blocks.at(i)) {
+            return false;
+        }
+    }
+    true
 }
 
 /// Whether all below the upper node of some blocks is normal.
@@ -59,52 +78,16 @@ pub fn blocks_are_normal(blocks: &Blocks) -> bool
 fn block_is_normal(block: &Block) -> bool
     ensures { result ≡ (block_shape block.now).fine }
 {
-    match block {
-        Block::Bridge(node) => child_is_normal(node, false),
-        Block::Cycle(nodes) => nodes.len() >= 2 && children_are_normal(nodes),
-    }
+    block_is_placed(block) && nodes_are_normal(block.nodes())
 }
 
+/// Whether all below each of some nodes is normal.
 #[cycle(normal)]
-fn children_are_normal(nodes: &Children) -> bool
-    ensures { result ≡ list_all (λ x. child_fine true (shape x)) (nodes_in nodes.now) }
-{
-    'each_node: for i in 0..nodes.items.len() {
-        if !child_is_normal(&nodes.items[i], true) {
-            return false;
-        }
-    }
-    true
-}
-
-/// Whether the nodes of a cycle below its upper node are well placed.
-fn nodes_are_placed(nodes: &Children) -> bool
-    ensures { result ≡ list_all (is_set true) (nodes_in nodes.now) }
+fn nodes_are_normal(nodes: &[Node]) -> bool
+    ensures { result ≡ list_all (λ x. (shape x).fine) nodes.now }
 {
     'each_node: for i in 0..nodes.len() {
-        if !is_well_placed(nodes.at(i), true) {
-            return false;
-        }
-    }
-    true
-}
-
-/// Whether the nodes of a block below its upper node are well placed, and enough of them where it is a cycle.
-fn block_is_placed(block: &Block) -> bool
-    ensures { result ≡ is_placed block.now }
-{
-    match block {
-        Block::Bridge(node) => is_well_placed(node, false),
-        Block::Cycle(nodes) => nodes.len() >= 2 && nodes_are_placed(nodes),
-    }
-}
-
-/// Whether this holds of all blocks.
-fn blocks_are_placed(blocks: &Blocks) -> bool
-    ensures { result ≡ list_all is_placed (blocks_in blocks.now) }
-{
-    'each_block: for i in 0..blocks.len() {
-        if !block_is_placed(blocks.at(i)) {
+        if !blocks_are_normal(&nodes[i].blocks) {
             return false;
         }
     }

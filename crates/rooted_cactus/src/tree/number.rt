@@ -3,12 +3,12 @@
 ghost use Rattle.std.specs.Prelude.{◌≡◌, ◌<◌, ◌++◌, ◌∷◌, [], ◌^◌, map, OnOk, IfOk};
 ghost use Rattle.std.specs.List.{filter, flat_map};
 ghost use Rattle.rooted_cactus.specs.Entries.{nodes_of};
-ghost use Rattle.rooted_cactus.specs.Trees.{blocks, blocks_in, nodes_in, vertices};
+ghost use Rattle.rooted_cactus.specs.Trees.{blocks, blocks_in, vertices};
 ghost use Rattle.rooted_cactus.specs.Numbers.{number, total, tally, between, all_own, all_under, own_of, seen, is_inner};
 
 use super::normal::is_cycle;
 use super::spare::is_spare;
-use super::{Block, Blocks, Children, Node};
+use super::{Block, Blocks, Node};
 use cut_definitions::NoMemory;
 use std::alloc::Global;
 
@@ -17,13 +17,8 @@ fn cuts_of_block(block: &Block) -> u64
     requires { (tally block.now).own < 2 ^ 63 }
     ensures { result ≡ (tally block.now).own }
 {
-    match block {
-        Block::Bridge(_) => 1,
-        Block::Cycle(nodes) => {
-            let count = nodes.len() as u64;
-            count * (count + 1) / 2
-        }
-    }
+    let count = block.nodes().len() as u64;
+    count * (count + 1) / 2
 }
 
 /// The number of the cuts of some blocks.
@@ -68,30 +63,14 @@ fn stack_node<'a>(stack: &mut Vec<&'a Node>, node: &'a Node) -> Result<(), NoMem
     Ok(())
 }
 
-/// Puts the nodes of a cycle that have a block below them on the stack.
-fn stack_nodes<'a>(stack: &mut Vec<&'a Node>, nodes: &'a Children) -> Result<(), NoMemory>
-    ensures { OnOk result (seen stack.new.items ≡ seen stack.old.items ++ filter is_inner (nodes_in nodes.now)) }
+/// Puts the nodes that have a block below them on the stack.
+fn stack_nodes<'a>(stack: &mut Vec<&'a Node>, nodes: &'a [Node]) -> Result<(), NoMemory>
+    ensures { OnOk result (seen stack.new.items ≡ seen stack.old.items ++ filter is_inner nodes.now) }
 {
     'each_node: for i in 0..nodes.len() {
-        stack_node(stack, nodes.at(i))?;
+        stack_node(stack, &nodes[i])?;
     }
     Ok(())
-}
-
-/// Puts the nodes of a block that have a block below them on the stack.
-fn stack_block<'a>(stack: &mut Vec<&'a Node>, block: &'a Block) -> Result<(), NoMemory>
-    ensures { OnOk result (seen stack.new.items ≡ seen stack.old.items ++ filter is_inner (nodes_of block.now)) }
-{
-    match block {
-        Block::Bridge(node) => {
-            stack_node(stack, node)?;
-            Ok(())
-        }
-        Block::Cycle(nodes) => {
-            stack_nodes(stack, nodes)?;
-            Ok(())
-        }
-    }
 }
 
 /// Puts the nodes of some blocks on the stack, in order, but for those with no block below them, so that a long cycle of such
@@ -103,7 +82,7 @@ pub fn stack_inner<'a>(stack: &mut Vec<&'a Node>, blocks: &'a Blocks) -> Result<
     ensures { OnOk result (seen stack.new.items ≡ seen stack.old.items ++ filter is_inner (flat_map nodes_of (blocks_in blocks.now))) }
 {
     'each_block: for i in 0..blocks.len() {
-        stack_block(stack, blocks.at(i))?;
+        stack_nodes(stack, blocks.at(i).nodes())?;
     }
     Ok(())
 }
@@ -139,30 +118,19 @@ fn number_below(blocks: &Blocks) -> u64
 {
     let mut count: u64 = 0;
     'each_block: for i in 0..blocks.items.len() {
-        count += number_under(&blocks.items[i]);
+        count += number_of_all(blocks.items[i].nodes());
     }
     count
 }
 
 #[cycle(number)]
-fn number_under(block: &Block) -> u64
-    requires { (tally block.now).under < 2 ^ 62 }
-    ensures { result ≡ (tally block.now).under }
-{
-    match block {
-        Block::Bridge(node) => number_of(node),
-        Block::Cycle(nodes) => number_of_all(nodes),
-    }
-}
-
-#[cycle(number)]
-fn number_of_all(nodes: &Children) -> u64
-    requires { total (map number (nodes_in nodes.now)) < 2 ^ 62 }
-    ensures { result ≡ total (map number (nodes_in nodes.now)) }
+fn number_of_all(nodes: &[Node]) -> u64
+    requires { total (map number nodes.now) < 2 ^ 62 }
+    ensures { result ≡ total (map number nodes.now) }
 {
     let mut count: u64 = 0;
-    'each_node: for i in 0..nodes.items.len() {
-        count += number_of(&nodes.items[i]);
+    'each_node: for i in 0..nodes.len() {
+        count += number_of(&nodes[i]);
     }
     count
 }

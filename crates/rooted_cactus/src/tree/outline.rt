@@ -3,11 +3,11 @@
 
 ghost use Rattle.std.specs.Prelude.{◌≡◌, ℕ, ◌+◌, ◌++◌, ◌<◌, ◌≤◌, length, map, OnOk, IfOk};
 ghost use Rattle.std.specs.List.{flat_map};
-ghost use Rattle.rooted_cactus.specs.Trees.{blocks_in, nodes_in};
+ghost use Rattle.rooted_cactus.specs.Trees.{blocks_in};
 ghost use Rattle.rooted_cactus.specs.Outlines.{Hops, all_outlines, block_entries, block_outline, outline, outlined, sizes};
 ghost use Rattle.rooted_cactus.specs.Heads.{entries_waiting};
 
-use super::{Block, Blocks, Children, Node};
+use super::{Blocks, Node};
 use cut_definitions::NoMemory;
 use std::alloc::Global;
 
@@ -35,38 +35,21 @@ fn head_at(place: usize, count: usize) -> usize
     if place == 0 { count } else { 0 }
 }
 
-/// Puts the nodes of a cycle on the stack, the first on top.
-fn stack_nodes<'a>(stack: &mut Vec<Seen<'a>>, nodes: &'a Children) -> Result<(), NoMemory>
-    ensures entries { OnOk result (entries_waiting stack.new.items ≡ block_entries (map outline (nodes_in nodes.now)) ++ entries_waiting stack.old.items) }
-    ensures length { OnOk result (length stack.new.items ≡ length stack.old.items + length (nodes_in nodes.now)) }
+/// Puts the nodes of a block on the stack, the first on top.
+fn stack_nodes<'a>(stack: &mut Vec<Seen<'a>>, nodes: &'a [Node]) -> Result<(), NoMemory>
+    ensures entries { OnOk result (entries_waiting stack.new.items ≡ block_entries (map outline nodes.now) ++ entries_waiting stack.old.items) }
+    ensures length { OnOk result (length stack.new.items ≡ length stack.old.items + length nodes.now) }
 {
     let count = nodes.len();
     let mut i = count;
     'back: while i > 0 {
         i -= 1;
         stack.push(Seen {
-            node: nodes.at(i),
+            node: &nodes[i],
             head: head_at(i, count),
         })?;
     }
     Ok(())
-}
-
-/// Puts the nodes of the block on the stack, the first on top.
-fn stack_block<'a>(stack: &mut Vec<Seen<'a>>, block: &'a Block) -> Result<(), NoMemory>
-    ensures entries { OnOk result (entries_waiting stack.new.items ≡ block_entries (block_outline block.now) ++ entries_waiting stack.old.items) }
-    ensures length { OnOk result (length stack.new.items ≡ length stack.old.items + length (block_outline block.now)) }
-{
-    match block {
-        Block::Bridge(node) => {
-            stack.push(Seen { node, head: 1 })?;
-            Ok(())
-        }
-        Block::Cycle(nodes) => {
-            stack_nodes(stack, nodes)?;
-            Ok(())
-        }
-    }
 }
 
 /// Puts the nodes of the blocks on the stack, the first on top.
@@ -77,7 +60,7 @@ fn stack_blocks<'a>(stack: &mut Vec<Seen<'a>>, blocks: &'a Blocks) -> Result<(),
     let mut i = blocks.items.len();
     'back: while i > 0 {
         i -= 1;
-        stack_block(stack, &blocks.items[i])?;
+        stack_nodes(stack, blocks.items[i].nodes())?;
     }
     Ok(())
 }

@@ -9,6 +9,7 @@ ghost use Rattle.rooted_cactus.specs.Widths.{widths};
 
 use super::Node;
 use super::entries::{ShedNode, shed_blocks};
+use super::plain::PlainMaker;
 use super::put::put_together;
 use cut_definitions::NoMemory;
 use std::alloc::Global;
@@ -42,6 +43,6 @@ pub fn rename_node(alloc: Global, node: Node, names: &[u32]) -> Result<Node, NoM
     ensures widths { IfOk result (λ x. widths x ≡ widths node) }
 {
     let entries = renamed_entries(alloc, node, names)?;
-    let tree = put_together(alloc, entries, false)?;
+    let tree = put_together::<PlainMaker>(alloc, entries)?;
     Ok(tree)
 }

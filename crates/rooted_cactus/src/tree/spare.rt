@@ -4,10 +4,11 @@ ghost use Rattle.std.specs.Prelude.{◌≡◌, ◌∷◌, [], true, false, lengt
 ghost use Rattle.rooted_cactus.specs.Trees.{blocks, blocks_in, vertices};
 ghost use Rattle.rooted_cactus.specs.Normal.{block_shape};
 ghost use Rattle.rooted_cactus.specs.Entries.{nodes_of};
-ghost use Rattle.rooted_cactus.specs.Trims.{IsBridgeTo, is_spare, is_above_bridge};
+ghost use Rattle.rooted_cactus.specs.Trims.{IsBridgeTo, is_spare, is_above_bridge, trimmed_node};
 
 use super::normal::is_cycle;
 use super::{Block, Blocks, Node};
+use std::alloc::Global;
 
 /// Whether a node has no vertex, and one block alone.
 pub fn is_spare(node: &Node) -> bool
@@ -52,6 +53,15 @@ pub fn bridge_to(node: Node, place: Box<Node>) -> Block
     Block::Bridge(child)
 }
 
+/// The bridge to a node without blocks, which stays in its box.
+pub fn leaf_bridge(alloc: Global, place: Box<Node>) -> Block
+    ensures { (leaf : Node) × IsBridgeTo result leaf × (vertices leaf ≡ vertices place.value) × (blocks leaf ≡ []) }
+{
+    let mut leaf = place;
+    leaf.blocks = Blocks::new(alloc);
+    Block::Bridge(leaf)
+}
+
 /// A bridge to the node, by way of a box that there is, or the node's one block where it has no vertex and no other block.
 pub fn hung(node: Node, place: Box<Node>) -> Block
     ensures spare { is_spare (vertices node) (blocks node) ≡ true → blocks node ≡ result ∷ [] }
@@ -65,8 +75,7 @@ pub fn hung(node: Node, place: Box<Node>) -> Block
 
 /// The node as it may stand in a cycle: what is below its bridge, where it has no vertex and nothing but that bridge.
 pub fn trimmed(node: Node) -> Node
-    ensures below { is_above_bridge (vertices node) (blocks node) ≡ true → (b : Block) × (blocks node ≡ b ∷ []) × (nodes_of b ≡ result ∷ []) }
-    ensures kept { is_above_bridge (vertices node) (blocks node) ≡ false → result ≡ node }
+    ensures { result ≡ trimmed_node node }
 {
     if is_above_a_bridge(&node) {
         below_bridge(only_block(node.blocks))

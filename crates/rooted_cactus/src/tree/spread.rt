@@ -12,6 +12,7 @@ ghost use Rattle.rooted_cactus.specs.Widths.{widths};
 
 use super::Node;
 use super::entries::{ShedNode, shed_blocks};
+use super::plain::PlainMaker;
 use super::put::put_together;
 use crate::vertex_list::VertexList;
 use cut_definitions::NoMemory;
@@ -123,6 +124,6 @@ pub fn spread_node(alloc: Global, node: Node, classes: &[u32], last: u32) -> Res
 {
     let groups = vertices_by_class(alloc, classes, last)?;
     let entries = spread_entries(alloc, node, &groups)?;
-    let tree = put_together(alloc, entries, false)?;
+    let tree = put_together::<PlainMaker>(alloc, entries)?;
     Ok(tree)
 }

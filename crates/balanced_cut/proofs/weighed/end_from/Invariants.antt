@@ -1,6 +1,6 @@
 use Rattle.std.proofs.Common.{◌≡◌, ◌+◌, ◌-◌, ◌≤◌, ◌<◌}
-use Rattle.balanced_cut.specs.Ends.{IsLesserPart, range_between}
-use Rattle.rooted_cactus.specs.Borders.{border_at}
+use Rattle.balanced_cut.specs.Ends.{IsLesserPart}
+use Rattle.rooted_cactus.specs.Borders.{range_between, border_at}
 use Rattle.balanced_cut.proofs.weighed.end_from.Given as goal
 
 abbrev pub invariant-ends : goal.invariant-ends

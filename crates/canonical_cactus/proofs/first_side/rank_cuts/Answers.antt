@@ -1,7 +1,7 @@
 -- What is known of the places, the scale and the trees of minima.
 use Rattle.std.proofs.Common.{◌∙◌, length, slice_index, ap, sym, subst, arith}
 use Rattle.std.specs.List.{All}
-use Rattle.rooted_cactus.specs.Places.{IsVertex}
+use Rattle.cut_definitions.specs.Graph.{IsVertex}
 use Rattle.cactus_walk.proofs.RangeMasses.{before_bound}
 use Rattle.cut_definitions.specs.Cuts.{has}
 use Rattle.rooted_cactus.proofs.Once.{each_there}

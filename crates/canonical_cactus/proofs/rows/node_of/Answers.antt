@@ -4,8 +4,9 @@ use Rattle.cut_definitions.proofs.ListLaws.{popped_is}
 use Rattle.rooted_cactus.specs.Entries.{top_first}
 use Rattle.rooted_cactus.specs.Trees.{blocks_in}
 use Rattle.rooted_cactus.proofs.Entries.{top_push, none_popped}
+use Rattle.rooted_cactus.proofs.Tops.{filled_one, filled_all}
 use Rattle.canonical_cactus.specs.declared.parts.Hung.{Hung}
-use Rattle.canonical_cactus.proofs.Ordered.{block_in, lessers, filled_one, filled_all, lessers_one, lessers_all, node_finished}
+use Rattle.canonical_cactus.proofs.Ordered.{block_in, lessers, lessers_one, lessers_all, node_finished}
 use Rattle.canonical_cactus.proofs.rows.node_of.Goals as goal
 
 pub fill-init : goal.fill-init

@@ -3,8 +3,7 @@ use Rattle.std.specs.List.Sorted.{IsPermutation, IsNonDecreasingBy}
 use Rattle.std.proofs.lemmas.List.Sorted.{IsNonDecreasingBy-from_sort_by_key}
 use Rattle.rooted_cactus.specs.Entries.{top_first}
 use Rattle.canonical_cactus.specs.Making.{key_of}
-use Rattle.canonical_cactus.proofs.Ordered.{reversed_top}
-use Rattle.canonical_cactus.proofs.Turned.{top_twice}
+use Rattle.rooted_cactus.proofs.Tops.{reversed_top, top_twice}
 use Rattle.canonical_cactus.proofs.rows.sort_down.Goals as goal
 
 pub returns-clause-same : goal.returns-clause-same

@@ -4,7 +4,7 @@ use Rattle.std.proofs.lemmas.Bool.{not-true, not-false}
 use Rattle.cut_definitions.proofs.ListLaws.{popped_is}
 use Rattle.rooted_cactus.specs.Numbers.{seen}
 use Rattle.rooted_cactus.proofs.Entries.{none_popped}
-use Rattle.rooted_cactus.proofs.Tallies.{seen_push}
+use Rattle.rooted_cactus.proofs.Walks.{seen_push}
 use Rattle.canonical_cactus.specs.Inner.{leasts_of, stands}
 use Rattle.canonical_cactus.proofs.Inner.{rising_begun, rising_turn, rising_on, falls}
 use Rattle.canonical_cactus.proofs.standing.all_stand.Goals as goal

@@ -2,7 +2,8 @@ use Rattle.std.proofs.Common.{◌∙◌, ◌++◌, ◌∷◌, [], ap}
 use Rattle.cut_definitions.proofs.ListLaws.{popped_is}
 use Rattle.rooted_cactus.specs.Numbers.{seen}
 use Rattle.rooted_cactus.proofs.Entries.{none_popped}
-use Rattle.rooted_cactus.proofs.Tallies.{seen_push, fewer_inner}
+use Rattle.rooted_cactus.proofs.Tallies.{fewer_inner}
+use Rattle.rooted_cactus.proofs.Walks.{seen_push}
 use Rattle.canonical_cactus.proofs.Inner.{begun, entered, listed}
 use Rattle.canonical_cactus.proofs.standing.inner_nodes.Goals as goal
 

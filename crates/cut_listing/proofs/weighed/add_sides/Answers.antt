@@ -3,11 +3,11 @@ use Rattle.std.proofs.Common.{◌≡◌, ◌<◌, ◌++◌, [], ◌∷◌, lengt
 use Rattle.std.specs.List.{All}
 use Rattle.std.proofs.lemmas.List.{map-append}
 use Rattle.std.proofs.lemmas.List.Elements.{All-append, All-cons, All-nil}
-use Rattle.vertex_set.specs.Side.{VertexList}
+use Rattle.vertex_set.specs.Side.{VertexList, members_of}
 use Rattle.rooted_cactus.specs.Places.{side_at}
 use Rattle.cactus_walk.proofs.Stepping.{place_within}
-use Rattle.cut_listing.specs.Bands.{range_between, ranges_of}
-use Rattle.cut_listing.specs.Listings.{members_of}
+use Rattle.cut_listing.specs.Bands.{ranges_of}
+use Rattle.rooted_cactus.specs.Borders.{range_between}
 use Rattle.cut_listing.proofs.Bands.{band_more}
 use Rattle.cut_listing.proofs.weighed.add_sides.Goals as goal
 

@@ -2,7 +2,7 @@ use Rattle.std.proofs.Common.{◌≡◌, ◌≤◌, ◌++◌, map, max}
 use Rattle.std.specs.List.{All}
 use Rattle.rooted_cactus.specs.Places.{side_at}
 use Rattle.cut_listing.specs.Bands.{ranges_of}
-use Rattle.cut_listing.specs.Listings.{members_of}
+use Rattle.vertex_set.specs.Side.{members_of}
 use Rattle.cut_listing.proofs.weighed.add_sides.Given as goal
 
 abbrev pub invariant-ends : goal.invariant-ends

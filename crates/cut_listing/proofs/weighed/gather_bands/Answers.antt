@@ -6,7 +6,7 @@ use Rattle.rooted_cactus.specs.Places.{side_at}
 use Rattle.cactus_walk.specs.Repeats.{ranges_kept}
 use Rattle.cactus_walk.specs.Walking.{AreBorders}
 use Rattle.cut_listing.specs.Bands.{is_heavy, ranges_of}
-use Rattle.cut_listing.specs.Listings.{members_of}
+use Rattle.vertex_set.specs.Side.{members_of}
 use Rattle.cut_listing.proofs.Bands.{band_of, band_within, ends_next}
 use Rattle.cut_listing.proofs.weighed.gather_bands.Goals as goal
 

@@ -3,7 +3,7 @@ use Rattle.std.specs.List.{All, filter}
 use Rattle.rooted_cactus.specs.Places.{side_at}
 use Rattle.cactus_walk.specs.Repeats.{ranges_kept}
 use Rattle.cut_listing.specs.Bands.{AreShort, is_heavy}
-use Rattle.cut_listing.specs.Listings.{members_of}
+use Rattle.vertex_set.specs.Side.{members_of}
 use Rattle.cut_listing.proofs.weighed.gather_bands.Given as goal
 
 abbrev pub invariant-starts : goal.invariant-starts

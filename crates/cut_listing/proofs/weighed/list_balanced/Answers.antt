@@ -2,11 +2,10 @@
 use Rattle.std.proofs.Common.{◌≡◌, ◌*◌, ◌<◌, ◌≤◌, ◌^◌, length, sym, ◌∙◌, subst}
 use Rattle.std.specs.List.{All}
 use Rattle.std.proofs.lemmas.Bool.{MatchBool-at_true, MatchBool-at_false}
-use Rattle.vertex_set.specs.Side.{VertexList}
+use Rattle.vertex_set.specs.Side.{VertexList, members_of}
 use Rattle.cactus_walk.specs.Repeats.{ranges_kept}
 use Rattle.cut_listing.specs.declared.ask.Ask.TheVariants.{Least}
 use Rattle.cut_listing.specs.Bands.{AreRising}
-use Rattle.cut_listing.specs.Listings.{members_of}
 use Rattle.cut_listing.proofs.Balanced.{counted_lent, gathered_lent, kept_small, rising, weighed}
 use Rattle.cut_listing.proofs.Passes.{has_a_vertex, listed, none_listed, too_many}
 use Rattle.cut_listing.proofs.weighed.list_balanced.Goals as goal

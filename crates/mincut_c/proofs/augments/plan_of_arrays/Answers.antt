@@ -1,7 +1,7 @@
 use Rattle.std.proofs.Common.{ℕ}
 use Rattle.std.specs.Prelude.{◌<◌}
 use Rattle.std.proofs.lemmas.List.Elements.{All-weaker}
-use Rattle.rooted_cactus.specs.Places.{IsVertex}
+use Rattle.cut_definitions.specs.Graph.{IsVertex}
 use Rattle.edge_arrays.specs.Given.{given}
 use Rattle.edge_augment.proofs.Raises.{least_raise}
 use Rattle.flat_cactus.proofs.SomeBlock.{some_block}

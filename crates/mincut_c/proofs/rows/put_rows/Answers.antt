@@ -1,6 +1,5 @@
 use Rattle.std.proofs.Common.{◌≡◌, ℕ, ◌+◌, ◌*◌, ◌<◌, List, [], get_or, sym, ◌∙◌, subst, ap, arith}
-use Rattle.vertex_set.specs.Side.{VertexList}
-use Rattle.cut_listing.specs.Listings.{members_of}
+use Rattle.vertex_set.specs.Side.{VertexList, members_of}
 use Rattle.mincut_c.specs.Rows.{byte_of}
 use Rattle.mincut_c.proofs.RowBytes.{members_at, next_row, row_more}
 use Rattle.mincut_c.proofs.rows.put_rows.Goals as goal

@@ -1,5 +1,5 @@
 use Rattle.std.proofs.Common.{◌≡◌, ℕ, ◌*◌, ◌≤◌, get_or}
-use Rattle.cut_listing.specs.Listings.{members_of}
+use Rattle.vertex_set.specs.Side.{members_of}
 use Rattle.mincut_c.proofs.RowBytes.{TellsRowsTo}
 use Rattle.mincut_c.proofs.rows.put_rows.Given as goal
 

@@ -1,5 +1,5 @@
 use Rattle.edge_arrays.specs.Given.{given}
-use Rattle.mincut_c.proofs.Showing.{shows}
+use Rattle.flat_cactus.proofs.Shown.{shows}
 use Rattle.mincut_c.proofs.Room.{few_parts}
 use Rattle.mincut_c.proofs.solving.flat_of_arrays.Goals as goal
 
@@ -7,7 +7,7 @@ pub returns-clause-cuts : goal.returns-clause-cuts
 returns-clause-cuts c =
     let g = given c.args.n c.args.us.now c.args.vs.now c.args.ws.now in
     let s = c.in_ok-solved.ensures.solved in
-    shows g c.in_ok-solved.solved.cactus c.in_ok-flat.flat c.flat_form.ensures c.flat_sides.ensures c.n-n.ensures.cactus c.in_ok-flat.ensures s.over s.sides
+    rw c.in_ok-flat.ensures (shows g c.in_ok-solved.solved.cactus c.flat_form.ensures c.flat_sides.ensures c.n-n.ensures.cactus s.over s.sides)
 
 pub returns-clause-few : goal.returns-clause-few
 returns-clause-few c =

@@ -7,8 +7,9 @@ use Rattle.cut_definitions.specs.Weight.{complement}
 use Rattle.cut_definitions.specs.Cuts.{has}
 use Rattle.vertex_set.specs.Side.{VertexList, listed}
 use Rattle.vertex_set.proofs.Bits.{listed-none}
-use Rattle.rooted_cactus.specs.Different.{AreDifferent}
-use Rattle.rooted_cactus.specs.Places.{AreOnce, IsVertex, side_at}
+use Rattle.cut_definitions.specs.Members.{AreDifferent}
+use Rattle.rooted_cactus.specs.Places.{AreOnce, side_at}
+use Rattle.cut_definitions.specs.Graph.{IsVertex}
 use Rattle.cactus_walk.specs.Repeats.{ranges_kept}
 use Rattle.rooted_cactus.specs.Rooted.{sides_of}
 use Rattle.cactus_walk.proofs.Stepping.{all_left, starts_at}

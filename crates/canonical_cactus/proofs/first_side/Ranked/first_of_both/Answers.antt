@@ -1,6 +1,6 @@
 -- A range of the balance has one of the two masses.
 use Rattle.std.proofs.Common.{◌-◌, arith}
-use Rattle.balanced_cut.specs.Ends.{range_between}
+use Rattle.rooted_cactus.specs.Borders.{range_between}
 use Rattle.canonical_cactus.proofs.Searched.{both_searched}
 use Rattle.canonical_cactus.proofs.first_side.Ranked.first_of_both.Goals as goal
 

@@ -2,7 +2,7 @@ use Rattle.std.proofs.Common.{◌≡◌, ◌++◌, length}
 use Rattle.std.specs.List.{All, filter}
 use Rattle.cut_definitions.specs.Cuts.{IsAscendingWithin}
 use Rattle.cut_listing.specs.Asks.{lets}
-use Rattle.cut_listing.specs.Listings.{members_of}
+use Rattle.vertex_set.specs.Side.{members_of}
 use Rattle.cut_listing.proofs.lister.Lister.asked_of.Given as goal
 
 abbrev pub invariant-sides : goal.invariant-sides

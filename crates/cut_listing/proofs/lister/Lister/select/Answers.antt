@@ -2,9 +2,8 @@ use Rattle.std.proofs.Common.{◌≡◌, Bool, rules, ◌==◌, ◌&&◌, ap, su
 use Rattle.std.specs.List.{All}
 use Rattle.std.proofs.lemmas.List.Elements.{All-filter}
 use Rattle.std.proofs.lemmas.Fn.{filter_same}
-use Rattle.vertex_set.specs.Side.{VertexList}
+use Rattle.vertex_set.specs.Side.{VertexList, members_of}
 use Rattle.cut_listing.specs.Asks.{lets}
-use Rattle.cut_listing.specs.Listings.{members_of}
 use Rattle.cut_listing.proofs.Passes.{selected}
 use Rattle.cut_listing.proofs.lister.Lister.select.Goals as goal
 

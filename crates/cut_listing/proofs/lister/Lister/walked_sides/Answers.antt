@@ -3,7 +3,7 @@ use Rattle.std.specs.List.{All}
 use Rattle.std.proofs.lemmas.Result.{IfOk-weaker}
 use Rattle.cut_definitions.specs.Cuts.{IsAscendingWithin}
 use Rattle.rooted_cactus.specs.Rooted.{sides_of}
-use Rattle.rooted_cactus.specs.Different.{AreDifferent}
+use Rattle.cut_definitions.specs.Members.{AreDifferent}
 use Rattle.cut_listing.specs.Asks.{lets}
 use Rattle.cut_listing.specs.Listings.{different}
 use Rattle.cut_listing.proofs.Passes.{asked_differ, given_ascend, given_asked}

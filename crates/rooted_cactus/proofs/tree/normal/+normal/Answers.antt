@@ -1,89 +1,60 @@
-use Rattle.std.proofs.Common.{◌&&◌, ◌∙◌, ◌≡◌, ◌<◌, ◌≤◌, Bool, true, length, ap, subst, sym, arith}
-use Rattle.std.specs.List.{list_all}
-use Rattle.std.proofs.lemmas.Bool.{lt-leb}
-use Rattle.std.proofs.lemmas.List.{take_all}
-use Rattle.std.proofs.lemmas.List.Folds.{list_all_at}
-use Rattle.rooted_cactus.specs.declared.tree.Block.{Block}
+use Rattle.std.proofs.Common.{◌&&◌, ◌∙◌, Bool, length, ap, sym, refl, arith}
+use Rattle.std.specs.List.{flat_map, list_all}
+use Rattle.std.proofs.lemmas.Option.{slice_get_read}
+use Rattle.rooted_cactus.specs.Entered.{entered, entered_block}
+use Rattle.rooted_cactus.specs.Entries.{nodes_of}
+use Rattle.rooted_cactus.specs.Normal.{block_shape}
+use Rattle.rooted_cactus.specs.Trees.{blocks, blocks_in}
 use Rattle.rooted_cactus.specs.declared.tree.Node.{Node}
-use Rattle.rooted_cactus.specs.Trees.{blocks, blocks_in, nodes_in}
-use Rattle.rooted_cactus.specs.Normal.{shape, block_shape, child_fine}
-use Rattle.rooted_cactus.proofs.Shapes.{bridge_shape, wide_fine, narrow_fine, child_parts}
-use Rattle.rooted_cactus.proofs.Steps.{all_next}
+use Rattle.rooted_cactus.proofs.AllFine.{all_fine, block_fine, is_fine, one_more, one_not}
+use Rattle.rooted_cactus.proofs.Orders.{entered_out}
+use Rattle.rooted_cactus.proofs.Shapes.{node_fine}
+use Rattle.rooted_cactus.proofs.Tallies.{one_of_all}
+use Rattle.rooted_cactus.proofs.Walks.{entered_nodes}
 use Rattle.rooted_cactus.proofs.tree.normal.+normal.Goals as goal
 
-pub block_is_normal-returns-in-Bridge : goal.block_is_normal-returns-in-Bridge
-block_is_normal-returns-in-Bridge t c = rw (c.in-Bridge.is, bridge_shape, ← c.deref.ensures) c.child_is_normal.ensures
+abbrev below : Node → Bool
+below x = list_all (λ b. (block_shape b).fine) (blocks x)
 
-pub block_is_normal-returns-then-len-ge2 : goal.block_is_normal-returns-then-len-ge2
-block_is_normal-returns-then-len-ge2 t c =
-    let count : c.len.result ≡ length (nodes_in c.in-Cycle.nodes) = c.len.ensures in
-    rw c.in-Cycle.is (c.children_are_normal.ensures ∙ sym (wide_fine c.in-Cycle.nodes (omega (arith, count, c.if-len-ge2.true))))
+pub block_is_normal-nodes_are_normal-requires : goal.block_is_normal-nodes_are_normal-requires
+block_is_normal-nodes_are_normal-requires t c = omega (arith, ap length (entered_nodes c.args.block.now), ap (λ xs. length (flat_map entered xs)) c.nodes.ensures)
 
-pub block_is_normal-returns-else-len-ge2 : goal.block_is_normal-returns-else-len-ge2
-block_is_normal-returns-else-len-ge2 t c =
-    let count : c.len.result ≡ length (nodes_in c.in-Cycle.nodes) = c.len.ensures in
-    rw c.in-Cycle.is (lt-leb 2 c.len.result (omega arith) ∙ sym (narrow_fine c.in-Cycle.nodes (omega (arith, count, c.if-len-ge2.false))))
+pub block_is_normal-returns-then-block_is_placed : goal.block_is_normal-returns-then-block_is_placed
+block_is_normal-returns-then-block_is_placed t c =
+    let b = c.args.block.now in
+    c.nodes_are_normal.ensures ∙ ap all_fine c.nodes.ensures ∙ sym (block_fine b ∙ ap (λ k. k && all_fine (nodes_of b)) (sym c.block_is_placed.ensures ∙ c.if-block_is_placed.true))
 
-pub child_is_normal-returns-then-is_well_placed : goal.child_is_normal-returns-then-is_well_placed
-child_is_normal-returns-then-is_well_placed t c =
-    c.blocks_are_normal.ensures
-    ∙ ap (λ b. b && list_all (λ x. (block_shape x).fine) (blocks c.args.node.now)) (sym c.if-is_well_placed.true ∙ c.is_well_placed.ensures)
-    ∙ sym (child_parts c.args.above_is_cycle c.args.node.now)
+pub block_is_normal-returns-else-block_is_placed : goal.block_is_normal-returns-else-block_is_placed
+block_is_normal-returns-else-block_is_placed t c =
+    let b = c.args.block.now in
+    c.if-block_is_placed.false ∙ sym (block_fine b ∙ ap (λ k. k && all_fine (nodes_of b)) (sym c.block_is_placed.ensures ∙ c.if-block_is_placed.false))
 
-pub child_is_normal-returns-else-is_well_placed : goal.child_is_normal-returns-else-is_well_placed
-child_is_normal-returns-else-is_well_placed t c =
-    c.if-is_well_placed.false
-    ∙ ap (λ b. b && list_all (λ x. (block_shape x).fine) (blocks c.args.node.now)) (sym c.if-is_well_placed.false ∙ c.is_well_placed.ensures)
-    ∙ sym (child_parts c.args.above_is_cycle c.args.node.now)
-
-abbrev is_fine : Block → Bool
-is_fine b = (block_shape b).fine
-
-abbrev is_fine_child : Node → Bool
-is_fine_child x = child_fine true (shape x)
-
-pub blocks_are_normal-each_block-preserved : goal.blocks_are_normal-each_block-preserved
-blocks_are_normal-each_block-preserved t c =
+pub blocks_are_normal-block_is_normal-requires : goal.blocks_are_normal-block_is_normal-requires
+blocks_are_normal-block_is_normal-requires t c =
     let bs = blocks_in c.args.blocks.now in
-    let i = c.each_block.i in
-    let h = c.each_block.invariant in
-    record {
-      end = h.end;
-      so_far = all_next is_fine bs i c.index.result.now (subst (λ n. i < n) h.end c.each_block-test.true) c.index.ensures (sym c.if-not-block_is_normal.ensures) h.so_far;
-    }
-
-pub blocks_are_normal-returns-then-not-block_is_normal : goal.blocks_are_normal-returns-then-not-block_is_normal
-blocks_are_normal-returns-then-not-block_is_normal t c =
-    let bs = blocks_in c.args.blocks.now in
-    let i = c.each_block.i in
     let b = c.index.result.now in
-    sym (list_all_at is_fine bs i b (subst (λ n. i < n) c.each_block.invariant.end c.each_block-test.true) (ap is_fine (sym c.index.ensures) ∙ sym c.if-not-block_is_normal.ensures))
+    omega (arith, one_of_all entered_block bs c.each_block.i b (slice_get_read bs _ c.each_block.i b c.each_block.invariant.end (omega arith) c.index.ensures))
 
-pub blocks_are_normal-returns : goal.blocks_are_normal-returns
-blocks_are_normal-returns t c =
-    let i = c.each_block.i in
-    let h = c.each_block.invariant in
-    sym h.so_far ∙ ap (list_all is_fine) (take_all i (blocks_in c.args.blocks.now) (subst (λ n. n ≤ i) h.end c.each_block-test.false))
+pub nodes_are_normal-blocks_are_normal-requires : goal.nodes_are_normal-blocks_are_normal-requires
+nodes_are_normal-blocks_are_normal-requires t c =
+    let xs = c.args.nodes.now in
+    let x = c.index-nodes-i.result in
+    let at = slice_get_read xs _ c.each_node.i x refl c.each_node-test.true c.index-nodes-i.is in
+    omega (arith, one_of_all entered xs c.each_node.i x at, ap length (entered_out x), ap (λ y. length (flat_map entered_block (blocks y))) c.index-nodes-i.is)
 
-pub children_are_normal-each_node-preserved : goal.children_are_normal-each_node-preserved
-children_are_normal-each_node-preserved t c =
-    let xs = nodes_in c.args.nodes.now in
-    let i = c.each_node.i in
-    let h = c.each_node.invariant in
+pub nodes_are_normal-returns-then-not-blocks_are_normal : goal.nodes_are_normal-returns-then-not-blocks_are_normal
+nodes_are_normal-returns-then-not-blocks_are_normal t c =
+    let xs = c.args.nodes.now in
+    let x = c.index-nodes-i.result in
+    let at = slice_get_read xs _ c.each_node.i x refl c.each_node-test.true c.index-nodes-i.is in
+    sym (one_not is_fine xs c.each_node.i x at (node_fine x ∙ ap below c.index-nodes-i.is ∙ sym c.blocks_are_normal.ensures ∙ c.if-not-blocks_are_normal.true))
+
+pub nodes_are_normal-each_node-preserved : goal.nodes_are_normal-each_node-preserved
+nodes_are_normal-each_node-preserved t c =
+    let xs = c.args.nodes.now in
+    let x = c.index-nodes-i.result in
+    let at = slice_get_read xs _ c.each_node.i x refl c.each_node-test.true c.index-nodes-i.is in
     record {
-      end = h.end;
-      so_far = all_next is_fine_child xs i c.index.result.now (subst (λ n. i < n) h.end c.each_node-test.true) c.index.ensures (sym c.if-not-child_is_normal.ensures) h.so_far;
+      end = c.each_node.invariant.end;
+      so_far = one_more is_fine xs c.each_node.i x at (node_fine x ∙ ap below c.index-nodes-i.is ∙ sym c.blocks_are_normal.ensures ∙ c.if-not-blocks_are_normal.false) c.each_node.invariant.so_far;
     }
-
-pub children_are_normal-returns-then-not-child_is_normal : goal.children_are_normal-returns-then-not-child_is_normal
-children_are_normal-returns-then-not-child_is_normal t c =
-    let xs = nodes_in c.args.nodes.now in
-    let i = c.each_node.i in
-    let x = c.index.result.now in
-    sym (list_all_at is_fine_child xs i x (subst (λ n. i < n) c.each_node.invariant.end c.each_node-test.true) (ap is_fine_child (sym c.index.ensures) ∙ sym c.if-not-child_is_normal.ensures))
-
-pub children_are_normal-returns : goal.children_are_normal-returns
-children_are_normal-returns t c =
-    let i = c.each_node.i in
-    let h = c.each_node.invariant in
-    sym h.so_far ∙ ap (list_all is_fine_child) (take_all i (nodes_in c.args.nodes.now) (subst (λ n. n ≤ i) h.end c.each_node-test.false))

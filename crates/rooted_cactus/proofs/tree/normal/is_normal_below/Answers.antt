@@ -1,7 +1,8 @@
 use Rattle.std.proofs.Common.{◌∙◌, ◌++◌, ◌∷◌, [], ap, sym}
 use Rattle.cut_definitions.proofs.ListLaws.{popped_is}
 use Rattle.rooted_cactus.specs.Numbers.{seen}
-use Rattle.rooted_cactus.proofs.Tallies.{seen_push, fewer_inner}
+use Rattle.rooted_cactus.proofs.Tallies.{fewer_inner}
+use Rattle.rooted_cactus.proofs.Walks.{seen_push}
 use Rattle.rooted_cactus.proofs.AllFine.{all_fine, begun_fine, taken_fine, not_fine}
 use Rattle.rooted_cactus.proofs.tree.normal.is_normal_below.Goals as goal
 

@@ -1,7 +1,8 @@
 use Rattle.std.proofs.Common.{◌∙◌, ap, arith}
 use Rattle.cut_definitions.proofs.ListLaws.{popped_is}
 use Rattle.rooted_cactus.specs.Numbers.{seen}
-use Rattle.rooted_cactus.proofs.Tallies.{seen_push, fewer_inner, numbers_step, top_own}
+use Rattle.rooted_cactus.proofs.Tallies.{fewer_inner, numbers_step, top_own}
+use Rattle.rooted_cactus.proofs.Walks.{seen_push}
 use Rattle.rooted_cactus.proofs.tree.number.count_cuts.Goals as goal
 
 pub own_cuts-count-requires : goal.own_cuts-count-requires

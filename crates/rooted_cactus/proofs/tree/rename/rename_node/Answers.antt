@@ -3,7 +3,6 @@ use Rattle.cut_definitions.specs.Weight.{VertexSet}
 use Rattle.rooted_cactus.specs.Entered.{renamed}
 use Rattle.rooted_cactus.specs.Entries.{Read}
 use Rattle.rooted_cactus.proofs.Entries.{names_are}
-use Rattle.rooted_cactus.proofs.Stands.{any_sets}
 use Rattle.rooted_cactus.proofs.tree.rename.rename_node.Goals as goal
 
 pub put_together-requires-clause-ready : goal.put_together-requires-clause-ready
@@ -14,12 +13,12 @@ put_together-requires-clause-one c = c.in_ok-entries.ensures.one
 
 pub returns-clause-names : goal.returns-clause-names
 returns-clause-names c = names_are (renamed c.args.names.now) c.args.node c.in_ok-tree.tree
-    (λ sets. c.in_ok-tree.ensures sets _ (any_sets sets) (c.in_ok-entries.ensures.reads sets))
+    (λ sets. c.in_ok-tree.ensures sets _ tt (c.in_ok-entries.ensures.reads sets))
 
 pub returns-clause-sides : goal.returns-clause-sides
-returns-clause-sides c = λ sets. ap (λ (r : Read). r.part) (c.in_ok-tree.ensures sets _ (any_sets sets) (c.in_ok-entries.ensures.reads sets))
+returns-clause-sides c = λ sets. ap (λ (r : Read). r.part) (c.in_ok-tree.ensures sets _ tt (c.in_ok-entries.ensures.reads sets))
 
 pub returns-clause-widths : goal.returns-clause-widths
 returns-clause-widths c =
     let sets : List ℕ → VertexSet = λ l v. false in
-    ap (λ (r : Read). r.counts) (c.in_ok-tree.ensures sets _ (any_sets sets) (c.in_ok-entries.ensures.reads sets))
+    ap (λ (r : Read). r.counts) (c.in_ok-tree.ensures sets _ tt (c.in_ok-entries.ensures.reads sets))
