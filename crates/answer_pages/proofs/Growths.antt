@@ -1,11 +1,6 @@
 -- The lines of the steps, of one step after another, and what was written whole.
-use Rattle.std.proofs.Common.{◌≡◌, ℕ, suc, ◌+◌, ◌<◌, ◌≤◌, List, [], ◌∷◌, ◌++◌, length, get_or, take, drop, ap, ◌∙◌, sym, refl, append_assoc, append-nil, add-zero, arith}
-use Rattle.std.specs.Prelude.{Option, Result, Ok, Err, OnOk, OnErr}
-use Rattle.std.specs.Io.KnownBytes.{Appends}
+use Rattle.std.proofs.Common.{◌≡◌, ℕ, suc, ◌+◌, ◌<◌, ◌≤◌, List, [], ◌∷◌, ◌++◌, length, get_or, take, drop, ap, ◌∙◌, sym, append_assoc, append-nil, add-zero, arith}
 use Rattle.std.proofs.lemmas.List.{take_more, take-append-drop, length-take}
-use Rattle.outside.specs.Faults.{HasCause, AppendsPrefix}
-use Rattle.answer_pages.specs.Puts.{IsSplit, Puts}
-use Rattle.answer_pages.proofs.Putting.{all_taken}
 use Rattle.answer_pages.specs.declared.growth_pages.Step.{Step}
 use Rattle.answer_pages.specs.Growing.{step_line, step_lines}
 
@@ -50,16 +45,3 @@ entry_second p a b c d e f g = simp append_assoc
 
 pub entry_parts : (p a b c d e f g : List ℕ) → (((p ++ (a ++ b)) ++ (c ++ d)) ++ (e ++ f)) ++ g ≡ p ++ (a ++ b ++ c ++ d ++ e ++ f ++ g)
 entry_parts p a b c d e f g = simp append_assoc
-
--- ---- a text that was written whole, as by a page that holds nothing at the end
-
-written : {T E : Type 0} (r : Result T E) (b : List ℕ) (t0 t1 : Option (List ℕ)) → OnOk r (Appends t0 t1 b) → OnOk r (IsSplit b t0 t1 [])
-written (Ok x) b t0 t1 h = record { gone = b; parts = sym (append-nil b); taken = h }
-written (Err e) b t0 t1 h = tt
-
-pub puts_whole : {T E : Type 0} (r : Result T E) (b : List ℕ) (t0 t1 : Option (List ℕ)) (m n : ℕ) → OnOk r (Appends t0 t1 b) → OnErr r (AppendsPrefix t0 t1 b) → HasCause m n r → Puts b t0 t1 m n [] r
-puts_whole r b t0 t1 m n whole prefix cause = record { ok = written r b t0 t1 whole; err = prefix; cause = cause }
-
-pub all_written : {T E : Type 0} (r : Result T E) (b : List ℕ) (t0 t1 : Option (List ℕ)) → OnOk r (IsSplit b t0 t1 []) → OnOk r (Appends t0 t1 b)
-all_written {E = E} (Ok x) b t0 t1 p = all_taken {E = E} (Ok x) b [] t0 t1 p refl
-all_written {E = E} (Err e) b t0 t1 p = tt

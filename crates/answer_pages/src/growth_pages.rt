@@ -1,18 +1,16 @@
 //! The text of a growth, line by line through one page: its steps, and the cactus at its end.
 
-ghost use Rattle.std.specs.Prelude.{◌≡◌, ◌≤◌, ◌^◌, ◌∷◌, ◌++◌, [], OnOk, OnErr, IsErrOf, length};
-ghost use Rattle.std.specs.Io.KnownBytes.{Appends};
-ghost use Rattle.outside.specs.Faults.{HasCause, AppendsPrefix, Rose};
-ghost use Rattle.flat_cactus.specs.Flattened.{flat_of};
+ghost use Rattle.std.specs.Prelude.{◌≤◌, ◌∷◌, ◌++◌, [], length};
 ghost use Rattle.answer_pages.specs.Puts.{Puts};
 ghost use Rattle.answer_pages.specs.Text.{spaced};
 ghost use Rattle.answer_pages.specs.Growing.{step_line, step_lines, growth_text};
 
-use crate::{Page, PrintRefusal, print_flat};
-use flat_cactus::{FlatCactus, flatten};
+use crate::page::Page;
+use crate::pieces::OneWorker;
+use crate::printing::CactusText;
+use crate::text::Text;
+use flat_cactus::FlatCactus;
 use outside::{Sink, SinkFailed};
-use rooted_cactus::Cactus;
-use std::alloc::Global;
 
 /// What is told of one step of a growth.
 #[derive(Clone, Copy, Debug, PartialEq, Eq)]
@@ -62,62 +60,19 @@ fn put_steps<K: Sink>(page: &mut Page, sink: &mut K, steps: &[Step]) -> Result<(
     Ok(())
 }
 
-/// Writes the lines of steps by way of an empty page, which is empty again at the end.
-fn write_steps<K: Sink>(page: &mut Page, sink: &mut K, steps: &[Step]) -> Result<(), SinkFailed>
-    requires { page.old ≡ [] }
-    ensures puts { Puts (step_lines 1 steps.now) (K.taken sink.old) (K.taken sink.new) (K.faults sink.old) (K.faults sink.new) page.new result }
-    ensures empty { OnOk result (page.new ≡ []) }
-{
-    put_steps(page, sink, steps)?;
-    page.flush(sink)
-}
-
-/// Writes the text of a growth by way of an empty page.
-fn write_growth<K: Sink>(
-    page: &mut Page,
-    sink: &mut K,
-    steps: &[Step],
-    value: u64,
-    cactus: &FlatCactus,
-) -> Result<(), SinkFailed>
-    requires { page.old ≡ [] }
-    ensures whole { OnOk result (Appends (K.taken sink.old) (K.taken sink.new) (growth_text steps.now value cactus.now)) }
-    ensures prefix { OnErr result (AppendsPrefix (K.taken sink.old) (K.taken sink.new) (growth_text steps.now value cactus.now)) }
-    ensures cause { HasCause (K.faults sink.old) (K.faults sink.new) result }
-{
-    write_steps(page, sink, steps)?;
-    print_flat(page, cactus, value, sink)
-}
-
-/// Writes a line for each step of a growth, with its number from 1 on, the value and the number of the minimum cuts, and
-/// then the text of a cactus with a value.
+/// The text of a growth: its steps, and the value and the cactus at its end.
 ///
-/// All memory is taken before the first byte, the flat cactus and one page; where it is wanting nothing is written, and
-/// the sink stays as it was. Where a write fails, what was taken is a first part of the text. Time in proportion to the
-/// text.
-pub fn print_growth<K: Sink>(
-    alloc: Global,
-    steps: &[Step],
-    value: u64,
-    cactus: &Cactus,
-    sink: &mut K,
-) -> Result<(), PrintRefusal>
-    requires value { value ≤ 2 ^ 62 }
-    requires n { cactus.now.vertices ≤ 4194304 }
-    ensures whole { OnOk result (Appends (K.taken sink.old) (K.taken sink.new) (growth_text steps.now value (flat_of cactus.now))) }
-    ensures same_count { OnOk result (K.faults sink.new ≡ K.faults sink.old) }
-    ensures prefix { IsErrOf result PrintRefusal.SinkFailed → AppendsPrefix (K.taken sink.old) (K.taken sink.new) (growth_text steps.now value (flat_of cactus.now)) }
-    ensures rose { IsErrOf result PrintRefusal.SinkFailed → Rose (K.faults sink.old) (K.faults sink.new) }
-    ensures memory { IsErrOf result PrintRefusal.NoMemory → sink.new ≡ sink.old }
-{
-    let Ok(flat) = flatten(alloc, cactus) else {
-        return Err(PrintRefusal::NoMemory);
-    };
-    let Ok(mut page) = Page::new(alloc) else {
-        return Err(PrintRefusal::NoMemory);
-    };
-    match write_growth(&mut page, sink, steps, value, &flat) {
-        Ok(()) => Ok(()),
-        Err(_) => Err(PrintRefusal::SinkFailed),
+/// It has a line for each step, with its number from 1 on, the value and the number of the minimum cuts, and then the text of
+/// the cactus with the value.
+#[derive(Clone, Copy, Drop)]
+pub struct GrowthText<'a>(pub &'a [Step], pub u64, pub &'a FlatCactus);
+
+impl Text for GrowthText<'_> {
+    ghost bytes = { λ t. growth_text t.0.now t.1 t.2.now };
+
+    fn put<K: Sink>(self, page: &mut Page, sink: &mut K) -> Result<(), SinkFailed> {
+        let GrowthText(steps, value, cactus) = self;
+        put_steps(page, sink, steps)?;
+        CactusText(OneWorker, value, cactus).put(page, sink)
     }
 }

@@ -8,25 +8,27 @@ ghost use Rattle.std.specs.Prelude.{⊤, Some, ◌≡◌, ◌<◌, ◌≤◌, �
 ghost use Rattle.std.specs.List.{All, concat};
 ghost use Rattle.std.specs.Thread.{IsSync};
 ghost use Rattle.answer_pages.specs.Lines.{joined_between, texts};
-ghost use Rattle.answer_pages.specs.Pieces.{IsMade};
+ghost use Rattle.answer_pages.specs.Pieces.{IsMade, workers_of};
 ghost use Rattle.answer_pages.specs.Puts.{Puts};
 ghost use Rattle.answer_pages.specs.Text.{line};
 
 use crate::numbered_lines::Lines;
 use crate::page::Page;
 use cut_definitions::NoMemory;
+use flat_cactus::FlatCactus;
 use outside::{Sink, SinkFailed, write_whole};
 use std::alloc::Global;
 use std::thread;
 use std::thread::Threads;
+use vertex_set::Side;
 
 /// How many bytes the text of a piece may have: some milliseconds of work.
 const PIECE_SIZE: usize = 2_097_152;
 
 /// Who makes lines into text.
-pub trait TextMaker {
+pub trait TextMaker: Drop {
     /// What it needs to do its work.
-    ghost ready: { Self → Type 0 };
+    ghost ready: { Self → Type 0 } = { λ _. ⊤ };
 
     /// Puts all of some lines.
     fn put_all<K: Sink>(
@@ -41,21 +43,16 @@ pub trait TextMaker {
 }
 
 /// One worker, who puts one line after another.
-#[derive(Clone, Copy)]
+#[derive(Clone, Copy, Drop)]
 pub struct OneWorker;
 
 impl TextMaker for OneWorker {
-    ghost ready = { λ w. ⊤ };
-
     fn put_all<K: Sink>(
         &mut self,
         page: &mut Page,
         sink: &mut K,
         lines: Lines,
-    ) -> Result<(), SinkFailed>
-        ensures puts { Puts (page.old ++ concat (texts lines.entry)) (K.taken sink.old) (K.taken sink.new) (K.faults sink.old) (K.faults sink.new) page.new result }
-        ensures ready { ⊤ }
-    {
+    ) -> Result<(), SinkFailed> {
         lines.put(page, sink, 0, lines.count())
     }
 }
@@ -241,23 +238,52 @@ fn put_made<K: Sink>(
     lines.put(page, sink, next, to)
 }
 
-/// Workers who make pieces of a text side by side.
+/// Workers who make pieces of a text side by side. A piece takes a few MiB; where these are wanting, its lines are put one by one.
 #[derive(Drop)]
 pub struct Crew<'a, R> {
     rt: &'a R,
     pieces: Vec<Piece>,
 }
 
-impl<R: Threads + Sync> Crew<'_, R> {
-    /// Workers for a text of about so many bytes: one for each piece that it fills, but no more than so many. Each has a page of
-    /// its own, and is refused only where that is wanting.
-    pub(crate) fn new(
-        rt: &R,
+impl<'a, R: Threads + Sync> Crew<'a, R> {
+    /// Workers for the text of a cactus: one for each piece that it fills, but no more than so many. Each has a page of its own,
+    /// and they are refused only where these are wanting.
+    pub fn for_cactus(
+        rt: &'a R,
         alloc: Global,
         workers: u32,
-        size: usize,
-    ) -> Result<Crew<'_, R>, NoMemory>
-        ensures { IfOk result (λ c. length c.pieces.items ≡ min workers (size / 2097152)) }
+        cactus: &FlatCactus,
+    ) -> Result<Crew<'a, R>, NoMemory>
+        ensures { IfOk result (λ c. workers_of c ≤ workers) }
+    {
+        let (_, members) = cactus.cycle_lists();
+        let vertices = cactus.nodes().saturating_add(cactus.n() as usize);
+        let joined = cactus
+            .bridges()
+            .len()
+            .saturating_mul(3)
+            .saturating_add(members.len());
+        let numbers = vertices.saturating_add(joined);
+        Crew::new(rt, alloc, workers, numbers.saturating_mul(8))
+    }
+
+    /// Workers for the text of a listing, as if half of the vertices were in each side: as many as `for_cactus` says.
+    pub fn for_sides(
+        rt: &'a R,
+        alloc: Global,
+        workers: u32,
+        sides: &[Side],
+    ) -> Result<Crew<'a, R>, NoMemory>
+        ensures { IfOk result (λ c. workers_of c ≤ workers) }
+    {
+        let n = sides.first().map_or(0, |side| side.n() as usize);
+        let size = sides.len().saturating_mul(n).saturating_mul(3);
+        Crew::new(rt, alloc, workers, size)
+    }
+
+    /// Workers for a text of about so many bytes.
+    fn new(rt: &'a R, alloc: Global, workers: u32, size: usize) -> Result<Crew<'a, R>, NoMemory>
+        ensures { IfOk result (λ c. workers_of c ≡ min workers (size / 2097152)) }
     {
         let count = (workers as usize).min(size / PIECE_SIZE);
         let pieces = new_pieces(alloc, count)?;
@@ -345,11 +371,7 @@ impl<R: Threads + Sync> TextMaker for Crew<'_, R> {
         page: &mut Page,
         sink: &mut K,
         lines: Lines,
-    ) -> Result<(), SinkFailed>
-        requires { IsSync R.row }
-        ensures puts { Puts (page.old ++ concat (texts lines.entry)) (K.taken sink.old) (K.taken sink.new) (K.faults sink.old) (K.faults sink.new) page.new result }
-        ensures ready { IsSync R.row }
-    {
+    ) -> Result<(), SinkFailed> {
         let count = lines.count();
         let mut next = 0;
         'runs: while next < count {

@@ -10,22 +10,13 @@ ghost use Rattle.answer_pages.specs.Puts.{Puts};
 
 use crate::numbered_lines::Lines;
 use crate::page::Page;
-use crate::pieces::{Crew, OneWorker, TextMaker};
+use crate::pieces::{OneWorker, TextMaker};
+use crate::text::{PrintRefusal, Text, print_text, write_text};
 use flat_cactus::{FlatCactus, flatten};
 use itoa::Integer;
 use outside::{Sink, SinkFailed};
 use rooted_cactus::Cactus;
 use std::alloc::Global;
-use std::thread::Threads;
-
-/// Why a text was not printed.
-#[derive(Clone, Copy, Debug, PartialEq, Eq, Drop)]
-pub enum PrintRefusal {
-    /// A write failed: a first part of the text was taken.
-    SinkFailed,
-    /// Memory was wanting: nothing was written.
-    NoMemory,
-}
 
 /// Puts a line: a word and numbers, with a space before each.
 pub(crate) fn put_line<K: Sink, I: Integer>(
@@ -76,25 +67,24 @@ fn put_first_line<K: Sink>(
     put_line(page, sink, b"cactus", &counts)
 }
 
-/// Writes the text of a flat cactus with a value, by way of an empty page and of who makes lines into text.
-pub(crate) fn write_flat<T: TextMaker, K: Sink>(
-    maker: &mut T,
-    page: &mut Page,
-    cactus: &FlatCactus,
-    value: u64,
-    sink: &mut K,
-) -> Result<(), SinkFailed>
-    requires ready { T.ready maker.old }
-    requires empty { page.old ≡ [] }
-    ensures whole { OnOk result (Appends (K.taken sink.old) (K.taken sink.new) (cactus_text value cactus.now)) }
-    ensures prefix { OnErr result (AppendsPrefix (K.taken sink.old) (K.taken sink.new) (cactus_text value cactus.now)) }
-    ensures cause { HasCause (K.faults sink.old) (K.faults sink.new) result }
-{
-    put_first_line(page, sink, cactus, value)?;
-    maker.put_all(page, sink, Lines::Nodes(cactus))?;
-    maker.put_all(page, sink, Lines::Bridges(cactus.bridges()))?;
-    maker.put_all(page, sink, Lines::Cycles(cactus))?;
-    page.flush(sink)
+/// The text of a flat cactus with a value: who makes its lines into text, the value, and the cactus.
+///
+/// It is the same text by several workers, who make a long one side by side.
+#[derive(Drop)]
+pub struct CactusText<'a, M>(pub M, pub u64, pub &'a FlatCactus);
+
+impl<M: TextMaker> Text for CactusText<'_, M> {
+    ghost ready = { λ t. M.ready t.0 };
+
+    ghost bytes = { λ t. cactus_text t.1 t.2.now };
+
+    fn put<K: Sink>(self, page: &mut Page, sink: &mut K) -> Result<(), SinkFailed> {
+        let CactusText(mut maker, value, cactus) = self;
+        put_first_line(page, sink, cactus, value)?;
+        maker.put_all(page, sink, Lines::Nodes(cactus))?;
+        maker.put_all(page, sink, Lines::Bridges(cactus.bridges()))?;
+        maker.put_all(page, sink, Lines::Cycles(cactus))
+    }
 }
 
 /// Writes the text of a flat cactus with a value, by way of an empty page. It takes no memory.
@@ -111,7 +101,7 @@ pub fn print_flat<K: Sink>(
     ensures prefix { OnErr result (AppendsPrefix (K.taken sink.old) (K.taken sink.new) (cactus_text value cactus.now)) }
     ensures cause { HasCause (K.faults sink.old) (K.faults sink.new) result }
 {
-    write_flat(&mut OneWorker, page, cactus, value, sink)
+    write_text(page, CactusText(OneWorker, value, cactus), sink)
 }
 
 /// Writes the text of a cactus with a value.
@@ -133,59 +123,6 @@ pub fn print<K: Sink>(
     ensures rose { IsErrOf result PrintRefusal.SinkFailed → Rose (K.faults sink.old) (K.faults sink.new) }
     ensures memory { IsErrOf result PrintRefusal.NoMemory → sink.new ≡ sink.old }
 {
-    let Ok(flat) = flatten(alloc, cactus) else {
-        return Err(PrintRefusal::NoMemory);
-    };
-    let Ok(mut page) = Page::new(alloc) else {
-        return Err(PrintRefusal::NoMemory);
-    };
-    match print_flat(&mut page, &flat, value, sink) {
-        Ok(()) => Ok(()),
-        Err(_) => Err(PrintRefusal::SinkFailed),
-    }
-}
-
-/// Writes the text of a flat cactus with a value, as `print_flat` does, by several workers, who make pieces of a long text side
-/// by side: it is the same text.
-///
-/// It is refused only where memory is wanting or a write fails. A page, and one more for each worker that a long text has work
-/// for, are taken before the first byte: where they are wanting nothing is written, and the sink stays as it was. A piece of a
-/// long text takes a few MiB besides; where these are wanting, its lines are put one by one. Where a write fails, what was taken
-/// is a first part of the text. Time in proportion to the text, which the workers share.
-pub fn print_by_workers<R: Threads + Sync, K: Sink>(
-    rt: &R,
-    alloc: Global,
-    workers: u32,
-    cactus: &FlatCactus,
-    value: u64,
-    sink: &mut K,
-) -> Result<(), PrintRefusal>
-    ensures whole { OnOk result (Appends (K.taken sink.old) (K.taken sink.new) (cactus_text value cactus.now)) }
-    ensures same_count { OnOk result (K.faults sink.new ≡ K.faults sink.old) }
-    ensures prefix { IsErrOf result PrintRefusal.SinkFailed → AppendsPrefix (K.taken sink.old) (K.taken sink.new) (cactus_text value cactus.now) }
-    ensures rose { IsErrOf result PrintRefusal.SinkFailed → Rose (K.faults sink.old) (K.faults sink.new) }
-    ensures memory { IsErrOf result PrintRefusal.NoMemory → sink.new ≡ sink.old }
-{
-    let Ok(mut page) = Page::new(alloc) else {
-        return Err(PrintRefusal::NoMemory);
-    };
-    let Ok(mut crew) = Crew::new(rt, alloc, workers, size_of_text(cactus)) else {
-        return Err(PrintRefusal::NoMemory);
-    };
-    match write_flat(&mut crew, &mut page, cactus, value, sink) {
-        Ok(()) => Ok(()),
-        Err(_) => Err(PrintRefusal::SinkFailed),
-    }
-}
-
-/// About how many bytes the text of a flat cactus has.
-fn size_of_text(cactus: &FlatCactus) -> usize {
-    let numbers = cactus.nodes().saturating_add(cactus.n() as usize);
-    let (_, members) = cactus.cycle_lists();
-    let joined = cactus
-        .bridges()
-        .len()
-        .saturating_mul(3)
-        .saturating_add(members.len());
-    numbers.saturating_add(joined).saturating_mul(8)
+    let flat = flatten(alloc, cactus)?;
+    print_text(alloc, CactusText(OneWorker, value, &flat), sink)
 }

@@ -9,14 +9,13 @@ use Rattle.cut_definitions.specs.Graph.{Graph, IsEdgeList}
 use Rattle.cut_definitions.specs.Cuts.{has, value, mincuts}
 use Rattle.cut_definitions.proofs.Values.{value_is_weight}
 use Rattle.cut_definitions.proofs.Running.{weight-le_total}
-use Rattle.flat_cactus.specs.Flat.{Flat}
-use Rattle.rooted_cactus.specs.Rooted.{Rooted, IsCactus, sides_of}
-use Rattle.flat_cactus.specs.FlatCuts.{HasSides}
+use Rattle.rooted_cactus.specs.Rooted.{Rooted}
 use Rattle.flat_cactus.specs.Flattened.{flat_of}
 use Rattle.flat_cactus.specs.FlatLaws.{LawOfFlatForm, LawOfFlatSides}
+use Rattle.flat_cactus.proofs.Shown.{shows}
 use Rattle.cut_definitions.specs.Members.{SameMembers}
 use Rattle.answer_pages.specs.Text.{cactus_text, line}
-use Rattle.job_replies.specs.Jobs.{AsksCuts, StandsFor, IsCactusOf, IsCactusText, IsTextFor, IsListed, IsListWithin, IsInRange, IsAnswerOf, IsStopFor, IsWithin, KeepsLimit, asked_cuts}
+use Rattle.job_replies.specs.Jobs.{AsksCuts, IsCactusOf, IsCactusText, IsTextFor, IsListed, IsListWithin, IsInRange, IsAnswerOf, IsStopFor, IsWithin, KeepsLimit, asked_cuts}
 use Rattle.job_replies.specs.Asked.{IsListReply, IsListStop, cuts_for}
 use Rattle.answer_pages.specs.Listings.{listing_text, count_text}
 use Rattle.job_replies.specs.Trials.{trial_text}
@@ -39,23 +38,11 @@ value_small g e two =
     let most = weight-le_total g (has least.0) in
     omega (arith, least.2, most, e.is_graph.total)
 
--- the same sides, by another list of them
-sides_of_list : (flat : Flat) (k l : List (List ℕ)) → HasSides flat k → SameMembers k l → HasSides flat l
-sides_of_list flat k l sides same = λ side. (λ cut. (same side).0 ((sides side).0 cut), λ member. (sides side).1 ((same side).1 member))
-
--- a cactus with the sides of the minimum cuts stands for the graph when it is made flat
-pub stands : (g : Graph) (c : Rooted) → LawOfFlatForm → LawOfFlatSides → IsCactus c.vertices c.root → c.vertices ≡ g.vertices → SameMembers (sides_of c) (mincuts g) → StandsFor (flat_of c) g
-stands g c form law is over same = record {
-  well_formed = form c.vertices c.root is;
-  over = over;
-  sides = sides_of_list (flat_of c) (sides_of c) (mincuts g) (law c.vertices c.root is) same;
-}
-
 pub canonical_text : (g : Graph) (c : Rooted) (v : ℕ) → LawOfFlatForm → LawOfFlatSides → IsCactusOf g c → v ≡ value g → IsCactusText g (cactus_text v (flat_of c))
 canonical_text g c v form law of_graph least = record {
   cactus = c;
   of_graph = of_graph;
-  stands = stands g c form law of_graph.is_cactus of_graph.over of_graph.sides;
+  shows = shows g c form law of_graph.is_cactus of_graph.over of_graph.sides;
   text_is = rw least refl;
 }
 

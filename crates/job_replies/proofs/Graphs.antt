@@ -18,10 +18,10 @@ use Rattle.answer_pages.specs.Listings.{listing_text, balanced_text}
 use Rattle.job_replies.specs.Trials.{ones, trial_text, IsFactsText}
 use Rattle.stop_lines.specs.declared.stop.Stop.TheVariants as stop
 use Rattle.cut_definitions.specs.Balance.{balance, IsBest}
-use Rattle.vertex_set.specs.Side.{VertexList}
+use Rattle.vertex_set.specs.Side.{VertexList, members_of}
 use Rattle.rooted_cactus.specs.declared.solved.Solved.{Solved}
 use Rattle.cut_listing.specs.Laws.{LawOfMinimumCuts, LawOfCount}
-use Rattle.cut_listing.specs.Listings.{IsList, IsRefusal, members_of}
+use Rattle.cut_listing.specs.Listings.{IsList, IsRefusal}
 use Rattle.cut_listing.specs.declared.list_refusal.ListRefusal.TheVariants as refusal
 use Rattle.std.proofs.lemmas.List.{length-map}
 use Rattle.cut_listing.specs.declared.ask.Ask.{Ask}

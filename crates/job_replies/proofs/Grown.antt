@@ -6,7 +6,7 @@ use Rattle.flat_cactus.specs.FlatLaws.{LawOfFlatForm, LawOfFlatSides}
 use Rattle.flat_cactus.specs.Flattened.{flat_of}
 use Rattle.answer_pages.specs.Growing.{growth_text}
 use Rattle.job_replies.specs.declared.growth.Growing.{Growing}
-use Rattle.job_replies.proofs.Answering.{stands}
+use Rattle.flat_cactus.proofs.Shown.{shows}
 use Rattle.cut_definitions.specs.Components.{IsConnected}
 use Rattle.cut_definitions.specs.Cuts.{has, value}
 use Rattle.cut_definitions.specs.Graph.{Graph}
@@ -71,6 +71,6 @@ grow_text g is after steps cactus form sides grows of_graph =
     record {
       cactus = cactus;
       of_graph = of_grown;
-      stands = stands (grown g is) cactus form sides of_grown.is_cactus of_grown.over of_grown.sides;
+      shows = shows (grown g is) cactus form sides of_grown.is_cactus of_grown.over of_grown.sides;
       text_is = λ j. growth_text (grows.told j) ((grows.growing.solved.value ∙ ap value grows.list) j) (flat_of cactus);
     }

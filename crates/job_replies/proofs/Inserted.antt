@@ -7,7 +7,7 @@ use Rattle.std.proofs.lemmas.List.{take-append-drop, take_all}
 use Rattle.std.proofs.lemmas.List.Elements.{All-append, All-cons, All-contains, All-nil, Contains-append_right}
 use Rattle.cut_definitions.proofs.Lists.{Contains-here}
 use Rattle.cut_definitions.specs.Components.{IsConnected, HasComponents}
-use Rattle.cut_definitions.specs.Graph.{Graph, IsEdgeList}
+use Rattle.cut_definitions.specs.Graph.{Graph, IsEdgeList, IsVertex}
 use Rattle.cut_definitions.specs.Weight.{VertexSet, parts, weight}
 use Rattle.cut_definitions.proofs.ListLaws.{taken}
 use Rattle.cactus_growth.specs.Insertion.{edge_between}
@@ -15,7 +15,7 @@ use Rattle.cactus_growth.specs.Laws.{LawOfWeights}
 use Rattle.job_replies.specs.GrowReplies.{IsGrowReply, IsGrowStop}
 use Rattle.program_words.specs.Insertions.{Insertion}
 use Rattle.job_replies.specs.GrownGraphs.{grown, step_of, steps_of, with_insertion, IsFirstBeyond, StaysWithin}
-use Rattle.job_replies.specs.Jobs.{AreInRange, IsFirstOutside, IsGrowText, IsOutsidePair, IsVertex}
+use Rattle.job_replies.specs.Jobs.{AreInRange, IsFirstOutside, IsGrowText, IsOutsidePair}
 use Rattle.stop_lines.specs.declared.stop.Stop.{Stop}
 use Rattle.stop_lines.specs.declared.stop.Stop.TheVariants as stop
 

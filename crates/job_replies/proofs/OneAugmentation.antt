@@ -9,7 +9,7 @@ use Rattle.cut_definitions.specs.Weight.{VertexSet}
 use Rattle.cut_definitions.specs.Cuts.{value}
 use Rattle.cut_definitions.proofs.Orderings.{one_listed}
 use Rattle.rooted_cactus.specs.Sides.{part}
-use Rattle.rooted_cactus.specs.Rooted.{Rooted, IsCactus}
+use Rattle.rooted_cactus.specs.Rooted.{Rooted, IsCactus, over}
 use Rattle.rooted_cactus.specs.Different.{HaveSameSides}
 use Rattle.rooted_cactus.specs.Entered.{in_order}
 use Rattle.rooted_cactus.specs.Trees.{nodes_in}
@@ -19,7 +19,6 @@ use Rattle.rooted_cactus.proofs.Fits.{root_solid}
 use Rattle.rooted_cactus.proofs.Sets.{same_set}
 use Rattle.rooted_cactus.proofs.Trims.{with_whole}
 use Rattle.canonical_cactus.specs.Canonical.{is_canonical}
-use Rattle.canonical_cactus.specs.Laws.{over}
 use Rattle.canonical_cactus.proofs.Fits.{IsFit, root_fit}
 use Rattle.canonical_cactus.proofs.Unique.{read_alike}
 use Rattle.canonical_cactus.proofs.OneTree.{root_all, cuts_over}

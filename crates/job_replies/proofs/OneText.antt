@@ -11,12 +11,11 @@ use Rattle.cut_definitions.specs.Balance.{balance}
 use Rattle.cut_definitions.specs.Cuts.{value}
 use Rattle.rooted_cactus.specs.Different.{HaveSameSides}
 use Rattle.flat_cactus.specs.Flattened.{flat_of}
-use Rattle.rooted_cactus.specs.Rooted.{Rooted, IsCactus}
+use Rattle.rooted_cactus.specs.Rooted.{Rooted, IsCactus, over}
 use Rattle.rooted_cactus.specs.declared.tree.Node.{Node}
 use Rattle.answer_pages.specs.Text.{cactus_text}
 use Rattle.canonical_cactus.specs.Canonical.{is_canonical}
 use Rattle.canonical_cactus.specs.FirstBest.{IsNoLater}
-use Rattle.canonical_cactus.specs.Laws.{over}
 use Rattle.canonical_cactus.proofs.OneTree.{one_flat}
 use Rattle.job_replies.specs.Jobs.{IsCactusOf}
 use Rattle.answer_pages.specs.Listings.{balanced_text}

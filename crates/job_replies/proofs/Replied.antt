@@ -3,7 +3,7 @@ use Rattle.std.proofs.Common.{◌++◌, ◌∷◌, ◌≡◌, ℕ, ◌⊎◌, �
 use Rattle.std.specs.Prelude.{◌≢◌, IsSome, IfSome, IfOk, MatchOption}
 use Rattle.std.specs.Io.KnownBytes.{Appends}
 use Rattle.outside.specs.Faults.{Rose}
-use Rattle.cut_definitions.specs.Graph.{Graph}
+use Rattle.cut_definitions.specs.Graph.{Graph, IsVertex}
 use Rattle.cut_definitions.specs.Components.{HasComponents}
 use Rattle.metis_reader.specs.declared.fault.Fault.{Fault}
 use Rattle.metis_reader.specs.File.{graph_of, masses_of}
@@ -17,7 +17,7 @@ use Rattle.program_words.specs.Notices.{notice_of, text_of}
 use Rattle.program_words.specs.declared.command.Command.{Command}
 use Rattle.program_words.specs.declared.command.Job.{Job}
 use Rattle.program_words.specs.declared.command.Job.TheVariants.{Value, Cactus, Cuts, Part, Count, Balanced, Augment, Grow, Trial}
-use Rattle.job_replies.specs.Jobs.{IsAnswerOf, IsStopFor, IsInRange, IsVertex, IsListed, IsListWithin, IsOutside, IsWithin, KeepsLimit, asked_cuts, total_of}
+use Rattle.job_replies.specs.Jobs.{IsAnswerOf, IsStopFor, IsInRange, IsListed, IsListWithin, IsOutside, IsWithin, KeepsLimit, asked_cuts, total_of}
 use Rattle.program_words.specs.Insertions.{Insertion}
 use Rattle.job_replies.specs.GrownGraphs.{StaysWithin}
 use Rattle.std.specs.List.{Contains}

@@ -1,14 +1,13 @@
 -- What the jobs answer for a graph.
 use Rattle.std.specs.Prelude.{ℕ, ◌≡◌, ◌⊎◌, ◌<◌, ◌≤◌, ◌+◌, ◌-◌, ◌*◌, ◌^◌, ⊤, true, List, ◌∷◌, ◌++◌, Option, Some, length, nat_le}
 use Rattle.std.specs.List.{All, filter}
-use Rattle.cut_definitions.specs.Graph.{Graph}
+use Rattle.cut_definitions.specs.Graph.{Graph, IsVertex}
 use Rattle.cut_definitions.specs.Weight.{parts}
 use Rattle.cut_definitions.specs.Cuts.{has, value, mincuts}
 use Rattle.cut_definitions.specs.Balance.{IsBest, balance, mass}
 use Rattle.cut_definitions.specs.Components.{IsConnected, HasComponents}
-use Rattle.flat_cactus.specs.Flat.{Flat}
-use Rattle.flat_cactus.specs.FlatCuts.{IsWellFormed, HasSides}
 use Rattle.flat_cactus.specs.Flattened.{flat_of}
+use Rattle.flat_cactus.specs.Shown.{ShowsCuts}
 use Rattle.rooted_cactus.specs.Rooted.{Rooted, IsCactus, sides_of}
 use Rattle.cut_definitions.specs.Members.{SameMembers}
 use Rattle.answer_pages.specs.Text.{cactus_text}
@@ -28,12 +27,6 @@ use Rattle.job_replies.specs.GrownGraphs.{grown, steps_of, IsFirstBeyond, StaysW
 use Rattle.answer_pages.specs.Listings.{listing_text, count_text, balanced_text}
 use Rattle.program_words.specs.Texts.{no_cut_line, disconnected_line, value_line}
 
--- the cactus is over the vertices of the graph, and the sides of its cuts are just the minimum cuts
-pub record StandsFor (flat : Flat) (g : Graph) : Type 0 where
-  pub well_formed : IsWellFormed flat
-  pub over : flat.vertices ≡ g.vertices
-  pub sides : HasSides flat (mincuts g)
-
 -- the canonical cactus of a graph: the one over its vertices whose sides are just its minimum cuts
 pub record IsCactusOf (g : Graph) (cactus : Rooted) : Type 0 where
   pub is_cactus : IsCactus cactus.vertices cactus.root
@@ -41,11 +34,11 @@ pub record IsCactusOf (g : Graph) (cactus : Rooted) : Type 0 where
   pub canonical : is_canonical cactus.root ≡ true
   pub sides : SameMembers (sides_of cactus) (mincuts g)
 
--- the text of the canonical cactus, made flat, which stands for the graph
+-- the text of the canonical cactus, made flat, which shows its minimum cuts
 pub record IsCactusText (g : Graph) (text : List ℕ) : Type 0 where
   pub cactus : Rooted
   pub of_graph : IsCactusOf g cactus
-  pub stands : StandsFor (flat_of cactus) g
+  pub shows : ShowsCuts g (flat_of cactus)
   pub text_is : text ≡ cactus_text (value g) (flat_of cactus)
 
 -- the text of a best side, where the vertices have these masses; in a connected graph it is the first of them in the order of lists
@@ -54,9 +47,6 @@ pub record IsBalancedText (masses : List ℕ) (g : Graph) (text : List ℕ) : Ty
   pub best : IsBest masses (mincuts g) side
   pub first : IsConnected g → IsFirstBest masses (mincuts g) side
   pub text_is : text ≡ balanced_text (value g) (balance masses side) side
-
-abbrev pub IsVertex : ℕ → ℕ → Type 0
-IsVertex n v = (1 ≤ v) × (v ≤ n)
 
 -- the text of the augmentation that the canonical cactus gives: its edges and sets, each list ascending
 pub record IsAugmentText (g : Graph) (text : List ℕ) : Type 0 where
@@ -71,7 +61,7 @@ pub record IsAugmentText (g : Graph) (text : List ℕ) : Type 0 where
 pub record IsGrowText (g : Graph) (insertions : List Insertion) (text : List ℕ) : Type 0 where
   pub cactus : Rooted
   pub of_graph : IsCactusOf (grown g insertions) cactus
-  pub stands : StandsFor (flat_of cactus) (grown g insertions)
+  pub shows : ShowsCuts (grown g insertions) (flat_of cactus)
   pub text_is : text ≡ growth_text (steps_of g insertions) (value (grown g insertions)) (flat_of cactus)
 
 -- those of some cuts that a listing has: those that part two vertices, those of at least a balance, or all

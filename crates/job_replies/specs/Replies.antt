@@ -4,7 +4,7 @@ use Rattle.flat_cactus.specs.Flattened.{flat_of}
 use Rattle.answer_pages.specs.Text.{cactus_text}
 use Rattle.job_replies.specs.declared.reply.Reply.{Reply}
 use Rattle.job_replies.specs.declared.reply.Reply.TheVariants.{Text, Cactus, Listing, Balanced, Growth, Augmentation}
-use Rattle.cut_listing.specs.Listings.{members_of}
+use Rattle.vertex_set.specs.Side.{members_of}
 use Rattle.answer_pages.specs.Augmenting.{augment_text}
 use Rattle.answer_pages.specs.Growing.{growth_text}
 use Rattle.answer_pages.specs.Listings.{listing_text, balanced_text}

@@ -5,7 +5,7 @@ ghost use Rattle.std.specs.List.{filter};
 ghost use Rattle.cut_definitions.specs.Cuts.{has, mincuts};
 ghost use Rattle.cut_definitions.specs.Graph.{Graph as EdgeGraph};
 ghost use Rattle.cut_listing.specs.Asks.{HasMasses, IsAskWithin, has_masses-prop, lets};
-ghost use Rattle.cut_listing.specs.Listings.{members_of};
+ghost use Rattle.vertex_set.specs.Side.{members_of};
 ghost use Rattle.job_replies.specs.Asked.{cuts_for};
 ghost use Rattle.job_replies.specs.Jobs.{asked_of};
 

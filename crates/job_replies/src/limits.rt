@@ -2,10 +2,10 @@
 
 ghost use Rattle.std.specs.Prelude.{ℕ, ◌≡◌, ◌⊎◌, IfOk, IfErr, OnOk};
 ghost use Rattle.std.specs.List.{All};
-ghost use Rattle.cut_definitions.specs.Graph.{IsEdgeList};
+ghost use Rattle.cut_definitions.specs.Graph.{IsEdgeList, IsVertex};
 ghost use Rattle.program_words.specs.Insertions.{IsInsertion};
 ghost use Rattle.job_replies.specs.GrownGraphs.{with_insertion, IsFirstBeyond, StaysWithin};
-ghost use Rattle.job_replies.specs.Jobs.{AreInRange, IsVertex};
+ghost use Rattle.job_replies.specs.Jobs.{AreInRange};
 
 use cactus_growth::{is_within_limits, with_edge};
 use cut_definitions::{EdgeList, NoMemory};

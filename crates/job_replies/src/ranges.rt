@@ -1,7 +1,8 @@
 //! The vertices that a job names, of which a graph may lack some.
 
 ghost use Rattle.std.specs.Prelude.{◌≡◌, IfSome, IsNone, true, false};
-ghost use Rattle.job_replies.specs.Jobs.{AreInRange, IsFirstOutside, IsInRange, IsOutside, IsOutsidePair, IsVertex};
+ghost use Rattle.job_replies.specs.Jobs.{AreInRange, IsFirstOutside, IsInRange, IsOutside, IsOutsidePair};
+ghost use Rattle.cut_definitions.specs.Graph.{IsVertex};
 
 use program_words::{Insertions, Job};
 

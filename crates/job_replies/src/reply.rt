@@ -5,11 +5,11 @@ ghost use Rattle.job_replies.specs.Answers.{Wrote, Failed};
 ghost use Rattle.job_replies.specs.Replies.{text_of, IsPrintable, TakesMemory};
 
 use answer_pages::{
-    PrintRefusal, Step, print_augmentation, print_balanced, print_by_workers, print_growth,
-    print_listing,
+    AugmentText, BalancedText, CactusText, Crew, GrowthText, ListingText, PrintRefusal, Step,
+    print_text,
 };
 use edge_augment::Plan;
-use flat_cactus::FlatCactus;
+use flat_cactus::{FlatCactus, flatten};
 use outside::{Sink, write_whole};
 use rooted_cactus::Solved;
 use std::alloc::Global;
@@ -84,20 +84,27 @@ pub fn write_reply<R: Threads + Sync, K: Sink>(
             value,
             cactus,
             workers,
-        } => print_by_workers(rt, alloc, *workers, cactus, *value, out),
+        } => {
+            let crew = Crew::for_cactus(rt, alloc, *workers, cactus)?;
+            print_text(alloc, CactusText(crew, *value, cactus), out)
+        }
         Reply::Listing {
             value,
             sides,
             workers,
-        } => print_listing(rt, alloc, *workers, *value, sides, out),
+        } => {
+            let crew = Crew::for_sides(rt, alloc, *workers, sides)?;
+            print_text(alloc, ListingText(crew, *value, sides), out)
+        }
         Reply::Balanced {
             value,
             balance,
             side,
-        } => print_balanced(alloc, *value, *balance, side, out),
+        } => print_text(alloc, BalancedText(*value, *balance, side), out),
         Reply::Growth { steps, solved } => {
-            print_growth(alloc, steps, solved.value, &solved.cactus, out)
+            let cactus = flatten(alloc, &solved.cactus)?;
+            print_text(alloc, GrowthText(steps, solved.value, &cactus), out)
         }
-        Reply::Augmentation { value, plan } => print_augmentation(alloc, *value, plan, out),
+        Reply::Augmentation { value, plan } => { print_text(alloc, AugmentText(*value, plan), out) }
     }
 }

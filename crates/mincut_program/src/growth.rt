@@ -6,12 +6,12 @@
 ghost use Rattle.std.specs.Prelude.{◌≡◌, ◌≤◌, IfOk, IfErr};
 ghost use Rattle.std.specs.List.{All};
 ghost use Rattle.cut_definitions.specs.Components.{IsConnected};
-ghost use Rattle.cut_definitions.specs.Graph.{IsEdgeList};
+ghost use Rattle.cut_definitions.specs.Graph.{IsEdgeList, IsVertex};
 ghost use Rattle.job_replies.specs.GrowReplies.{IsGrowReply, IsGrowStop};
 ghost use Rattle.job_replies.specs.Growth.{HasGrown, IsGrowing};
 ghost use Rattle.program_words.specs.Insertions.{IsInsertion};
 ghost use Rattle.job_replies.specs.GrownGraphs.{with_insertion, StaysWithin};
-ghost use Rattle.job_replies.specs.Jobs.{AreInRange, IsGrowText, IsVertex};
+ghost use Rattle.job_replies.specs.Jobs.{AreInRange, IsGrowText};
 ghost use Rattle.job_replies.specs.Replies.{text_of, IsPrintable};
 
 use crate::solving::solve_connected;

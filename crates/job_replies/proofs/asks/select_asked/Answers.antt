@@ -1,8 +1,7 @@
 use Rattle.std.proofs.Common.{◌==◌, ◌&&◌, ap, ◌∙◌, rules}
 use Rattle.std.proofs.lemmas.Fn.{filter_same}
-use Rattle.vertex_set.specs.Side.{VertexList}
+use Rattle.vertex_set.specs.Side.{VertexList, members_of}
 use Rattle.cut_listing.specs.Asks.{lets}
-use Rattle.cut_listing.specs.Listings.{members_of}
 use Rattle.cut_listing.proofs.Asked.{within_masses}
 use Rattle.cut_listing.proofs.Passes.{selected}
 use Rattle.job_replies.proofs.asks.select_asked.Goals as goal

@@ -1,5 +1,5 @@
 use Rattle.std.proofs.Common.{arith, refl}
-use Rattle.job_replies.specs.Jobs.{IsVertex}
+use Rattle.cut_definitions.specs.Graph.{IsVertex}
 use Rattle.job_replies.proofs.Inserted.{all_more, all_there, first_outside}
 use Rattle.job_replies.proofs.ranges.check_insertions.Goals as goal
 
