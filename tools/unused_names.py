@@ -102,8 +102,8 @@ def ghost_text(text):
     for kind in (CLAUSE, GHOST_ITEM):
         for found in kind.finditer(text):
             end = balanced(text, found.end())
-            reason = re.compile(r'\s*by (?=\{)').match(text, end)
-            parts.append(text[found.start():balanced(text, reason.end()) if reason else end])
+            more = re.compile(r'\s*(?:by|=) (?=\{)').match(text, end)
+            parts.append(text[found.start():balanced(text, more.end()) if more else end])
     parts += re.findall(r'#!?\[[^\]]*\]', text) + re.findall(r'prove!\([^;]*;', text)
     return ' '.join(parts)
 
