@@ -4,11 +4,11 @@
 //! made side by side, and written one after another. No promise rests on which lines a piece was dealt, nor on whether it was
 //! made: where what it has is not the text of the lines that come next, they are put one by one.
 
-ghost use Rattle.std.specs.Prelude.{⊤, Some, ◌≡◌, ◌<◌, ◌≤◌, ◌+◌, ◌++◌, ◌/◌, ◌∷◌, false, IfOk, codes, length, min};
+ghost use Rattle.std.specs.Prelude.{⊤, Some, ◌≡◌, ◌<◌, ◌≤◌, ◌+◌, ◌++◌, ◌*◌, ◌/◌, ◌∷◌, false, IfOk, codes, length, min};
 ghost use Rattle.std.specs.List.{All, concat};
 ghost use Rattle.std.specs.Thread.{IsSync};
 ghost use Rattle.answer_pages.specs.Lines.{joined_between, texts};
-ghost use Rattle.answer_pages.specs.Pieces.{IsMade, workers_of};
+ghost use Rattle.answer_pages.specs.Pieces.{IsMade, numbers_in, vertices_of_first, workers_of};
 ghost use Rattle.answer_pages.specs.Puts.{Puts};
 ghost use Rattle.answer_pages.specs.Text.{line};
 
@@ -246,15 +246,15 @@ pub struct Crew<'a, R> {
 }
 
 impl<'a, R: Threads + Sync> Crew<'a, R> {
-    /// Workers for the text of a cactus: one for each piece that it fills, but no more than so many. Each has a page of its own,
-    /// and they are refused only where these are wanting.
+    /// Workers for the text of a cactus: one for each piece that it fills, at eight bytes for each number, but no more than so
+    /// many. Each has a page of its own, and they are refused only where these are wanting.
     pub fn for_cactus(
         rt: &'a R,
         alloc: Global,
         workers: u32,
         cactus: &FlatCactus,
     ) -> Result<Crew<'a, R>, NoMemory>
-        ensures { IfOk result (λ c. workers_of c ≤ workers) }
+        ensures { IfOk result (λ c. workers_of c ≡ min workers (8 * numbers_in cactus.now / 2097152)) }
     {
         let (_, members) = cactus.cycle_lists();
         let vertices = cactus.nodes().saturating_add(cactus.n() as usize);
@@ -267,16 +267,19 @@ impl<'a, R: Threads + Sync> Crew<'a, R> {
         Crew::new(rt, alloc, workers, numbers.saturating_mul(8))
     }
 
-    /// Workers for the text of a listing, as if half of the vertices were in each side: as many as `for_cactus` says.
+    /// Workers for the text of a listing, as if it had three bytes for each vertex of each side; else as by `for_cactus`.
     pub fn for_sides(
         rt: &'a R,
         alloc: Global,
         workers: u32,
         sides: &[Side],
     ) -> Result<Crew<'a, R>, NoMemory>
-        ensures { IfOk result (λ c. workers_of c ≤ workers) }
+        ensures { IfOk result (λ c. workers_of c ≡ min workers (3 * (length sides.now * vertices_of_first sides.now) / 2097152)) }
     {
-        let n = sides.first().map_or(0, |side| side.n() as usize);
+        let n = match sides.first() {
+            Some(side) => side.n() as usize,
+            None => 0,
+        };
         let size = sides.len().saturating_mul(n).saturating_mul(3);
         Crew::new(rt, alloc, workers, size)
     }
