@@ -1,26 +1,28 @@
 //! The masses of the vertices, by which the balance of a cut is told.
 
-ghost use Rattle.std.specs.Prelude.{◌≡◌, ◌↔◌, ◌≤◌, [], length, IsTrue};
+ghost use Rattle.std.specs.Prelude.{◌≡◌, ◌↔◌, ◌+◌, ◌++◌, ◌≤◌, [], length, replicate, IsTrue};
 ghost use Rattle.cut_definitions.specs.Balance.{AreMasses, mass_of};
 
 use std::marker::Model;
 
 /// A mass of 0 or more for each of the vertices 1 to n, of which there are at most 4,194,304. Contracts see the list of
-/// the masses in the order of the vertices.
+/// the masses in the order of the vertices. The last ones that are 1 need no memory.
 #[derive(Drop)]
 pub struct VertexWeights {
     masses: Vec<u64>,
+    // how many vertices behind these have a mass of 1
+    ones: u32,
 }
 
 impl Model for VertexWeights {
-    ghost use Rattle.std.specs.Prelude.{ℕ, List};
+    ghost use Rattle.std.specs.Prelude.{ℕ, List, ◌++◌, replicate};
     ghost use Rattle.cut_definitions.specs.Balance.{AreMasses};
 
     ghost Value = { List ℕ };
 
-    ghost view = { λ w. w.masses.items };
+    ghost view = { λ w. w.masses.items ++ replicate w.ones 1 };
 
-    ghost invariant = { λ w. AreMasses w.masses.items };
+    ghost invariant = { λ w. AreMasses (w.masses.items ++ replicate w.ones 1) };
 }
 
 impl VertexWeights {
@@ -29,7 +31,15 @@ impl VertexWeights {
         requires { length list.items ≤ 4194304 }
         ensures { result ≡ list.items }
     {
-        VertexWeights { masses: list }
+        VertexWeights::with_ones(list, 0)
+    }
+
+    /// The weights of a list, which is taken over, and behind them so many that are 1. It takes no memory.
+    pub fn with_ones(list: Vec<u64>, ones: u32) -> VertexWeights
+        requires { length list.items + ones ≤ 4194304 }
+        ensures { result ≡ list.items ++ replicate ones 1 }
+    {
+        VertexWeights { masses: list, ones }
     }
 
     /// The number n of vertices.
@@ -37,14 +47,14 @@ impl VertexWeights {
         ensures value { result ≡ length self.now }
         ensures masses { AreMasses self.now }
     {
-        self.masses.len() as u32
+        self.masses.len() as u32 + self.ones
     }
 
     /// Whether there is no vertex.
     pub fn is_empty(&self) -> bool
         ensures { IsTrue result ↔ (self.now ≡ []) }
     {
-        self.masses.is_empty()
+        self.len() == 0
     }
 
     /// The mass of a vertex of 1 to n.
@@ -53,14 +63,10 @@ impl VertexWeights {
         requires to_n { v ≤ length self.now }
         ensures { result ≡ mass_of self.now v }
     {
-        self.masses[v as usize - 1]
-    }
-
-    /// The masses of the vertices 1 to n, in their order, lent without a copy.
-    pub fn as_slice(&self) -> &[u64]
-        ensures value { result.now ≡ self.now }
-        ensures masses { AreMasses self.now }
-    {
-        &self.masses
+        let place = v as usize - 1;
+        if place < self.masses.len() {
+            return self.masses[place];
+        }
+        1
     }
 }

@@ -1,16 +1,17 @@
 -- Which fault of a neighbour is the first.
 use Rattle.std.proofs.Common.{◌≡◌, ◌≢◌, ◌<◌, ◌≤◌, ◌⊎◌, ℕ, suc, Bool, true, false, ◌||◌, List, [], ◌++◌, length, map, ◌+◌, ◌*◌, not, refl, ap, sym, ◌∙◌, inl, inr, arith}
-use Rattle.std.specs.Prelude.{◌==◌, nat_lt}
+use Rattle.std.specs.Prelude.{◌==◌, nat_lt, nat_le}
 use Rattle.std.specs.List.Sorted.{IsPermutation}
 use Rattle.std.proofs.lemmas.List.Sorted.{length_permutation}
 use Rattle.std.specs.List.{filter}
-use Rattle.std.proofs.lemmas.Bool.{cases_eq}
+use Rattle.std.proofs.lemmas.Bool.{cases_eq, lt-leb, ne_eqb}
 use Rattle.std.proofs.lemmas.Bool.Decides.{nat_tests}
 use Rattle.cut_definitions.proofs.ListLaws.{mapped_length}
 use Rattle.metis_reader.specs.declared.fault.FaultKind.{FaultKind}
 use Rattle.metis_reader.specs.declared.fault.FaultKind.TheVariants.{TooManyEntries, NeighbourRange, SelfLoop}
 use Rattle.metis_reader.specs.declared.body.Body.{Body}
-use Rattle.metis_reader.specs.Profile.{Header, Entry, where_true}
+use Rattle.metis_reader.specs.Text.{Piece}
+use Rattle.metis_reader.specs.Profile.{Header, Entry, where_true, value, not_a_number, neighbour_faults}
 use Rattle.metis_reader.specs.File.{VertexLine, edge_of}
 use Rattle.metis_reader.specs.Machine.{vertex}
 use Rattle.metis_reader.specs.Bodies.{CanEnter, vertex_of, entry_count, greater_of, lesser_of}
@@ -61,6 +62,17 @@ sizes b header done all shows = record {
   entries = kept_entries b all shows.greater shows.lesser;
   vertex = ap (λ n. suc n) (sym (ap length shows.numbers ∙ mapped_length _ done));
 }
+
+-- a word that is a number which an entry may name has no fault
+pub no_neighbour_fault : (b : Body) (header : Header) (done : List VertexLine) (all : List Entry) (v : Piece) (n : ℕ) → BodyShows b header done all → CanEnter b n → not_a_number v ≡ [] → n ≡ value v → neighbour_faults header (vertex done) all v ≡ []
+no_neighbour_fault b header done all v n shows can none same =
+    let size : Sizes b header done all = sizes b header done all shows in
+    let some : value v ≢ 0 = omega (arith, can.from_one) in
+    let within : value v ≤ header.vertices = omega (arith, can.to_n, size.vertices) in
+    let room : length all < 2 * header.edges = omega (arith, can.room, size.entries, size.edges) in
+    let other : value v ≢ vertex done = λ e. can.is_other (omega (arith, size.vertex)) in
+    no_fault (not_a_number v) (nat_le (2 * header.edges) (length all)) (value v == 0 || nat_lt header.vertices (value v)) (value v == vertex done)
+    none (lt-leb _ _ room) (inside _ _ some within) (ne_eqb _ _ other)
 
 -- a number that might be a neighbour, and can't be one, is the vertex itself
 own_by : (b : Body) (value own : ℕ) → (value ≡ own) ⊎ (value ≡ own → ⊥) → 1 ≤ value → value ≤ b.header.vertices → own ≡ vertex_of b → entry_count b < 2 * b.header.edges → (CanEnter b value → ⊥) → value ≡ own

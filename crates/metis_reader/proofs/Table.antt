@@ -1,20 +1,22 @@
 -- What the body keeps, when an entry comes, a line ends or entries are met.
-use Rattle.std.proofs.Common.{◌≡◌, ◌≤◌, ◌+◌, ℕ, suc, true, false, not, List, [], ◌∷◌, ◌++◌, length, take, drop, map, arith, refl, subst, sym, ap, ◌∙◌, take-append-drop}
+use Rattle.std.proofs.Common.{◌≡◌, ◌≤◌, ◌+◌, ℕ, suc, true, false, not, List, [], ◌∷◌, ◌++◌, length, take, drop, map, arith, refl, subst, sym, ap, ◌∙◌, take-append-drop, append_assoc}
 use Rattle.std.specs.Prelude.{sum_by}
-use Rattle.std.specs.List.{All, filter}
+use Rattle.std.specs.List.{All, AllPairs, filter}
 use Rattle.std.specs.List.Sorted.{IsPermutation}
 use Rattle.std.proofs.lemmas.Grind.{common_steps}
-use Rattle.std.proofs.lemmas.List.{append-nil, map-append, take-append-le, drop-append-le, drop_at}
+use Rattle.std.proofs.lemmas.List.{length_push, append-nil, map-append, take-append-le, drop-append-le, drop_at}
 use Rattle.std.proofs.lemmas.List.Elements.{All-append, All-push, All-same, All-drop, All-weaker, All-nil}
-use Rattle.std.proofs.lemmas.List.Sorted.{IsPermutation-refl, IsPermutation-trans, IsPermutation-append, IsPermutation-append_right, All-permutation}
+use Rattle.std.proofs.lemmas.List.Sorted.{IsPermutation-refl, IsPermutation-trans, IsPermutation-append, IsPermutation-append_right, IsPermutation-append_left, IsPermutation-append_comm, IsPermutation-sym, All-permutation, length_permutation, sum_by-IsPermutation}
 use Rattle.std.proofs.lemmas.List.Sums.{sum_by-append}
 use Rattle.cut_definitions.specs.declared.edge_list.Edge.{Edge}
+use Rattle.cut_definitions.specs.Graph.{IsBefore}
 use Rattle.metis_reader.specs.declared.body.Body.{Body}
 use Rattle.metis_reader.specs.Profile.{Header, Entry, total}
 use Rattle.metis_reader.specs.File.{VertexLine, edge_of}
-use Rattle.metis_reader.specs.Meeting.{met_from, with_met, IsOfFinished, IsOfNext}
+use Rattle.metis_reader.specs.Meeting.{met_from, with_met, IsOfFinished, IsOfNext, IsInFront}
 use Rattle.metis_reader.specs.Bodies.{header_view, greater_of, lesser_of}
 use Rattle.metis_reader.specs.Shown.{BodyShows, is_upward, mirrored}
+use Rattle.metis_reader.proofs.Ascending.{rows_ascend}
 use Rattle.metis_reader.proofs.Meeting.{met_append, met_row, next_unmet, All-met}
 
 -- The end of a line.
@@ -23,6 +25,7 @@ pub record RowEnds (start : ℕ) (cursors : List ℕ) (old new : List Edge) : Ty
   pub moved : IsPermutation old new
   pub met : met_from 0 (cursors ++ start ∷ []) new ≡ met_from 0 cursors old
   pub finished : All (IsOfFinished (length (cursors ++ start ∷ []))) new
+  pub ascends : AllPairs IsInFront (take start old) → AllPairs IsBefore (drop start new) → AllPairs IsInFront new
 
 pub row_ends : (start : ℕ) (cursors : List ℕ) (old new : List Edge) → start ≤ length old → length new ≡ length old → All (IsOfFinished (length cursors)) (take start old)
     → All (IsOfNext (length cursors)) (drop start old) → take start new ≡ take start old → IsPermutation (drop start old) (drop start new) → RowEnds start cursors old new
@@ -39,6 +42,7 @@ row_ends start cursors old new le len finished next same row =
           (All-append Q (take start old) (drop start new)
           (All-weaker (IsOfFinished (length cursors)) Q (λ e h. (h.0, let most : e.u ≤ length cursors = h.1 in omega arith)) (take start old) finished)
           (All-weaker (IsOfNext (length cursors)) Q (λ e h. (let is : e.u ≡ suc (length cursors) = h in omega arith, let is : e.u ≡ suc (length cursors) = h in omega arith)) (drop start new) next_new));
+      ascends = λ up row. rows_ascend (length cursors) start old new same finished next_new up row;
     }
 
 -- An entry to a greater neighbour.
@@ -136,3 +140,49 @@ shows_line a b header done all here line same numbers masses greater lesser weig
   lesser = rw lesser shows.lesser;
   total = λ has. weight ∙ shows.total has;
 }
+
+-- The entries to lesser neighbours: those that were met, those that were not, and those that wait.
+
+swapped : (a l w : List Edge) → IsPermutation (a ++ (l ++ w)) (l ++ (a ++ w))
+swapped a l w =
+    subst (λ xs. IsPermutation xs (l ++ (a ++ w))) (append_assoc a l w)
+    (subst (λ xs. IsPermutation ((a ++ l) ++ w) xs) (append_assoc l a w) (IsPermutation-append_left w (a ++ l) (l ++ a) (IsPermutation-append_comm a l)))
+
+-- some of those that were not met are met
+pub moved_with : (g : List Edge) (c d : List ℕ) (l m w : List Edge) → IsPermutation (with_met g c l) (with_met g d m) → IsPermutation (with_met g c (l ++ w)) (with_met g d (m ++ w))
+moved_with g c d l m w h =
+    subst (λ xs. IsPermutation xs (with_met g d (m ++ w))) (append_assoc (met_from 0 c g) l w)
+    (subst (λ xs. IsPermutation ((met_from 0 c g ++ l) ++ w) xs) (append_assoc (met_from 0 d g) m w) (IsPermutation-append_left w (with_met g c l) (with_met g d m) h))
+
+-- or some of those that wait
+pub moved_waiting : (g : List Edge) (c d : List ℕ) (l w v : List Edge) → IsPermutation (with_met g c w) (with_met g d v) → IsPermutation (with_met g c (l ++ w)) (with_met g d (l ++ v))
+moved_waiting g c d l w v h =
+    IsPermutation-trans _ _ _ (swapped (met_from 0 c g) l w)
+    (IsPermutation-trans _ _ _ (IsPermutation-append_right l (with_met g c w) (with_met g d v) h) (IsPermutation-sym _ _ (swapped (met_from 0 d g) l v)))
+
+-- one more waits
+pub grew_taken : (l w v : List Edge) (e : Edge) → IsPermutation (e ∷ w) v → IsPermutation ((l ++ w) ++ e ∷ []) (l ++ v)
+grew_taken l w v e h =
+    subst (λ xs. IsPermutation xs (l ++ v)) (sym (append_assoc l w (e ∷ [])))
+    (IsPermutation-append_right l (w ++ e ∷ []) v (IsPermutation-trans _ _ _ (IsPermutation-append_comm w (e ∷ [])) h))
+
+-- or does not
+pub grew_pushed : (l w : List Edge) (e : Edge) → IsPermutation ((l ++ w) ++ e ∷ []) ((l ++ e ∷ []) ++ w)
+grew_pushed l w e =
+    subst (λ xs. IsPermutation ((l ++ w) ++ e ∷ []) xs) (sym (append_assoc l (e ∷ []) w)) (grew_taken l w (e ∷ w) e (IsPermutation-refl (e ∷ w)))
+
+pub grew_met : (g : List Edge) (c : List ℕ) (old new : List Edge) (e : Edge) → IsPermutation (old ++ e ∷ []) new → IsPermutation (with_met g c old ++ e ∷ []) (with_met g c new)
+grew_met g c old new e h =
+    subst (λ xs. IsPermutation xs (with_met g c new)) (sym (append_assoc (met_from 0 c g) old (e ∷ []))) (IsPermutation-append_right (met_from 0 c g) (old ++ e ∷ []) new h)
+
+pub one_counted : (entries : ℕ) (g old new : List Edge) (e : Edge) → entries ≡ length g + length old → IsPermutation (old ++ e ∷ []) new → entries + 1 ≡ length g + length new
+one_counted entries g old new e h moved =
+    let len : length new ≡ length (old ++ e ∷ []) = length_permutation _ _ moved in
+    omega (arith, length_push old e)
+
+pub one_weighed : (total : ℕ) (g old new : List Edge) (e : Edge) → total ≡ sum_by (λ (e : Edge). e.w) g + sum_by (λ (e : Edge). e.w) old → IsPermutation (old ++ e ∷ []) new
+    → total + e.w ≡ sum_by (λ (e : Edge). e.w) g + sum_by (λ (e : Edge). e.w) new
+one_weighed total g old new e h moved =
+    let sum : sum_by (λ (e : Edge). e.w) new ≡ sum_by (λ (e : Edge). e.w) (old ++ e ∷ []) = sum_by-IsPermutation (λ (e : Edge). e.w) (old ++ e ∷ []) new moved in
+    let more : sum_by (λ (e : Edge). e.w) (old ++ e ∷ []) ≡ sum_by (λ (e : Edge). e.w) old + e.w = weight_pushed old e in
+    omega arith

@@ -1,12 +1,14 @@
 -- What the body keeps, without where it lies in memory.
-use Rattle.std.specs.Prelude.{◌≢◌, ℕ, List, suc, ◌+◌, ◌*◌, ◌<◌, ◌≤◌, length, nat_le, if◌then◌else◌}
+use Rattle.std.specs.Prelude.{◌≢◌, ℕ, List, suc, ◌+◌, ◌*◌, ◌++◌, ◌<◌, ◌≤◌, length, nat_le, if◌then◌else◌}
 use Rattle.cut_definitions.specs.declared.edge_list.Edge.{Edge}
 use Rattle.metis_reader.specs.declared.header.Header.{Header}
 use Rattle.metis_reader.specs.declared.body.Body.{Body}
 use Rattle.metis_reader.specs.declared.due.Due.{Due}
 use Rattle.metis_reader.specs.declared.due.Due.TheVariants.{NoWord}
 use Rattle.metis_reader.specs.Dues.{after_leading_of}
+use Rattle.metis_reader.specs.declared.waiting.Waiting.{Waiting}
 use Rattle.metis_reader.specs.Meeting.{with_met}
+use Rattle.metis_reader.specs.Regions.{waiting_from}
 use Rattle.metis_reader.specs.Profile as profile
 
 -- how many words stand before the vertex weights, and how many before the neighbours
@@ -32,9 +34,12 @@ vertex_of b = suc (length b.numbers.items)
 abbrev pub greater_of : Body → List Edge
 greater_of b = b.greater.items
 
+abbrev pub waiting_of : Waiting → List Edge
+waiting_of w = waiting_from 0 w.owners.items w.weights.items w.packed.items
+
 -- the entries to lesser neighbours, in some order
 abbrev pub lesser_of : Body → List Edge
-lesser_of b = with_met b.greater.items b.cursors.items b.lesser.items
+lesser_of b = with_met b.greater.items b.cursors.items (b.lesser.items ++ waiting_of b.waiting)
 
 abbrev pub entry_count : Body → ℕ
 entry_count b = b.entries

@@ -1,5 +1,5 @@
 -- Which entries to greater neighbours have met their mates, as the cursors of the rows tell.
-use Rattle.std.specs.Prelude.{◌≡◌, ◌≤◌, ℕ, suc, ◌-◌, ◌++◌, Bool, nat_lt, if◌then◌else◌, List, [], ◌∷◌, get_or}
+use Rattle.std.specs.Prelude.{◌≡◌, ◌≤◌, ◌<◌, ℕ, suc, ◌-◌, ◌++◌, Bool, nat_lt, if◌then◌else◌, List, [], ◌∷◌, get_or}
 use Rattle.cut_definitions.specs.declared.edge_list.Edge.{Edge}
 
 -- whether the edge at this place is in front of the cursor of its row, which begins there before the first one is met
@@ -22,3 +22,7 @@ IsOfFinished lines e = (1 ≤ e.u) × (e.u ≤ lines)
 -- an entry of the line after so many
 abbrev pub IsOfNext : ℕ → Edge → Type 0
 IsOfNext lines e = e.u ≡ suc lines
+
+-- the first of two edges comes before the second
+abbrev pub IsInFront : Edge → Edge → Type 0
+IsInFront d e = (d.u ≤ e.u) × (d.u ≡ e.u → d.v < e.v)

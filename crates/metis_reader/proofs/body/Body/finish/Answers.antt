@@ -27,43 +27,43 @@ returns-then-not-has_all_entries-clause-exact c = λ header done end shows rows.
 
 pub finish_by_sorting-requires : goal.finish_by_sorting-requires
 finish_by_sorting-requires c = record {
-  lines = all_lines c.args.self c.settle.new.self c.settle.ensures.same_header c.settle.ensures.same_lines c.if-not-has_all_lines.ensures;
-  entries = all_entries_there c.args.self c.settle.new.self c.settle.ensures.same_header c.settle.ensures.same_entries c.if-not-has_all_entries.ensures;
+  lines = all_lines c.args.self c.settle_all.new.self c.settle_all.ensures.same_header c.settle_all.ensures.same_lines c.if-not-has_all_lines.ensures;
+  entries = all_entries_there c.args.self c.settle_all.new.self c.settle_all.ensures.same_header c.settle_all.ensures.same_entries c.if-not-has_all_entries.ensures;
 }
 
 pub returns-then-not-is_met-clause-exact : goal.returns-then-not-is_met-clause-exact
 returns-then-not-is_met-clause-exact c = λ header done end shows rows.
     c.finish_by_sorting.ensures.exact header done end c.args.lines
-    (shows_moved c.args.self c.settle.new.self header done (all_entries done) (record { header = c.settle.ensures.same_header; numbers = c.settle.ensures.same_lines; masses = c.settle.ensures.same_masses })
-    c.settle.ensures.same_greater c.settle.ensures.moved c.settle.ensures.same_total shows)
+    (shows_moved c.args.self c.settle_all.new.self header done (all_entries done) (record { header = c.settle_all.ensures.same_header; numbers = c.settle_all.ensures.same_lines; masses = c.settle_all.ensures.same_masses })
+    c.settle_all.ensures.same_greater c.settle_all.ensures.moved c.settle_all.ensures.same_total shows)
     rows
 
 pub from_edges-requires : goal.from_edges-requires
 from_edges-requires c =
-    let b = c.settle.new.self in
+    let b = c.settle_all.new.self in
     subst (λ edges. IsEdgeList (record { vertices = b.header.vertices; edges = edges })) (sym c.shrink_to_fit.ensures.items)
     (matched_is_edge_list b b.greater.items (IsPermutation-refl b.greater.items) (c.is_met.ensures.lesser c.if-not-is_met.false) (c.is_met.ensures.ascends c.if-not-is_met.false))
 
 pub returns-clause-exact : goal.returns-clause-exact
 returns-clause-exact c = λ header done end shows rows.
-    let b = c.settle.new.self in
-    let now = shows_moved c.args.self b header done (all_entries done) (record { header = c.settle.ensures.same_header; numbers = c.settle.ensures.same_lines; masses = c.settle.ensures.same_masses })
-    c.settle.ensures.same_greater c.settle.ensures.moved c.settle.ensures.same_total shows in
+    let b = c.settle_all.new.self in
+    let now = shows_moved c.args.self b header done (all_entries done) (record { header = c.settle_all.ensures.same_header; numbers = c.settle_all.ensures.same_lines; masses = c.settle_all.ensures.same_masses })
+    c.settle_all.ensures.same_greater c.settle_all.ensures.moved c.settle_all.ensures.same_total shows in
     let accepted = body_accepted b header done end c.args.lines b.greater.items now rows
-    (all_lines c.args.self b c.settle.ensures.same_header c.settle.ensures.same_lines c.if-not-has_all_lines.ensures)
-    (all_entries_there c.args.self b c.settle.ensures.same_header c.settle.ensures.same_entries c.if-not-has_all_entries.ensures)
+    (all_lines c.args.self b c.settle_all.ensures.same_header c.settle_all.ensures.same_lines c.if-not-has_all_lines.ensures)
+    (all_entries_there c.args.self b c.settle_all.ensures.same_header c.settle_all.ensures.same_entries c.if-not-has_all_entries.ensures)
     (IsPermutation-refl b.greater.items) (c.is_met.ensures.lesser c.if-not-is_met.false) (c.is_met.ensures.ascends c.if-not-is_met.false) in (
       accepted.0,
       accepted.1 ∙ sym (subst (λ edges. c.from_edges.result ≡ record { vertices = b.header.vertices; edges = edges }) c.shrink_to_fit.ensures.items c.from_edges.ensures),
-      sym now.masses ∙ sym c.from_list.ensures,
+      sym now.masses ∙ sym c.into_weights.ensures,
     )
 
-pub from_list-requires : goal.from_list-requires
-from_list-requires c = few_masses c.settle.new.self
+pub into_weights-requires : goal.into_weights-requires
+into_weights-requires c = few_masses c.settle_all.new.self
 
 pub returns-clause-weighed : goal.returns-clause-weighed
 returns-clause-weighed c =
-    let b = c.settle.new.self in
-    ap length c.from_list.ensures
-    ∙ one_for_each b (all_lines c.args.self b c.settle.ensures.same_header c.settle.ensures.same_lines c.if-not-has_all_lines.ensures)
+    let b = c.settle_all.new.self in
+    ap length c.into_weights.ensures
+    ∙ one_for_each b (all_lines c.args.self b c.settle_all.ensures.same_header c.settle_all.ensures.same_lines c.if-not-has_all_lines.ensures)
     ∙ sym (ap (λ (g : Graph). g.vertices) c.from_edges.ensures)

@@ -1,4 +1,4 @@
-use Rattle.std.proofs.Common.{◌≡◌, ◌≤◌, ◌<◌, ◌-◌, ◌++◌, ℕ, List, length, get_or, drop, arith, subst, sym, ap, ◌∙◌, length-append}
+use Rattle.std.proofs.Common.{◌≡◌, ◌≤◌, ◌<◌, ◌+◌, ◌++◌, ℕ, List, length, drop, arith, subst, sym, ap, ◌∙◌, length-append}
 use Rattle.std.specs.List.{All}
 use Rattle.std.specs.List.Sorted.{IsPermutation}
 use Rattle.std.proofs.lemmas.List.{take_at}
@@ -8,7 +8,7 @@ use Rattle.cut_definitions.specs.declared.edge_list.Edge.{Edge}
 use Rattle.cut_definitions.specs.Graph.{Graph, IsEdgeWithin, IsEdgeList}
 use Rattle.metis_reader.specs.declared.body.Body.{Body}
 use Rattle.metis_reader.specs.Meeting.{met_from}
-use Rattle.metis_reader.specs.Bodies.{greater_of, lesser_of}
+use Rattle.metis_reader.specs.Bodies.{greater_of, lesser_of, waiting_of}
 use Rattle.metis_reader.specs.Ending.{TellsFirst}
 use Rattle.metis_reader.specs.File.{end_findings}
 use Rattle.metis_reader.proofs.Meeting.{All-met}
@@ -17,17 +17,27 @@ use Rattle.metis_reader.proofs.BodyEnd.{body_mismatch, body_accepted, matched_is
 use Rattle.metis_reader.proofs.body.Body.finish_by_sorting.Goals as goal
 use Rattle.metis_reader.proofs.body.Body.finish_by_sorting.Goals.{After-shrink_to_fit}
 
+lengths : (b : Body) → b.entries ≡ length b.greater.items + (length (met_from 0 b.cursors.items b.greater.items) + (length b.lesser.items + length (waiting_of b.waiting)))
+lengths b =
+    b.counted
+    ∙ ap (λ n. length b.greater.items + n)
+    (length-append (met_from 0 b.cursors.items b.greater.items) (b.lesser.items ++ waiting_of b.waiting) ∙ ap (λ n. length (met_from 0 b.cursors.items b.greater.items) + n) (length-append b.lesser.items (waiting_of b.waiting)))
+
+pub release-requires : goal.release-requires
+release-requires c = omega (arith, lengths c.args.self, c.args.self.entries_fit, c.args.self.lesser_room)
+
 pub put_back-requires : goal.put_back-requires
 put_back-requires c =
     let b = c.args.self in
     let g : length c.deref.result.now ≡ length b.greater.items = ap length c.deref.ensures.value in
-    omega (arith, b.counted, b.entries_fit, b.lesser_room, length-append (met_from 0 b.cursors.items b.greater.items) b.lesser.items)
+    let l : length c.release.new.lesser.items ≡ length b.lesser.items + length (waiting_of b.waiting) = ap length c.release.ensures.items ∙ length-append b.lesser.items (waiting_of b.waiting) in
+    omega (arith, lengths b, b.entries_fit, b.lesser_room, c.release.ensures.capacity)
 
-back : (b : Body) (l g : List Edge) (cursors : List ℕ) → g ≡ b.greater.items → cursors ≡ b.cursors.items → l ≡ b.lesser.items ++ met_from 0 cursors g → IsPermutation (lesser_of b) l
+back : (b : Body) (l g : List Edge) (cursors : List ℕ) → g ≡ b.greater.items → cursors ≡ b.cursors.items → l ≡ (b.lesser.items ++ waiting_of b.waiting) ++ met_from 0 cursors g → IsPermutation (lesser_of b) l
 back b l g cursors is_g is_c is =
     subst (λ l. IsPermutation (lesser_of b) l)
-    (sym (is ∙ ap (λ g. b.lesser.items ++ met_from 0 cursors g) is_g ∙ ap (λ cursors. b.lesser.items ++ met_from 0 cursors b.greater.items) is_c))
-    (IsPermutation-append_comm (met_from 0 b.cursors.items b.greater.items) b.lesser.items)
+    (sym (is ∙ ap (λ g. (b.lesser.items ++ waiting_of b.waiting) ++ met_from 0 cursors g) is_g ∙ ap (λ cursors. (b.lesser.items ++ waiting_of b.waiting) ++ met_from 0 cursors b.greater.items) is_c))
+    (IsPermutation-append_comm (met_from 0 b.cursors.items b.greater.items) (b.lesser.items ++ waiting_of b.waiting))
 
 greater_inside : (b : Body) (g : List Edge) → g ≡ b.greater.items → All (IsEdgeWithin b.header.vertices) g
 greater_inside b g is = All-same (IsEdgeWithin b.header.vertices) g b.greater.items is b.greater_within
@@ -36,7 +46,7 @@ lesser_inside : (b : Body) (l : List Edge) → IsPermutation (lesser_of b) l →
 lesser_inside b l moved =
     let P : Edge → Type 0 = IsEdgeWithin b.header.vertices in
     All-permutation P (lesser_of b) l moved
-    (All-append P (met_from 0 b.cursors.items b.greater.items) b.lesser.items (All-met P 0 b.cursors.items b.greater.items b.greater_within) b.lesser_within)
+    (All-append P (met_from 0 b.cursors.items b.greater.items) (b.lesser.items ++ waiting_of b.waiting) (All-met P 0 b.cursors.items b.greater.items b.greater_within) b.lesser_within)
 
 pub mismatch-requires : goal.mismatch-requires
 mismatch-requires c =
@@ -46,30 +56,28 @@ mismatch-requires c =
 pub fault_of_vertex-requires-clause-from_one : goal.fault_of_vertex-requires-clause-from_one
 fault_of_vertex-requires-clause-from_one c =
     let b = c.args.self in
-    let l = back b c.as_mut_slice-2.result.now c.deref.result.now c.deref-2.result.now c.deref.ensures.value c.deref-2.ensures.value (c.as_mut_slice-2.ensures.value ∙ c.put_back.ensures) in
+    let l = back b c.as_mut_slice-2.result.now c.deref.result.now c.deref-2.result.now c.deref.ensures.value c.deref-2.ensures.value (c.as_mut_slice-2.ensures.value ∙ c.put_back.ensures ∙ ap (λ xs. xs ++ met_from 0 c.deref-2.result.now c.deref.result.now) c.release.ensures.items) in
     (mismatch_inside b.header.vertices c.in-Some.vertex c.in-Some.kind c.as_mut_slice.result.now c.as_mut_slice-2.result.now
     (greater_inside b c.as_mut_slice.result.now c.as_mut_slice.ensures.value) (lesser_inside b c.as_mut_slice-2.result.now l) c.in-Some.ensures.some).0
 
 pub fault_of_vertex-requires-clause-has_line : goal.fault_of_vertex-requires-clause-has_line
 fault_of_vertex-requires-clause-has_line c =
     let b = c.args.self in
-    let l = back b c.as_mut_slice-2.result.now c.deref.result.now c.deref-2.result.now c.deref.ensures.value c.deref-2.ensures.value (c.as_mut_slice-2.ensures.value ∙ c.put_back.ensures) in
+    let l = back b c.as_mut_slice-2.result.now c.deref.result.now c.deref-2.result.now c.deref.ensures.value c.deref-2.ensures.value (c.as_mut_slice-2.ensures.value ∙ c.put_back.ensures ∙ ap (λ xs. xs ++ met_from 0 c.deref-2.result.now c.deref.result.now) c.release.ensures.items) in
     let most : c.in-Some.vertex ≤ b.header.vertices = (mismatch_inside b.header.vertices c.in-Some.vertex c.in-Some.kind c.as_mut_slice.result.now c.as_mut_slice-2.result.now
     (greater_inside b c.as_mut_slice.result.now c.as_mut_slice.ensures.value) (lesser_inside b c.as_mut_slice-2.result.now l) c.in-Some.ensures.some).1 in
     let all : b.header.vertices ≤ length b.numbers.items = c.requires.lines in
-    let same : length c.deref-in-Some.result.now ≡ length b.numbers.items = ap length c.deref-in-Some.ensures.value in
     omega arith
 
 pub returns-in-Some-clause-exact : goal.returns-in-Some-clause-exact
 returns-in-Some-clause-exact c = λ header done end lines shows rows.
     let b = c.args.self in
-    let l = back b c.as_mut_slice-2.result.now c.deref.result.now c.deref-2.result.now c.deref.ensures.value c.deref-2.ensures.value (c.as_mut_slice-2.ensures.value ∙ c.put_back.ensures) in
+    let l = back b c.as_mut_slice-2.result.now c.deref.result.now c.deref-2.result.now c.deref.ensures.value c.deref-2.ensures.value (c.as_mut_slice-2.ensures.value ∙ c.put_back.ensures ∙ ap (λ xs. xs ++ met_from 0 c.deref-2.result.now c.deref.result.now) c.release.ensures.items) in
     let inside = mismatch_inside b.header.vertices c.in-Some.vertex c.in-Some.kind c.as_mut_slice.result.now c.as_mut_slice-2.result.now
     (greater_inside b c.as_mut_slice.result.now c.as_mut_slice.ensures.value) (lesser_inside b c.as_mut_slice-2.result.now l) c.in-Some.ensures.some in
     subst (λ f. TellsFirst f (end_findings header end lines done)) (sym c.fault_of_vertex.ensures)
-    (subst (λ xs. TellsFirst (record { kind = c.in-Some.kind; line = get_or xs (c.in-Some.vertex - 1) 0 }) (end_findings header end lines done)) (sym c.deref-in-Some.ensures.value)
     (body_mismatch b header done end lines c.in-Some.vertex b.header.vertices c.in-Some.kind c.as_mut_slice.result.now c.as_mut_slice-2.result.now shows rows
-    c.requires.lines c.requires.entries c.as_mut_slice.ensures.value l (lesser_inside b c.as_mut_slice-2.result.now l) c.in-Some.ensures.some inside.0))
+    c.requires.lines c.requires.entries c.as_mut_slice.ensures.value l (lesser_inside b c.as_mut_slice-2.result.now l) c.in-Some.ensures.some inside.0)
 
 -- the edges that are kept are the sorted entries to greater neighbours
 edges_kept : (c : After-shrink_to_fit) → c.shrink_to_fit.new.self.items ≡ c.mismatch.new.greater
@@ -84,7 +92,7 @@ record Matched (b : Body) (sorted : List Edge) : Type 0 where
 matched : (c : After-shrink_to_fit) → Matched c.args.self c.mismatch.new.greater
 matched c =
     let b = c.args.self in
-    let l = back b c.as_mut_slice-2.result.now c.deref.result.now c.deref-2.result.now c.deref.ensures.value c.deref-2.ensures.value (c.as_mut_slice-2.ensures.value ∙ c.put_back.ensures) in
+    let l = back b c.as_mut_slice-2.result.now c.deref.result.now c.deref-2.result.now c.deref.ensures.value c.deref-2.ensures.value (c.as_mut_slice-2.ensures.value ∙ c.put_back.ensures ∙ ap (λ xs. xs ++ met_from 0 c.deref-2.result.now c.deref.result.now) c.release.ensures.items) in
     record {
       greater = subst (λ g. IsPermutation g c.mismatch.new.greater) c.as_mut_slice.ensures.value c.mismatch.ensures.greater;
       lesser = IsPermutation-trans (lesser_of b) c.as_mut_slice-2.result.now c.mismatch.new.greater l c.in_default.ensures.lesser;
@@ -104,12 +112,12 @@ returns-clause-exact c = λ header done end lines shows rows.
     let accepted = body_accepted b header done end lines c.mismatch.new.greater shows rows c.requires.lines c.requires.entries m.greater m.lesser c.in_default.ensures.ascends in (
       accepted.0,
       accepted.1 ∙ sym (subst (λ edges. c.from_edges.result ≡ record { vertices = b.header.vertices; edges = edges }) (edges_kept at) c.from_edges.ensures),
-      sym shows.masses ∙ sym c.from_list.ensures,
+      sym shows.masses ∙ sym c.into_weights.ensures,
     )
 
-pub from_list-requires : goal.from_list-requires
-from_list-requires c = few_masses c.args.self
+pub into_weights-requires : goal.into_weights-requires
+into_weights-requires c = few_masses c.args.self
 
 pub returns-clause-weighed : goal.returns-clause-weighed
 returns-clause-weighed c =
-    ap length c.from_list.ensures ∙ one_for_each c.args.self c.requires.lines ∙ sym (ap (λ (g : Graph). g.vertices) c.from_edges.ensures)
+    ap length c.into_weights.ensures ∙ one_for_each c.args.self c.requires.lines ∙ sym (ap (λ (g : Graph). g.vertices) c.from_edges.ensures)

@@ -1,12 +1,13 @@
-use Rattle.std.proofs.Common.{◌≡◌, ◌≤◌, ◌+◌, ◌*◌, ◌++◌, ℕ, List, length, arith, ap, sym, subst, ◌∙◌, length-append}
+use Rattle.std.proofs.Common.{◌≡◌, ◌≤◌, ◌+◌, ◌*◌, ◌++◌, ℕ, List, [], length, arith, ap, sym, subst, ◌∙◌, length-append}
 use Rattle.std.specs.List.{AllPairs}
 use Rattle.std.specs.List.Sorted.{IsPermutation}
 use Rattle.std.proofs.lemmas.Grind.{common_steps}
-use Rattle.std.proofs.lemmas.List.{append-nil, nil_from_length}
+use Rattle.std.proofs.lemmas.List.{append-nil, nil_from_length, take_all}
 use Rattle.std.proofs.lemmas.List.Sorted.{IsPermutation-refl}
 use Rattle.cut_definitions.specs.declared.edge_list.Edge.{Edge}
-use Rattle.cut_definitions.specs.Graph.{IsBefore}
-use Rattle.metis_reader.specs.Meeting.{met_from, with_met}
+use Rattle.metis_reader.specs.Bodies.{waiting_of}
+use Rattle.metis_reader.specs.Meeting.{met_from, with_met, IsInFront}
+use Rattle.metis_reader.proofs.Ascending.{all_before}
 use Rattle.metis_reader.proofs.Meeting.{all_met, met_length}
 use Rattle.metis_reader.proofs.body.Body.is_met.Goals as goal
 
@@ -20,11 +21,18 @@ whole g cursors l entries none half counted =
     let is : with_met g cursors l ≡ g = ap (λ ys. met_from 0 cursors g ++ ys) (nil_from_length l none) ∙ append-nil (met_from 0 cursors g) ∙ all in
     subst (λ xs. IsPermutation xs g) (sym is) (IsPermutation-refl g)
 
+nothing : (l w : List Edge) → length l ≡ 0 → w ≡ [] → length (l ++ w) ≡ 0
+nothing l w none empty = length-append l w ∙ ap (λ n. n + length w) none ∙ ap (λ xs. 0 + length xs) empty
+
 pub returns-clause-lesser : goal.returns-clause-lesser
 returns-clause-lesser c = λ yes.
-    let none : length c.args.self.now.lesser.items ≡ 0 = grind (arith, common_steps) in
-    let most : 2 * length c.args.self.now.greater.items ≤ c.args.self.now.entries = grind (arith, common_steps) in
-    whole c.args.self.now.greater.items c.args.self.now.cursors.items c.args.self.now.lesser.items c.args.self.now.entries none most c.args.self.now.counted
+    let b = c.args.self.now in
+    let none : length b.lesser.items ≡ 0 = grind (arith, common_steps) in
+    let most : 2 * length b.greater.items ≤ b.entries = grind (arith, common_steps) in
+    whole b.greater.items b.cursors.items (b.lesser.items ++ waiting_of b.waiting) b.entries (nothing b.lesser.items (waiting_of b.waiting) none (c.is_empty-2.ensures c.if-not-is_empty-2.false)) most b.counted
 
 pub returns-clause-ascends : goal.returns-clause-ascends
-returns-clause-ascends c = λ met. subst (λ (es : List Edge). AllPairs IsBefore es) c.deref.ensures.value (c.is_strict.ensures met)
+returns-clause-ascends c = λ met.
+    let b = c.args.self.now in
+    let all : length b.greater.items ≤ b.start = omega arith in
+    all_before b.greater.items (subst (λ (xs : List Edge). AllPairs IsInFront xs) (take_all b.start b.greater.items all) (b.ascending met))

@@ -5,6 +5,6 @@ use Rattle.metis_reader.proofs.parser.Parser.takes_neighbour.Goals as goal
 pub returns-then-is_empty-clause-taken : goal.returns-then-is_empty-clause-taken
 returns-then-is_empty-clause-taken c = λ yes s bytes place line. none_ends c.args.self.now line c.args.word (sym c.is_empty.ensures ∙ c.if-is_empty.true) s bytes place
 
-pub returns-in-Ok-clause-taken : goal.returns-in-Ok-clause-taken
-returns-in-Ok-clause-taken c = λ yes s bytes place line.
-    word_ends c.args.self.now c.unweighted_neighbour.new.self line c.args.word (sym c.is_empty.ensures ∙ c.if-is_empty.false) c.in-Ok.ensures.exact s bytes place
+pub returns-clause-taken : goal.returns-clause-taken
+returns-clause-taken c = λ yes s bytes place line.
+    word_ends c.args.self.now c.takes_unweighted_neighbour.new.self line c.args.word (sym c.is_empty.ensures ∙ c.if-is_empty.false) (c.takes_unweighted_neighbour.ensures.taken yes) s bytes place

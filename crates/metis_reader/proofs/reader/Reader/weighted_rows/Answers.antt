@@ -41,9 +41,9 @@ loop-place-preserved c =
       no_comment = next.ensures.no_comment;
       same_refusal = next.ensures.same_refusal ∙ c.loop-place.invariant.same_refusal;
       exact = λ r holds few.
-          next.ensures.exact r (blank_word before.parser c.weighted_neighbour.new.self before.line c.loop-place.part c.args.word c.leading-end.result.0 r c.args.piece.now i e behind
+          next.ensures.exact r (blank_word before.parser c.takes_weighted_neighbour.new.self before.line c.loop-place.part c.args.word c.leading-end.result.0 r c.args.piece.now i e behind
           (stands before.parser before.line c.loop-place.part c.args.word c.leading-end.result.0 r c.args.piece.now i e c.leading-end.ensures.within.0 inside c.requires.empty c.loop-place.invariant.no_comment (c.leading-end.ensures.digits near) (c.leading-end.ensures.word near) (c.loop-place.invariant.exact r holds few))
           (blank_of _ (MatchBool-at_true _ _ c.if-not-ends_word.false c.ends_word.ensures) c.if-piece-end-eq-LINE_FEED.false)
-          (word_ends before.parser c.weighted_neighbour.new.self before.line c.leading-end.result.0 (sym c.is_empty.ensures ∙ c.if-is_empty.false) c.in-Ok.ensures.exact)
+          (word_ends before.parser c.takes_weighted_neighbour.new.self before.line c.leading-end.result.0 (sym c.is_empty.ensures ∙ c.if-is_empty.false) (c.takes_weighted_neighbour.ensures.taken c.if-not-takes_weighted_neighbour.false))
           (omega (arith, more)) c.behind_blanks.ensures.blanks) few;
     }
