@@ -123,8 +123,8 @@ pub(crate) fn tie_edge(
     join_reached(tied, edge, reach, bound);
 }
 
-/// The same for two kinds of classes: some that are tied for a bound, and some that are tied for one more. An edge within one
-/// of the latter is passed over.
+/// Puts an edge into the levels, and makes its ends one in the classes that are tied for a bound, and in those that are tied for
+/// one more, where the levels and its own weight reach that. An edge within one of the latter is passed over.
 pub(crate) fn tie_edge_twice(
     levels: &mut [Classes],
     tied: &mut Classes,

@@ -13,5 +13,7 @@ mod leaning;
 mod shrinking;
 mod tying;
 
-pub use shrinking::{Contracted, Ties, WithTies, contract_list, contract_with_ties, is_tenth_less};
+pub use shrinking::{
+    Contracted, FEW_EDGES, Ties, WithTies, contract_list, contract_with_ties, is_tenth_less,
+};
 pub use tying::tied_classes;

@@ -13,8 +13,9 @@ use least_cut::least_degree;
 use std::alloc::Global;
 use weighted_graph::{Labels, relabel_list};
 
-/// A list of at most so many edges is left as it is.
-const FEW_EDGES: usize = 1024;
+/// A graph of at most so many edges is small: forests leave it as it is, and rounds, whose certificates look at each edge, are for
+/// such graphs alone.
+pub const FEW_EDGES: usize = 1024;
 
 /// Below this bound no lighter cut is looked for: flows find one as soon.
 const LOW_BOUND: u64 = 6;
@@ -26,22 +27,56 @@ pub fn is_tenth_less(few: u32, many: u32) -> bool
     u64::from(few) * 10 <= u64::from(many) * 9
 }
 
-/// Whether all edges weigh the same, and forests of less than the bound together can hold them all, a forest being one edge
-/// for each vertex but one: then mostly next to nothing is tied. No answer rests on it.
-fn are_held(list: &EdgeList, bound: u64) -> bool {
+/// The weight of each edge, if all weigh the same.
+fn common_weight(list: &EdgeList) -> Option<u64> {
     let edges = list.edges();
     if edges.is_empty() {
-        return true;
+        return None;
     }
     let weight = edges[0].w;
     for edge in edges {
         if edge.w != weight {
+            return None;
+        }
+    }
+    Some(weight)
+}
+
+/// Whether forests of less than the bound together can hold all edges, a forest being one edge for each vertex but one, and all
+/// weigh the same: then mostly next to nothing is tied. No answer rests on it.
+fn are_held(list: &EdgeList, bound: u64) -> bool {
+    let Some(weight) = common_weight(list) else {
+        return list.is_empty();
+    };
+    let forests = bound.saturating_sub(1) / weight.max(1);
+    let most = forests.saturating_mul(u64::from(list.n()).saturating_sub(1));
+    list.len() as u64 <= most
+}
+
+/// Whether a graph whose edges weigh the same has few more of them than vertices, and two or more at each: it is made of long
+/// chains. A forest leaves out fewer edges than would take away a tenth of the vertices, and few edges are in triangles. No answer
+/// rests on it.
+fn is_thin(list: &EdgeList, bound: u64) -> bool {
+    if list.len() > list.n() as usize + list.n() as usize / 16 {
+        return false;
+    }
+    match common_weight(list) {
+        Some(weight) => weight <= bound / 2,
+        None => false,
+    }
+}
+
+/// Whether no edge weighs more than a quarter of the bound. Where all degrees are the bound or more, no vertices lean on one
+/// another then: an edge would have to be more than half of a degree, alone or with one to a common neighbour. No answer rests on
+/// it.
+fn are_light(list: &EdgeList, bound: u64) -> bool {
+    let most = bound / 4;
+    for edge in list.edges() {
+        if edge.w > most {
             return false;
         }
     }
-    let forests = bound.saturating_sub(1) / weight.max(1);
-    let most = forests.saturating_mul(u64::from(list.n()).saturating_sub(1));
-    edges.len() as u64 <= most
+    true
 }
 
 /// The list with each class made one, where these are a tenth fewer than the vertices.
@@ -72,7 +107,7 @@ fn shrunk(alloc: Global, list: &EdgeList, bound: u64) -> Result<Option<EdgeList>
     ensures left { IfOk result (λ found. IfSome found (IsLesser (min bound (value list.now)) bound)) }
     ensures above { IfOk result (λ found. IfSome found (λ small. 2 ≤ small.vertices → value list.now ≤ value small)) }
 {
-    if are_held(list, bound) {
+    if is_thin(list, bound) || are_held(list, bound) {
         return Ok(None);
     }
     let labels = tied_classes(alloc, list, bound)?;
@@ -99,7 +134,7 @@ fn shrunk_with_ties(
     ensures left { IfOk result (λ found. IfSome found (λ made. IsLesser (min bound (value list.now)) bound made.0)) }
     ensures ties { IfOk result (λ found. IfSome found (λ made. AreTies list.now made.1)) }
 {
-    if are_held(list, bound) {
+    if is_thin(list, bound) || are_held(list, bound) {
         return Ok(None);
     }
     let TwoKinds { tied, tied_above } = two_kinds(alloc, list, bound)?;
@@ -113,7 +148,7 @@ fn shrunk_with_ties(
     Ok(Some((small, ties)))
 }
 
-/// The same with the classes of vertices that lean on one another.
+/// The list with the classes of vertices that lean on one another made one, where these are a tenth fewer than the vertices.
 fn leaned(alloc: Global, list: &EdgeList, bound: u64) -> Result<Option<EdgeList>, NoMemory>
     requires { 2 ≤ list.now.vertices }
     ensures { IfOk result (λ found. IfSome found (IsLesser (min bound (value list.now)) bound)) }
@@ -249,7 +284,7 @@ fn other_pass(alloc: Global, list: &EdgeList, bound: u64) -> Result<Contracted, 
     ensures { IfOk result (IsContracted list.now bound) }
 {
     let made = pass_below(alloc, list, bound)?;
-    if made.list.is_some() {
+    if made.list.is_some() || are_light(list, bound) || is_thin(list, bound) {
         return Ok(made);
     }
     let found = leaned(alloc, list, made.bound)?;

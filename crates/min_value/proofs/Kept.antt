@@ -1,8 +1,8 @@
 -- Contractions that part no minimum cut, one after the other.
-use Rattle.std.proofs.Common.{◌≡◌, ℕ, ◌+◌, ◌-◌, ◌<◌, ◌≤◌, ⊎_elim, Bool, false, List, map, length, set, get_or, refl, sym, ◌∙◌, subst, ap, arith, get_or-set_other, get_or-set_same, length-set}
+use Rattle.std.proofs.Common.{◌≡◌, ℕ, ◌+◌, ◌-◌, ◌<◌, ◌≤◌, ⊎_elim, Bool, true, false, List, map, length, set, get_or, refl, sym, ◌∙◌, subst, ap, arith, get_or-set_other, get_or-set_same, length-set}
 use Rattle.std.specs.Prelude.{◌≢◌, Result, Ok, Err, Option, Some, None, IfOk, IfNone}
 use Rattle.std.specs.List.{Contains}
-use Rattle.std.proofs.lemmas.Bool.{cases_eq, cases_lt, false≢true}
+use Rattle.std.proofs.lemmas.Bool.{cases_Bool, cases_eq, cases_lt, false≢true}
 use Rattle.std.proofs.lemmas.List.{get_or_default, length-map}
 use Rattle.cut_definitions.specs.Graph.{Graph, IsGraph}
 use Rattle.cut_definitions.specs.Cuts.{has, value, mincuts}
@@ -13,11 +13,10 @@ use Rattle.cut_definitions.proofs.Values.{value_is_weight, Contains-mincuts, IsS
 use Rattle.cut_definitions.proofs.Bridge.{IsCut-has, two_vertices}
 use Rattle.cut_definitions.proofs.SafeLaws.{value-le_fair}
 use Rattle.weighted_graph.specs.RowLaws.{no_edge, edge_at}
-use Rattle.weighted_graph.specs.ContractionLaws.{IsLabelled}
+use Rattle.weighted_graph.specs.ContractionLaws.{IsLabelled, PartsNoClass}
 use Rattle.weighted_graph.specs.Marks.{MarksAreSafe}
-use Rattle.weighted_graph.proofs.Contraction.{label_to_classes, vertex_of}
+use Rattle.weighted_graph.proofs.Contraction.{label_to_classes, vertex_of, law_of_contracted_minimum_cuts}
 use Rattle.weighted_graph.proofs.Labelling.{classes_le, label-map, composed_are_labels, le_length}
-use Rattle.weighted_graph.proofs.MarkLaws.{law_of_marked_classes, law_of_kept_contraction}
 use Rattle.weighted_graph.proofs.SafeContraction.{law_of_composed_lifts}
 use Rattle.mark_board.specs.Marks.{MarkList}
 use Rattle.round_contract.specs.Classes.{AreClassesOfMarks}
@@ -58,12 +57,11 @@ two_left g small labels two kept =
     let part = kept.each_is_lifted best.0 (Contains-mincuts g best.0 best.1 best.2) in
     two_vertices small.vertices (has part.0) (IsCut-has small.vertices part.0 (IsSide-from_mincuts small part.0 part.1).0)
 
-pub kept_once : (g : Graph) → IsGraph g → (marked : ℕ → Bool) (labels : List ℕ) (least : ℕ) (small : Graph) → 2 ≤ g.vertices → least ≡ value g → MarksAreSafe g marked least 1 →
-    IsLabelled g labels → AreClassesOfMarks g marked labels → small ≡ relabel g labels → IsKept g least small labels
+-- classes that no minimum cut parts
+pub kept_by_classes : (g : Graph) → IsGraph g → (labels : List ℕ) (least : ℕ) (small : Graph) → 2 ≤ g.vertices → least ≡ value g → IsLabelled g labels → PartsNoClass g labels → small ≡ relabel g labels → IsKept g least small labels
 unfolding relabel
-kept_once g ok marked labels least small two is safe labelled are small_is =
-    let classes_safe = law_of_marked_classes g labels marked least 1 safe (λ u v u1 un v1 vn same. (are.joined u v u1 un v1 vn).0 same) in
-    let kept = law_of_kept_contraction g ok labels labelled two least (fair_is g least two is) classes_safe in
+kept_by_classes g ok labels least small two is labelled none small_is =
+    let kept = law_of_contracted_minimum_cuts g ok labels labelled two none in
     let all : KeepsAllMinimumCuts g (relabel g labels) labels = record { each_is_lifted = kept.each_is_lifted; lifted = kept.lifted } in
     subst (λ (s : Graph). IsKept g least s labels) (sym small_is) (record {
       is_value = is;
@@ -163,18 +161,26 @@ no_more_vertices g small labels labelled small_is =
     let r : classes labels ≤ g.vertices = omega (arith, le, labelled.long) in
     subst (λ (s : Graph). s.vertices ≤ g.vertices) (sym small_is) r
 
-pub fewer_vertices : (g : Graph) → IsGraph g → (marks : MarkList) (labels : List ℕ) (small : Graph) → marks.edges ≡ length g.edges → SomeIsMarked marks →
-    IsLabelled g labels → AreClassesOfMarks g (has marks.marked) labels → small ≡ relabel g labels → small.vertices < g.vertices
-unfolding relabel
-fewer_vertices g ok marks labels small same some labelled are small_is =
+pub fewer_by_marks : (g : Graph) → IsGraph g → (marks : MarkList) (labels : List ℕ) → marks.edges ≡ length g.edges → SomeIsMarked marks →
+    IsLabelled g labels → AreClassesOfMarks g (has marks.marked) labels → classes labels < g.vertices
+fewer_by_marks g ok marks labels same some labelled are =
     let i = some.edge in
     let inside : i < length g.edges = omega (arith, some.within) in
     let e = edge_at g i in
     let ends = ok.in_range i no_edge inside in
     let joined = (are.joined e.u e.v ends.0 (omega (arith, ends.1, ends.2)) (omega (arith, ends.0, ends.1)) ends.2).1 (λ s none. none i inside some.is_marked) in
     let fewer = fewer_classes labels labelled.are_labels e.u e.v ends.0 ends.1 (omega (arith, ends.2, labelled.long)) joined in
-    let r : classes labels < g.vertices = omega (arith, labelled.long) in
-    subst (λ (s : Graph). s.vertices < g.vertices) (sym small_is) r
+    omega (arith, fewer, labelled.long)
+
+-- where each vertex is a class, none is marked
+pub none_marked : (g : Graph) → IsGraph g → (marks : MarkList) (labels : List ℕ) → marks.edges ≡ length g.edges → IsLabelled g labels → AreClassesOfMarks g (has marks.marked) labels → g.vertices ≤ classes labels →
+    (i : ℕ) → i < length g.edges → has marks.marked i ≡ false
+none_marked g ok marks labels same labelled are many i inside = ⊎_elim
+    (λ (yes : has marks.marked i ≡ true).
+    let some : SomeIsMarked marks = record { edge = i; within = omega arith; is_marked = yes } in
+    absurd (omega (arith, many, fewer_by_marks g ok marks labels same some labelled are)))
+    (λ (no : has marks.marked i ≡ false). no)
+    (cases_Bool (has marks.marked i))
 
 -- ---- results
 

@@ -3,3 +3,4 @@ pub mod Kept
 pub mod Light
 pub mod Scanned
 pub mod Numbered
+pub mod Passes

@@ -6,13 +6,6 @@ use Rattle.forest_contraction.specs.Left.{IsLesser}
 use Rattle.least_cut.specs.declared.sweep.Swept.{Swept}
 use Rattle.least_cut.specs.declared.sweep.Swept.TheVariants.{Whole, Part}
 
--- what a step on a graph leaves of the lesser of a bound and its value: a lesser bound, and either the same graph or one
--- that is so much smaller that another scan is worth its time
-pub record IsShrunk (g : Graph) (bound best : ℕ) (smaller : Option Graph) : Type 0 where
-  pub at_most : best ≤ bound
-  pub left : MatchOption smaller (min bound (value g) ≡ min best (value g)) (IsLesser (min bound (value g)) best)
-  pub less : MatchOption smaller (Unit {0}) (λ (h : Graph). h.vertices * 50 ≤ g.vertices * 49)
-
 -- what a step leaves a number to be: the least weight that is known, or what that and a smaller graph leave
 abbrev pub IsToTell : ℕ → ℕ → Option Graph → Type 0
 IsToTell whole best smaller = MatchOption smaller (best ≡ whole) (IsLesser whole best)

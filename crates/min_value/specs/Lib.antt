@@ -1,2 +1,4 @@
 pub mod Left
 pub mod Kernels
+pub mod Scanning
+pub mod Passes

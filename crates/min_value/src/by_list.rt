@@ -5,10 +5,12 @@ ghost use Rattle.cut_definitions.specs.Cuts.{value};
 ghost use Rattle.cut_definitions.specs.Graph.{Graph as EdgeGraph};
 ghost use Rattle.forest_contraction.specs.Left.{AreTies, Tells};
 
-use crate::rounds::{FEW_EDGES, value_by_rounds};
+use crate::rounds::value_by_rounds;
 use crate::values::lesser_away;
 use cut_definitions::{EdgeList, MOST_WEIGHT, NoMemory};
-use forest_contraction::{Contracted, Ties, WithTies, contract_list, contract_with_ties};
+use forest_contraction::{
+    Contracted, FEW_EDGES, Ties, WithTies, contract_list, contract_with_ties,
+};
 use least_cut::value_of_dense;
 use outside::Gate;
 use std::thread::Threads;

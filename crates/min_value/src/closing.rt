@@ -1,40 +1,28 @@
-//! Marks by which a kernel is closed: where there are none, no certificate holds and a whole scan meets no link.
+//! Classes by which a kernel is closed: where there are none, no certificate holds and a whole scan meets no link.
 
-ghost use Rattle.std.specs.Prelude.{◌≡◌, ℕ, ◌+◌, ◌<◌, ◌≤◌, ◌^◌, IfOk, IfSome, IfNone, length, true, false};
+ghost use Rattle.std.specs.Prelude.{◌≡◌, ◌+◌, ◌<◌, ◌≤◌, ◌^◌, IfOk, IfSome, IfNone, length, true, false};
 ghost use Rattle.cut_definitions.specs.Cuts.{has, value as least_value};
 ghost use Rattle.cut_definitions.specs.Contraction.{classes};
 ghost use Rattle.weighted_graph.specs.Marks.{MarksAreSafe};
 ghost use Rattle.capped_scan.specs.Scan.{StandsFor};
 ghost use Rattle.round_workers.specs.Round.{SomeIsMarked};
 ghost use Rattle.min_value.specs.Kernels.{NoneIsCertified, IsKept, IsKeptOn, IsLight};
+ghost use Rattle.min_value.specs.Passes.{IsStep};
 
 use crate::bare::is_bare;
 use crate::kept_graph::{Kernel, contract_safely, is_worth_another, keep_less, round_at_value};
 use crate::scanners::scanners;
+use crate::scanning::scan_together;
 use capped_scan::Scan;
 use cut_definitions::NoMemory;
 use mark_board::Marks;
 use outside::Gate;
+use round_contract::classes_of_marks;
 use round_workers::{Threshold, mark_links};
 use std::alloc::Global;
 use std::thread::Threads;
-use weighted_graph::Graph;
+use weighted_graph::{Graph, Labels};
 use worker_team::{Crew, Team};
-
-/// Whether some edge of a graph is marked. It goes over the edges up to the first that is. (`Marks::is_empty` does not tell
-/// that there is one of this graph.)
-fn is_some_marked(graph: &Graph, marks: &Marks) -> bool
-    requires { marks.now.edges ≡ length graph.now.edges }
-    ensures some { result ≡ true → SomeIsMarked marks.now }
-    ensures none { result ≡ false → (i : ℕ) → i < length graph.now.edges → has marks.now.marked i ≡ false }
-{
-    for edge in 0..graph.edges() {
-        if marks.has(edge) {
-            return true;
-        }
-    }
-    false
-}
 
 /// Scans the whole graph from vertex 1 with the cap value + 1, marks each edge whose link reaches it, and answers whether
 /// there is one. Where there is none, each vertex had at most the value to those scanned before it, so the graph is light.
@@ -66,18 +54,13 @@ pub(crate) fn mark_by_whole_scan(
     some
 }
 
-/// The marks of a whole scan with slack 1, of edges that lie in no minimum cut; none where it marks nothing, and the graph
-/// is light then. It costs O((n + m) log n). The scan is gone once its marks are answered.
-pub(crate) fn marks_of_scan(
-    alloc: Global,
-    graph: &Graph,
-    value: u64,
-) -> Result<Option<Marks>, NoMemory>
+/// Classes that a whole scan with slack 1 shows, which no minimum cut parts; none where each vertex is a class, and the graph is
+/// light then. It costs O((n + m) log n). The scan is gone once the classes are answered.
+fn whole_scan(alloc: Global, graph: &Graph, value: u64) -> Result<Option<Labels>, NoMemory>
     requires enough { 2 ≤ graph.now.vertices }
     requires value { value ≡ least_value graph.now }
-    ensures edges { IfOk result (λ found. IfSome found (λ marks. marks.edges ≡ length graph.now.edges)) }
-    ensures safe { IfOk result (λ found. IfSome found (λ marks. MarksAreSafe graph.now (has marks.marked) value 1)) }
-    ensures some { IfOk result (λ found. IfSome found (λ marks. SomeIsMarked marks)) }
+    ensures step { IfOk result (λ found. IfSome found (IsStep graph.now (value + 1))) }
+    ensures fewer { IfOk result (λ found. IfSome found (λ labels. classes labels < graph.now.vertices)) }
     ensures light { IfOk result (λ found. IfNone found (IsLight graph.now value)) }
 {
     // known by this call: the graph is an edge list
@@ -87,84 +70,62 @@ pub(crate) fn marks_of_scan(
     if !mark_by_whole_scan(graph, &mut scan, value, &mut marks) {
         return Ok(None);
     }
-    Ok(Some(marks))
+    let labels = classes_of_marks(alloc, graph, &marks)?;
+    // known by this call: they are labels
+    let _classes = labels.classes();
+    Ok(Some(labels))
 }
 
-/// The marks of workers who scan a graph side by side with slack 1, of edges that lie in no minimum cut; none where they mark
-/// nothing. A single scan can find marks then, for each of them passes over what others took.
-fn marks_of_workers<T: Team>(
+/// Classes that scans with slack 1 by so many workers show, or a whole scan by one where there is one, or where several show
+/// none: each of those passes over what others took. None where that shows none either, and the graph is light then.
+fn kept_classes<T: Team>(
     team: &T,
     graph: &Graph,
     value: u64,
     workers: u32,
-) -> Result<Option<Marks>, NoMemory>
+) -> Result<Option<Labels>, NoMemory>
     requires ready { T.ready team.now }
     requires enough { 2 ≤ graph.now.vertices }
     requires value { value ≡ least_value graph.now }
-    ensures edges { IfOk result (λ found. IfSome found (λ marks. marks.edges ≡ length graph.now.edges)) }
-    ensures safe { IfOk result (λ found. IfSome found (λ marks. MarksAreSafe graph.now (has marks.marked) value 1)) }
-    ensures some { IfOk result (λ found. IfSome found (λ marks. SomeIsMarked marks)) }
-{
-    let threshold = Threshold {
-        bound: value,
-        slack: 1,
-    };
-    let (_low, marks) = team.scan_round(graph, threshold, workers)?;
-    if !is_some_marked(graph, &marks) {
-        return Ok(None);
-    }
-    Ok(Some(marks))
-}
-
-/// The marks of scans with slack 1 by so many workers, and those of a whole scan by one where there is one, or where several
-/// mark nothing. None where that marks nothing, and the graph is light then.
-fn marks_of_scans<T: Team>(
-    team: &T,
-    graph: &Graph,
-    value: u64,
-    workers: u32,
-) -> Result<Option<Marks>, NoMemory>
-    requires ready { T.ready team.now }
-    requires enough { 2 ≤ graph.now.vertices }
-    requires value { value ≡ least_value graph.now }
-    ensures edges { IfOk result (λ found. IfSome found (λ marks. marks.edges ≡ length graph.now.edges)) }
-    ensures safe { IfOk result (λ found. IfSome found (λ marks. MarksAreSafe graph.now (has marks.marked) value 1)) }
-    ensures some { IfOk result (λ found. IfSome found (λ marks. SomeIsMarked marks)) }
+    ensures step { IfOk result (λ found. IfSome found (IsStep graph.now (value + 1))) }
+    ensures fewer { IfOk result (λ found. IfSome found (λ labels. classes labels < graph.now.vertices)) }
     ensures light { IfOk result (λ found. IfNone found (IsLight graph.now value)) }
 {
-    if workers == 1 {
-        return marks_of_scan(team.alloc(), graph, value);
+    if workers > 1 {
+        let threshold = Threshold {
+            bound: value,
+            slack: 1,
+        };
+        let found = scan_together(team, graph, threshold, workers)?;
+        if found.labels.classes() < graph.n() {
+            return Ok(Some(found.labels));
+        }
     }
-    let found = marks_of_workers(team, graph, value, workers)?;
-    match found {
-        Some(marks) => Ok(Some(marks)),
-        None => marks_of_scan(team.alloc(), graph, value),
-    }
+    whole_scan(team.alloc(), graph, value)
 }
 
-/// Marks of edges that lie in no minimum cut: those of a round with slack 1 or, where it marks nothing, of a whole scan.
-/// None where that marks nothing either. The scan is of the very graph that the round marked nothing in.
-fn find_marks<R: Threads + Sync, G: Gate>(
+/// Classes that a round with slack 1 shows or, where it shows none, a whole scan of the very same graph. None where that shows
+/// none either.
+fn closing_classes<R: Threads + Sync, G: Gate>(
     crew: &Crew<R, G>,
     graph: &Graph,
     value: u64,
-) -> Result<Option<Marks>, NoMemory>
+) -> Result<Option<Labels>, NoMemory>
     requires enough { 2 ≤ graph.now.vertices }
     requires value { value ≡ least_value graph.now }
-    ensures edges { IfOk result (λ found. IfSome found (λ marks. marks.edges ≡ length graph.now.edges)) }
-    ensures safe { IfOk result (λ found. IfSome found (λ marks. MarksAreSafe graph.now (has marks.marked) value 1)) }
-    ensures some { IfOk result (λ found. IfSome found (λ marks. SomeIsMarked marks)) }
+    ensures step { IfOk result (λ found. IfSome found (IsStep graph.now (value + 1))) }
+    ensures fewer { IfOk result (λ found. IfSome found (λ labels. classes labels < graph.now.vertices)) }
     ensures closed { IfOk result (λ found. IfNone found (NoneIsCertified graph.now (value + 1))) }
     ensures light { IfOk result (λ found. IfNone found (IsLight graph.now value)) }
 {
-    let marks = round_at_value(crew, graph, value, crew.threads.workers())?;
-    if is_some_marked(graph, &marks) {
-        return Ok(Some(marks));
+    let labels = round_at_value(crew, graph, value, crew.threads.workers())?;
+    if labels.classes() < graph.n() {
+        return Ok(Some(labels));
     }
-    marks_of_scan(crew.threads.alloc, graph, value)
+    whole_scan(crew.threads.alloc, graph, value)
 }
 
-/// Contracts the marks of a round or a whole scan in what is kept of a graph, and answers whether there were any.
+/// Contracts the classes of a round or a whole scan in what is kept of a graph, and answers whether there were any.
 pub(crate) fn close_once<R: Threads + Sync, G: Gate>(
     crew: &Crew<R, G>,
     kept: &mut Kernel,
@@ -177,14 +138,14 @@ pub(crate) fn close_once<R: Threads + Sync, G: Gate>(
     ensures closed { IfOk result (λ some. some ≡ false → NoneIsCertified kept.new.graph (kept.new.value + 1)) }
     ensures light { IfOk result (λ some. some ≡ false → IsLight kept.new.graph kept.new.value) }
 {
-    let Some(marks) = find_marks(crew, &kept.graph, kept.value)? else {
+    let Some(labels) = closing_classes(crew, &kept.graph, kept.value)? else {
         return Ok(false);
     };
-    keep_less(&crew.threads, kept, &marks)?;
+    keep_less(&crew.threads, kept, labels)?;
     Ok(true)
 }
 
-/// Marks by a round or a whole scan, and the contraction of the edges that are marked; none where nothing is.
+/// A round or a whole scan, and the contraction of the classes that it shows; none where it shows none.
 pub(crate) fn close_first<R: Threads + Sync, G: Gate>(
     crew: &Crew<R, G>,
     graph: &Graph,
@@ -196,10 +157,10 @@ pub(crate) fn close_first<R: Threads + Sync, G: Gate>(
     ensures fewer { IfOk result (λ found. IfSome found (λ k. k.graph.vertices < graph.now.vertices)) }
     ensures light { IfOk result (λ found. IfNone found (IsLight graph.now value)) }
 {
-    let Some(marks) = find_marks(crew, graph, value)? else {
+    let Some(labels) = closing_classes(crew, graph, value)? else {
         return Ok(None);
     };
-    let kept = contract_safely(&crew.threads, graph, value, &marks)?;
+    let kept = contract_safely(&crew.threads, graph, value, labels)?;
     Ok(Some(kept))
 }
 
@@ -217,10 +178,10 @@ fn scan_again<T: Team>(team: &T, kept: &mut Kernel, workers: u32) -> Result<bool
     let before = kept.graph.n();
     let edges = kept.graph.edges();
     let scanning = scanners(&kept.graph, kept.value, workers);
-    let Some(marks) = marks_of_scans(team, &kept.graph, kept.value, scanning)? else {
+    let Some(labels) = kept_classes(team, &kept.graph, kept.value, scanning)? else {
         return Ok(false);
     };
-    keep_less(team, kept, &marks)?;
+    keep_less(team, kept, labels)?;
     Ok(is_worth_another(kept.graph.n(), before, edges))
 }
 
@@ -267,10 +228,10 @@ pub fn reduce_by_scans<T: Team>(
     }
     let workers = team.workers();
     let scanning = scanners(graph, value, workers);
-    let Some(marks) = marks_of_scans(team, graph, value, scanning)? else {
+    let Some(labels) = kept_classes(team, graph, value, scanning)? else {
         return Ok(None);
     };
-    let first = contract_safely(team, graph, value, &marks)?;
+    let first = contract_safely(team, graph, value, labels)?;
     if is_worth_another(first.graph.n(), n, graph.edges()) {
         let kept = scan_on(team, graph, first, workers)?;
         return Ok(Some(kept));

@@ -1,20 +1,19 @@
 //! What is kept of a graph after contractions that part no minimum cut.
 
-ghost use Rattle.std.specs.Prelude.{◌≡◌, ◌+◌, ◌*◌, ◌<◌, ◌≤◌, IfOk, length, true};
-ghost use Rattle.cut_definitions.specs.Cuts.{has, value as least_value};
+ghost use Rattle.std.specs.Prelude.{◌≡◌, ◌+◌, ◌*◌, ◌<◌, ◌≤◌, IfOk, true};
+ghost use Rattle.cut_definitions.specs.Cuts.{value as least_value};
 ghost use Rattle.cut_definitions.specs.Contraction.{classes};
-ghost use Rattle.weighted_graph.specs.Marks.{MarksAreSafe};
-ghost use Rattle.round_workers.specs.Round.{CertifiedAreMarked, SomeIsMarked};
-ghost use Rattle.min_value.specs.Kernels.{IsKept, IsKeptOn};
+ghost use Rattle.min_value.specs.Kernels.{IsKept, IsKeptOn, NoneIsCertified};
+ghost use Rattle.min_value.specs.Passes.{IsStep};
 
 use cut_definitions::NoMemory;
 use forest_contraction::is_tenth_less;
-use mark_board::Marks;
 use outside::Gate;
+use round_contract::classes_of_marks;
 use round_workers::round;
 use std::thread::Threads;
 use weighted_graph::{Graph, Labels};
-use worker_team::{Crew, Team, Threaded, contract};
+use worker_team::{Crew, Team, Threaded, contracted};
 
 /// The value of a graph, a smaller graph with the same value, and labels that give each vertex of the graph a vertex of
 /// the smaller one. The minimum cuts of the graph are those of the smaller graph, lifted by the labels.
@@ -39,25 +38,24 @@ pub(crate) fn is_worth_another(left: u32, before: u32, edges: usize) -> bool
     u64::from(left) * 50 <= u64::from(before) * 49
 }
 
-/// The graph on the classes that marked edges join, where these lie in no minimum cut. It costs O(m log m).
+/// The graph on classes that no minimum cut parts. It costs O(m log m).
 pub(crate) fn contract_safely<T: Team>(
     team: &T,
     graph: &Graph,
     value: u64,
-    marks: &Marks,
+    labels: Labels,
 ) -> Result<Kernel, NoMemory>
     requires ready { T.ready team.now }
     requires enough { 2 ≤ graph.now.vertices }
     requires value { value ≡ least_value graph.now }
-    requires marks { marks.now.edges ≡ length graph.now.edges }
-    requires safe { MarksAreSafe graph.now (has marks.now.marked) value 1 }
+    requires step { IsStep graph.now (value + 1) labels }
     ensures kept { IfOk result (λ k. IsKept graph.now k.value k.graph k.labels) }
+    ensures few { IfOk result (λ k. k.graph.vertices ≡ classes labels) }
     ensures at_most { IfOk result (λ k. k.graph.vertices ≤ graph.now.vertices) }
-    ensures fewer { SomeIsMarked marks.now → IfOk result (λ k. k.graph.vertices < graph.now.vertices) }
 {
     // known by this call: the graph is an edge list
     let _n = graph.n();
-    let (small, labels) = contract(team, graph, marks)?;
+    let small = contracted(team, graph, &labels)?;
     Ok(Kernel {
         value,
         graph: small,
@@ -65,44 +63,52 @@ pub(crate) fn contract_safely<T: Team>(
     })
 }
 
-/// Contracts marked edges of what is kept of a graph, and leads the labels on.
-pub(crate) fn keep_less<T: Team>(team: &T, kept: &mut Kernel, marks: &Marks) -> Result<(), NoMemory>
+/// Contracts classes in what is kept of a graph, and leads the labels on.
+pub(crate) fn keep_less<T: Team>(
+    team: &T,
+    kept: &mut Kernel,
+    labels: Labels,
+) -> Result<(), NoMemory>
     requires ready { T.ready team.now }
     requires enough { 2 ≤ kept.old.graph.vertices }
     requires value { kept.old.value ≡ least_value kept.old.graph }
     requires counted { classes kept.old.labels ≡ kept.old.graph.vertices }
-    requires marks { marks.now.edges ≡ length kept.old.graph.edges }
-    requires safe { MarksAreSafe kept.old.graph (has marks.now.marked) kept.old.value 1 }
+    requires step { IsStep kept.old.graph (kept.old.value + 1) labels }
     ensures kept { IfOk result (λ _. IsKeptOn kept.old kept.new) }
+    ensures few { IfOk result (λ _. kept.new.graph.vertices ≡ classes labels) }
     ensures at_most { IfOk result (λ _. kept.new.graph.vertices ≤ kept.old.graph.vertices) }
-    ensures fewer { SomeIsMarked marks.now → IfOk result (λ _. kept.new.graph.vertices < kept.old.graph.vertices) }
 {
-    let next = contract_safely(team, &kept.graph, kept.value, marks)?;
+    let next = contract_safely(team, &kept.graph, kept.value, labels)?;
     kept.labels = kept.labels.compose(team.alloc(), &next.labels)?;
     kept.graph = next.graph;
     Ok(())
 }
 
-/// The marks of a round with slack 1 that is opened with the value, where its bound stays.
+/// The classes that a round with slack 1 shows, which is opened with the value, where its bound stays. Where each vertex is a
+/// class, no certificate holds.
 pub(crate) fn round_at_value<R: Threads + Sync, G: Gate>(
     crew: &Crew<R, G>,
     graph: &Graph,
     value: u64,
     workers: u32,
-) -> Result<Marks, NoMemory>
+) -> Result<Labels, NoMemory>
     requires enough { 2 ≤ graph.now.vertices }
     requires value { value ≡ least_value graph.now }
     requires workers { (1 ≤ workers) × (workers ≤ 64) }
-    ensures edges { IfOk result (λ marks. marks.edges ≡ length graph.now.edges) }
-    ensures safe { IfOk result (λ marks. MarksAreSafe graph.now (has marks.marked) value 1) }
-    ensures certified { IfOk result (λ marks. CertifiedAreMarked graph.now (has marks.marked) (value + 1)) }
+    ensures step { IfOk result (IsStep graph.now (value + 1)) }
+    ensures closed { IfOk result (λ labels. graph.now.vertices ≤ classes labels → NoneIsCertified graph.now (value + 1)) }
 {
+    // known by this call: the graph is an edge list
+    let _n = graph.n();
     let Threaded { rt, alloc, .. } = crew.threads;
     let (_low, marks) = round(rt, alloc, graph, value, 1, workers, crew.gate)?;
-    Ok(marks)
+    let labels = classes_of_marks(alloc, graph, &marks)?;
+    // known by this call: they are labels
+    let _classes = labels.classes();
+    Ok(labels)
 }
 
-/// A round with slack 1 and the contraction of what it marked.
+/// A round with slack 1 and the contraction of the classes that it shows.
 fn contract_once<R: Threads + Sync, G: Gate>(
     crew: &Crew<R, G>,
     graph: &Graph,
@@ -112,8 +118,8 @@ fn contract_once<R: Threads + Sync, G: Gate>(
     requires value { value ≡ least_value graph.now }
     ensures { IfOk result (λ k. IsKept graph.now k.value k.graph k.labels) }
 {
-    let marks = round_at_value(crew, graph, value, crew.threads.workers())?;
-    let kept = contract_safely(&crew.threads, graph, value, &marks)?;
+    let labels = round_at_value(crew, graph, value, crew.threads.workers())?;
+    let kept = contract_safely(&crew.threads, graph, value, labels)?;
     Ok(kept)
 }
 
@@ -130,8 +136,8 @@ fn contract_again<R: Threads + Sync, G: Gate>(
     ensures fewer { IfOk result (λ more. more ≡ true → kept.new.graph.vertices < kept.old.graph.vertices) }
 {
     let before = kept.graph.n();
-    let marks = round_at_value(crew, &kept.graph, kept.value, 1)?;
-    keep_less(&crew.threads, kept, &marks)?;
+    let labels = round_at_value(crew, &kept.graph, kept.value, 1)?;
+    keep_less(&crew.threads, kept, labels)?;
     Ok(is_tenth_less(kept.graph.n(), before))
 }
 

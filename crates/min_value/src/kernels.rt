@@ -8,8 +8,9 @@ ghost use Rattle.min_value.specs.Kernels.{IsKept, KeepsAllMinimumCuts, NoneIsCer
 
 use crate::closing::{close_first, close_once, reduce_by_scans};
 use crate::kept_graph::{Kernel, contract_by_rounds, go_on_by_rounds};
-use crate::rounds::{FEW_EDGES, value};
+use crate::rounds::value;
 use cut_definitions::NoMemory;
+use forest_contraction::FEW_EDGES;
 use outside::Gate;
 use std::thread::Threads;
 use weighted_graph::Graph;

@@ -13,12 +13,14 @@ mod kernels;
 mod narrowing;
 mod rounds;
 mod scanners;
+mod scanning;
 mod scans;
 mod values;
 
 pub use by_list::{ValueWithTies, lesser_of_list, value_of_list, value_with_ties};
 pub use closing::reduce_by_scans;
+pub use forest_contraction::FEW_EDGES;
 pub use kept_graph::Kernel;
 pub use kernels::{kernel, reduce};
 pub use narrowing::{ValueWithKernel, value_with_kernel};
-pub use rounds::{FEW_EDGES, value};
+pub use rounds::value;

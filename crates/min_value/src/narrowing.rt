@@ -1,19 +1,15 @@
 //! The value of a graph, and where flows look far on it also a smaller graph that has all its minimum cuts.
 
-ghost use Rattle.std.specs.Prelude.{◌≡◌, ◌*◌, ◌<◌, ◌≤◌, ◌^◌, IfOk, IfSome, length};
-ghost use Rattle.cut_definitions.specs.Cuts.{has, value as least_value};
-ghost use Rattle.weighted_graph.specs.Marks.{MarksAreSafe};
+ghost use Rattle.std.specs.Prelude.{◌≡◌, ◌*◌, ◌<◌, ◌≤◌, ◌^◌, IfOk, IfSome};
+ghost use Rattle.cut_definitions.specs.Cuts.{value as least_value};
 ghost use Rattle.min_value.specs.Kernels.{IsKept, IsNarrowed};
 
-use crate::kept_graph::{Kernel, is_worth_another};
-use crate::scanners::scanners;
-use crate::scans::{mark_by_links, scan_or_sweep, value_of_shrunk};
+use crate::kept_graph::Kernel;
+use crate::scanning::scan;
+use crate::scans::{scan_or_sweep, value_of_shrunk};
 use crate::values::{sweep, value_by_sweeps};
-use capped_scan::Scan;
 use cut_definitions::{MOST_WEIGHT, NoMemory};
 use least_cut::Swept;
-use mark_board::Marks;
-use round_contract::classes_of_marks;
 use round_workers::Threshold;
 use weighted_graph::{Graph, Labels};
 use worker_team::{Team, contracted};
@@ -34,73 +30,7 @@ struct Narrowed {
     labels: Labels,
 }
 
-/// The graph on the classes of marks that are safe at a bound with slack 1, if another scan is worth its time then.
-fn narrow_by_marks<T: Team>(
-    team: &T,
-    graph: &Graph,
-    bound: u64,
-    marks: &Marks,
-) -> Result<Option<Narrowed>, NoMemory>
-    requires ready { T.ready team.now }
-    requires enough { 2 ≤ graph.now.vertices }
-    requires small { bound ≤ 2 ^ 62 }
-    requires bound { least_value graph.now ≤ bound }
-    requires marks { marks.now.edges ≡ length graph.now.edges }
-    requires safe { MarksAreSafe graph.now (has marks.now.marked) bound 1 }
-    ensures narrowed { IfOk result (λ found. IfSome found (λ left. IsNarrowed graph.now left.bound left.graph left.labels)) }
-    ensures less { IfOk result (λ found. IfSome found (λ left. left.graph.vertices * 50 ≤ graph.now.vertices * 49)) }
-{
-    let labels = classes_of_marks(team.alloc(), graph, marks)?;
-    if !is_worth_another(labels.classes(), graph.n(), graph.edges()) {
-        return Ok(None);
-    }
-    let small = contracted(team, graph, &labels)?;
-    Ok(Some(Narrowed {
-        bound,
-        graph: small,
-        labels,
-    }))
-}
-
-/// What a scan of one worker leaves, if it takes away enough.
-fn narrow_alone<T: Team>(team: &T, graph: &Graph, bound: u64) -> Result<Option<Narrowed>, NoMemory>
-    requires ready { T.ready team.now }
-    requires enough { 2 ≤ graph.now.vertices }
-    requires small { bound ≤ 2 ^ 62 }
-    requires bound { least_value graph.now ≤ bound }
-    ensures narrowed { IfOk result (λ found. IfSome found (λ left. IsNarrowed graph.now left.bound left.graph left.labels)) }
-    ensures less { IfOk result (λ found. IfSome found (λ left. left.graph.vertices * 50 ≤ graph.now.vertices * 49)) }
-{
-    let mut marks = Marks::none(team.alloc(), graph.edges())?;
-    let mut scan = Scan::new(team.alloc(), graph)?;
-    let threshold = Threshold { bound, slack: 1 };
-    let low = mark_by_links(graph, &mut scan, threshold, &mut marks);
-    narrow_by_marks(team, graph, low, &marks)
-}
-
-/// The same of workers who scan side by side, from the least degree on.
-fn narrow_together<T: Team>(
-    team: &T,
-    graph: &Graph,
-    bound: u64,
-    workers: u32,
-) -> Result<Option<Narrowed>, NoMemory>
-    requires ready { T.ready team.now }
-    requires enough { 2 ≤ graph.now.vertices }
-    requires small { bound ≤ 2 ^ 62 }
-    requires bound { least_value graph.now ≤ bound }
-    ensures narrowed { IfOk result (λ found. IfSome found (λ left. IsNarrowed graph.now left.bound left.graph left.labels)) }
-    ensures less { IfOk result (λ found. IfSome found (λ left. left.graph.vertices * 50 ≤ graph.now.vertices * 49)) }
-{
-    let opening = Threshold {
-        bound: graph.least_degree(),
-        slack: 1,
-    };
-    let (low, marks) = team.scan_round(graph, opening, workers)?;
-    narrow_by_marks(team, graph, low.min(bound), &marks)
-}
-
-/// What one scan leaves, of several workers where the graph is large, and of one where theirs take away too little.
+/// What one scan with slack 1 leaves, if another one is worth its time then.
 fn narrow<T: Team>(team: &T, graph: &Graph, bound: u64) -> Result<Option<Narrowed>, NoMemory>
     requires ready { T.ready team.now }
     requires enough { 2 ≤ graph.now.vertices }
@@ -109,14 +39,19 @@ fn narrow<T: Team>(team: &T, graph: &Graph, bound: u64) -> Result<Option<Narrowe
     ensures narrowed { IfOk result (λ found. IfSome found (λ left. IsNarrowed graph.now left.bound left.graph left.labels)) }
     ensures less { IfOk result (λ found. IfSome found (λ left. left.graph.vertices * 50 ≤ graph.now.vertices * 49)) }
 {
-    let scanning = scanners(graph, bound, team.workers());
-    if scanning > 1 {
-        let found = narrow_together(team, graph, bound, scanning)?;
-        if found.is_some() {
-            return Ok(found);
-        }
+    // known by this call: the graph is an edge list
+    let _n = graph.n();
+    let threshold = Threshold { bound, slack: 1 };
+    let found = scan(team, graph, threshold)?;
+    if !found.is_worth_another(graph) {
+        return Ok(None);
     }
-    narrow_alone(team, graph, bound)
+    let small = contracted(team, graph, &found.labels)?;
+    Ok(Some(Narrowed {
+        bound: found.bound,
+        graph: small,
+        labels: found.labels,
+    }))
 }
 
 /// What further scans leave of a graph, after the first one, as long as another one is worth its time.

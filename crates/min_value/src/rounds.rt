@@ -6,16 +6,13 @@ ghost use Rattle.forest_contraction.specs.Left.{IsLesser};
 
 use crate::values::value_by_sweeps;
 use cut_definitions::NoMemory;
-use forest_contraction::is_tenth_less;
+use forest_contraction::{FEW_EDGES, is_tenth_less};
 use least_cut::least_weight_below;
 use outside::Gate;
 use round_workers::round;
 use std::thread::Threads;
 use weighted_graph::Graph;
 use worker_team::{Crew, Team, Threaded, contract};
-
-/// Rounds, whose certificates look at each edge, are for graphs of at most so many edges.
-pub const FEW_EDGES: usize = 1024;
 
 /// A round with slack 0 of so many workers, opened with the least degree, and the contraction of what it marked. It answers the
 /// round's bound and the contracted graph.

@@ -40,7 +40,8 @@ fn sweep_or_scan<T: Team>(team: &T, graph: &Graph, bound: u64) -> Result<Shrunk,
     }
 }
 
-/// The same for a graph that is taken over, and so given back before a smaller one gets its rows.
+/// A sweep of a graph that is taken over, and where that is cut short one scan; the graph is given back before a smaller one gets
+/// its rows.
 fn sweep_or_scan_away<T: Team>(team: &T, graph: Graph, bound: u64) -> Result<Shrunk, NoMemory>
     requires ready { T.ready team.now }
     requires enough { 2 ≤ graph.vertices }

@@ -2,7 +2,7 @@ use Rattle.std.proofs.Common.{◌≡◌, ◌≤◌, min}
 use Rattle.cut_definitions.specs.Cuts.{has, value}
 use Rattle.weighted_graph.specs.Marks.{MarksAreSafe}
 use Rattle.capped_scan.specs.Scan.{StandsFor}
-use Rattle.min_value.proofs.scans.mark_by_links.Given as goal
+use Rattle.min_value.proofs.scanning.mark_by_links.Given as goal
 
 abbrev pub invariant-loop : goal.invariant-loop
 invariant-loop l = record {

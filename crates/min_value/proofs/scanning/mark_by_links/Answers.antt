@@ -3,7 +3,7 @@ use Rattle.cut_definitions.specs.Cuts.{has}
 use Rattle.capped_scan.proofs.Standing.{law_of_prefixes}
 use Rattle.round_workers.proofs.Marking.{safe-lower, lowered-le}
 use Rattle.min_value.proofs.Scanned.{least_lowered}
-use Rattle.min_value.proofs.scans.mark_by_links.Goals as goal
+use Rattle.min_value.proofs.scanning.mark_by_links.Goals as goal
 
 pub loop-init : goal.loop-init
 loop-init c = record {

@@ -1,9 +1,0 @@
-use Rattle.std.proofs.Common.{arith}
-use Rattle.round_workers.proofs.Marking.{fair_small}
-use Rattle.min_value.proofs.Kept.{fair_is}
-use Rattle.min_value.proofs.closing.marks_of_scan.Goals as goal
-
-pub mark_by_whole_scan-requires-clause-value : goal.mark_by_whole_scan-requires-clause-value
-mark_by_whole_scan-requires-clause-value c =
-    let small = fair_small c.args.graph.now c.n-n.ensures.edge_list.is_graph c.args.value (fair_is c.args.graph.now c.args.value c.requires.enough c.requires.value) in
-    omega arith
