@@ -11,6 +11,7 @@ ghost use Rattle.region_fronts.specs.Beside.{IsFirstToOpen, IsOpenIn, LeadsToNon
 ghost use Rattle.region_fronts.specs.Newest.{IsAnother, IsNewestBut, IsNoneFrom};
 ghost use Rattle.region_fronts.specs.Fronts.{FrontsState, list_at, lists_of, IsCovered, KeepsAll, KeepsFronts, HasEnds, AreFew, AreApart, IsAtFront, taken_out};
 
+use crate::order::Order;
 use cut_definitions::NoMemory;
 use std::alloc::Global;
 use std::marker::Model;
@@ -29,6 +30,10 @@ pub struct Fronts {
 
     // each label whose list is not empty, the list that was filled last on top
     stack: Vec<u32>,
+
+    // which entry of a list is looked at next; of the oldest first, all before this place are of a later turn
+    order: Order,
+    turn: usize,
 }
 
 impl Model for Fronts {
@@ -181,10 +186,10 @@ fn first_filled(stack: &mut Vec<u32>, lists: &[Vec<u32>]) -> Option<u32>
 }
 
 impl Fronts {
-    /// Empty lists, for vertices 1 to n and labels 0 to n + 1.
+    /// Empty lists, for vertices 1 to n and labels 0 to n + 1. Of a list the next entry is that which this order tells.
     ///
     /// Want of memory is its only refusal.
-    pub fn new(alloc: Global, n: u32) -> Result<Fronts, NoMemory>
+    pub fn new(alloc: Global, n: u32, order: Order) -> Result<Fronts, NoMemory>
         ensures vertices { IfOk result (λ f. f.vertices ≡ n) }
         ensures empty { IfOk result (λ f. (region : ℕ) → list_at f.lists region ≡ []) }
     {
@@ -196,6 +201,8 @@ impl Fronts {
             lists,
             standing,
             stack,
+            order,
+            turn: 0,
         })
     }
 
@@ -236,6 +243,28 @@ impl Fronts {
         ensures none { result ≡ None → (region : ℕ) → length (list_at self.old.lists region) ≡ 0 }
     {
         first_filled(&mut self.stack, self.lists.as_slice())
+    }
+
+    /// The place in the list of a region that is looked at next for the vertex to enter.
+    fn place_in_turn(&self, region: u32) -> usize
+        requires { 1 ≤ length (list_at self.now.lists region) }
+        ensures { result < length (list_at self.now.lists region) }
+    {
+        let count = self.count(region);
+        match self.order {
+            Order::Newest => count - 1,
+            Order::Oldest => { if self.turn < count { self.turn } else { 0 } }
+        }
+    }
+
+    /// Takes out the entry at a place of the list of a region, and goes on behind the place: what stands there now is newer than
+    /// all entries from there on.
+    fn pass_over(&mut self, region: u32, place: usize)
+        requires { place < length (list_at self.old.lists region) }
+        ensures { self.new ≡ taken_out self.old region place }
+    {
+        self.take_out(region, place);
+        self.turn = place.saturating_add(1);
     }
 
     /// Puts a vertex of a region into the list of the region, unless it stands there.
@@ -309,7 +338,7 @@ impl Fronts {
         Ok(())
     }
 
-    /// The same for several vertices, in O(their rows).
+    /// Puts the ends of several vertices, each as `put_ends` does, in O(their rows).
     pub fn put_all_ends(
         &mut self,
         graph: &Graph,
@@ -357,7 +386,8 @@ impl Fronts {
         None
     }
 
-    /// An open vertex, the last in the list of the label on top; none where all vertices have entered.
+    /// An open vertex in the list of the label on top; none where all vertices have entered. Which one is free: it is the last of the
+    /// list, or, where the oldest enter first, one of those that were put earliest.
     ///
     /// Entries that have another label by now, or are open no more, are taken out first. The vertex itself stays in its
     /// list. Each entry is taken out once, and a look at a vertex goes along its row up to the first arc to another label.
@@ -374,12 +404,12 @@ impl Fronts {
     {
         let _list = graph.edge_list();
         while let Some(region) = self.top() {
-            let last = self.count(region) - 1;
-            let v = self.at(region, last);
+            let place = self.place_in_turn(region);
+            let v = self.at(region, place);
             if label(labels, v) == region && is_open(graph, labels, v) {
                 return Some(v);
             }
-            self.take_out(region, last);
+            self.pass_over(region, place);
         }
         None
     }

@@ -15,6 +15,7 @@
 
 mod across;
 mod alone;
+mod at_amount;
 mod finishing;
 mod parted_region;
 mod regroup;
@@ -26,5 +27,6 @@ mod sweep;
 mod weights;
 
 pub use alone::solve_alone;
+pub use at_amount::tree_at_amount;
 pub use finishing::cactus_by_tree;
 pub use sweep::{tree_by_workers, tree_of};

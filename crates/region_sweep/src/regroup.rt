@@ -60,7 +60,7 @@ fn place_part(
     fresh + 1
 }
 
-/// Does so for each part that is listed, with the node at the place of its number, and answers the next fresh label.
+/// Places each part that is listed, with the node at the place of its number, and answers the next fresh label.
 fn place_parts(
     parted: PartedRegion<'_>,
     flow: &mut RegionFlow,

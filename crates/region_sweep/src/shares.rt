@@ -96,7 +96,7 @@ fn has_degree(graph: &Graph, degree: u64) -> bool
 }
 
 /// Whether all cuts of a graph weigh more than a weight. It looks at the degrees first, which mostly tell.
-fn is_heavier(alloc: Global, graph: &Graph, weight: u64) -> Result<bool, NoMemory>
+pub(crate) fn is_heavier(alloc: Global, graph: &Graph, weight: u64) -> Result<bool, NoMemory>
     requires enough { 2 ≤ graph.now.vertices }
     requires small { weight ≤ 2 ^ 62 }
     ensures yes { IfOk result (λ heavier. IsTrue heavier → weight < least_value graph.now) }

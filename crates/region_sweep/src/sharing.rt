@@ -63,7 +63,7 @@ fn put_away(homes: &mut Homes, classes: &Labels, nodes: &[usize], node: usize, c
     }
 }
 
-/// Does so for one vertex, if it is in the region.
+/// Puts one vertex, if it is in the region, into the node of its class in a tree that was grafted on a node.
 fn put_one(homes: &mut Homes, classes: &Labels, nodes: &[usize], node: usize, count: usize, v: u32)
     requires from_one { 1 ≤ v }
     requires to_n { v ≤ length classes.now }
@@ -145,7 +145,7 @@ impl Sweep {
         Ok(())
     }
 
-    /// Does so, and lets the share go.
+    /// Grafts the tree of a share, and lets the share go.
     fn graft_owned(&mut self, graph: &Graph, share: Share) -> Result<(), NoMemory>
         requires enough { 2 ≤ graph.now.vertices }
         requires under_way { IsUnderWay graph.now self.old }
@@ -156,7 +156,7 @@ impl Sweep {
         self.graft(graph, &share)
     }
 
-    /// Does so for all shares, which are of different regions.
+    /// Grafts the trees of all shares, which are of different regions.
     fn graft_all(&mut self, graph: &Graph, mut shares: Vec<Share>) -> Result<(), NoMemory>
         requires enough { 2 ≤ graph.now.vertices }
         requires under_way { IsUnderWay graph.now self.old }

@@ -21,7 +21,7 @@ use crate::weights::weigh_parts;
 use cut_definitions::NoMemory;
 use node_tree::{FlatTree, HomedTree, Homes, hang_parts};
 use region_flow::RegionFlow;
-use region_fronts::{Fronts, Parts, open_beside};
+use region_fronts::{Fronts, Parts, open_beside, order_of_entering};
 use region_parts::Splitter;
 use std::alloc::Global;
 use std::thread::Threads;
@@ -81,7 +81,7 @@ fn enter_first(alloc: Global, graph: &Graph) -> Result<(RegionFlow, Fronts), NoM
     let n = graph.n();
     let mut flow = RegionFlow::new(alloc, graph)?;
     flow.enter(graph, ROOT);
-    let mut fronts = Fronts::new(alloc, n)?;
+    let mut fronts = Fronts::new(alloc, n, order_of_entering(graph))?;
     fronts.put_ends(graph, flow.labels(), ROOT)?;
     Ok((flow, fronts))
 }
@@ -188,7 +188,8 @@ impl Sweep {
         self.flow.feed(v) > before
     }
 
-    /// Does so for an open vertex beside `t`. Answers whether one is fed more than before.
+    /// Brings an open vertex beside `t` something that others than `t` in its region are fed. Answers whether one is fed more than
+    /// before.
     fn feed_beside(&mut self, graph: &Graph, t: u32) -> bool
         requires under_way { IsUnderWay graph.now self.old }
         requires open { IsOpenAt graph.now self.old.flow.labels t }
@@ -201,7 +202,7 @@ impl Sweep {
         self.bring_to(graph, arc.to, t)
     }
 
-    /// Does so for the newest open vertex of the region but `t`, if there is one.
+    /// Brings the newest open vertex of the region but `t`, if there is one, something that others than `t` there are fed.
     fn feed_newest(&mut self, graph: &Graph, t: u32)
         requires under_way { IsUnderWay graph.now self.old }
         requires open { IsOpenAt graph.now self.old.flow.labels t }
@@ -416,7 +417,8 @@ pub fn tree_of(alloc: Global, graph: &Graph, value: u64) -> Result<HomedTree, No
     Ok(tree)
 }
 
-/// The same tree, by so many workers, of whom each takes some of the large regions, where a split leaves two or more of them.
+/// The tree of the minimum cuts as `tree_of` makes it, by so many workers, of whom each takes some of the large regions, where a
+/// split leaves two or more of them.
 pub fn tree_by_workers<R: Threads + Sync>(
     rt: &R,
     alloc: Global,

@@ -90,7 +90,7 @@ fn weigh_arc(
     }
 }
 
-/// The same for all arcs of the row.
+/// Adds the weights of the arcs of the row of a listed vertex, but of those that count at their other end or lie inside a part.
 fn weigh_row(
     parted: PartedRegion<'_>,
     flow: &RegionFlow,

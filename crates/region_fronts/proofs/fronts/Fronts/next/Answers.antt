@@ -1,5 +1,5 @@
 -- An entry that has another label, or is not open, is taken out. Where none is left, no vertex is open.
-use Rattle.std.proofs.Common.{◌≡◌, ◌<◌, ◌≤◌, ◌-◌, length, get_or, ap, sym, ◌∙◌, subst, arith}
+use Rattle.std.proofs.Common.{◌≡◌, ◌<◌, length, get_or, ap, sym, ◌∙◌, subst}
 use Rattle.region_fronts.specs.Open.{IsShutAt}
 use Rattle.region_fronts.specs.Fronts.{FrontsState, IsCovered, list_at}
 use Rattle.region_fronts.proofs.Opening.{open_vertices}
@@ -17,21 +17,20 @@ loop-region-preserved c =
     let labels = c.args.labels.now in
     let f = c.top.new.self in
     let region = c.in-Some.region in
-    let last = c.count-last.result - 1 in
+    let place = c.place_in_turn-place.result in
     let xs = list_at f.lists region in
-    let v = get_or xs last 0 in
+    let v = get_or xs place 0 in
     let covered = subst (λ (k : FrontsState). IsCovered g labels k) (sym c.top.ensures.same) c.loop-region.invariant.covered in
-    let some : 1 ≤ length xs = subst (λ (k : FrontsState). 1 ≤ length (list_at k.lists region)) (sym c.top.ensures.same) c.in-Some.ensures.some in
-    let l : last < length xs = omega (arith, some, c.count-last.ensures) in
+    let l : place < length xs = c.place_in_turn-place.ensures in
     let is = c.at-v.ensures.value in
     let shut : get_or labels v 0 ≡ region → IsShutAt g labels v = elim c.else-label-region.branch [
       | else-label-region-via-then-label-region+else-is_open w ↦ λ _. subst (IsShutAt g labels) is (w.is_open.ensures.no w.if-is_open.false)
       | else-label-region-via-else-label-region w ↦ λ e. absurd (w.if-label-region.false (c.label.ensures ∙ ap (λ k. get_or labels k 0) is ∙ e))
     ] in
-    rw c.take_out.ensures
+    rw c.pass_over.ensures
     (record {
       vertices = ap (λ (k : FrontsState). k.vertices) c.top.ensures.same ∙ c.loop-region.invariant.vertices;
-      covered = shut_covered g c.edge_list-list.ensures.edge_list.is_graph labels f region last l covered shut;
+      covered = shut_covered g c.edge_list-list.ensures.edge_list.is_graph labels f region place l covered shut;
     })
 
 pub returns-clause-covered : goal.returns-clause-covered
