@@ -1,0 +1,16 @@
+pub mod GrowingLaw
+pub mod Classes
+pub mod ClassSets
+pub mod Contracting
+pub mod Leaves
+pub mod Pairs
+pub mod LeafSteps
+pub mod LeafTrees
+pub mod Bringing
+pub mod Turning
+pub mod SetLaws
+pub mod ClassJoins
+pub mod NotedSets
+pub mod PairEnds
+pub mod Pairing
+pub mod SetOrder
