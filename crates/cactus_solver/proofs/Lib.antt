@@ -1,4 +1,5 @@
 pub mod Lifting
 pub mod Smaller
+pub mod Standing
 mod ByClasses
 pub mod Connected

@@ -2,22 +2,21 @@
 
 ghost use Rattle.std.specs.Prelude.{◌≡◌, ◌≤◌, IfOk, IfSome};
 ghost use Rattle.cut_definitions.specs.Components.{IsConnected};
-ghost use Rattle.cut_definitions.specs.Contraction.{classes};
 ghost use Rattle.cut_definitions.specs.Cuts.{value as least_value};
-ghost use Rattle.cut_definitions.specs.Graph.{Graph as EdgeGraph};
-ghost use Rattle.forest_contraction.specs.Left.{AreTies};
 ghost use Rattle.min_value.specs.Kernels.{IsKept};
 ghost use Rattle.rooted_cactus.specs.Solving.{IsSolved};
+ghost use Rattle.cactus_solver.specs.Reducing.{IsReduced, list_in};
 ghost use Rattle.cactus_solver.specs.SolvedLists.{AreCutsOf, IsTreeSolved};
 
 use crate::list_classes::{ListClasses, classes_of};
+use crate::reduced::Reduced;
 use crate::solved_list::{Cuts, SolvedList, SolvedTree};
-use crate::solver::{tree_at_value, tree_by_kernel, tree_by_reduced};
+use crate::solver::tree_of_cuts;
 use crate::sweep_team::SweepTeam;
 use component_cuts::count_components;
 use cut_definitions::{EdgeList, NoMemory};
 use min_value::{
-    FEW_EDGES, Kernel, ValueWithKernel, ValueWithTies, reduce_by_scans, value as least_weight,
+    FEW_EDGES, ValueWithKernel, ValueWithTies, reduce, reduce_by_scans, value as least_weight,
     value_with_kernel, value_with_ties,
 };
 use outside::Gate;
@@ -25,181 +24,68 @@ use region_sweep::cactus_by_tree;
 use rooted_cactus::Solved;
 use std::alloc::Global;
 use std::thread::Threads;
-use vertex_order::{NearGraph, near_graph};
-use weighted_graph::{Graph, Labels};
 use worker_team::{Crew, Team};
 
-/// What `reduce` leaves of a smaller graph, with the labels that lead there.
-fn reduce_further<T: Team>(team: &T, kernel: Kernel) -> Result<Kernel, NoMemory>
-    requires ready { T.ready team.now }
-    requires value { kernel.value ≡ least_value kernel.graph }
-    requires enough { 2 ≤ kernel.graph.vertices }
-    requires counted { classes kernel.labels ≡ kernel.graph.vertices }
-    ensures { (g : EdgeGraph) → IsKept g kernel.value kernel.graph kernel.labels → IfOk result (λ k. IsKept g k.value k.graph k.labels) }
-{
-    let Some(next) = reduce_by_scans(team, &kernel.graph, kernel.value)? else {
-        return Ok(kernel);
-    };
-    let labels = kernel.labels.compose(team.alloc(), &next.labels)?;
-    Ok(Kernel {
-        value: kernel.value,
-        graph: next.graph,
-        labels,
-    })
-}
-
-/// The minimum cuts of a graph without rows, by those of a smaller one.
-fn solve_by_smaller<T: SweepTeam>(
+/// A graph with rows that stands for that of a list: on classes that no minimum cut parts, where there are such.
+fn with_rows<T: Team>(
     team: &T,
     list: EdgeList,
-    kernel: Kernel,
-) -> Result<SolvedList<SolvedTree>, NoMemory>
+    classes: Option<ListClasses>,
+) -> Result<Reduced, NoMemory>
     requires ready { T.ready team.now }
-    requires connected { IsConnected list }
     requires enough { 2 ≤ list.vertices }
-    requires kept { IsKept list kernel.value kernel.graph kernel.labels }
-    ensures list { IfOk result (λ r. r.list ≡ list) }
-    ensures cuts { IfOk result (λ r. AreCutsOf IsTreeSolved list r.cuts) }
+    requires kept { IfSome classes (λ c. IsKept list c.value c.list c.labels) }
+    ensures list { IfOk result (λ r. list_in r ≡ list) }
+    ensures reduced { IfOk result IsReduced }
 {
-    let value = kernel.value;
-    let kernel = reduce_further(team, kernel)?;
-    let tree = tree_by_kernel(team, &list, kernel)?;
-    Ok(SolvedList {
-        list,
-        cuts: Cuts::Joined(SolvedTree { value, tree }),
-    })
+    let Some(classes) = classes else {
+        return Reduced::with_rows(team, list);
+    };
+    let between = Reduced::with_rows(team, classes.list)?;
+    between.lead_from(team.alloc(), list, classes.labels)
 }
 
-/// The minimum cuts of a connected graph whose value is given. Its rows are dropped once the tree of the cuts is made.
-fn solve_graph<T: SweepTeam>(
+/// The minimum cuts of a connected graph whose value is known, by those of a graph that stands for it.
+fn sweep_reduced<T: SweepTeam>(
     team: &T,
-    graph: Graph,
+    reduced: Reduced,
     value: u64,
 ) -> Result<SolvedList<SolvedTree>, NoMemory>
     requires ready { T.ready team.now }
-    requires connected { IsConnected graph }
-    requires enough { 2 ≤ graph.vertices }
-    requires value { value ≡ least_value graph }
-    ensures list { IfOk result (λ r. r.list ≡ graph) }
-    ensures cuts { IfOk result (λ r. AreCutsOf IsTreeSolved graph r.cuts) }
+    requires reduced { IsReduced reduced }
+    requires connected { IsConnected (list_in reduced) }
+    requires value { value ≡ least_value (list_in reduced) }
+    ensures list { IfOk result (λ r. r.list ≡ list_in reduced) }
+    ensures cuts { IfOk result (λ r. AreCutsOf IsTreeSolved (list_in reduced) r.cuts) }
 {
-    let reduced = reduce_by_scans(team, &graph, value)?;
-    let tree = tree_by_reduced(team, &graph, value, reduced)?;
-    let list = graph.into_list();
+    let tree = tree_of_cuts(team, reduced.graph(), value)?;
+    let (list, tree) = reduced.lift(team.alloc(), tree)?;
     Ok(SolvedList {
         list,
         cuts: Cuts::Joined(SolvedTree { value, tree }),
     })
 }
 
-/// The graph on classes of the vertices, by the list of its edges.
-fn kernel_of_classes<T: Team>(team: &T, found: ListClasses) -> Result<Kernel, NoMemory>
-    requires ready { T.ready team.now }
-    requires kept { (g : EdgeGraph) × IsKept g found.value found.list found.labels }
-    ensures { (g : EdgeGraph) → IsKept g found.value found.list found.labels → IfOk result (λ k. IsKept g k.value k.graph k.labels) }
-{
-    let ListClasses {
-        value,
-        list,
-        labels,
-    } = found;
-    // known by this call: it is an edge list
-    let _n = list.n();
-    match near_graph(team, list)? {
-        NearGraph::AsListed(graph) => Ok(Kernel {
-            value,
-            graph,
-            labels,
-        }),
-        NearGraph::Renumbered {
-            graph,
-            labels: next,
-            ..
-        } => Ok(Kernel {
-            value,
-            graph,
-            labels: labels.compose(team.alloc(), &next)?,
-        }),
-    }
-}
-
-/// The value of a graph that labels have renumbered, and what the scans for it leave of the graph.
-fn kernel_of_renumbered<T: Team>(team: &T, graph: Graph, labels: Labels) -> Result<Kernel, NoMemory>
-    requires ready { T.ready team.now }
-    requires enough { 2 ≤ graph.vertices }
-    requires counted { classes labels ≡ graph.vertices }
-    ensures { (g : EdgeGraph) → IsKept g (least_value graph) graph labels → IfOk result (λ k. IsKept g k.value k.graph k.labels) }
-{
-    let ValueWithKernel { value, kernel } = value_with_kernel(team, &graph)?;
-    match kernel {
-        Some(kernel) => Ok(Kernel {
-            value,
-            graph: kernel.graph,
-            labels: labels.compose(team.alloc(), &kernel.labels)?,
-        }),
-        None => Ok(Kernel {
-            value,
-            graph,
-            labels,
-        }),
-    }
-}
-
-/// The minimum cuts of a connected graph whose value is known.
-fn solve_connected<T: SweepTeam>(
+/// The minimum cuts of a connected graph whose value is known, by those of a graph that stands for it; scans make that
+/// smaller first, where edges can be contracted.
+fn solve_reduced<T: SweepTeam>(
     team: &T,
-    list: EdgeList,
-    found: ValueWithTies,
+    reduced: Reduced,
+    value: u64,
 ) -> Result<SolvedList<SolvedTree>, NoMemory>
     requires ready { T.ready team.now }
-    requires connected { IsConnected list }
-    requires enough { 2 ≤ list.vertices }
-    requires value { found.value ≡ least_value list }
-    requires ties { IfSome found.ties (AreTies list) }
-    ensures list { IfOk result (λ r. r.list ≡ list) }
-    ensures cuts { IfOk result (λ r. AreCutsOf IsTreeSolved list r.cuts) }
+    requires reduced { IsReduced reduced }
+    requires connected { IsConnected (list_in reduced) }
+    requires value { value ≡ least_value (list_in reduced) }
+    ensures list { IfOk result (λ r. r.list ≡ list_in reduced) }
+    ensures cuts { IfOk result (λ r. AreCutsOf IsTreeSolved (list_in reduced) r.cuts) }
 {
-    let ValueWithTies { value, ties } = found;
-    if let Some(classes) = classes_of(team.alloc(), &list, value, ties)? {
-        let kernel = kernel_of_classes(team, classes)?;
-        return solve_by_smaller(team, list, kernel);
-    }
-    match near_graph(team, list)? {
-        NearGraph::AsListed(graph) => solve_graph(team, graph, value),
-        NearGraph::Renumbered {
-            list,
-            graph,
-            labels,
-        } => {
-            let kernel = Kernel {
-                value,
-                graph,
-                labels,
-            };
-            solve_by_smaller(team, list, kernel)
-        }
-    }
+    let kernel = reduce_by_scans(team, reduced.graph(), value)?;
+    let reduced = reduced.lead_on(team.alloc(), kernel)?;
+    sweep_reduced(team, reduced, value)
 }
 
-/// The minimum cuts of a connected graph by its rows, in the order of its list.
-fn solve_as_listed<T: SweepTeam>(team: &T, graph: Graph) -> Result<SolvedList<SolvedTree>, NoMemory>
-    requires ready { T.ready team.now }
-    requires connected { IsConnected graph }
-    requires enough { 2 ≤ graph.vertices }
-    ensures list { IfOk result (λ r. r.list ≡ graph) }
-    ensures cuts { IfOk result (λ r. AreCutsOf IsTreeSolved graph r.cuts) }
-{
-    let ValueWithKernel { value, kernel } = value_with_kernel(team, &graph)?;
-    match kernel {
-        Some(kernel) => {
-            let list = graph.into_list();
-            solve_by_smaller(team, list, kernel)
-        }
-        None => solve_graph(team, graph, value),
-    }
-}
-
-/// The minimum cuts of a graph whose list does not tell a value above 0: the number of components, or the cuts by rows.
+/// The minimum cuts of a graph whose list does not tell a value above 0, by its rows; or the number of components.
 fn solve_by_rows<T: SweepTeam>(team: &T, list: EdgeList) -> Result<SolvedList<SolvedTree>, NoMemory>
     requires ready { T.ready team.now }
     requires enough { 2 ≤ list.vertices }
@@ -213,17 +99,10 @@ fn solve_by_rows<T: SweepTeam>(team: &T, list: EdgeList) -> Result<SolvedList<So
             cuts: Cuts::Apart(components),
         });
     }
-    match near_graph(team, list)? {
-        NearGraph::AsListed(graph) => solve_as_listed(team, graph),
-        NearGraph::Renumbered {
-            list,
-            graph,
-            labels,
-        } => {
-            let kernel = kernel_of_renumbered(team, graph, labels)?;
-            solve_by_smaller(team, list, kernel)
-        }
-    }
+    let reduced = Reduced::with_rows(team, list)?;
+    let ValueWithKernel { value, kernel } = value_with_kernel(team, reduced.graph())?;
+    let reduced = reduced.lead_on(team.alloc(), kernel)?;
+    solve_reduced(team, reduced, value)
 }
 
 /// The minimum cuts of a graph with more than 1,024 edges, as `tree_of_list` finds them; a shorter list is solved as well, but
@@ -239,13 +118,14 @@ pub fn tree_of_long_list<T: SweepTeam>(
 {
     // known by this call: it is an edge list
     let _n = list.n();
-    let Some(found) = value_with_ties(team, &list)? else {
-        return solve_by_rows(team, list);
-    };
-    if found.value == 0 {
-        return solve_by_rows(team, list);
+    match value_with_ties(team, &list)? {
+        Some(ValueWithTies { value, ties }) if value > 0 => {
+            let classes = classes_of(team.alloc(), &list, value, ties)?;
+            let reduced = with_rows(team, list, classes)?;
+            solve_reduced(team, reduced, value)
+        }
+        _ => solve_by_rows(team, list),
     }
-    solve_connected(team, list, found)
 }
 
 /// The minimum cuts of a small graph, by rounds.
@@ -268,11 +148,9 @@ fn tree_of_few<R: Threads + Sync, G: Gate>(
     }
     let graph = crew.threads.graph(list)?;
     let value = least_weight(crew, &graph)?;
-    let tree = tree_at_value(crew, &graph, value)?;
-    Ok(SolvedList {
-        list: graph.into_list(),
-        cuts: Cuts::Joined(SolvedTree { value, tree }),
-    })
+    let kernel = reduce(crew, &graph, value)?;
+    let reduced = Reduced::Whole(graph).lead_on(crew.threads.alloc, kernel)?;
+    sweep_reduced(&crew.threads, reduced, value)
 }
 
 /// The minimum cuts of a graph of two or more vertices, whose list of edges is taken over and given back with the answer: how
@@ -333,7 +211,8 @@ pub fn solve_list<R: Threads + Sync, G: Gate>(
     with_cactus(crew.threads.alloc, found)
 }
 
-/// The same by any team, of a graph with more than 1,024 edges; a shorter list is solved as well, but without rounds.
+/// What `solve_list` answers, by any team, the calling thread alone among them. It is for graphs with more than 1,024 edges; a
+/// shorter list is solved as well, but without rounds.
 pub fn solve_long_list<T: SweepTeam>(
     team: &T,
     list: EdgeList,

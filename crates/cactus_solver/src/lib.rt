@@ -8,13 +8,17 @@
 //! tree in arrays, of which `solve_list` makes the cactus.
 #![tactic(auto)]
 
+mod by_growth;
 mod by_list;
 mod list_classes;
+mod reduced;
 mod solved_list;
 mod solver;
 mod sweep_team;
 
+pub use by_growth::tree_by_growth;
 pub use by_list::{solve_list, solve_long_list, tree_of_list, tree_of_long_list};
+pub use certified_growth::Limits;
 pub use rooted_cactus::Solved;
 pub use solved_list::{Cuts, SolvedList, SolvedTree};
 pub use solver::{solve, solve_at};

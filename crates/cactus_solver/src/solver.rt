@@ -1,17 +1,17 @@
 //! The value of a graph and the cactus of its minimum cuts.
 
-ghost use Rattle.std.specs.Prelude.{◌≡◌, ◌≤◌, IfOk, IfSome, true};
+ghost use Rattle.std.specs.Prelude.{◌≡◌, ◌≤◌, IfOk, true};
 ghost use Rattle.cut_definitions.specs.Components.{IsConnected};
 ghost use Rattle.cut_definitions.specs.Cuts.{value, value as least_value, mincuts};
 ghost use Rattle.rooted_cactus.specs.Normal.{is_normal};
 ghost use Rattle.rooted_cactus.specs.Rooted.{sides_of};
-ghost use Rattle.min_value.specs.Kernels.{IsKept};
 ghost use Rattle.node_tree.specs.Finished.{IsFinished};
 ghost use Rattle.cut_definitions.specs.Members.{SameMembers};
 
+use crate::reduced::lifted;
 use crate::sweep_team::SweepTeam;
-use cut_definitions::{EdgeList, NoMemory};
-use min_value::{Kernel, reduce, value as least_weight};
+use cut_definitions::NoMemory;
+use min_value::{reduce, value as least_weight};
 use node_tree::{HomedTree, tree_of_branches};
 use outside::Gate;
 use region_sweep::cactus_by_tree;
@@ -22,7 +22,11 @@ use worker_team::Crew;
 
 /// The tree of the minimum cuts of a graph whose value is given: read off the graph where it is a tree whose edges all have
 /// the value, and else by a sweep.
-fn tree_of_cuts<T: SweepTeam>(team: &T, graph: &Graph, value: u64) -> Result<HomedTree, NoMemory>
+pub(crate) fn tree_of_cuts<T: SweepTeam>(
+    team: &T,
+    graph: &Graph,
+    value: u64,
+) -> Result<HomedTree, NoMemory>
     requires ready { T.ready team.now }
     requires connected { IsConnected graph.now }
     requires enough { 2 ≤ graph.now.vertices }
@@ -35,52 +39,8 @@ fn tree_of_cuts<T: SweepTeam>(team: &T, graph: &Graph, value: u64) -> Result<Hom
     }
 }
 
-/// The tree of the minimum cuts of a graph, by that of a smaller graph, which is given back.
-pub(crate) fn tree_by_kernel<T: SweepTeam>(
-    team: &T,
-    list: &EdgeList,
-    kernel: Kernel,
-) -> Result<HomedTree, NoMemory>
-    requires ready { T.ready team.now }
-    requires connected { IsConnected list.now }
-    requires enough { 2 ≤ list.now.vertices }
-    requires kept { IsKept list.now kernel.value kernel.graph kernel.labels }
-    ensures { IfOk result (IsFinished list.now) }
-{
-    let Kernel {
-        value,
-        graph: small,
-        labels,
-    } = kernel;
-    // known by these calls: the graphs are edge lists
-    let _n = list.n();
-    let _small = small.n();
-    let tree = tree_of_cuts(team, &small, value)?;
-    tree.spread(team.alloc(), labels.as_slice())
-}
-
-/// The tree of the minimum cuts of a graph whose value is given, by a smaller graph where there is one.
-pub(crate) fn tree_by_reduced<T: SweepTeam>(
-    team: &T,
-    graph: &Graph,
-    value: u64,
-    reduced: Option<Kernel>,
-) -> Result<HomedTree, NoMemory>
-    requires ready { T.ready team.now }
-    requires connected { IsConnected graph.now }
-    requires enough { 2 ≤ graph.now.vertices }
-    requires value { value ≡ least_value graph.now }
-    requires kept { IfSome reduced (λ k. IsKept graph.now k.value k.graph k.labels) }
-    ensures { IfOk result (IsFinished graph.now) }
-{
-    match reduced {
-        Some(kernel) => tree_by_kernel(team, graph.list(), kernel),
-        None => tree_of_cuts(team, graph, value),
-    }
-}
-
 /// The tree of the minimum cuts of a graph whose value is given: by a smaller graph, where edges can be contracted.
-pub(crate) fn tree_at_value<R: Threads + Sync, G: Gate>(
+fn tree_at_value<R: Threads + Sync, G: Gate>(
     crew: &Crew<R, G>,
     graph: &Graph,
     value: u64,
@@ -90,8 +50,22 @@ pub(crate) fn tree_at_value<R: Threads + Sync, G: Gate>(
     requires value { value ≡ least_value graph.now }
     ensures { IfOk result (IsFinished graph.now) }
 {
-    let reduced = reduce(crew, graph, value)?;
-    tree_by_reduced(&crew.threads, graph, value, reduced)
+    match reduce(crew, graph, value)? {
+        Some(kernel) => {
+            // known by these calls: they are edge lists
+            let _n = graph.n();
+            let _small = kernel.graph.n();
+            let tree = tree_of_cuts(&crew.threads, &kernel.graph, value)?;
+            lifted(
+                crew.threads.alloc,
+                graph.list(),
+                &kernel.graph,
+                &kernel.labels,
+                tree,
+            )
+        }
+        None => tree_of_cuts(&crew.threads, graph, value),
+    }
 }
 
 /// The cactus of the minimum cuts of a connected graph of two or more vertices whose value is given, in its normal form.
