@@ -1,10 +1,10 @@
--- For the bytes of a file a command has one text.
-use Rattle.std.proofs.Common.{◌≡◌, ℕ, ◌≤◌, ◌⊎◌, ⊎_elim, List, [], ◌∷◌, length, refl, sym, ap, ◌∙◌, subst, arith}
-use Rattle.std.specs.Prelude.{IfOk, Result}
+-- For the bytes of a file all commands with one job and one least balance have one text.
+use Rattle.std.proofs.Common.{◌≡◌, ℕ, ◌≤◌, ◌⊎◌, inl, inr, ⊎_elim, List, [], ◌∷◌, length, refl, sym, ap, ◌∙◌, subst, arith}
+use Rattle.std.specs.Prelude.{IfOk, Option, Result}
 use Rattle.std.proofs.lemmas.Result.{IfOk-at_ok}
 use Rattle.cut_definitions.specs.Graph.{Graph}
 use Rattle.cut_definitions.specs.Components.{IsConnected}
-use Rattle.cut_definitions.specs.Cuts.{value, IsAscendingWithin}
+use Rattle.cut_definitions.specs.Cuts.{value, mincuts, IsAscendingWithin}
 use Rattle.component_cuts.proofs.Counted.{law_of_one_number}
 use Rattle.flat_cactus.specs.Flat.{Flat}
 use Rattle.metis_reader.specs.File.{graph_of, masses_of}
@@ -15,7 +15,7 @@ use Rattle.program_words.specs.declared.command.Job.TheVariants.{Value, Cactus, 
 use Rattle.program_words.specs.Texts.{disconnected_line}
 use Rattle.answer_pages.specs.Growing.{growth_text}
 use Rattle.job_replies.specs.GrownGraphs.{grown, steps_of}
-use Rattle.job_replies.specs.Jobs.{IsTextOf, IsUncut, IsApart, IsWhole, asked_cuts}
+use Rattle.job_replies.specs.Jobs.{asked_cuts, asked_of, GoesByCactus, IsApart, IsTextFor, IsTextOf, IsUncut, IsWhole, IsWithin, KeepsLimit}
 use Rattle.job_replies.specs.TextLaws.{LawOfOneAnswer}
 use Rattle.job_replies.proofs.Connected.{one_of_connected}
 use Rattle.job_replies.proofs.OneAugmentation.{one_augment_text}
@@ -92,9 +92,50 @@ one_text command masses g t u connected a b =
     first)
     a
 
+-- of two commands with one job and one least balance the one answers what the other does
+module _ (first second : Command) (job : first.job ≡ second.job) (least : first.least ≡ second.least) (masses : List ℕ) (g : Graph) (t : List ℕ) where
+  same_cuts : asked_cuts second masses g ≡ asked_cuts first masses g
+  same_cuts =
+      sym (ap (λ (j : Job). asked_of j first.least masses (mincuts g)) job ∙ ap (λ (l : Option ℕ). asked_of second.job l masses (mincuts g)) least)
+
+  within_first : IsWithin second masses g → IsWithin first masses g
+  within_first within components counted =
+      subst (λ (j : Job). KeepsLimit j (asked_cuts first masses g) masses g components) (sym job)
+      (subst (λ (cuts : List (List ℕ)). KeepsLimit second.job cuts masses g components) same_cuts (within components counted))
+
+  text_of_first : IsTextFor second masses g t → IsTextFor first masses g t
+  text_of_first text =
+      subst (λ (j : Job). IsTextOf j (asked_cuts first masses g) masses g t) (sym job)
+      (subst (λ (cuts : List (List ℕ)). IsTextOf second.job cuts masses g t) same_cuts text)
+
+  apart_of_first : IsApart second masses g t → IsApart first masses g t
+  apart_of_first a = record {
+    by_cactus = subst GoesByCactus (sym job) a.by_cactus;
+    within = within_first a.within;
+    count = a.count;
+    components = a.components;
+    several = a.several;
+    text_is = a.text_is;
+  }
+
+  whole_of_first : IsWhole second masses g t → IsWhole first masses g t
+  whole_of_first w = record {
+    enough = w.enough;
+    connected = λ by. w.connected (subst GoesByCactus job by);
+    within = within_first w.within;
+    text_is = text_of_first w.text_is;
+  }
+
+  answer_of_first : Answer second masses g t → Answer first masses g t
+  answer_of_first answer =
+      ⊎_elim (λ (x : IsUncut g t). inl x)
+      (λ rest. ⊎_elim (λ (x : IsApart second masses g t). inr (inl (apart_of_first x))) (λ (x : IsWhole second masses g t). inr (inr (whole_of_first x))) rest)
+      answer
+
 pub one_answer : LawOfOneAnswer
-one_answer command bytes t u connected a b =
+one_answer first second job least bytes t u connected a b =
     let same : a.graph ≡ b.graph =
     IfOk-at_ok (λ (g : Graph). g ≡ b.graph) {r = graph_of bytes} {x = a.graph} a.accepted (subst (λ (r : Result Graph Fault). IfOk r (λ (g : Graph). g ≡ b.graph)) (sym b.accepted) refl) in
-    one_text command (masses_of bytes) b.graph t u (connected b.graph b.accepted)
-    (subst (λ (g : Graph). Answer command (masses_of bytes) g t) same a.answer.answer) b.answer.answer
+    one_text first (masses_of bytes) b.graph t u (connected b.graph b.accepted)
+    (subst (λ (g : Graph). Answer first (masses_of bytes) g t) same a.answer.answer)
+    (answer_of_first first second job least (masses_of bytes) b.graph u b.answer.answer)

@@ -1,5 +1,5 @@
--- What is written of a cactus, of a side of best balance, and of an augmentation is a function of the graph, and what any job
--- writes is one of the bytes read.
+-- What is written of a cactus, of a side of best balance, and of an augmentation is a function of the graph, what a trial writes
+-- is one of its number, and what any other job writes is one of the bytes read.
 use Rattle.std.specs.Prelude.{ℕ, ◌≡◌, List, Ok}
 use Rattle.cut_definitions.specs.Graph.{Graph}
 use Rattle.cut_definitions.specs.Components.{IsConnected}
@@ -8,6 +8,7 @@ use Rattle.program_words.specs.declared.command.Command.{Command}
 use Rattle.program_words.specs.declared.command.Job.TheVariants.{Balanced}
 use Rattle.job_replies.specs.Intake.{IsJobAnswer}
 use Rattle.job_replies.specs.Jobs.{IsAugmentText, IsBalancedText, IsCactusText}
+use Rattle.job_replies.specs.Trials.{IsTrialText}
 
 -- a graph has one text of its cactus
 abbrev pub LawOfOneCactusText : Type 0
@@ -21,7 +22,13 @@ LawOfOneBalancedText = (masses : List ℕ) (g : Graph) → IsConnected g → (t 
 abbrev pub LawOfOneAugmentText : Type 0
 LawOfOneAugmentText = (g : Graph) (t u : List ℕ) → IsAugmentText g t → IsAugmentText g u → t ≡ u
 
--- for the bytes of a file a command has one text, `balanced` where the graph is connected
+-- for the bytes of a file all commands with one job and one least balance have one text, whatever their numbers of workers;
+-- `balanced` where the graph is connected
 abbrev pub LawOfOneAnswer : Type 0
-LawOfOneAnswer = (command : Command) (bytes t u : List ℕ) → ((g : Graph) → graph_of bytes ≡ Ok g → command.job ≡ Balanced → IsConnected g)
-    → IsJobAnswer command bytes t → IsJobAnswer command bytes u → t ≡ u
+LawOfOneAnswer = (first second : Command) → first.job ≡ second.job → first.least ≡ second.least → (bytes t u : List ℕ)
+    → ((g : Graph) → graph_of bytes ≡ Ok g → first.job ≡ Balanced → IsConnected g)
+    → IsJobAnswer first bytes t → IsJobAnswer second bytes u → t ≡ u
+
+-- a number has one text of a trial
+abbrev pub LawOfOneTrialText : Type 0
+LawOfOneTrialText = (number : ℕ) (t u : List ℕ) → IsTrialText number t → IsTrialText number u → t ≡ u

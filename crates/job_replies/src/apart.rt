@@ -106,6 +106,44 @@ fn balanced_union(
     }
 }
 
+/// What a job on the cuts answers for a graph whose components are these, of which there are so many.
+fn union_reply(
+    alloc: Global,
+    command: &Command,
+    graph: &EdgeList,
+    count: u32,
+    weights: &VertexWeights,
+    parts: &Components,
+) -> Result<Reply, Stop>
+    requires weighed { length weights.now ≡ graph.now.vertices }
+    requires components { HasComponents graph.now count }
+    requires several { 2 ≤ count }
+    requires apart { IsApartGraph graph.now parts.now }
+    requires in_range { IsInRange command.now.job graph.now.vertices }
+    requires job { AsksCuts command.now.job }
+    ensures text { IfOk result (λ reply. IsAnswerOf command.now weights.now graph.now (text_of reply)) }
+    ensures printable { IfOk result IsPrintable }
+    ensures stop { IfErr result (IsStopFor command.now weights.now graph.now) }
+{
+    laws::components();
+    laws::one_number();
+    let workers = command.workers;
+    match command.job {
+        Job::Cactus | Job::Augment => Ok(disconnected(alloc, count)?),
+        Job::Cuts => {
+            let ask = ask_of(command.least, weights);
+            union_listing(alloc, ask, graph, parts, workers)
+        }
+        Job::Part(u, v) => {
+            let ask = Ask::Parting(u as u32, v as u32);
+            union_listing(alloc, ask, graph, parts, workers)
+        }
+        Job::Count => union_count(alloc, graph, parts),
+        Job::Balanced => balanced_union(alloc, graph, weights, parts),
+        Job::Value | Job::Grow(_) | Job::Trial(_) => unreachable!(),
+    }
+}
+
 /// What a job on the cuts answers for a graph in several components, of which there are so many.
 pub fn apart_reply(
     alloc: Global,
@@ -124,22 +162,6 @@ pub fn apart_reply(
     ensures printable { IfOk result IsPrintable }
     ensures stop { IfErr result (IsStopFor command weights.now graph.now) }
 {
-    laws::components();
-    laws::one_number();
     let parts = components_of(alloc, graph, count)?;
-    let workers = command.workers;
-    match command.job {
-        Job::Cactus | Job::Augment => Ok(disconnected(alloc, count)?),
-        Job::Cuts => {
-            let ask = ask_of(command.least, weights);
-            union_listing(alloc, ask, graph, &parts, workers)
-        }
-        Job::Part(u, v) => {
-            let ask = Ask::Parting(u as u32, v as u32);
-            union_listing(alloc, ask, graph, &parts, workers)
-        }
-        Job::Count => union_count(alloc, graph, &parts),
-        Job::Balanced => balanced_union(alloc, graph, weights, &parts),
-        Job::Value | Job::Grow(_) | Job::Trial(_) => unreachable!(),
-    }
+    union_reply(alloc, &command, graph, count, weights, &parts)
 }

@@ -1,6 +1,6 @@
 //! Laws of what is written. Each function does nothing, and its contract is a law.
 
-ghost use Rattle.job_replies.specs.TextLaws.{LawOfOneAnswer, LawOfOneAugmentText, LawOfOneBalancedText, LawOfOneCactusText};
+ghost use Rattle.job_replies.specs.TextLaws.{LawOfOneAnswer, LawOfOneAugmentText, LawOfOneBalancedText, LawOfOneCactusText, LawOfOneTrialText};
 
 /// A graph has one text of its cactus: what the job `cactus` prints is a function of the file alone, whatever the number
 /// of workers, since the canonical cactus is the only one of its form with these sides.
@@ -20,8 +20,13 @@ pub fn one_augment_text()
     ensures { LawOfOneAugmentText }
 {}
 
-/// For the bytes of a file a command that reads a graph has one text: what is printed is a function of the bytes read,
-/// whatever the number of workers; so is that of `balanced` where the graph is connected.
+/// For the bytes of a file all commands that read a graph, with one job and one least balance, have one text: what is printed
+/// is a function of the bytes read, whatever the number of workers; so is that of `balanced` where the graph is connected.
 pub fn one_answer()
     ensures { LawOfOneAnswer }
+{}
+
+/// A number has one text of the job `trial`, whatever the number of workers.
+pub fn one_trial_text()
+    ensures { LawOfOneTrialText }
 {}
