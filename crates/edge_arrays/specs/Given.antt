@@ -5,9 +5,13 @@ use Rattle.cut_definitions.specs.declared.edge_list.Edge.{Edge}
 use Rattle.cut_definitions.specs.Graph.{Graph}
 use Rattle.cut_definitions.specs.Weight.{VertexSet, weight}
 
--- the edge at a place of the arrays, whose vertices are counted from 0
+-- the edge between two vertices that are counted from 0
+abbrev pub edge_of : ℕ → ℕ → ℕ → Edge
+edge_of u v w = record { u = u + 1; v = v + 1; w = w }
+
+-- the edge at a place of the arrays
 abbrev pub entry : List ℕ → List ℕ → List ℕ → ℕ → Edge
-entry us vs ws i = record { u = slice_index us i + 1; v = slice_index vs i + 1; w = slice_index ws i }
+entry us vs ws i = edge_of (slice_index us i) (slice_index vs i) (slice_index ws i)
 
 -- the graph of the arrays: each edge as it stands there, loops and repeated edges too
 abbrev pub given : ℕ → List ℕ → List ℕ → List ℕ → Graph
@@ -22,13 +26,21 @@ pub record WeighsAs (g h : Graph) : Type 0 where
 abbrev pub free_weight : Edge → ℕ
 free_weight e = if e.u == e.v then 0 else e.w
 
+-- what the edges before a place of the arrays weigh together, but for loops
+abbrev pub weight_before : List ℕ → List ℕ → List ℕ → ℕ → ℕ
+weight_before us vs ws place = sum_by free_weight (map (entry us vs ws) (range_with_len 0 place))
+
 -- what all edges of the arrays weigh together, but for loops
 abbrev pub total_weight : List ℕ → List ℕ → List ℕ → ℕ
-total_weight us vs ws = sum_by free_weight (map (entry us vs ws) (range_with_len 0 (length us)))
+total_weight us vs ws = weight_before us vs ws (length us)
 
--- both ends at the place are vertices
+-- both are vertices, counted from 0
+abbrev pub AreVertices : ℕ → ℕ → ℕ → Type 0
+AreVertices n u v = (u < n) × (v < n)
+
+-- so are both ends at a place
 abbrev pub HasEnds : ℕ → List ℕ → List ℕ → ℕ → Type 0
-HasEnds n us vs i = (slice_index us i < n) × (slice_index vs i < n)
+HasEnds n us vs i = AreVertices n (slice_index us i) (slice_index vs i)
 
 -- three arrays give a graph of n vertices: they are of one length and within the limits, the ends are vertices of 0 to n - 1, and all edges but loops weigh at most 2^61 together
 pub record IsGiven (n : ℕ) (us vs ws : List ℕ) : Type 0 where

@@ -1,17 +1,22 @@
 //! From arrays to the list of edges.
 
-ghost use Rattle.std.specs.Prelude.{◌≡◌, IfOk, IfErr};
+ghost use Rattle.std.specs.Prelude.{◌≡◌, ◌↔◌, ◌+◌, ◌≤◌, IfOk, IfErr, OnOk, length};
+ghost use Rattle.cut_definitions.specs.Weight.{VertexSet, weight};
 ghost use Rattle.edge_arrays.specs.Given.{IsGiven, WeighsAs, given};
-ghost use Rattle.edge_arrays.specs.Faults.{Explains};
+ghost use Rattle.edge_arrays.specs.Faults.{AreWithinLimits, Explains};
+ghost use Rattle.vertex_classes.specs.Classes.{no_vertex, Respects};
 
 use crate::collecting::collect;
+use crate::joining::join_ends;
 use cut_definitions::{EdgeList, MOST_EDGES, MOST_VERTICES, NoMemory};
 use std::alloc::{AllocFailed, Global};
+use vertex_classes::Classes;
 use weighted_graph::{merged_list, sort_by_ends};
 
 /// Why arrays give no graph.
 ///
-/// The lengths are tested first, then the number of vertices, the number of edges, and each place in turn.
+/// The lengths are tested first, then the number of vertices, the number of edges, and each place in turn, at each first the two
+/// ends and then the sum so far.
 #[derive(Clone, Copy, Debug, PartialEq, Eq, Drop)]
 pub enum ArrayFault {
     /// Memory is wanting.
@@ -50,6 +55,23 @@ impl<T: Drop> From<AllocFailed<T>> for ArrayFault {
     }
 }
 
+/// Tests the lengths of the arrays, the number of vertices, and the number of edges, in this order.
+fn check_limits(n: u32, us: &[u32], vs: &[u32], ws: &[u64]) -> Result<(), ArrayFault>
+    ensures within { OnOk result (AreWithinLimits n us.now vs.now ws.now) }
+    ensures fault { IfErr result (λ fault. Explains fault n us.now vs.now ws.now) }
+{
+    if vs.len() != us.len() || ws.len() != us.len() {
+        return Err(ArrayFault::BadLength);
+    }
+    if n > MOST_VERTICES {
+        return Err(ArrayFault::TooManyVertices);
+    }
+    if us.len() > MOST_EDGES as usize {
+        return Err(ArrayFault::TooManyEdges);
+    }
+    Ok(())
+}
+
 /// The graph of `n` vertices whose edges the arrays give, place by place: two vertices of 0 to n - 1, and a weight.
 ///
 /// Loops and edges of weight 0 are left out, and edges with the same ends are made one: each set of vertices weighs what it
@@ -65,16 +87,30 @@ pub fn list_of_arrays(
     ensures given { IfOk result (λ list. IsGiven n us.now vs.now ws.now) }
     ensures fault { IfErr result (λ fault. Explains fault n us.now vs.now ws.now) }
 {
-    if vs.len() != us.len() || ws.len() != us.len() {
-        return Err(ArrayFault::BadLength);
-    }
-    if n > MOST_VERTICES {
-        return Err(ArrayFault::TooManyVertices);
-    }
-    if us.len() > MOST_EDGES as usize {
-        return Err(ArrayFault::TooManyEdges);
-    }
+    check_limits(n, us, vs, ws)?;
     let mut edges = collect(alloc, n, us, vs, ws)?;
     sort_by_ends(&mut edges);
     Ok(merged_list(n, edges))
+}
+
+/// The components of that graph, as classes of its vertices: the ends of one edge after another are made one (Galler and Fischer,
+/// 1964), in O(m log(n) + n) steps and 4 bytes for each vertex. No edge is copied, and none is sorted. The sets that have all or
+/// none of each class are just those of weight 0.
+pub fn classes_of_arrays(
+    alloc: Global,
+    n: u32,
+    us: &[u32],
+    vs: &[u32],
+    ws: &[u64],
+) -> Result<Classes, ArrayFault>
+    ensures long { IfOk result (λ c. length c ≡ n + 1) }
+    ensures joined { IfOk result (λ c. (s : VertexSet) → Respects c s ↔ (weight (given n us.now vs.now ws.now) s ≡ 0)) }
+    ensures apart { IfOk result (λ c. Respects c no_vertex) }
+    ensures given { IfOk result (λ c. IsGiven n us.now vs.now ws.now) }
+    ensures fault { IfErr result (λ fault. Explains fault n us.now vs.now ws.now) }
+{
+    check_limits(n, us, vs, ws)?;
+    let mut classes = Classes::new(alloc, n)?;
+    join_ends(n, us, vs, ws, &mut classes)?;
+    Ok(classes)
 }

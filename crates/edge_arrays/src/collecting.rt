@@ -10,7 +10,8 @@ ghost use Rattle.weighted_graph.specs.Merging.{term};
 ghost use Rattle.edge_arrays.specs.Faults.{ExplainsEntry};
 
 use crate::ArrayFault;
-use cut_definitions::{Edge, MOST_WEIGHT};
+use crate::sums::sum_with;
+use cut_definitions::Edge;
 use std::alloc::Global;
 
 /// The edge between two vertices that are counted from 0, the lesser first.
@@ -64,14 +65,8 @@ pub(crate) fn collect(
     let mut total = 0u64;
     'places: for i in 0..us.len() {
         let (u, v, w) = (us[i], vs[i], ws[i]);
-        if u >= n || v >= n {
-            return Err(ArrayFault::BadVertex);
-        }
+        total = sum_with(total, n, u, v, w)?;
         if u != v && w > 0 {
-            if w > MOST_WEIGHT - total {
-                return Err(ArrayFault::WeightSum);
-            }
-            total += w;
             let edge = edge_between(u, v, w);
             edges.push(edge)?;
         }

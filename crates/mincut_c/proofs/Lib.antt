@@ -1,3 +1,5 @@
+pub mod HangingNodes
+pub mod Numbered
 pub mod Counting
 pub mod Showing
 pub mod Room

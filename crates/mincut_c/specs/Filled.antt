@@ -3,17 +3,15 @@ use Rattle.std.specs.Prelude.{ℕ, ◌≡◌, ◌<◌, ◌≤◌, ◌*◌, ◌-�
 use Rattle.cut_definitions.specs.Cuts.{value}
 use Rattle.cut_definitions.specs.Graph.{Graph}
 use Rattle.flat_cactus.specs.Flat.{Flat, cut_at, items_in}
+use Rattle.mincut_c.specs.Rows.{BeginsFromZero}
 use Rattle.mincut_c.specs.declared.filling.Bridge.{Bridge}
 use Rattle.mincut_c.specs.declared.filling.CactusSizes.{CactusSizes}
 use Rattle.flat_cactus.specs.Shown.{ShowsCuts}
+use Rattle.mincut_c.specs.Shown.{IsNormalFlat}
 
 -- an array begins with the list
 abbrev pub Begins : List ℕ → List ℕ → Type 0
 Begins xs out = (k : ℕ) → k < length xs → slice_index out k ≡ slice_index xs k
-
--- an array begins with the vertices of the list, counted from 0 in place of 1
-abbrev pub BeginsFromZero : List ℕ → List ℕ → Type 0
-BeginsFromZero xs out = (k : ℕ) → k < length xs → slice_index out k ≡ slice_index xs k - 1
 
 abbrev pub bridge_of : ℕ × ℕ → Bridge
 bridge_of b = record { upper = b.0; lower = b.1 }
@@ -84,16 +82,18 @@ pub record HoldsFlat (flat : Flat) (sizes : CactusSizes) (node_starts vertices :
   pub bridges : BeginsWithBridges flat.bridges pairs
   pub cycles : HoldsCycles flat.cycles sizes.members cycle_starts members
 
--- the sizes tell the value of a graph, and count the nodes, bridges and cycles of a cactus of its minimum cuts
+-- the sizes tell the value of a graph, and count the nodes, bridges and cycles of a normal cactus of its minimum cuts
 pub record CountsCactus (g : Graph) (sizes : CactusSizes) : Type 0 where
   pub flat : Flat
   pub shows : ShowsCuts g flat
+  pub normal : IsNormalFlat flat
   pub counts : Counts flat sizes
   pub small : AreSmall g.vertices sizes
   pub same_value : sizes.value ≡ value g
 
--- the arrays hold a cactus of all minimum cuts of a graph
+-- the arrays hold a normal cactus of all minimum cuts of a graph
 pub record HoldsCactus (g : Graph) (sizes : CactusSizes) (node_starts vertices : List ℕ) (pairs : List Bridge) (cycle_starts members : List ℕ) : Type 0 where
   pub flat : Flat
   pub shows : ShowsCuts g flat
+  pub normal : IsNormalFlat flat
   pub holds : HoldsFlat flat sizes node_starts vertices pairs cycle_starts members

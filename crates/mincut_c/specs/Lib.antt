@@ -5,3 +5,4 @@ pub mod Rows
 pub mod Balanced
 pub mod Listed
 pub mod Raised
+pub mod Components

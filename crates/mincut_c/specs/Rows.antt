@@ -1,5 +1,5 @@
--- Sides as bytes, as a caller reads them.
-use Rattle.std.specs.Prelude.{ℕ, ◌≡◌, ◌+◌, ◌*◌, ◌<◌, ◌≤◌, List, [], length, slice_index, slice_index_or, if◌then◌else◌}
+-- Arrays of a caller: sides as bytes, numbers that are counted from 0, and what is left.
+use Rattle.std.specs.Prelude.{ℕ, ◌≡◌, ◌+◌, ◌-◌, ◌*◌, ◌<◌, ◌≤◌, List, [], length, slice_index, slice_index_or, if◌then◌else◌}
 use Rattle.cut_definitions.specs.Cuts.{has}
 
 -- the byte of a vertex, counted from 0: 1 where the side has it, and else 0
@@ -14,7 +14,11 @@ TellsSide n side bytes = (v : ℕ) → v < n → slice_index bytes v ≡ byte_of
 abbrev pub TellsRows : ℕ → List (List ℕ) → List ℕ → Type 0
 TellsRows n sides bytes = (k v : ℕ) → k < length sides → v < n → slice_index bytes (k * n + v) ≡ byte_of (slice_index_or sides k []) v
 
--- the bytes from a place on are what they were
+-- an array begins with the numbers of the list, counted from 0 in place of 1
+abbrev pub BeginsFromZero : List ℕ → List ℕ → Type 0
+BeginsFromZero xs out = (k : ℕ) → k < length xs → slice_index out k ≡ slice_index xs k - 1
+
+-- the entries from a place on are what they were
 abbrev pub IsLeftFrom : ℕ → List ℕ → List ℕ → Type 0
 IsLeftFrom place old new = (i : ℕ) → place ≤ i → slice_index new i ≡ slice_index old i
 

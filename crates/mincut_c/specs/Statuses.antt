@@ -2,8 +2,9 @@
 use Rattle.std.specs.Prelude.{ℕ, ◌≡◌, ◌≢◌, ◌<◌, ◌≤◌, ◌^◌, ◌⊎◌, ⊤, List, [], ◌∷◌, length, replicate, sum}
 use Rattle.cut_definitions.specs.Cuts.{value}
 use Rattle.cut_definitions.specs.Graph.{Graph}
+use Rattle.edge_arrays.specs.declared.arrays.ArrayFault.{ArrayFault}
 use Rattle.edge_arrays.specs.declared.arrays.ArrayFault.TheVariants.{OutOfMemory, BadLength, TooManyVertices, TooManyEdges, BadVertex, WeightSum}
-use Rattle.edge_arrays.specs.Given.{IsGiven, given}
+use Rattle.edge_arrays.specs.Given.{AreVertices, IsGiven, given}
 use Rattle.edge_arrays.specs.Faults.{Explains}
 use Rattle.mincut_c.specs.declared.status.Fault.{Fault}
 use Rattle.mincut_c.specs.declared.status.Fault.TheVariants.{Arrays, NoCut, Disconnected, NoRoom, MassCount, MassSum, NoVertex, TooManySides}
@@ -44,16 +45,35 @@ abbrev pub masses_for : ℕ → List ℕ → List ℕ
 masses_for n [] = replicate n 1
 masses_for n (m ∷ ms) = m ∷ ms
 
+-- the array gives masses: as many as the vertices, or none, and together less than 2^64
+pub record AreMasses (n : ℕ) (masses : List ℕ) : Type 0 where
+  pub many : length (masses_for n masses) ≡ n
+  pub small : sum (masses_for n masses) < 2 ^ 64
+
 -- when a fault of masses is told
 abbrev pub IsMassReason : Fault → ℕ → List ℕ → Type 0
 IsMassReason MassCount n masses = length (masses_for n masses) ≢ n
-IsMassReason MassSum n masses = 2 ^ 64 ≤ sum (masses_for n masses)
+IsMassReason MassSum n masses = (length (masses_for n masses) ≡ n) × (2 ^ 64 ≤ sum (masses_for n masses))
 IsMassReason _ n masses = ⊥
+
+-- when a call that takes masses tells of a fault: they are looked at first
+abbrev pub IsWeighedReason : Fault → ℕ → List ℕ → List ℕ → List ℕ → List ℕ → Type 0
+IsWeighedReason fault n us vs ws masses = IsMassReason fault n masses ⊎ (AreMasses n masses × IsReason fault n us vs ws)
 
 -- when a fault of two vertices is told, which are to be separated
 abbrev pub IsPairReason : Fault → ℕ → ℕ → ℕ → Type 0
 IsPairReason NoVertex n a b = (n ≤ a) ⊎ (n ≤ b)
 IsPairReason _ n a b = ⊥
+
+-- when a call that takes two vertices tells of a fault: they are looked at first
+abbrev pub IsPairedReason : Fault → ℕ → List ℕ → List ℕ → List ℕ → ℕ → ℕ → Type 0
+IsPairedReason fault n us vs ws a b = IsPairReason fault n a b ⊎ (AreVertices n a b × IsReason fault n us vs ws)
+
+-- a status is that of a fault of the arrays, for which there is reason
+pub record TellsArrayFault (status n : ℕ) (us vs ws : List ℕ) : Type 0 where
+  pub fault : ArrayFault
+  pub number : status ≡ number_of (Arrays fault)
+  pub reason : Explains fault n us vs ws
 
 -- a status is that of a fault that there is reason for
 pub record TellsFault (status n : ℕ) (us vs ws : List ℕ) : Type 0 where
@@ -65,13 +85,13 @@ pub record TellsFault (status n : ℕ) (us vs ws : List ℕ) : Type 0 where
 pub record TellsWeighedFault (status n : ℕ) (us vs ws masses : List ℕ) : Type 0 where
   pub fault : Fault
   pub number : status ≡ number_of fault
-  pub reason : IsReason fault n us vs ws ⊎ IsMassReason fault n masses
+  pub reason : IsWeighedReason fault n us vs ws masses
 
 -- and of one that takes two vertices
 pub record TellsPairFault (status n : ℕ) (us vs ws : List ℕ) (a b : ℕ) : Type 0 where
   pub fault : Fault
   pub number : status ≡ number_of fault
-  pub reason : IsReason fault n us vs ws ⊎ IsPairReason fault n a b
+  pub reason : IsPairedReason fault n us vs ws a b
 
 -- why a list of edges is not solved: memory is wanting, or its value is 0
 abbrev pub IsUnsolved : Fault → Graph → Type 0

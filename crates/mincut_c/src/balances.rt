@@ -1,12 +1,12 @@
 //! A most balanced minimum cut.
 
-ghost use Rattle.std.specs.Prelude.{◌≡◌, ◌≢◌, ◌⊎◌, ◌<◌, ◌≤◌, IfOk, IfErr, IsTrue, IsFalse, length};
+ghost use Rattle.std.specs.Prelude.{◌≡◌, ◌≢◌, ◌<◌, ◌≤◌, IfOk, IfErr, IsTrue, IsFalse, length};
 ghost use Rattle.cut_definitions.specs.Balance.{IsBest, balance};
 ghost use Rattle.cut_definitions.specs.Cuts.{mincuts, value};
 ghost use Rattle.edge_arrays.specs.Given.{given};
 ghost use Rattle.mincut_c.specs.Balanced.{HoldsBalanced};
 ghost use Rattle.mincut_c.specs.Rows.{TellsSide};
-ghost use Rattle.mincut_c.specs.Statuses.{HasCuts, IsMassReason, IsReason, TellsWeighedFault, masses_for, number_of};
+ghost use Rattle.mincut_c.specs.Statuses.{AreMasses, HasCuts, IsWeighedReason, TellsWeighedFault, masses_for, number_of};
 
 use crate::rows::put_row;
 use crate::status::{Fault, NO_ROOM, OK, status_of};
@@ -47,11 +47,12 @@ fn balanced_of_arrays(
 ) -> Result<(Balanced, Side), Fault>
     ensures given { IfOk result (λ r. HasCuts n us.now vs.now ws.now) }
     ensures positive { IfOk result (λ r. 1 ≤ value (given n us.now vs.now ws.now)) }
+    ensures fine { IfOk result (λ r. AreMasses n masses.now) }
     ensures over { IfOk result (λ r. r.1.vertices ≡ n) }
     ensures best { IfOk result (λ r. IsBest (masses_for n masses.now) (mincuts (given n us.now vs.now ws.now)) r.1.members) }
     ensures value { IfOk result (λ r. r.0.value ≡ value (given n us.now vs.now ws.now)) }
     ensures balance { IfOk result (λ r. r.0.balance ≡ balance (masses_for n masses.now) r.1.members) }
-    ensures reason { IfErr result (λ fault. IsReason fault n us.now vs.now ws.now ⊎ IsMassReason fault n masses.now) }
+    ensures reason { IfErr result (λ fault. IsWeighedReason fault n us.now vs.now ws.now masses.now) }
     ensures known { IfErr result (λ fault. number_of fault ≢ 9) }
     ensures small { IfErr result (λ fault. number_of fault ≤ 10) }
 {

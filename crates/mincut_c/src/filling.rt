@@ -2,8 +2,9 @@
 
 ghost use Rattle.std.specs.Prelude.{◌≡◌, ◌≤◌, IsTrue, IsFalse, length};
 ghost use Rattle.flat_cactus.specs.Flat.{items_in};
-ghost use Rattle.mincut_c.specs.Filled.{Begins, BeginsFromZero, BeginsWithBridges, Counts, HasRoom, HoldsCycles, HoldsNodes, IsShort};
+ghost use Rattle.mincut_c.specs.Filled.{Begins, BeginsWithBridges, Counts, HasRoom, HoldsCycles, HoldsNodes, IsShort};
 
+use crate::rows::put_from_zero;
 use flat_cactus::FlatCactus;
 
 /// A bridge between two nodes, of which the first is nearer to node 0.
@@ -43,16 +44,6 @@ fn put_members(members: &[u64], out: &mut [u64])
 {
     'members: for k in 0..members.len() {
         out[k] = members[k];
-    }
-}
-
-/// Copies vertices to the front of an array, counted from 0 there.
-fn put_vertices(vertices: &[u32], out: &mut [u32])
-    requires { length vertices.now ≤ length out.old }
-    ensures { BeginsFromZero vertices.now out.new }
-{
-    'vertices: for k in 0..vertices.len() {
-        out[k] = vertices[k].saturating_sub(1);
     }
 }
 
@@ -128,7 +119,7 @@ pub(crate) fn put_flat(
     let cycles = flat.cycle_lists();
     let (cycle_places, cycle_members) = cycles;
     put_places(node_places, node_starts);
-    put_vertices(node_vertices, vertices);
+    put_from_zero(node_vertices, vertices);
     put_bridges(flat.bridges(), bridges);
     put_places(cycle_places, cycle_starts);
     put_members(cycle_members, members);

@@ -7,6 +7,7 @@ mod augments;
 mod balances;
 mod below;
 mod cactuses;
+mod components;
 mod counts;
 mod filling;
 mod listings;

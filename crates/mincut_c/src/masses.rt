@@ -1,7 +1,7 @@
 //! The masses of the vertices, by an array.
 
 ghost use Rattle.std.specs.Prelude.{◌≡◌, ◌<◌, ◌≤◌, ◌^◌, IfOk, IfErr, OnOk, IsTrue, IsFalse, length, sum};
-ghost use Rattle.mincut_c.specs.Statuses.{IsMassReason, masses_for, number_of};
+ghost use Rattle.mincut_c.specs.Statuses.{AreMasses, IsMassReason, masses_for, number_of};
 
 use crate::status::Fault;
 use cut_definitions::{NoMemory, VertexWeights};
@@ -24,8 +24,7 @@ fn is_small(masses: &[u64]) -> bool
 
 /// Tests the masses of n vertices: there are n of them, or none, and they add up to less than 2^64.
 pub(crate) fn check_masses(n: u32, masses: &[u64]) -> Result<(), Fault>
-    ensures many { OnOk result (length (masses_for n masses.now) ≡ n) }
-    ensures sum { OnOk result (sum (masses_for n masses.now) < 2 ^ 64) }
+    ensures masses { OnOk result (AreMasses n masses.now) }
     ensures reason { IfErr result (λ fault. IsMassReason fault n masses.now) }
     ensures known { IfErr result (λ fault. number_of fault ≤ 10) }
 {

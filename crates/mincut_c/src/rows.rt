@@ -1,9 +1,10 @@
-//! Sides of cuts as bytes: a row for each side, and in it a byte for each vertex.
+//! What is put into arrays of a caller: sides of cuts as bytes, a row for each side and in it a byte for each vertex, and numbers
+//! that are counted from 0 there.
 
 ghost use Rattle.std.specs.Prelude.{ℕ, ◌≡◌, ◌+◌, ◌*◌, ◌<◌, ◌≤◌, length, slice_index};
 ghost use Rattle.std.specs.List.{All};
 ghost use Rattle.vertex_set.specs.Side.{members_of};
-ghost use Rattle.mincut_c.specs.Rows.{IsLeftBefore, IsLeftFrom, TellsRows, byte_of};
+ghost use Rattle.mincut_c.specs.Rows.{BeginsFromZero, IsLeftBefore, IsLeftFrom, TellsRows, byte_of};
 
 use vertex_set::Side;
 
@@ -31,5 +32,16 @@ pub(crate) fn put_rows(sides: &[Side], n: u32, inside: &mut [u8])
     'sides: for k in 0..sides.len() {
         put_row(&sides[k], start, inside);
         start += n as usize;
+    }
+}
+
+/// Copies numbers, of vertices or components, to the front of an array, counted from 0 there.
+pub(crate) fn put_from_zero(numbers: &[u32], out: &mut [u32])
+    requires { length numbers.now ≤ length out.old }
+    ensures begins { BeginsFromZero numbers.now out.new }
+    ensures behind { IsLeftFrom (length numbers.now) out.old out.new }
+{
+    'numbers: for k in 0..numbers.len() {
+        out[k] = numbers[k].saturating_sub(1);
     }
 }

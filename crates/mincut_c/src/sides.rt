@@ -3,12 +3,12 @@
 ghost use Rattle.std.specs.Prelude.{◌≡◌, ◌≢◌, ◌⊎◌, ◌*◌, ◌<◌, ◌≤◌, ◌^◌, true, IfOk, IfErr, OnOk, length};
 ghost use Rattle.cut_definitions.specs.Cuts.{mincuts, value};
 ghost use Rattle.cut_definitions.specs.Graph.{Graph};
-ghost use Rattle.edge_arrays.specs.Given.{given};
+ghost use Rattle.edge_arrays.specs.Given.{AreVertices, given};
 ghost use Rattle.rooted_cactus.specs.Normal.{is_normal};
 ghost use Rattle.rooted_cactus.specs.Solving.{IsSolved};
 ghost use Rattle.mincut_c.specs.Listed.{AreListed, CountsCuts, HoldsRows, LackRoom, balanced_cuts, separating_cuts};
 ghost use Rattle.mincut_c.specs.Rows.{IsLeftFrom};
-ghost use Rattle.mincut_c.specs.Statuses.{HasCuts, IsPairReason, IsReason, TellsPairFault, TellsWeighedFault, masses_for, number_of};
+ghost use Rattle.mincut_c.specs.Statuses.{HasCuts, IsPairReason, IsPairedReason, TellsPairFault, TellsWeighedFault, masses_for, number_of};
 
 use crate::listings::{Listing, put_listing};
 use crate::solving::solved_of_arrays;
@@ -101,8 +101,7 @@ pub extern "C" fn mincut_raw_sides(
 
 /// Tests two vertices, counted from 0: both are below n.
 fn check_pair(n: u32, a: u32, b: u32) -> Result<(), Fault>
-    ensures a { OnOk result (a < n) }
-    ensures b { OnOk result (b < n) }
+    ensures vertices { OnOk result (AreVertices n a b) }
     ensures reason { IfErr result (λ fault. IsPairReason fault n a b) }
     ensures known { IfErr result (λ fault. number_of fault ≡ 6) }
 {
@@ -123,11 +122,10 @@ fn solved_with_pair(
     pair: (u32, u32),
 ) -> Result<Solved, Fault>
     ensures solved { IfOk result (λ s. IsSolved (given n us.now vs.now ws.now) s) }
-    ensures first { IfOk result (λ s. pair.0 < n) }
-    ensures second { IfOk result (λ s. pair.1 < n) }
+    ensures vertices { IfOk result (λ s. AreVertices n pair.0 pair.1) }
     ensures given { IfOk result (λ s. HasCuts n us.now vs.now ws.now) }
     ensures positive { IfOk result (λ s. 1 ≤ value (given n us.now vs.now ws.now)) }
-    ensures reason { IfErr result (λ fault. IsReason fault n us.now vs.now ws.now ⊎ IsPairReason fault n pair.0 pair.1) }
+    ensures reason { IfErr result (λ fault. IsPairedReason fault n us.now vs.now ws.now pair.0 pair.1) }
     ensures known { IfErr result (λ fault. number_of fault ≤ 8) }
 {
     check_pair(n, pair.0, pair.1)?;
@@ -153,7 +151,7 @@ pub extern "C" fn mincut_raw_sides_between(
     inside: &mut [u8],
 ) -> u32
     ensures given { result ≡ 0 → HasCuts n us.now vs.now ws.now }
-    ensures vertices { result ≡ 0 → (a < n) × (b < n) }
+    ensures vertices { result ≡ 0 → AreVertices n a b }
     ensures rows { result ≡ 0 → HoldsRows n (separating_cuts (given n us.now vs.now ws.now) a b) inside.new }
     ensures behind { result ≡ 0 → IsLeftFrom (listing.new.sides * n) inside.old inside.new }
     ensures counts { (result ≡ 0) ⊎ ((result ≡ 9) ⊎ (result ≡ 11)) → CountsCuts (given n us.now vs.now ws.now) (separating_cuts (given n us.now vs.now ws.now) a b) listing.new }

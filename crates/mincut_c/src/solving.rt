@@ -5,18 +5,18 @@ ghost use Rattle.cut_definitions.specs.Cuts.{value};
 ghost use Rattle.edge_arrays.specs.Given.{WeighsAs, given};
 ghost use Rattle.rooted_cactus.specs.Solving.{IsSolved};
 ghost use Rattle.flat_cactus.specs.Shown.{ShowsCuts};
-ghost use Rattle.mincut_c.specs.Shown.{HasFewParts};
+ghost use Rattle.mincut_c.specs.Shown.{HasFewParts, IsNormalFlat};
 ghost use Rattle.mincut_c.specs.Statuses.{HasCuts, IsReason, IsUnsolved, number_of};
 
 use crate::status::Fault;
-use crate::values::FEW_EDGES;
 use cactus_solver::{Cuts, SolvedList, solve_long_list};
 use cut_definitions::EdgeList;
 use edge_arrays::laws::{same_mincuts, same_value};
 use edge_arrays::list_of_arrays;
-use flat_cactus::laws::{flat_form, flat_sides};
+use flat_cactus::laws::{flat_form, flat_order, flat_sides};
 use flat_cactus::{FlatCactus, flatten};
 use least_cut::least_weight;
+use min_value::FEW_EDGES;
 use region_sweep::solve_alone;
 use rooted_cactus::Solved;
 use rooted_cactus::laws::few_nodes;
@@ -113,6 +113,7 @@ pub(crate) fn flat_of_arrays(
 ) -> Result<(u64, FlatCactus), Fault>
     ensures value { IfOk result (λ r. r.0 ≡ value (given n us.now vs.now ws.now)) }
     ensures cuts { IfOk result (λ r. ShowsCuts (given n us.now vs.now ws.now) r.1) }
+    ensures normal { IfOk result (λ r. IsNormalFlat r.1) }
     ensures few { IfOk result (λ r. HasFewParts n r.1) }
     ensures given { IfOk result (λ r. HasCuts n us.now vs.now ws.now) }
     ensures positive { IfOk result (λ r. 1 ≤ value (given n us.now vs.now ws.now)) }
@@ -120,6 +121,7 @@ pub(crate) fn flat_of_arrays(
     ensures known { IfErr result (λ fault. number_of fault ≤ 8) }
 {
     flat_form();
+    flat_order();
     flat_sides();
     few_nodes();
     let solved = solved_of_arrays(alloc, n, us, vs, ws)?;

@@ -9,13 +9,10 @@ use crate::status::{Fault, OK, status_of};
 use cut_definitions::{EdgeList, MOST_WEIGHT, NoMemory};
 use edge_arrays::{laws, list_of_arrays};
 use least_cut::least_weight_below;
-use min_value::lesser_of_list;
+use min_value::{FEW_EDGES, lesser_of_list};
 use std::alloc::Global;
 use weighted_graph::Graph;
 use worker_team::Alone;
-
-/// A list of at most so many edges is not contracted.
-pub(crate) const FEW_EDGES: usize = 1024;
 
 /// Whether forests are tried before a sweep: where there are few edges, in all or for each vertex, the sweep costs less. Either
 /// answer is right.

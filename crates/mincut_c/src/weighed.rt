@@ -1,10 +1,10 @@
 //! From arrays to a cactus of all minimum cuts and the masses of the vertices.
 
-ghost use Rattle.std.specs.Prelude.{◌≡◌, ◌≢◌, ◌⊎◌, ◌<◌, ◌≤◌, ◌^◌, IfOk, IfErr, length, sum};
+ghost use Rattle.std.specs.Prelude.{◌≡◌, ◌≢◌, ◌≤◌, IfOk, IfErr, length};
 ghost use Rattle.cut_definitions.specs.Cuts.{value};
 ghost use Rattle.edge_arrays.specs.Given.{given};
 ghost use Rattle.rooted_cactus.specs.Solving.{IsSolved};
-ghost use Rattle.mincut_c.specs.Statuses.{HasCuts, IsMassReason, IsReason, masses_for, number_of};
+ghost use Rattle.mincut_c.specs.Statuses.{AreMasses, HasCuts, IsWeighedReason, masses_for, number_of};
 
 use crate::masses::{check_masses, masses_of};
 use crate::solving::solved_of_arrays;
@@ -26,10 +26,10 @@ pub(crate) fn weighed_of_arrays(
     ensures solved { IfOk result (λ r. IsSolved (given n us.now vs.now ws.now) r.0) }
     ensures masses { IfOk result (λ r. r.1 ≡ masses_for n masses.now) }
     ensures many { IfOk result (λ r. length r.1 ≡ n) }
-    ensures sum { IfOk result (λ r. sum (masses_for n masses.now) < 2 ^ 64) }
+    ensures fine { IfOk result (λ r. AreMasses n masses.now) }
     ensures given { IfOk result (λ r. HasCuts n us.now vs.now ws.now) }
     ensures positive { IfOk result (λ r. 1 ≤ value (given n us.now vs.now ws.now)) }
-    ensures reason { IfErr result (λ fault. IsReason fault n us.now vs.now ws.now ⊎ IsMassReason fault n masses.now) }
+    ensures reason { IfErr result (λ fault. IsWeighedReason fault n us.now vs.now ws.now masses.now) }
     ensures known { IfErr result (λ fault. number_of fault ≢ 9) }
     ensures small { IfErr result (λ fault. number_of fault ≤ 10) }
 {

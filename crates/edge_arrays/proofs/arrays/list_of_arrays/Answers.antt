@@ -19,7 +19,7 @@ merged_list-requires c =
     subst (AreMergeable c.args.n) (sym written) (record {
       within = All-permutation (IsEdgeWithin c.args.n) edges sorted perm c.in_ok-edges.ensures.within;
       ascending = ascend_from_sorted sorted c.sort_by_ends.ensures.sorted;
-      few_vertices = omega (arith, c.if-n-gt-MOST_VERTICES.false);
+      few_vertices = c.in_ok-check_limits.ensures.within.few_vertices;
       few_edges = omega (arith, length_permutation edges sorted perm, c.in_ok-edges.ensures.few);
       total = omega (arith, sum_by-IsPermutation (λ (e : Edge). e.w) edges sorted perm, c.in_ok-edges.ensures.total);
     })

@@ -18,7 +18,7 @@ overflow_cast-balance c =
     let masses = masses_for c.args.n c.args.masses.now in
     let side = c.in_ok-side.side.members in
     let is : c.balance_of-balance.result ≡ balance masses side = c.balance_of-balance.ensures ∙ ap (λ (ms : List ℕ). balance ms side) c.in_ok-weighed.ensures.masses in
-    omega (arith, is, balance_within masses side, c.in_ok-weighed.ensures.sum)
+    omega (arith, is, balance_within masses side, c.in_ok-weighed.ensures.fine.small)
 
 pub returns-clause-best : goal.returns-clause-best
 returns-clause-best c =

@@ -18,7 +18,7 @@ returns-then-is_short-clause-fault c = λ _. record { fault = NoRoom; number = r
 
 pub returns-then-is_short-clause-needed : goal.returns-then-is_short-clause-needed
 returns-then-is_short-clause-needed c = λ _.
-    counts_cactus (given c.args.n c.args.us.now c.args.vs.now c.args.ws.now) c.in-Ok.found.1 c.sizes_of.result c.in-Ok.ensures.cuts c.in-Ok.ensures.few
+    counts_cactus (given c.args.n c.args.us.now c.args.vs.now c.args.ws.now) c.in-Ok.found.1 c.sizes_of.result c.in-Ok.ensures.cuts c.in-Ok.ensures.normal c.in-Ok.ensures.few
     c.sizes_of.ensures.counts (c.sizes_of.ensures.value ∙ c.in-Ok.ensures.value)
 
 pub returns-then-is_short-clause-room : goal.returns-then-is_short-clause-room
@@ -31,11 +31,12 @@ pub returns-else-is_short-clause-ok : goal.returns-else-is_short-clause-ok
 returns-else-is_short-clause-ok c = λ _. record {
   flat = c.in-Ok.found.1;
   shows = c.in-Ok.ensures.cuts;
+  normal = c.in-Ok.ensures.normal;
   holds = all_held c.in-Ok.found.1 c.sizes_of.result c.put_flat.new.node_starts c.put_flat.new.vertices c.put_flat.new.bridges c.put_flat.new.cycle_starts c.put_flat.new.members
       c.sizes_of.ensures.counts c.put_flat.ensures.nodes c.put_flat.ensures.bridges c.put_flat.ensures.cycles;
 }
 
 pub returns-else-is_short-clause-counts : goal.returns-else-is_short-clause-counts
 returns-else-is_short-clause-counts c = λ _.
-    counts_cactus (given c.args.n c.args.us.now c.args.vs.now c.args.ws.now) c.in-Ok.found.1 c.sizes_of.result c.in-Ok.ensures.cuts c.in-Ok.ensures.few
+    counts_cactus (given c.args.n c.args.us.now c.args.vs.now c.args.ws.now) c.in-Ok.found.1 c.sizes_of.result c.in-Ok.ensures.cuts c.in-Ok.ensures.normal c.in-Ok.ensures.few
     c.sizes_of.ensures.counts (c.sizes_of.ensures.value ∙ c.in-Ok.ensures.value)

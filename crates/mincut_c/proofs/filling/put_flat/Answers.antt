@@ -17,7 +17,7 @@ returns-clause-nodes c = record {
   cut = c.node_lists-nodes.ensures.cut;
   counted = sym c.node_lists-nodes.ensures.total;
   starts = c.put_places.ensures;
-  items_held = c.put_vertices.ensures;
+  items_held = c.put_from_zero.ensures.begins;
 }
 
 pub returns-clause-bridges : goal.returns-clause-bridges

@@ -1,4 +1,4 @@
-use Rattle.std.proofs.Common.{◌∙◌, inl, subst}
+use Rattle.std.proofs.Common.{◌∙◌, inr, subst}
 use Rattle.edge_arrays.specs.Given.{given}
 use Rattle.mincut_c.specs.Listed.{HoldsRows, balanced_cuts}
 use Rattle.mincut_c.specs.Statuses.{masses_for}
@@ -56,7 +56,7 @@ returns-in-Ok-clause-large c =
 pub returns-in-Ok-clause-fault : goal.returns-in-Ok-clause-fault
 returns-in-Ok-clause-fault c = λ not.
     let told = list_fault c.put_listing.result c.args.n c.args.us.now c.args.vs.now c.args.ws.now c.put_listing.ensures.known c.in-Ok.ensures.given c.in-Ok.ensures.positive not in
-    record { fault = told.fault; number = told.number; reason = inl told.reason }
+    record { fault = told.fault; number = told.number; reason = inr (c.in-Ok.ensures.fine, told.reason) }
 
 pub returns-in-Ok-clause-known : goal.returns-in-Ok-clause-known
 returns-in-Ok-clause-known c = list_known c.put_listing.result c.put_listing.ensures.known

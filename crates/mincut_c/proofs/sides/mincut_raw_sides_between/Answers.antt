@@ -1,4 +1,4 @@
-use Rattle.std.proofs.Common.{◌∙◌, inl}
+use Rattle.std.proofs.Common.{◌∙◌, inr}
 use Rattle.edge_arrays.specs.Given.{given}
 use Rattle.mincut_c.specs.Listed.{separating_cuts}
 use Rattle.mincut_c.proofs.Listing.{few_sides, is_counted, list_fault, list_known, over_each}
@@ -44,7 +44,7 @@ returns-in-Ok-clause-large c =
 pub returns-in-Ok-clause-fault : goal.returns-in-Ok-clause-fault
 returns-in-Ok-clause-fault c = λ not.
     let told = list_fault c.put_listing.result c.args.n c.args.us.now c.args.vs.now c.args.ws.now c.put_listing.ensures.known c.in-Ok.ensures.given c.in-Ok.ensures.positive not in
-    record { fault = told.fault; number = told.number; reason = inl told.reason }
+    record { fault = told.fault; number = told.number; reason = inr (c.in-Ok.ensures.vertices, told.reason) }
 
 pub returns-in-Ok-clause-known : goal.returns-in-Ok-clause-known
 returns-in-Ok-clause-known c = list_known c.put_listing.result c.put_listing.ensures.known
