@@ -21,7 +21,7 @@ text_of Help =
     ++ line (codes "trial: prints five facts about a graph that it makes for the number U of 12 to 100000")
     ++ line (codes "N, the number of workers, is 1 to 64, and 4 where it is not named")
     ++ line (codes "--least W with cuts: lists those whose lighter side weighs W or more")
-text_of Version = line (codes "mincut 0.1.0")
+text_of Version = line (codes "mincut 0.4.0")
 
 -- the notice of this name
 abbrev pub notice_named : List ℕ → Option Notice

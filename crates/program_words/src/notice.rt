@@ -19,7 +19,7 @@ const HELP: &str = "usage: mincut JOB [U V] [--workers N]\n\
     N, the number of workers, is 1 to 64, and 4 where it is not named\n\
     --least W with cuts: lists those whose lighter side weighs W or more\n";
 
-const VERSION: &str = "mincut 0.1.0\n";
+const VERSION: &str = "mincut 0.4.0\n";
 
 /// A text about the program, for which no graph is read.
 #[derive(Clone, Copy, Debug, PartialEq, Eq)]
