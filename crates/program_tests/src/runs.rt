@@ -99,6 +99,54 @@ fn sink_of(alloc: Global, room: usize, failing: &[u64]) -> Result<MemorySink, Fa
     Ok(sink)
 }
 
+/// What a run is given, and where it tells what is wrong.
+#[derive(Drop)]
+struct Stage {
+    words: Vec<String>,
+    source: MemorySource,
+    err: MemorySink,
+}
+
+impl Stage {
+    fn new(alloc: Global, words: &[&str], text: &[u8], script: &Script) -> Result<Stage, Fail> {
+        let source = source_of(alloc, text, script)?;
+        Stage::over(alloc, words, source, script.tells)
+    }
+
+    /// What a run over this source is given; of what it tells, the writes with these numbers fail.
+    fn over(
+        alloc: Global,
+        words: &[&str],
+        source: MemorySource,
+        tells: &[u64],
+    ) -> Result<Stage, Fail> {
+        Ok(Stage {
+            words: strings_of(alloc, words)?,
+            source,
+            err: sink_of(alloc, 100, tells)?,
+        })
+    }
+
+    /// The status of a run that writes to `out`.
+    fn run_to<R: Threads + Sync, K: Sink, G: Gate>(
+        &mut self,
+        rt: &R,
+        alloc: Global,
+        out: &mut K,
+        gate: &G,
+    ) -> Status {
+        run(
+            rt,
+            alloc,
+            &self.words,
+            &mut self.source,
+            out,
+            &mut self.err,
+            gate,
+        )
+    }
+}
+
 /// Whether a run by this script answers and writes just what is wanted.
 pub(crate) fn gives<R: Threads + Sync>(
     rt: &R,
@@ -108,23 +156,13 @@ pub(crate) fn gives<R: Threads + Sync>(
     script: &Script,
     wanted: &Wanted,
 ) -> Result<bool, Fail> {
-    let strings = strings_of(alloc, words)?;
-    let mut source = source_of(alloc, text, script)?;
+    let mut stage = Stage::new(alloc, words, text, script)?;
     let mut out = sink_of(alloc, 1_000, script.writes)?;
-    let mut err = sink_of(alloc, 100, script.tells)?;
-    let status = run(
-        rt,
-        alloc,
-        &strings,
-        &mut source,
-        &mut out,
-        &mut err,
-        &OpenGate,
-    );
+    let status = stage.run_to(rt, alloc, &mut out, &OpenGate);
     Ok(
         status == wanted.status
             && out.taken() == wanted.out.as_bytes()
-            && err.taken() == wanted.err.as_bytes(),
+            && stage.err.taken() == wanted.err.as_bytes(),
     )
 }
 
@@ -135,19 +173,9 @@ pub(crate) fn printed<R: Threads + Sync>(
     words: &[&str],
     text: &[u8],
 ) -> Result<Vec<u8>, Fail> {
-    let strings = strings_of(alloc, words)?;
-    let mut source = source_of(alloc, text, &HONEST)?;
+    let mut stage = Stage::new(alloc, words, text, &HONEST)?;
     let mut out = sink_of(alloc, 8_000_000, &[])?;
-    let mut err = sink_of(alloc, 100, &[])?;
-    let _status = run(
-        rt,
-        alloc,
-        &strings,
-        &mut source,
-        &mut out,
-        &mut err,
-        &OpenGate,
-    );
+    let _status = stage.run_to(rt, alloc, &mut out, &OpenGate);
     Ok(out.taken().to_vec(alloc)?)
 }
 
@@ -191,16 +219,14 @@ pub(crate) fn meets<R: Threads + Sync>(
     words: &[&str],
     text: &[u8],
 ) -> Result<bool, Fail> {
-    let strings = strings_of(alloc, words)?;
-    let mut source = source_of(alloc, text, &HONEST)?;
+    let mut stage = Stage::new(alloc, words, text, &HONEST)?;
     let mut out = sink_of(alloc, 1_000, &[])?;
-    let mut err = sink_of(alloc, 100, &[])?;
     let gate = MeetingGate {
         first: AtomicU64::new(0),
         second: AtomicU64::new(0),
         met: AtomicU64::new(0),
     };
-    let status = run(rt, alloc, &strings, &mut source, &mut out, &mut err, &gate);
+    let status = stage.run_to(rt, alloc, &mut out, &gate);
     Ok(status == Status::Ok && gate.met.load(Ordering::SeqCst) == 1)
 }
 
@@ -211,14 +237,12 @@ pub(crate) fn passes_of<R: Threads + Sync>(
     words: &[&str],
     text: &[u8],
 ) -> Result<u64, Fail> {
-    let strings = strings_of(alloc, words)?;
-    let mut source = source_of(alloc, text, &HONEST)?;
+    let mut stage = Stage::new(alloc, words, text, &HONEST)?;
     let mut out = sink_of(alloc, 1_000, &[])?;
-    let mut err = sink_of(alloc, 100, &[])?;
     let gate = CountingGate {
         passes: AtomicU64::new(0),
     };
-    let _status = run(rt, alloc, &strings, &mut source, &mut out, &mut err, &gate);
+    let _status = stage.run_to(rt, alloc, &mut out, &gate);
     Ok(gate.passes.load(Ordering::SeqCst))
 }
 
@@ -232,30 +256,18 @@ pub(crate) fn reads_no_more<R: Threads + Sync>(
     cuts: &[usize],
     read: u64,
 ) -> Result<bool, Fail> {
-    let strings = strings_of(alloc, words)?;
     let failing = [read, read.saturating_add(1)];
-    let mut source = MemorySource::new(
-        text.to_vec(alloc)?,
-        cuts.to_vec(alloc)?,
-        failing.to_vec(alloc)?,
-    );
+    let cuts = cuts.to_vec(alloc)?;
+    let source = MemorySource::new(text.to_vec(alloc)?, cuts, failing.to_vec(alloc)?);
+    let mut stage = Stage::over(alloc, words, source, &[])?;
     let mut out = sink_of(alloc, 1_000, &[])?;
-    let mut err = sink_of(alloc, 100, &[])?;
-    let status = run(
-        rt,
-        alloc,
-        &strings,
-        &mut source,
-        &mut out,
-        &mut err,
-        &OpenGate,
-    );
-    let is_next = source.read(&mut [0u8; 1]).is_err();
+    let status = stage.run_to(rt, alloc, &mut out, &OpenGate);
+    let is_next = stage.source.read(&mut [0u8; 1]).is_err();
     Ok(
         is_next
             && status == Status::ReadFault
             && out.taken().is_empty()
-            && err.taken() == b"read failed\n".as_slice(),
+            && stage.err.taken() == b"read failed\n".as_slice(),
     )
 }
 
@@ -268,21 +280,11 @@ pub(crate) fn writes_part<R: Threads + Sync>(
     whole: &str,
     write: u64,
 ) -> Result<bool, Fail> {
-    let strings = strings_of(alloc, words)?;
-    let mut source = source_of(alloc, text, &HONEST)?;
+    let mut stage = Stage::new(alloc, words, text, &HONEST)?;
     let mut out = sink_of(alloc, 1_000, &[write])?;
-    let mut err = sink_of(alloc, 100, &[])?;
-    let status = run(
-        rt,
-        alloc,
-        &strings,
-        &mut source,
-        &mut out,
-        &mut err,
-        &OpenGate,
-    );
+    let status = stage.run_to(rt, alloc, &mut out, &OpenGate);
     let is_part = whole.as_bytes().starts_with(out.taken());
-    Ok(status == Status::WriteFault && is_part && err.taken().is_empty())
+    Ok(status == Status::WriteFault && is_part && stage.err.taken().is_empty())
 }
 
 // Takes one byte at each write.
@@ -311,6 +313,22 @@ impl Sink for ByteSink {
     }
 }
 
+/// What an honest run writes to a sink that takes one byte at each write, if it answers `Ok`.
+fn printed_by_bytes<R: Threads + Sync>(
+    rt: &R,
+    alloc: Global,
+    words: &[&str],
+    text: &[u8],
+) -> Result<Option<Vec<u8>>, Fail> {
+    let mut stage = Stage::new(alloc, words, text, &HONEST)?;
+    let mut out = ByteSink {
+        bytes: Vec::new(alloc),
+        faults: 0,
+    };
+    let status = stage.run_to(rt, alloc, &mut out, &OpenGate);
+    Ok((status == Status::Ok).then_some(out.bytes))
+}
+
 /// Whether a run whose sink takes one byte at each write answers `Ok`, and writes what it writes to a sink that takes all.
 pub(crate) fn answers_by_bytes<R: Threads + Sync>(
     rt: &R,
@@ -318,35 +336,9 @@ pub(crate) fn answers_by_bytes<R: Threads + Sync>(
     words: &[&str],
     text: &[u8],
 ) -> Result<bool, Fail> {
-    let strings = strings_of(alloc, words)?;
-    let mut source = source_of(alloc, text, &HONEST)?;
-    let mut out = ByteSink {
-        bytes: Vec::new(alloc),
-        faults: 0,
-    };
-    let mut err = sink_of(alloc, 100, &[])?;
-    let status = run(
-        rt,
-        alloc,
-        &strings,
-        &mut source,
-        &mut out,
-        &mut err,
-        &OpenGate,
-    );
-    if status != Status::Ok {
+    let Some(bytes) = printed_by_bytes(rt, alloc, words, text)? else {
         return Ok(false);
-    }
-    let mut source = source_of(alloc, text, &HONEST)?;
-    let mut whole = sink_of(alloc, 1_000, &[])?;
-    let status = run(
-        rt,
-        alloc,
-        &strings,
-        &mut source,
-        &mut whole,
-        &mut err,
-        &OpenGate,
-    );
-    Ok(status == Status::Ok && out.bytes.as_slice() == whole.taken())
+    };
+    let whole = printed(rt, alloc, words, text)?;
+    Ok(bytes.as_slice() == whole.as_slice())
 }

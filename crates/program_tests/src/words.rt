@@ -88,8 +88,8 @@ const HELP: &str = "usage: mincut JOB [U V] [--workers N]\n\
 const NOTICES: &[(&str, &str)] = &[
     ("--help", HELP),
     ("-h", HELP),
-    ("--version", "mincut 0.1.0\n"),
-    ("-V", "mincut 0.1.0\n"),
+    ("--version", "mincut 0.4.0\n"),
+    ("-V", "mincut 0.4.0\n"),
 ];
 
 #[test]

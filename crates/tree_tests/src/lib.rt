@@ -1,6 +1,12 @@
-//! Tests of the rooted cactus, its canonical form, its listings, balances, augmentations, growth and texts, over small trees whose sides are known.
+//! Tests of the crates from the solver on, through their public calls: chains, assemblies and the tree of the minimum cuts, over
+//! small graphs whose minimum cuts are known; and the cactus, its canonical form, listings, balances, augmentations, growth and
+//! texts, over small trees whose sides are known.
 #![tactic(auto)]
 
+#[cfg(test)]
+mod arrays;
+#[cfg(test)]
+mod assemblies;
 #[cfg(test)]
 mod augments;
 #[cfg(test)]
@@ -10,13 +16,29 @@ mod cactuses;
 #[cfg(test)]
 mod canonicals;
 #[cfg(test)]
+mod chains;
+#[cfg(test)]
 mod counts;
 #[cfg(test)]
 mod flats;
 #[cfg(test)]
+mod graphs;
+#[cfg(test)]
 mod growths;
 #[cfg(test)]
 mod listings;
+#[cfg(test)]
+mod lists;
+#[cfg(test)]
+mod ranges;
+#[cfg(test)]
+mod scattered;
+#[cfg(test)]
+mod shares;
+#[cfg(test)]
+mod sides;
+#[cfg(test)]
+mod solving;
 #[cfg(test)]
 mod texts;
 #[cfg(test)]

@@ -95,7 +95,7 @@ pub const STAR: Sketch = Sketch {
     ends: &[&[], &[], &[1], &[1, 1]],
 };
 
-/// The same, with the bridge down to 3 before that down to 2.
+/// The cactus of 1, with a bridge down to an empty node, and from there bridges down to 3 and then to 2.
 pub const TURNED_STAR: Sketch = Sketch {
     homes: &[0, 3, 2],
     ends: &[&[], &[], &[1], &[1, 1]],

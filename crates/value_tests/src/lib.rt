@@ -1,6 +1,12 @@
-//! Tests of the crates from graphs and flows to the value, over small graphs whose answers are known by hand.
+//! Tests of the crates up to the value, through their public calls and over small graphs whose answers are known by hand: sets of
+//! vertices, lists of edges, sources and sinks; the reader of METIS files; graphs, flows and scans; the shared board and its
+//! machine; and the value.
 #![tactic(auto)]
 
+#[cfg(test)]
+mod accepted;
+#[cfg(test)]
+mod boards;
 #[cfg(test)]
 mod bounded_flows;
 #[cfg(test)]
@@ -9,6 +15,10 @@ mod certificates;
 mod classes;
 #[cfg(test)]
 mod components;
+#[cfg(test)]
+mod cores;
+#[cfg(test)]
+mod faults;
 #[cfg(test)]
 mod flows;
 #[cfg(test)]
@@ -20,13 +30,29 @@ mod graphs;
 #[cfg(test)]
 mod kernels;
 #[cfg(test)]
+mod lists;
+#[cfg(test)]
+mod long_words;
+#[cfg(test)]
+mod masses;
+#[cfg(test)]
 mod narrowing;
+#[cfg(test)]
+mod pieces;
 #[cfg(test)]
 mod rounds;
 #[cfg(test)]
 mod scans;
 #[cfg(test)]
+mod sets;
+#[cfg(test)]
 mod shared_scans;
+#[cfg(test)]
+mod streams;
+#[cfg(test)]
+mod threads;
+#[cfg(test)]
+mod triangle;
 #[cfg(test)]
 mod values;
 #[cfg(test)]
