@@ -24,7 +24,7 @@ pub enum Lines<'a> {
     Sides(&'a [Side]),
     /// Numbers of one line, each with a space before it.
     Vertices(&'a [u32]),
-    /// The same of longer numbers.
+    /// Numbers of up to 64 bits of one line, each with a space before it.
     Members(&'a [u64]),
 }
 

@@ -1,6 +1,6 @@
 //! The text of a cactus, line by line.
 
-ghost use Rattle.std.specs.Prelude.{◌≡◌, ◌≤◌, ◌^◌, ◌∷◌, ◌++◌, [], OnOk, OnErr, IsErrOf, codes, length};
+ghost use Rattle.std.specs.Prelude.{◌≡◌, ◌≤◌, ◌∷◌, ◌++◌, [], OnOk, OnErr, IsErrOf, codes, length};
 ghost use Rattle.std.specs.Io.KnownBytes.{Appends};
 ghost use Rattle.std.specs.List.{flat_map};
 ghost use Rattle.outside.specs.Faults.{HasCause, AppendsPrefix, Rose};
@@ -115,8 +115,6 @@ pub fn print<K: Sink>(
     value: u64,
     sink: &mut K,
 ) -> Result<(), PrintRefusal>
-    requires value { value ≤ 2 ^ 62 }
-    requires n { cactus.now.vertices ≤ 4194304 }
     ensures whole { OnOk result (Appends (K.taken sink.old) (K.taken sink.new) (cactus_text value (flat_of cactus.now))) }
     ensures same_count { OnOk result (K.faults sink.new ≡ K.faults sink.old) }
     ensures prefix { IsErrOf result PrintRefusal.SinkFailed → AppendsPrefix (K.taken sink.old) (K.taken sink.new) (cactus_text value (flat_of cactus.now)) }

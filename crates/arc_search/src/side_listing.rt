@@ -99,7 +99,8 @@ fn put(
     Ok(())
 }
 
-/// The same for all ends of the row of a vertex, and its region.
+/// Puts all ends of the row of a vertex, and the vertex itself, into the border, each unless it is outside the
+/// region, listed or there already.
 fn put_ends(
     regions: Regions<'_>,
     turns: &[u32],

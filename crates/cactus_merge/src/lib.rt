@@ -1,4 +1,4 @@
-//! The assembly of a cactus from a chain of parts.
+//! Beside the program: the assembly of a cactus from a chain of parts.
 //!
 //! A chain of cuts parts the vertices into a row of parts, and some runs of parts have the cuts of all their intervals.
 //! `join` makes one tree of the nodes of the parts: neighbours are joined by bridges outside the runs, and each run is

@@ -27,7 +27,7 @@ fn names_of(alloc: Global, own: &VertexList) -> Result<Vec<u32>, NoMemory>
     Ok(names)
 }
 
-/// The same list once more.
+/// A copy of a list of vertices.
 fn copied(alloc: Global, list: &VertexList) -> Result<VertexList, NoMemory>
     ensures { IfOk result (λ l. l ≡ list.now) }
 {

@@ -7,7 +7,7 @@ pub fn text_is_read()
     ensures { LawOfText }
 {}
 
-/// The same of the flat cactus of every cactus: what `print` writes is read back.
+/// The text of a value and the flat cactus of any cactus, which is what `print` writes, is read back as just these.
 pub fn cactus_text_is_read()
     ensures { LawOfCactusText }
 {}

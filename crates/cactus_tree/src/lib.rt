@@ -1,4 +1,4 @@
-//! The rooted cactus: a tree of nodes joined by bridges and cycles, which shows many cuts in little room.
+//! Beside the program: the rooted cactus, a tree of nodes joined by bridges and cycles, which shows many cuts in little room.
 //!
 //! A `Cactus` over n vertices is a tree whose nodes hold the vertices 1 to n, each vertex in exactly one node and vertex
 //! 1 in the root. A bridge cuts off all that is below it; a cycle cuts off each interval of its children with all that

@@ -39,7 +39,7 @@ struct Ranked {
     high: u128,
     /// The least vertices of ranges.
     least: Minima,
-    /// The same of what is wanting from each vertex to the greatest number of 32 bits, so by it the greatest vertices.
+    /// The least of what is wanting from each vertex to the greatest number of 32 bits, so by it the greatest vertices of ranges.
     wanting: Minima,
 }
 

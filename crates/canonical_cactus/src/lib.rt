@@ -59,7 +59,7 @@ pub fn is_canonical(cactus: &Cactus) -> bool
     cactus.is_normal() && node_standing(cactus.root()).in_order
 }
 
-/// The same as by `is_canonical`, by loops, so that a deep tree does not run out of stack.
+/// Whether a cactus is canonical, as `is_canonical` tells it, by loops: a deep tree does not run out of stack.
 ///
 /// One step for each node and each vertex. It takes memory for the nodes that have blocks below them, at most 32 bytes each,
 /// and is refused only where that is wanting.

@@ -65,7 +65,8 @@ impl FlatCactus {
         }
     }
 
-    /// The same with room for all vertices, for so many nodes, and for as many bridges and members of cycles.
+    /// The flat cactus without nodes, bridges and cycles, for vertices of 1 to n, with room for all vertices, for so many nodes, and
+    /// for as many bridges and members of cycles.
     pub fn with_capacity(alloc: Global, n: u32, nodes: usize) -> Result<FlatCactus, NoMemory>
         ensures { IfOk result (λ f. f ≡ record { vertices = n; nodes = []; bridges = []; cycles = [] }) }
     {

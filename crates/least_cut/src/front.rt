@@ -98,7 +98,8 @@ impl Front {
         all
     }
 
-    /// The same for those to which an edge of more than this weight leads.
+    /// Puts the neighbours of a vertex to which an edge of more than this weight leads on top of their stacks, unless they were put
+    /// before.
     fn put_heavy(&mut self, graph: &Graph, v: u32, most: u64)
         requires vertices { self.old.vertices ≡ graph.now.vertices }
         requires to_n { v ≤ graph.now.vertices }
@@ -144,7 +145,7 @@ impl Front {
         0
     }
 
-    /// The same for the other stack.
+    /// Takes vertices that are not busy from the top of their stack until one is outside the source; 0 where there is none.
     fn pop(&mut self, flow: &RegionFlow) -> u32
         requires { length flow.now.labels ≡ self.old.vertices + 1 }
         ensures same { self.new ≡ self.old }

@@ -1,4 +1,4 @@
-//! The least weight of a cut between two vertices, and all cuts of that weight, by a greatest flow.
+//! Beside the program: the least weight of a cut between two vertices, and all cuts of that weight, by a greatest flow.
 //!
 //! A [`Flow`] is made once for a graph and then run between any two vertices, each time up to a stop. A run augments
 //! the flow along paths of fewest arcs (Edmonds and Karp, 1972) until it reaches the stop or no path is left. In the

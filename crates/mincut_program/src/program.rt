@@ -122,8 +122,8 @@ pub fn run<R: Threads + Sync, S: Source, K: Sink, E: Sink, G: Gate>(
     // A run that writes no reply tells why: the status and the line are those of a stop that has its cause. Words that are no
     // command and ask for no notice are bad; a fault is the first one of the bytes, and no read follows the one with which
     // they fix it; a failed read is told where no fault was fixed before it; a vertex that is not there and a limit that is
-    // not kept are named after all was read; memory is wanting before anything is read, at the read that has the end of the
-    // header, or once all was read, and nowhere else.
+    // not kept are named after all was read; memory is wanting before anything is read, at a read that ends at most 65,536 bytes
+    // behind the end of the header, or once all was read, and nowhere else.
     ensures told { result ≢ Status.Ok → result ≢ Status.WriteFault → Told (texts words.now) (S.left source.old) (S.left source.new)
         (S.faults source.old) (S.faults source.new) (E.taken err.old) (E.taken err.new) result }
     ensures asks_nothing { AsksNothing (texts words.now) →

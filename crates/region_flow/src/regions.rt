@@ -178,8 +178,8 @@ impl RegionFlow {
         self.looked = self.looked.saturating_add(looked);
     }
 
-    /// The same as `flow`, but None where all searches of this flow so far went along rows of more arcs than `most`, which
-    /// comes only where that is below 2^64 - 1. What the searches moved stays moved.
+    /// Feeds `t` as `flow` does, but answers None where all searches of this flow so far went along rows of more arcs than
+    /// `most`, which comes only where that is below 2^64 - 1. What the searches moved stays moved.
     pub fn flow_within(&mut self, graph: &Graph, t: u32, stop: u64, most: usize) -> Option<Outcome>
         requires flow { IsRegionFlow graph.now self.old }
         requires to_n { t ≤ graph.now.vertices }

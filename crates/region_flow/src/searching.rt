@@ -190,7 +190,7 @@ fn visit_past(
     visit(detour.task, feed, toward, tree, place, arc)
 }
 
-/// The same as `expand`, but it passes over the arcs to the vertex that is passed.
+/// Follows the arcs of the row of a vertex as `expand` does, but those to the vertex that is passed.
 fn expand_past(
     detour: Detour<'_>,
     feed: &mut [u64],

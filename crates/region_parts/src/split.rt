@@ -74,7 +74,7 @@ fn put_by_turn(parts: &mut Parts, listing: &Listing) -> Result<(), NoMemory>
     Ok(())
 }
 
-/// The same from the last number down.
+/// Gives listed vertices their numbers from the last number down.
 fn put_from_last(parts: &mut Parts, listing: &Listing, last: u32) -> Result<(), NoMemory>
     requires kept { (n : ℕ) × IsKept n listing.now × (length parts.old.numbers ≡ n + 1) }
     requires free { (v : ℕ) → 1 ≤ slice_index listing.now.turns v → slice_index parts.old.numbers v ≡ 0 }

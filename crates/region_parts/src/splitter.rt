@@ -3,6 +3,8 @@
 ghost use Rattle.std.specs.Prelude.{◌≡◌, ◌||◌, ◌<◌, ◌≤◌, ℕ, [], true, false, nat_lt, IfOk, OnOk, length, take, slice_index};
 ghost use Rattle.std.specs.List.{Contains};
 ghost use Rattle.weighted_graph.specs.Searches.{is_seen};
+ghost use Rattle.arc_search.specs.Found.{IsNoneFound};
+ghost use Rattle.arc_search.specs.Listing.{IsNothingListed};
 ghost use Rattle.region_flow.specs.Regions.{IsRegionFlow};
 ghost use Rattle.region_parts.specs.Hubs.{IsHubSearch};
 ghost use Rattle.region_parts.specs.Split.{half_of, IsBetween, IsEnded, IsReady, IsSameButHalf, MayTakeHub, StaysListed};
@@ -28,17 +30,35 @@ pub struct Splitter {
     pub(crate) memory: PathMemory,
 }
 
+/// The searches of a split, for vertices 1 to n.
+fn searches(alloc: Global, n: u32) -> Result<(Search, HubSearch), NoMemory>
+    ensures near { IfOk result (λ r. IsNoneFound n r.0) }
+    ensures hub { IfOk result (λ r. IsNoneFound n r.1.search) }
+{
+    let near = Search::new(alloc, n)?;
+    let hub = HubSearch::new(alloc, n)?;
+    Ok((near, hub))
+}
+
+/// The lists of both sides, for vertices 1 to n.
+fn listings(alloc: Global, n: u32) -> Result<(Listing, Listing), NoMemory>
+    ensures inner { IfOk result (λ r. IsNothingListed n r.0) }
+    ensures outer { IfOk result (λ r. IsNothingListed n r.1) }
+{
+    let inner = Listing::new(alloc, n)?;
+    let outer = Listing::new(alloc, n)?;
+    Ok((inner, outer))
+}
+
 impl Splitter {
     /// Memory for splits, for vertices 1 to n. Want of memory is the only refusal.
     pub fn new(alloc: Global, n: u32) -> Result<Splitter, NoMemory>
         ensures { IfOk result (IsReady n) }
     {
-        let near = Search::new(alloc, n)?;
-        let hub = HubSearch::new(alloc, n)?;
-        let inner = Listing::new(alloc, n)?;
-        let outer = Listing::new(alloc, n)?;
         let good = vec![in alloc; false; n as usize + 1]?;
         let memory = PathMemory::new(alloc, n)?;
+        let (near, hub) = searches(alloc, n)?;
+        let (inner, outer) = listings(alloc, n)?;
         Ok(Splitter {
             near,
             hub,

@@ -1,4 +1,4 @@
-//! The chain of the minimum cuts that part the ends of an edge.
+//! Beside the program: the chain of the minimum cuts that part the ends of an edge.
 //!
 //! As sets with the one end and without the other, these cuts are nested, so they divide the vertices into parts: the
 //! first part, the first two and so on are just the cuts. `chain` finds the parts and the runs, which are the longest

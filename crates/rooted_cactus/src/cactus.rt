@@ -123,7 +123,7 @@ impl Cactus {
         blocks_are_normal(&self.root.blocks)
     }
 
-    /// The same as by `is_normal`, by a loop with a stack, so that a deep tree does not run out of stack.
+    /// Whether the cactus is normal, as `is_normal` tells it, by a loop with a stack: a deep tree does not run out of stack.
     ///
     /// One step for each node and block. It takes memory for the nodes on the stack, at most 8 bytes a node, and is
     /// refused only where that is wanting.
@@ -169,7 +169,7 @@ impl Cactus {
         number_of(self.root())
     }
 
-    /// The same number as by `count`, by a loop with a stack, so that a deep tree does not run out of stack.
+    /// The number of the sides, as `count` tells it, by a loop with a stack: a deep tree does not run out of stack.
     ///
     /// One step for each node and block. It takes memory for the nodes on the stack, at most 8 bytes a node, and is
     /// refused only where that is wanting.

@@ -1,5 +1,5 @@
-//! Scans of a graph that take in each turn the vertex with the greatest weight to those before it, and what they
-//! show: the last two vertices of a scan, and by phases the value of the graph. A capped scan of a graph, of the crate
+//! Beside the program: scans of a graph that take in each turn the vertex with the greatest weight to those before it, and what
+//! they show: the last two vertices of a scan, and by phases the value of the graph. A capped scan of a graph, of the crate
 //! `capped_scan`, shows lower bounds of cuts, and tells the weight of each set that it scanned.
 #![tactic(auto)]
 

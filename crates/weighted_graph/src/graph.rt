@@ -133,7 +133,7 @@ impl Graph {
         &self.list
     }
 
-    /// The same list, given back. The rows are dropped. It takes no memory.
+    /// The list of edges of which the graph was made, given back. The rows are dropped. It takes no memory.
     pub fn into_list(self) -> EdgeList
         ensures { result ≡ self }
     {

@@ -102,7 +102,7 @@ pub fn count_cuts(alloc: Global, root: &Node) -> Result<u64, NoMemory>
     Ok(count)
 }
 
-/// The same number as by `count_cuts`, without memory: a call for each level of the tree.
+/// The number of the cuts of a tree, as by `count_cuts`, without memory: a call for each level of the tree.
 #[cycle(number)]
 pub fn number_of(node: &Node) -> u64
     requires { number node.now < 2 ^ 62 }

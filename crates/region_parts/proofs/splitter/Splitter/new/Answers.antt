@@ -5,10 +5,10 @@ use Rattle.region_parts.proofs.splitter.Splitter.new.Goals as goal
 
 pub returns : goal.returns
 returns c = record {
-  near = c.in_ok-near.ensures;
-  hub = c.in_ok-hub.ensures.seen_length;
-  inner = c.in_ok-inner.ensures;
-  outer = c.in_ok-outer.ensures;
+  near = c.in_ok-near.ensures.near;
+  hub = c.in_ok-near.ensures.hub.seen_length;
+  inner = c.in_ok-inner.ensures.inner;
+  outer = c.in_ok-inner.ensures.outer;
   good_length = search rules;
   good = all_false c.in_ok-good.good.items _ (c.in_ok-good.ensures.items_if_clones_equal (λ y e. e));
   touched = search rules;
