@@ -15,8 +15,12 @@ from .cuts import MinimumCuts
 from .errors import (BadInput, BadVertex, BadWords, Disconnected, Failed, MincutError, NoCut, NoProgram, OutOfMemory, Refused, StreamFailed,
                      TimedOut, TooLarge, UnknownName)
 from .graph import Graph, RawGraph
+from .levels import Levels, Part
 from .readers import read_graph
+from .results import (Augmentation, Balanced, Choice, Comparison, CutLink, Failure, Growth, Link, NewLinks, Site, State, Step)
 
-__version__ = '1.0.0'
-__all__ = ['BadInput', 'BadVertex', 'BadWords', 'Cactus', 'Disconnected', 'Failed', 'Graph', 'MinimumCuts', 'MincutError', 'NoCut', 'NoProgram',
-           'OutOfMemory', 'RawGraph', 'Refused', 'StreamFailed', 'TimedOut', 'TooLarge', 'UnknownName', 'read_graph']
+__version__ = '0.4.0'
+__all__ = ['Augmentation', 'BadInput', 'BadVertex', 'BadWords', 'Balanced', 'Cactus', 'Choice', 'Comparison', 'CutLink', 'Disconnected',
+           'Failed', 'Failure', 'Graph', 'Growth', 'Levels', 'Link', 'MinimumCuts', 'MincutError', 'NewLinks', 'NoCut', 'NoProgram',
+           'OutOfMemory', 'Part', 'RawGraph', 'Refused', 'Site', 'State', 'Step', 'StreamFailed', 'TimedOut', 'TooLarge', 'UnknownName',
+           'read_graph']

@@ -50,7 +50,7 @@ class Cactus:
 
     def renamed(self, names: Sequence[Hashable]) -> Cactus:
         """The same cactus with names[v] in the place of each vertex v."""
-        return Cactus(self.value, [[names[v] for v in node] for node in self.nodes], self.bridges, self.cycles)
+        return Cactus(self.value, [[names[v] for v in node] for node in self.nodes], list(self.bridges), [list(cycle) for cycle in self.cycles])
 
     def to_networkx(self) -> Any:
         """The cactus as a graph of networkx; nodes have `vertices`, edges have `block`. Wants networkx."""

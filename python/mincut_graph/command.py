@@ -10,16 +10,23 @@ from typing import Any, Optional
 
 from . import __version__, answers
 from .cuts import MinimumCuts
-from .errors import BadInput, Failed, MincutError, NoCut
+from .errors import BadInput, Disconnected, Failed, MincutError, NoCut
 from .graph import Graph, counted, finished
-from .program import Program
+from .jobs import answer_of, components_note
 from .readers import FORMATS, read_graph
+from .words import MOST_WORKERS
 
 INTERRUPTED, WRITE_FAILED = 130, 4
 JOBS = {'value': 'the least weight of a cut', 'count': 'the number of all minimum cuts',
         'cactus': 'all minimum cuts at once, as nodes, bridges and cycles', 'cuts': 'each minimum cut: the side without the first vertex',
         'part': 'the minimum cuts that part two vertices', 'balanced': 'a minimum cut whose lesser side is as heavy as any',
-        'augment': 'the fewest edges of weight 1 that raise the value', 'grow': 'value and count after each of some inserted edges',
+        'levels': 'what minimum cuts leave whole, cut by its own minimum cuts again, and so on',
+        'sites': 'a table of the vertices: degree, capacity, in how many weakest places, level',
+        'links': 'a table of the links: in how many weakest places each is cut',
+        'failures': 'value and count after each single link fails, the worst first',
+        'what-if': 'value, count and a most balanced cut before and after links are added or taken away',
+        'augment': 'the fewest new links that raise the value, or a good set of candidates',
+        'grow': 'value and count after each of some inserted edges',
         'report': 'one page with the graph, its cactus and its weakest places, for a browser'}
 EPILOG = """statuses: 0 answered; 1 the file is no graph that can be used; 2 wrong words; 4 the answer could not be written; 5 out of memory;
 6, 8, 9, 10 an answer above a limit; 7 a column or a vertex that is not there; 11 no program; 12 no answer: one vertex, or several
@@ -37,25 +44,48 @@ def parser() -> argparse.ArgumentParser:
             one.add_argument('pair', metavar='VERTEX', nargs=2, help='two vertices, by their names')
         if job == 'grow':
             one.add_argument('edges', metavar='U V W', nargs='+', help='the edges to insert: two names and a whole weight each')
-        if job == 'cuts':
-            one.add_argument('--least', type=whole, metavar='W', help='only cuts with mass W or more on both sides')
+        add_own(one, job)
         add_input(one.add_argument_group('the file'))
         add_run(one.add_argument_group('the run'))
         add_output(one.add_argument_group('the answer'), job)
     return top
 
 
+def add_own(one: argparse.ArgumentParser, job: str) -> None:
+    """The options of one job alone."""
+    if job == 'cuts':
+        one.add_argument('--least', type=whole, metavar='W', help='only cuts with mass W or more on both sides')
+    if job in ('cuts', 'part', 'balanced', 'levels'):
+        one.add_argument('--links', action='store_true', help='the links of each cut as well; in CSV these alone')
+    if job == 'levels':
+        one.add_argument('--up-to', type=positive, metavar='K', help='do not cut parts of value K or more; then also list these')
+        one.add_argument('--without-stubs', action='store_true', help='first take off what hangs on one link, again and again')
+    if job == 'sites':
+        one.add_argument('--no-levels', action='store_true', help='without the levels, which need a solution for each part')
+    if job == 'failures':
+        one.add_argument('--processes', type=positive, metavar='N', help='so many runs of the program at once; as many as processors if not named')
+    if job == 'augment':
+        one.add_argument('--capacity', type=positive, metavar='C', help='of each new link; the least weight in the file if not named')
+        one.add_argument('--candidates', metavar='FILE', help='a table of links that may be built: from, to, and perhaps capacity and cost')
+        one.add_argument('--target', dest='goal', type=positive, metavar='T', help='the value that the candidates are to reach; one more if not named')
+    if job == 'what-if':
+        one.add_argument('--add', action='append', default=[], metavar='U,V,W', help='a new link: two names and a whole weight; as often as wanted')
+        one.add_argument('--remove', action='append', default=[], metavar='U,V', help='a link that is taken away whole; as often as wanted')
+
+
 def add_input(group: Any) -> None:
     group.add_argument('--read', metavar='FORMAT', choices=sorted(FORMATS), help=f'one of {", ".join(FORMATS)}; by the suffix if not named')
     group.add_argument('--from', dest='source', metavar='COLUMN', help='column of the first end of an edge, by name or number')
     group.add_argument('--to', dest='target', metavar='COLUMN', help='column of the second end')
-    group.add_argument('--weight', metavar='COLUMN', help='column, or attribute of the edges, with the weights; 1 each where there is none')
+    group.add_argument('--weight', metavar='COLUMN',
+                       help='column, or attribute of the edges, with the weights; else one with a usual name, as capacity, or 1 each')
+    group.add_argument('--unweighted', action='store_true', help='each edge weighs 1, whatever the file has')
     group.add_argument('--vertices', metavar='FILE', help='a table of the vertices beside an edge list')
     group.add_argument('--mass', metavar='COLUMN', help='column of that table, or attribute of the vertices, by which cuts are balanced')
     group.add_argument('--name', metavar='COLUMN', help='column of that table, or attribute of the vertices, that names them')
     group.add_argument('--delimiter', metavar='SIGN', help='the sign between columns: one sign, tab or space')
     group.add_argument('--header', action=argparse.BooleanOptionalAction, help='whether a table begins with the names of its columns')
-    group.add_argument('--encoding', default='utf-8-sig', help='of the file; UTF-8 if not named')
+    group.add_argument('--encoding', default='utf-8-sig', help='of the file; UTF-8 if not named, and UTF-16 by its mark')
     group.add_argument('--scale', type=positive, default=1, metavar='N', help='multiply all weights, and so the value, by N')
     group.add_argument('--undirected', action='store_true', help='take each arrow of a directed graph as an edge')
     group.add_argument('--largest', action='store_true', help='take the largest component alone')
@@ -63,7 +93,7 @@ def add_input(group: Any) -> None:
 
 def add_run(group: Any) -> None:
     group.add_argument('--time-limit', type=seconds, metavar='SECONDS', help='give up after so long')
-    group.add_argument('--workers', type=positive, metavar='N', help='1 to 64 workers of the program')
+    group.add_argument('--workers', type=workers, metavar='N', help=f'1 to {MOST_WORKERS} workers of the program')
     group.add_argument('--program', metavar='PATH', help='the program; else that of the variable MINCUT, of the repository, or on the path')
     group.add_argument('--library', metavar='PATH', help='the shared library; else that of the variable MINCUT_LIBRARY or of the repository')
     group.add_argument('--no-library', action='store_true', help='go by the program alone')
@@ -72,7 +102,8 @@ def add_run(group: Any) -> None:
 def add_output(group: Any, job: str) -> None:
     if job == 'report':
         group.add_argument('-o', '--output', metavar='PAGE', default='report.html', help='the page to write; report.html if not named')
-        group.add_argument('--title', help='the heading of the page; the name of the file if not named')
+        from .report.options import add_options
+        add_options(group)
     else:
         group.add_argument('-o', '--output', metavar='FILE', help='where to write; standard output if not named')
         group.add_argument('--as', dest='style', choices=answers.STYLES, default='text', help='the form of the answer; text if not named')
@@ -91,6 +122,12 @@ def positive(word: str) -> int:
     return int(word)
 
 
+def workers(word: str) -> int:
+    if not 1 <= whole(word) <= MOST_WORKERS:
+        raise argparse.ArgumentTypeError(f'{word} workers; it has to be 1 to {MOST_WORKERS}')
+    return int(word)
+
+
 def seconds(word: str) -> float:
     try:
         number = float(word)
@@ -106,8 +143,8 @@ def seconds(word: str) -> float:
 def graph_of(options: argparse.Namespace) -> Graph:
     """The graph in the file; raises what keeps it from having an answer to any job."""
     raw = read_graph(options.file, format=options.read, source=options.source, target=options.target, weight=options.weight,
-                     mass=options.mass, name=options.name, vertices=options.vertices, delimiter=options.delimiter, header=options.header,
-                     encoding=options.encoding)
+                     unweighted=options.unweighted, mass=options.mass, name=options.name, vertices=options.vertices,
+                     delimiter=options.delimiter, header=options.header, encoding=options.encoding)
     graph = finished(raw, options.scale, options.undirected)
     if options.largest:
         graph = graph.largest()
@@ -122,44 +159,6 @@ def graph_of(options: argparse.Namespace) -> Graph:
 def cuts_of(graph: Graph, options: argparse.Namespace) -> MinimumCuts:
     library = False if options.no_library else options.library
     return MinimumCuts(graph, program=options.program, workers=options.workers, library=library, time_limit=options.time_limit)
-
-
-def vertex_of(cuts: MinimumCuts, word: str) -> Any:
-    """The vertex with this name; a number where the names are numbers."""
-    return int(word) if word not in cuts.place and word.isdecimal() and int(word) in cuts.place else word
-
-
-def answer_of(cuts: MinimumCuts, options: argparse.Namespace) -> answers.Answer:
-    """What the job answers."""
-    job, limit = options.job, options.time_limit
-    if job == 'value':
-        return answers.value_answer(cuts.value())
-    if job == 'count':
-        return answers.count_answer(*cuts.fastest().count(cuts.graph, limit))
-    if job == 'cactus':
-        return answers.cactus_answer(cuts.cactus())
-    if job == 'grow':
-        triples = triples_of(cuts, options.edges)
-        return answers.grow_answer(*cuts.grow(triples))
-    program = Program(options.program, options.workers)
-    if job == 'balanced':
-        value, balance, side = program.balanced(cuts.graph, limit)
-        return answers.balanced_answer(value, balance, cuts.named(side))
-    if job == 'augment':
-        value, edges, sets = program.augment(cuts.graph, limit)
-        return answers.augment_answer(value, list(map(cuts.named, edges)), list(map(cuts.named, sets)))
-    pair = None
-    if job == 'part':
-        first, second = (cuts.number_of(vertex_of(cuts, word)) - 1 for word in options.pair)
-        pair = (first, second)
-    value, sides = program.sides(cuts.graph, getattr(options, 'least', None), pair, limit)
-    return answers.cuts_answer(value, list(map(cuts.named, sides)))
-
-
-def triples_of(cuts: MinimumCuts, words: list[str]) -> list[tuple[Any, Any, int]]:
-    if len(words) % 3 or not all(word.isdecimal() for word in words[2::3]):
-        raise BadInput('an inserted edge is two names and a whole weight')
-    return [(vertex_of(cuts, u), vertex_of(cuts, v), int(w)) for u, v, w in zip(words[::3], words[1::3], words[2::3])]
 
 
 def write(text: str, path: Optional[str]) -> int:
@@ -184,14 +183,28 @@ def complain(line: str) -> None:
 
 def run(options: argparse.Namespace) -> int:
     graph = graph_of(options)
-    if not options.quiet:
-        for note in graph.notes:
-            complain(note)
+
+    def note(line: str) -> None:
+        if not options.quiet:
+            complain(line)
+    for line in graph.notes:
+        note(line)
     cuts = cuts_of(graph, options)
-    if options.job == 'report':
-        from .report import report_page
-        return write(report_page(cuts, options.title or Path(options.file).name), options.output)
-    return write(answer_of(cuts, options).text(options.style), options.output)
+    try:
+        if options.job == 'report':
+            from .report import page_words, report_page
+            return write(report_page(cuts, options.title or Path(options.file).name, **page_words(options)), options.output)
+        answer = answer_of(cuts, options, note)
+    except Disconnected:
+        told = None if options.quiet else components_note(cuts)
+        if told:
+            note(told[0])
+        raise
+    told = components_note(cuts) if answer.data.get('value') == 0 else None
+    if told:
+        note(told[0])
+        answer.data['components'] = told[1]
+    return write(answer.text(options.style), options.output)
 
 
 def leave(number: int, _: Any) -> None:
@@ -199,7 +212,11 @@ def leave(number: int, _: Any) -> None:
 
 
 def main(words: Optional[list[str]] = None) -> int:
-    options = parser().parse_args(words)
+    top = parser()
+    given = sys.argv[1:] if words is None else words
+    if given and not given[0].startswith('-') and given[0] not in JOBS and Path(given[0]).exists():
+        top.error(f'{given[0]} is a file; the job comes first, as in: mincut-graph value {given[0]}')
+    options = top.parse_args(given)
     signal.signal(signal.SIGTERM, leave)
     try:
         return run(options)

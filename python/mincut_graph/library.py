@@ -14,12 +14,13 @@ import signal
 from array import array
 from collections.abc import Callable
 from ctypes import POINTER, byref, c_size_t, c_uint8, c_uint32, c_uint64
-from typing import Any, Optional
+from typing import Any, Optional, TypeVar
 
 from .cactus import Cactus, canonical
 from .errors import Disconnected, MincutError, NoCut, NoProgram, OutOfMemory, Refused, TimedOut, TooLarge
 from .graph import Graph
 
+T = TypeVar('T')
 EDGES_IN_PROCESS = 20_000
 FIRST_ROOM = 1 << 16                   # bytes for the rows of a first call, which tells how many sides there are
 MOST_COMPONENTS = 127                  # as in the program, whose count has 127 bits
@@ -155,13 +156,10 @@ class Library:
 
 
 def arrays(graph: Graph) -> tuple[Any, ...]:
-    """The graph as the first five arguments of each call."""
-    columns = zip(*graph.edges) if graph.edges else ((), (), ())
-    try:
-        heads, tails, weights = (array(code, column) for code, column in zip('IIQ', columns))
-    except OverflowError:
-        raise Refused(1, FAULTS[7]) from None
-    count = len(graph.edges)
+    """The graph as the first five arguments of each call: its columns, as they are."""
+    heads, tails, weights = graph.columns
+    assert isinstance(weights, array)
+    count = len(heads)
     return (len(graph.names), count, (c_uint32 * count).from_buffer(heads), (c_uint32 * count).from_buffer(tails),
             (c_uint64 * count).from_buffer(weights))
 
@@ -194,7 +192,7 @@ def checked(status: int, graph: Graph) -> None:
 
 # A call in a process of its own
 
-def alone(call: Callable[[], Any], graph: Graph, time_limit: Optional[float]) -> Any:
+def alone(call: Callable[[], T], graph: Graph, time_limit: Optional[float]) -> T:
     """What the call answers or raises: in a child where a time limit is set or the graph is large, else in this process."""
     if time_limit is None and len(graph.edges) <= EDGES_IN_PROCESS:
         return call()
@@ -217,9 +215,10 @@ def alone(call: Callable[[], Any], graph: Graph, time_limit: Optional[float]) ->
         os.waitpid(child, 0)
     if not text:
         raise MincutError('the library ended without an answer')
-    answer = pickle.loads(text)
-    if isinstance(answer, Exception):
-        raise answer
+    told = pickle.loads(text)
+    if isinstance(told, Exception):
+        raise told
+    answer: T = told
     return answer
 
 

@@ -4,12 +4,14 @@ from __future__ import annotations
 import os
 import signal
 import subprocess
+import tempfile
 from collections.abc import Sequence
-from typing import Optional
+from typing import IO, Optional, Union
 
 from .cactus import Cactus, read_cactus
-from .errors import Disconnected, MincutError, NoCut, NoProgram, TimedOut, failure
-from .graph import Graph
+from .errors import BadInput, Disconnected, MincutError, NoCut, NoProgram, Refused, TimedOut, failure
+from .faults import told
+from .graph import Graph, Text
 from .places import builds_itself, find_program
 
 GRACE = 2.0                            # seconds between the request to end and the order
@@ -30,18 +32,21 @@ class Program:
             raise NoProgram(f'the program mincut was not found; {HINT}')
         self.path = found
         self.options = ['--workers', str(workers)] if workers else []
+        self.running: set[subprocess.Popen[bytes]] = set()
 
-    def run(self, words: Sequence[object], text: str, time_limit: Optional[float] = None) -> list[list[str]]:
+    def run(self, words: Sequence[object], text: Union[str, bytes], time_limit: Optional[float] = None) -> list[list[str]]:
         """The lines that the program prints for these words and this input, each as a list of words."""
         if self.path not in BUILT and builds_itself(self.path):
             self.build()
+        given = input_of(text.encode() if isinstance(text, str) else text)
         child = None
         held = signal.pthread_sigmask(signal.SIG_BLOCK, {signal.SIGINT})      # until what ends the child stands ready
         try:
-            child = subprocess.Popen([self.path, *map(str, words), *self.options], stdin=subprocess.PIPE, stdout=subprocess.PIPE,
+            child = subprocess.Popen([self.path, *map(str, words), *self.options], stdin=given, stdout=subprocess.PIPE,
                                      stderr=subprocess.PIPE, start_new_session=True)
+            self.running.add(child)
             signal.pthread_sigmask(signal.SIG_SETMASK, held)
-            out, err = child.communicate(text.encode(), time_limit)
+            out, err = child.communicate(None, time_limit)
         except BaseException as fault:
             signal.pthread_sigmask(signal.SIG_SETMASK, held)
             if child is not None:
@@ -51,14 +56,29 @@ class Program:
             if isinstance(fault, OSError) and child is None:
                 raise NoProgram(f'{self.path} cannot be run ({fault.strerror}); {HINT}') from None
             raise
+        finally:
+            given.close()
+            if child is not None:
+                self.running.discard(child)
         if child.returncode != 0:
             raise failure(child.returncode, err.decode('utf-8', 'replace').strip())
         return [line.split() for line in out.decode().splitlines()]
 
+    def stop(self) -> None:
+        """Ends the runs that other threads wait for; these calls raise."""
+        for child in list(self.running):
+            try:
+                os.killpg(child.pid, signal.SIGKILL)
+            except ProcessLookupError:
+                pass
+
     def build(self) -> None:
         """Lets the repository's `mincut` prove and build the program where that was not done or the sources have changed, which it tells on
         standard error; once in a process, and without a time limit."""
-        child = subprocess.Popen([self.path, '--build'], stdin=subprocess.DEVNULL, stdout=subprocess.DEVNULL, start_new_session=True)
+        # the build ends with this process, also where that is killed
+        environment = {**os.environ, 'MINCUT_PARENT': str(os.getpid())}
+        child = subprocess.Popen([self.path, '--build'], stdin=subprocess.DEVNULL, stdout=subprocess.DEVNULL, env=environment,
+                                 start_new_session=True)
         try:
             child.wait()
         except BaseException:
@@ -70,7 +90,10 @@ class Program:
 
     def answer(self, graph: Graph, words: Sequence[object], time_limit: Optional[float]) -> list[list[str]]:
         """The lines for a graph; raises NoCut and Disconnected where these are the answer."""
-        lines = self.run(words, graph.metis_text(), time_limit)
+        try:
+            lines = self.run(words, graph.metis_text(), time_limit)
+        except Refused as fault:
+            raise in_words(fault, graph) from None
         if not lines:
             raise MincutError(f'{self.path} printed nothing for the job {words[0]}')
         if lines[0] == ['no', 'cut']:
@@ -119,8 +142,27 @@ class Program:
         return steps, read_cactus(lines[len(insertions):])
 
     def version(self) -> str:
-        """What the program says of itself, as 'mincut 1.0.0'."""
+        """What the program says of itself, as 'mincut 0.4.0'."""
         return ' '.join(self.run(['--version'], '', 60)[0])
+
+
+def input_of(text: bytes) -> IO[bytes]:
+    """A file without a name that has this text, in memory where the system has such files: a program reads it as fast as it can, and a
+    pipe would be filled in small pieces."""
+    given: IO[bytes] = os.fdopen(os.memfd_create('graph'), 'w+b') if hasattr(os, 'memfd_create') else tempfile.TemporaryFile()
+    given.write(text)
+    given.seek(0)
+    return given
+
+
+def in_words(fault: Refused, graph: Graph) -> MincutError:
+    """What the program says of a text, as a sentence: of a file of the user BadInput with its name, of one that was made here Refused."""
+    sentence = told(fault.line)
+    if sentence is None:
+        return fault
+    if isinstance(graph.edges, Text):
+        return BadInput(f'{graph.edges.origin}: {sentence}' if graph.edges.origin else sentence)
+    return Refused(fault.status, sentence.partition(': ')[2])
 
 
 def places(words: Sequence[str]) -> list[int]:

@@ -46,7 +46,7 @@ def test_jobs_as_text(call, links):
 
 
 def test_notes(call, links):
-    _, _, err = call('value', links)
+    _, _, err = call('value', links, '--unweighted')
     lines = err.splitlines()
     assert all(line.startswith('mincut-graph: ') for line in lines)
     assert [word in err for word in ("--weight takes one of: 'capacity', 'km'", '1 loop left out', '1 parallel edge added')] == [True] * 3
@@ -62,7 +62,7 @@ def test_json_and_csv(call, links, tmp_path):
         assert len({len(row) for row in table}) == 1 and len(table) > 1, job
         assert isinstance(json.loads(call(job, links, *words, '--as', 'json')[1]), dict), job
     path = tmp_path / 'answer.txt'
-    assert call('value', links, '-q', '-o', path) == (0, '', '') and path.read_text() == 'value 2\n'
+    assert call('value', links, '-q', '--unweighted', '-o', path) == (0, '', '') and path.read_text() == 'value 2\n'
 
 
 def test_numbers_as_names(call):

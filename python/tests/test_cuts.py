@@ -77,6 +77,54 @@ def test_against_all_cuts():
             assert [tuple(cuts.place[v] for v in side) for side in cuts.sides()] == [tuple(side) for side in sides]
 
 
+def test_lists_are_those_of_the_program():
+    """Read off the cactus, and not asked for."""
+    for n, edges, _, _ in random_graphs(60):
+        cuts = MinimumCuts(edges, mass={v: v % 3 for edge in edges for v in edge[:2]})
+        ends = (cuts.names[0], cuts.names[-1])
+        for asked, words in (({}, (None, None)), ({'least': 2}, (2, None)), ({'parting': ends}, (None, (0, n - 1)))):
+            assert cuts.sides(**asked) == [cuts.named(side) for side in Program().sides(cuts.graph, *words)[1]]
+        assert cuts.balanced().balance == Program().balanced(cuts.graph)[1]
+
+
+def test_a_graph_is_solved_once(write):
+    program = write('counted', f'#!/bin/sh\necho "$1" >> "$0.words"\nexec {os.environ["MINCUT"]} "$@"\n')
+    os.chmod(program, 0o755)
+    cuts = MinimumCuts(SQUARE, program=program)
+    for _ in range(2):
+        assert (cuts.value(), cuts.count(), len(cuts.sides()), len(cuts.sides(least=2)), cuts.balanced().balance) == (2, 6, 6, 2, 2)
+        assert len(cuts.sides(parting=('b', 'd'))) == 4 and cuts.cactus().count() == 6 and cuts.augment()
+        assert len(cuts.sites()) == 4 and cuts.cut_links()[0].places == 3 and cuts.levels().at(2) == [['a', 'b', 'c', 'd']] and cuts.state()
+    apart = MinimumCuts([(1, 2), (3, 4), (4, 5)], program=program)
+    for _ in range(2):
+        assert (apart.value(), apart.count(), apart.sides(), apart.balanced()) == (0, 1, [[3, 4, 5]], (2, [3, 4, 5]))
+    with open(program + '.words') as words:
+        assert words.read().split() == ['value', 'cactus', 'augment'] + ['value', 'count', 'cuts', 'balanced']
+
+
+def test_what_is_given_is_judged():
+    cuts = MinimumCuts(SQUARE)
+    for call, line in ((lambda: cuts.links('ab'), "'ab' is a text"), (lambda: cuts.links(5), '5 is no list'), (lambda: cuts.sides(parting=('a',)), 'two vertices'),
+                       (lambda: cuts.what_if(remove=[('a', 'b', 1)]), 'two vertices'), (lambda: cuts.levels(up_to='x'), 'whole number'),
+                       (lambda: cuts.sides(least=1.5), 'whole number'), (lambda: cuts.failures(processes=0), '1 or more'), (lambda: cuts.grow(3), 'is no list'),
+                       (lambda: cuts.candidates([('a', 'c')], target=-1), '0 or more'), (lambda: cuts.candidates([('a', 'c')], costs=7), 'is no list'),
+                       (lambda: cuts.grow(['ab']), "'ab' is a text")):
+        with pytest.raises(mincut_graph.BadInput, match=line):
+            call()
+
+
+def test_what_is_given_back_may_be_changed():
+    cuts = MinimumCuts(SQUARE)
+    cuts.cactus().cycles[0].clear()
+    cuts.cactus().nodes.clear()
+    cuts.sides().clear()
+    cuts.augment().sets.clear()
+    assert (cuts.cactus().cycles, len(cuts.sides()), len(cuts.augment().sets)) == ([[0, 1, 2, 3]], 6, 4)
+    assert repr(cuts) == 'MinimumCuts(4 vertices, 4 links, value 2)'
+    balance, side = cuts.balanced()
+    assert (balance, side) == cuts.balanced() and cuts.balanced().side == side
+
+
 def test_augment_and_grow():
     cuts = MinimumCuts(SQUARE)
     assert cuts.augment() == ([('a', 'c'), ('b', 'd')], [['a'], ['b'], ['c'], ['d']])
@@ -164,8 +212,7 @@ def test_the_repository_builds_its_program_first(monkeypatch, tmp_path):
     with pytest.raises(mincut_graph.Failed, match='could not be proved and built'):
         MinimumCuts(SQUARE, program=str(program)).value()
     (tmp_path / 'mincut.status').write_text('0')
-    cuts = MinimumCuts(SQUARE, program=str(program))
-    assert (cuts.value(), cuts.value()) == (7, 7)
+    assert [MinimumCuts(SQUARE, program=str(program)).value() for _ in range(2)] == [7, 7]
     assert (tmp_path / 'mincut.words').read_text().split() == ['--build', '--build', 'value', 'value']
 
 

@@ -13,6 +13,7 @@ from conftest import LIBRARY, TAKES_INTERRUPTS, needs_program, random_graphs
 import mincut_graph
 from mincut_graph import MinimumCuts
 from mincut_graph.library import EDGES_IN_PROCESS, Library
+from mincut_graph.program import Program
 
 COMPILER = shutil.which('cc')
 needs_library = pytest.mark.skipif(not LIBRARY.is_file(), reason=f'{LIBRARY.name} is not built')
@@ -34,7 +35,7 @@ def ring(n, weight=1):
 def test_same_as_the_program(stub):
     for n, edges, value, sides in random_graphs(40):
         cuts = MinimumCuts(edges, library=stub)
-        assert isinstance(cuts.library, Library) and (cuts.value(), cuts.count()) == (value, len(sides))
+        assert isinstance(cuts.library, Library) and cuts.value() == value and cuts.library.count(cuts.graph) == (value, len(sides))
 
 
 def test_cactus_is_canonical(stub):
@@ -46,8 +47,8 @@ def test_cactus_is_canonical(stub):
 def test_most_balanced(stub):
     for n, edges, value, sides in random_graphs(40):
         masses = {v: v % 3 for edge in edges for v in edge[:2]}
-        by_library, by_program = (MinimumCuts(edges, mass=masses, library=library).balanced() for library in (stub, False))
-        assert by_library[0] == by_program[0]
+        graph = MinimumCuts(edges, mass=masses).graph
+        assert Library(stub).balanced(graph)[:2] == Program().balanced(graph)[:2]
     assert MinimumCuts([(1, 2), (3, 4), (4, 5)], library=stub).balanced()[0] == 2, 'the program answers a graph in several components'
     assert MinimumCuts(ring(4), mass=lambda v: 2 ** 63, library=stub).balanced()[0] == 2 ** 64
 
@@ -55,10 +56,9 @@ def test_most_balanced(stub):
 def test_lists_of_sides(stub):
     for n, edges, value, sides in random_graphs(40):
         masses = {v: v % 3 for edge in edges for v in edge[:2]}
-        by_library, by_program = (MinimumCuts(edges, mass=masses, library=library) for library in (stub, False))
-        ends = by_library.names[0], by_library.names[-1]
-        for asked in ({}, {'least': 1}, {'least': 2}, {'parting': ends}):
-            assert by_library.sides(**asked) == by_program.sides(**asked)
+        graph = MinimumCuts(edges, mass=masses).graph
+        for asked in ((None, None), (1, None), (2, None), (None, (0, len(graph.names) - 1))):
+            assert Library(stub).sides(graph, *asked) == Program().sides(graph, *asked)
     assert MinimumCuts([(1, 2), (3, 4), (4, 5)], library=stub).sides() == [[3, 4, 5]], 'the program answers a graph in several components'
     assert len(MinimumCuts(ring(16), library=stub).sides()) == 120
 
@@ -137,8 +137,8 @@ def test_library_and_program_agree():
         by_library, by_program = MinimumCuts(edges, library=str(LIBRARY)), MinimumCuts(edges, library=False)
         assert by_library.value() == by_program.value() and by_library.count() == by_program.count()
         assert by_library.cactus() == by_program.cactus()
-        for asked in ({}, {'least': 2}, {'parting': (0, n - 1)}):
-            assert by_library.sides(**asked) == by_program.sides(**asked)
+        for asked in ((None, None), (2, None), (None, (0, n - 1))):
+            assert Library(str(LIBRARY)).sides(by_library.graph, *asked) == Program().sides(by_program.graph, *asked)
 
 
 @needs_library

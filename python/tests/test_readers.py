@@ -77,7 +77,8 @@ def test_columns_and_masses(write):
     graph = finished(raw)
     assert (graph.names, graph.masses, triples(graph)) == (['x', 'y', 'z', 'w'], [5, 1, 2, 9], [('x', 'y', 10), ('y', 'z', 20)])
     assert finished(read_graph(table, source='2', target='3', weight='4')).edges == graph.edges
-    assert finished(read_graph(table, source='site A', target='site B')).edges == [(0, 1, 1), (1, 2, 1)]
+    assert finished(read_graph(table, source='site A', target='site B')).edges == [(0, 1, 10), (1, 2, 20)]
+    assert finished(read_graph(table, unweighted=True)).edges == [(0, 1, 1), (1, 2, 1)]
     plain = write('links.txt', 'x|y|10\n')
     assert finished(read_graph(plain, delimiter='|')).edges == [(0, 1, 10)]
     with pytest.raises(UnknownName, match='there are: id, site A, site B, capacity'):
@@ -108,14 +109,15 @@ BROKEN = [
     ('x.mtx', '%%MatrixMarket matrix coordinate real general\n2 2 1\n1 2 1\n', 'directed'),
     ('x.mtx', '%%MatrixMarket matrix coordinate complex general\n2 2 1\n1 2 1 1\n', 'complex'),
     ('x.mtx', '%%MatrixMarket matrix coordinate integer symmetric\n2 2 2\n2 1 1\n', 'head says 2'),
-    ('x.graph', '2 1\n2\n', 'line'), ('x.graph', '2 1\n2\n\n', 'both lines'), ('x.graph', '2 1\n3\n1\n', 'line 2: a neighbour 3'),
-    ('x.graph', 'a b\n', 'no header'), ('x.graph', '2 1 1\n2\n1\n', 'line 2')]
+    ('x.graph', '2 1\n2\n', 'line 2: the file has fewer lines'), ('x.graph', '2 1\n2\n\n', 'line 3: .* the lines of both ends'),
+    ('x.graph', '2 1\n3\n1\n', 'line 2: a neighbour is no vertex'), ('x.graph', 'a b\n', 'line 1: a word is no whole number'),
+    ('x.graph', '2 1 1\n2\n1\n', 'line 2: a number is missing')]
 
 
 @pytest.mark.parametrize('name, text, line', BROKEN)
 def test_no_graph(write, name, text, line):
     with pytest.raises(BadInput, match=line) as caught:
-        finished(read_graph(write(name, text)))
+        list(finished(read_graph(write(name, text))).edges)
     assert '\n' not in str(caught.value)
 
 

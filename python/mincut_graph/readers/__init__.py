@@ -1,4 +1,5 @@
 """Files of other programs, as raw graphs."""
-from .files import FORMATS, ReadOptions, read_graph
+from .files import FORMATS, read_graph
+from .options import ReadOptions
 
 __all__ = ['FORMATS', 'ReadOptions', 'read_graph']

@@ -1,35 +1,51 @@
 """Graphs whose vertices and edges have named attributes, as GraphML, GML and Pajek have them."""
 from __future__ import annotations
 
-from dataclasses import dataclass, field
+from array import array
+from collections.abc import Mapping
 from typing import Any, Optional
 
+from ..edges import Edges
 from ..errors import BadInput, UnknownName
 from ..graph import Position, RawGraph, counted
 from ..numbers import fraction_of
+from .headings import one_weight
 from .options import ReadOptions
 
 LABELS = ('label', 'name')
 PLACES = (('longitude', 'latitude', 1.0), ('lon', 'lat', 1.0), ('lng', 'lat', 1.0), ('x', 'y', -1.0))
 
 
-@dataclass
 class AttributeGraph:
-    """`vertices`: the attributes of each vertex by its name in the file. `edges`: triples of two such names and attributes."""
-    vertices: dict[str, dict[str, Any]] = field(default_factory=dict)
-    edges: list[tuple[str, str, dict[str, Any]]] = field(default_factory=list)
-    directed: bool = False
+    """`vertices`: the attributes of each vertex by its name in the file. Edges are kept as columns: the numbers of their ends in `ends`,
+    and for each attribute its value at each edge, None where it has none, up to the last that has one."""
+
+    def __init__(self, directed: bool = False) -> None:
+        self.vertices: dict[str, Mapping[str, Any]] = {}
+        self.directed = directed
+        self.ends: dict[Any, int] = {}
+        self.heads, self.tails = array('I'), array('I')
+        self.attributes: dict[str, list[Any]] = {}
+
+    def add_edge(self, u: Any, v: Any, attributes: Mapping[str, Any]) -> None:
+        """An edge between two vertices, which may be added later."""
+        for key, entry in attributes.items():
+            column = self.attributes.setdefault(key, [])
+            if len(column) < len(self.heads):
+                column.extend([None] * (len(self.heads) - len(column)))
+            column.append(entry)
+        self.heads.append(self.ends.setdefault(u, len(self.ends)))
+        self.tails.append(self.ends.setdefault(v, len(self.ends)))
 
     def raw_graph(self, options: ReadOptions) -> RawGraph:
-        ids = list(self.vertices)
-        place = {name: i for i, name in enumerate(ids)}
-        for u, v, _ in self.edges:
-            if u not in place or v not in place:
-                raise BadInput(f'an edge has the end {v if u in place else u!r}, which is no vertex')
+        place = {name: i for i, name in enumerate(self.vertices)}
+        missing = next((name for name in self.ends if name not in place), self)
+        if missing is not self:
+            raise BadInput(f'an edge has the end {missing!r}, which is no vertex')
+        new = array('I', [place[name] for name in self.ends])
         notes: list[str] = []
         names = self.names(options.name, notes)
-        weights = self.weights(options.weight, notes)
-        edges = [(place[u], place[v], w) for (u, v, _), w in zip(self.edges, weights)]
+        edges = Edges(array('I', map(new.__getitem__, self.heads)), array('I', map(new.__getitem__, self.tails)), self.weights(options, notes))
         masses = None if options.mass is None else self.column(options.mass)
         return RawGraph(names, edges, masses, self.positions(), notes, self.directed)
 
@@ -55,19 +71,25 @@ class AttributeGraph:
                 raise BadInput(f'the vertex {name} has no {attribute!r}')
         return [attributes[attribute] for attributes in self.vertices.values()]
 
-    def weights(self, wanted: Optional[str], notes: list[str]) -> list[Any]:
-        """The weight of each edge: 1 where it has none."""
-        attribute = wanted or 'weight'
-        known = sorted({key for _, _, attributes in self.edges for key in attributes})
-        if attribute not in known:
-            if wanted is not None:
-                raise UnknownName(f'no edge has the attribute {wanted!r}; there are: {", ".join(known) or "none"}')
+    def weights(self, options: ReadOptions, notes: list[str]) -> list[Any]:
+        """The weight of each edge: the attribute asked for, or one with a usual name, or 1; and 1 where an edge has none."""
+        known, count = sorted(self.attributes), len(self.heads)
+        try:
+            attribute = options.weight if options.weight is not None else None if options.unweighted else one_weight(known)
+        except ValueError as names:
+            raise BadInput(f'several attributes may be the weights: {names}; name one by --weight') from None
+        if attribute is None:
             notes.append('each edge weighs 1' + (f'; --weight takes one of: {", ".join(known)}' if known else ''))
-            return [1] * len(self.edges)
-        without = sum(attribute not in attributes for _, _, attributes in self.edges)
+            return [1] * count
+        if attribute not in known:
+            raise UnknownName(f'no edge has the attribute {attribute!r}; there are: {", ".join(known) or "none"}')
+        column = self.attributes[attribute] + [None] * (count - len(self.attributes[attribute]))
+        without = column.count(None)
+        if options.weight is None and attribute != 'weight':
+            notes.append(f'weights in {attribute!r}')
         if without:
             notes.append(f'{counted(without, "edge", "edges")} without {attribute!r}, which weigh 1')
-        return [attributes.get(attribute, 1) for _, _, attributes in self.edges]
+        return [1 if entry is None else entry for entry in column]
 
     def positions(self) -> Optional[list[Position]]:
         """Where the vertices are on a map, as (right, up), if each has a place."""

@@ -29,7 +29,7 @@ def read_gml(text: str, options: ReadOptions) -> RawGraph:
             attributes = plain(body)
             if 'source' not in attributes or 'target' not in attributes:
                 raise BadInput('an edge has no source, or no target')
-            found.edges.append((attributes.pop('source'), attributes.pop('target'), attributes))
+            found.add_edge(attributes.pop('source'), attributes.pop('target'), attributes)
     return found.raw_graph(options)
 
 

@@ -6,6 +6,7 @@ from typing import Any
 
 from ..errors import BadInput
 from ..graph import MOST_VERTICES, RawGraph
+from ..matrices import unsymmetric
 from .attributes import AttributeGraph
 from .options import ReadOptions
 
@@ -18,6 +19,7 @@ class Pajek:
     def __init__(self) -> None:
         self.graph = AttributeGraph()
         self.count, self.section, self.row = 0, '', 0
+        self.matrix: dict[tuple[int, int], str] = {}
 
     def take(self, words: list[str]) -> None:
         if words[0].startswith('*'):
@@ -34,10 +36,11 @@ class Pajek:
         elif self.section == '*vertices':
             self.vertex(words)
         elif self.section in ('*edges', '*arcs'):
-            self.graph.edges.append((words[0], words[1], {'weight': words[2]} if len(words) > 2 else {}))
+            self.graph.add_edge(words[0], words[1], {'weight': words[2]} if len(words) > 2 else {})
             self.graph.directed |= self.section == '*arcs'
         elif self.section in ('*edgeslist', '*arcslist'):
-            self.graph.edges += [(words[0], word, {}) for word in words[1:]]
+            for word in words[1:]:
+                self.graph.add_edge(words[0], word, {})
             self.graph.directed |= self.section == '*arcslist'
         elif self.section == '*matrix':
             self.matrix_row(words)
@@ -57,7 +60,15 @@ class Pajek:
         self.row += 1
         if self.row > self.count or len(words) != self.count:
             raise BadInput(f'the matrix is not {self.count} by {self.count}')
-        self.graph.edges += [(str(self.row), str(j), {'weight': word}) for j, word in enumerate(words, 1) if word != '0']
+        self.matrix.update({(self.row, j): word for j, word in enumerate(words, 1) if word != '0'})
+
+    def finish(self) -> None:
+        """Takes in the matrix, if there is one: each edge once where it is symmetric; that of another matrix is directed."""
+        mirrored = all(self.matrix.get((j, i)) == w for (i, j), w in self.matrix.items())
+        self.graph.directed |= not mirrored
+        for (i, j), w in self.matrix.items():
+            if i <= j or not mirrored:
+                self.graph.add_edge(str(i), str(j), {'weight': w})
 
 
 def read_pajek(text: str, options: ReadOptions) -> RawGraph:
@@ -70,16 +81,8 @@ def read_pajek(text: str, options: ReadOptions) -> RawGraph:
             reader.take(words)
         except (IndexError, ValueError) as fault:
             raise BadInput(f'line {number}: {fault if isinstance(fault, BadInput) else "a number or a vertex is missing"}') from None
-    graph = reader.graph
-    if reader.section == '*matrix':
-        graph = half_of(graph)
-    return graph.raw_graph(options)
-
-
-def half_of(graph: AttributeGraph) -> AttributeGraph:
-    """The graph of a symmetric matrix, each edge once; that of another matrix is directed."""
-    table = {(u, v): attributes['weight'] for u, v, attributes in graph.edges}
-    if any(table.get((v, u)) != w for (u, v), w in table.items()):
-        graph.directed = True
-        return graph
-    return AttributeGraph(graph.vertices, [edge for edge in graph.edges if int(edge[0]) <= int(edge[1])])
+    reader.finish()
+    raw = reader.graph.raw_graph(options)
+    if raw.directed and reader.matrix:
+        raw.arrows = unsymmetric(raw.names, [(i - 1, j - 1, w) for (i, j), w in reader.matrix.items()])
+    return raw

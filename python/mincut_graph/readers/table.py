@@ -1,141 +1,194 @@
 """Edge lists and CSV files: one line for each edge, with columns for its two ends and perhaps its weight."""
 from __future__ import annotations
 
-import csv
-from pathlib import Path
-from typing import Any, Optional
+import re
+from array import array
+from collections import defaultdict
+from collections.abc import Sequence
+from itertools import chain, count
+from typing import Any, Optional, Union
 
+from ..edges import Edges
 from ..errors import BadInput, UnknownName
 from ..graph import RawGraph
+from .content import Content
+from .headings import Ends, ends_in, one_weight, quoted
+from .lines import Table, plain_number, table_of
 from .options import ReadOptions
+from .vertices import add_vertices
 
-SOURCES = ('source', 'from', 'u', 'a', 'node1', 'start')
-TARGETS = ('target', 'to', 'v', 'b', 'node2', 'end')
-WEIGHTS = ('weight',)
-DELIMITERS = {'tab': '\t', 'space': ' ', '\\t': '\t'}
-Rows = list[tuple[int, list[str]]]
-
-
-class Table:
-    """`rows`: the numbers of lines, from 1, with their cells. `columns`: the names of the columns, or None where the table has no header."""
-
-    def __init__(self, rows: Rows, columns: Optional[list[str]]):
-        self.rows, self.columns = rows, columns
-        self.width = len(columns) if columns is not None else max((len(cells) for _, cells in rows), default=0)
-
-    def column(self, wanted: str) -> int:
-        """The place of a column, by its name or its number from 1."""
-        if self.columns is not None and wanted in self.columns:
-            return self.columns.index(wanted)
-        if wanted.isdecimal() and 1 <= int(wanted) <= self.width:
-            return int(wanted) - 1
-        known = ', '.join(self.columns) if self.columns is not None else f'1 to {self.width}, without names'
-        raise UnknownName(f'no column {wanted!r}; there are: {known}')
-
-    def guessed(self, names: tuple[str, ...], place: Optional[int]) -> Optional[int]:
-        """The column with one of these names, whatever its case; else this place."""
-        lower = [column.lower() for column in self.columns or []]
-        return next((lower.index(name) for name in names if name in lower), place)
-
-    def cells(self, place: int) -> list[str]:
-        return [cells[place] for _, cells in self.rows]
+DIRECTIONS = ('directed', 'undirected')
+THOUSANDS = re.compile(r'[1-9]\d{0,2}(\.\d{3})+')
+DECIMALS = re.compile(r'\d*\.\d*|\d.*[eE].*')
 
 
-def read_table(text: str, options: ReadOptions) -> RawGraph:
+def read_table(content: Content, options: ReadOptions) -> RawGraph:
     """A table with the suffix .csv or .tsv has a header, and an edge list none, where `header` does not say otherwise or the columns are
-    asked for by names."""
-    table = table_of(text, options, [options.source, options.target, options.weight])
-    if table.width < 2 or not table.rows:
-        raise BadInput('has no edge: one line for each is due, with two columns for its ends' if table.width >= 2 or not table.rows else
-                       'has one column, and an edge has two ends; name the sign between columns by --delimiter')
-    source, target, weight = edge_columns(table, options)
-    need = max(source, target, weight if weight is not None else 0)
-    for number, cells in table.rows:
-        if len(cells) <= need or not cells[source] or not cells[target]:
-            raise BadInput(f'line {number}: an end or a weight is missing')
-    place: dict[Any, int] = {}
-    masses = vertex_table(options, place) if options.vertices else None
-    listed = len(place)
-    for name in (name for _, cells in table.rows for name in (cells[source], cells[target])):
-        place.setdefault(name, len(place))
-    if options.mass is not None and masses is None:
-        raise UnknownName(f'an edge list has no mass {options.mass!r}; give a table of vertices by --vertices FILE')
-    if masses is not None and len(place) > listed:
-        raise BadInput(f'the vertex {list(place)[listed]} has no line in {options.vertices}')
-    weights: list[Any] = [1] * len(table.rows) if weight is None else table.cells(weight)
-    edges = [(place[cells[source]], place[cells[target]], int(w) if isinstance(w, str) and w.isdecimal() and len(w) < 40 else w)
-             for (_, cells), w in zip(table.rows, weights)]
-    return RawGraph(list(place), edges, masses, notes=[told(table, source, target, weight)])
+    asked for by names. It is refused where two readings of it are likely: they give different graphs."""
+    if options.mass is not None and not options.vertices:
+        raise UnknownName(f'a table of edges has no mass {options.mass!r}; give a table of vertices by --vertices FILE')
+    table = table_of(content, options, [options.source, options.target, options.weight])
+    if table.width < 2:
+        raise BadInput('has one column, and an edge has two ends; name the sign between columns by --delimiter')
+    refuse_matrix(table, options)
+    source, target = end_columns(table, options)
+    weight = weight_column(table, options, source, target)
+    found = Links()
+    found.take(table, source, target, weight)
+    if not found.heads:
+        raise BadInput('has no edge: one line for each is due, with two columns for its ends')
+    refuse_two_readings(table, found, weight, options)
+    raw = RawGraph(list(found.place), found.edges(), notes=[*table.notes, told(table, source, target, weight)], lines=found.lines)
+    raw.directed = has_arrows(table)
+    if options.vertices:
+        add_vertices(raw, options)
+    return raw
 
 
-def edge_columns(table: Table, options: ReadOptions) -> tuple[int, int, Optional[int]]:
-    """The places of the two ends and of the weight: those asked for, or those with a usual name, or the first two, and in a table
-    without a header the third."""
-    source = table.column(options.source) if options.source else table.guessed(SOURCES, 0)
-    target = table.column(options.target) if options.target else table.guessed(TARGETS, 1)
-    third = 2 if table.columns is None and table.width > 2 else None
-    weight = table.column(options.weight) if options.weight else table.guessed(WEIGHTS, third)
-    if source == target or weight in (source, target):
-        raise BadInput('two of the ends and the weight are the same column; name them by --from, --to and --weight')
-    return source or 0, target or 0, weight
+def has_arrows(table: Table) -> bool:
+    """Whether the column `Type` of a table, as Gephi writes it, says of any edge that it is directed."""
+    place = [name.lower() for name in table.columns or []].index('type') if 'type' in map(str.lower, table.columns or []) else None
+    if place is None or not any(len(row) > place and row[place].lower() in DIRECTIONS for _, row in table.sample):
+        return False
+    return any(len(row) > place and row[place].strip().lower() == 'directed' for _, row in table.numbered())
+
+
+def refuse_matrix(table: Table, options: ReadOptions) -> None:
+    """Raises BadInput for a table whose lines begin with the names of its columns."""
+    names, lines = set((table.columns or [])[1:]), [row for _, row in table.sample[1:]]
+    if options.source is None and options.target is None and len(names) > 1 and lines and names.issuperset(row[0] for row in lines):
+        raise BadInput(f'line {table.header_line}: the lines begin with the names of columns, as in a matrix; '
+                       'write a line from,to,weight for each edge')
+
+
+# Columns
+
+def end_columns(table: Table, options: ReadOptions) -> tuple[int, int]:
+    """The columns of the two ends: those asked for, those with usual names, or the first two of a table with no others or no header."""
+    asked = [None if wanted is None else table.column(wanted) for wanted in (options.source, options.target)]
+    if asked[0] is not None and asked[1] is not None:
+        found = Ends(asked[0], asked[1], ('', ''), False)
+    else:
+        pairs = [ends for ends in ends_in(table.columns or []) if asked[0] in (None, ends.source) and asked[1] in (None, ends.target)]
+        if len(pairs) > 1:
+            shown = '; '.join(f'{quoted_pair(table, ends)}' for ends in pairs)
+            raise BadInput(f'several pairs of columns may be the ends: {shown}; name two by --from and --to')
+        if pairs:
+            found = pairs[0]
+        elif asked != [None, None] or table.width > 2 and table.columns is not None:
+            raise BadInput(f'which columns are the ends cannot be told; name both by --from and --to; there are: {table.known()}')
+        else:
+            found = Ends(0, 1, ('', ''), False)
+    if found.source == found.target:
+        raise BadInput('both ends are in the same column; name two columns by --from and --to')
+    return found.source, found.target
+
+
+def quoted_pair(table: Table, ends: Ends) -> str:
+    return f'{table.shown(ends.source)} and {table.shown(ends.target)}'
+
+
+def weight_column(table: Table, options: ReadOptions, source: int, target: int) -> Optional[int]:
+    """The column of the weights: the one asked for, or with a usual name, or the third of a table without a header; None for weight 1."""
+    if options.unweighted:
+        return None
+    if options.weight is not None:
+        weight: Optional[int] = table.column(options.weight)
+    elif table.columns is not None:
+        try:
+            name = one_weight(name for place, name in enumerate(table.columns) if place not in (source, target))
+        except ValueError as names:
+            raise BadInput(f'several columns may be the weights: {names}; name one by --weight') from None
+        weight = None if name is None else table.columns.index(name)
+    else:
+        weight = 2 if table.width == 3 and 2 not in (source, target) else None
+        if table.width > 3 and None in (options.source, options.target):
+            raise BadInput(f'has {table.width} columns and no names for them, as {table.first_line()}; if the lines are edges, name the weights '
+                           'by --weight 3, say, or have each edge weigh 1 by --unweighted')
+    if weight in (source, target):
+        raise BadInput('an end and the weight are in the same column; name others by --from, --to and --weight')
+    return weight
 
 
 def told(table: Table, source: int, target: int, weight: Optional[int]) -> str:
     """Which columns were taken, for the user to see."""
-    def shown(place: int) -> str:
-        return repr(table.columns[place]) if table.columns is not None else str(place + 1)
-    text = f'ends in the columns {shown(source)} and {shown(target)}, '
+    text = f'ends in the columns {table.shown(source)} and {table.shown(target)}, '
     if weight is not None:
-        return text + f'weights in {shown(weight)}'
-    rest = [shown(place) for place in range(table.width) if place not in (source, target)]
+        return text + f'weights in {table.shown(weight)}'
+    rest = [table.shown(place) for place in range(table.width) if place not in (source, target)]
     return text + 'each edge weighs 1' + (f'; --weight takes one of: {", ".join(rest)}' if rest else '')
 
 
-def vertex_table(options: ReadOptions, place: dict[Any, int]) -> Optional[list[str]]:
-    """Enters the vertices of the table of vertices into `place`; their masses, if there is a column for these."""
-    from .files import read_text
-    path = str(options.vertices)
-    try:
-        kind = 'csv' if Path(path).suffix.lower() in ('.csv', '.tsv') else 'edges'
-        asked = ReadOptions(format=kind, header=options.header, delimiter=options.delimiter)
-        table = table_of(read_text(path, options.encoding), asked, [options.name, options.mass])
-        name = table.column(options.name) if options.name else table.guessed(('name', 'id', 'vertex', 'node', 'label'), 0) or 0
-        mass = table.column(options.mass) if options.mass else table.guessed(('mass',), 1 if table.columns is None and table.width > 1 else None)
-        for number, cells in table.rows:
-            if len(cells) <= max(name, mass or 0) or cells[name] in place:
-                raise BadInput(f'line {number}: a name or a mass is missing, or the name stands twice')
-            place[cells[name]] = len(place)
-        return None if mass is None else table.cells(mass)
-    except BadInput as fault:
-        raise BadInput(f'table of vertices {path}: {fault}') from None
+def refuse_two_readings(table: Table, found: Links, weight: Optional[int], options: ReadOptions) -> None:
+    """Raises BadInput where what was taken for the names of columns may be an edge, or the list of edges a matrix."""
+    if options.header is not None:
+        return
+    if table.columns is not None and weight is None and table.width == 2 and any(name in found.place for name in table.columns):
+        short = any(ends.short for ends in ends_in(table.columns))
+        if short or not ends_in(table.columns):
+            raise BadInput(f'line {table.header_line}: {quoted(table.columns)} may be an edge or the names of columns; '
+                           'say which: --no-header or --header')
+    if table.columns is None and options.format_guessed and table.width == len(found.heads) <= 3 and found.is_matrix(table):
+        raise BadInput('may be a list of edges or a matrix of weights; for the first say --read edges, '
+                       'and for the second write a line `u v weight` for each edge')
 
 
-def table_of(text: str, options: ReadOptions, wanted: list[Optional[str]]) -> Table:
-    """The table in a text; lines that begin with # or % and blank ones are skipped."""
-    lines = text.splitlines()
-    kept = [(number, line) for number, line in enumerate(lines, 1) if line.strip() and line.lstrip()[0] not in '#%']
-    if not kept:
-        raise BadInput('has no lines with edges')
-    sign = delimiter_of(kept[0][1], options)
-    if sign is None:
-        rows = [(number, line.split()) for number, line in kept]
-    else:
-        cells = list(csv.reader((line for _, line in kept), delimiter=sign, skipinitialspace=True))
-        if len(cells) < len(kept):
-            raise BadInput('a cell in quotes goes over several lines')
-        rows = [(number, [cell.strip() for cell in row]) for (number, _), row in zip(kept, cells)]
-    by_name = any(name is not None and not name.isdecimal() for name in wanted)
-    header = options.header if options.header is not None else options.format == 'csv' or by_name
-    return Table(rows[1:], rows[0][1]) if header else Table(rows, None)
+# Rows
+
+class Links:
+    """The edges of a table as columns. `place`: the number of each name, in the order in which they stand in the file."""
+
+    def __init__(self) -> None:
+        self.place: defaultdict[str, int] = defaultdict(count().__next__)
+        self.heads, self.tails, self.lines = array('I'), array('I'), array('I')
+        self.whole = array('Q')                              # the weights, as long as all are whole numbers
+        self.weights: list[Union[int, str]] = []             # all from the first other one on, as they stand
+        self.weighted = False
+
+    def take(self, table: Table, source: int, target: int, weight: Optional[int]) -> None:
+        """Takes all rows of a table; raises BadInput for one that lacks an end or a weight, or has more cells than the table columns."""
+        self.weighted = weight is not None
+        wanted = [source, target] if weight is None else [source, target, weight]
+        for numbers, cells in table.cells(wanted):
+            ends = array('I', map(self.place.__getitem__, chain.from_iterable(zip(cells[0], cells[1]))))
+            self.heads.extend(ends[::2])
+            self.tails.extend(ends[1::2])
+            self.lines.extend(numbers)
+            if weight is not None:
+                self.weigh(cells[2])
+
+    def weigh(self, cells: list[str]) -> None:
+        """Takes in the next weights."""
+        before = len(self.whole)
+        if not self.weights and plain_number(''.join(cells)):
+            try:
+                self.whole.extend(map(int, cells))
+                return
+            except OverflowError:
+                del self.whole[before:]
+        self.weights += [int(cell) if plain_number(cell) and len(cell) < 40 else cell for cell in cells]
+
+    def edges(self) -> Edges:
+        """The edges with whole weights where all are such, else with the weights as they stand; raises BadInput for thousands points."""
+        if not self.weighted:
+            return Edges(self.heads, self.tails, array('Q', [1]) * len(self.heads))
+        if not self.weights:
+            return Edges(self.heads, self.tails, self.whole)
+        weights: list[Any] = [*self.whole, *self.weights]
+        words = [word for word in self.weights if isinstance(word, str)]
+        doubtful = next((word for word in words if THOUSANDS.fullmatch(word)), None)
+        if doubtful is not None and not any(DECIMALS.fullmatch(word) and not THOUSANDS.fullmatch(word) for word in words):
+            raise BadInput(f'line {self.lines[weights.index(doubtful)]}: the weight {doubtful} may be {doubtful.replace(".", "")} with a thousands '
+                           f'point, or {plain(doubtful)}; write it the one way or the other')
+        return Edges(self.heads, self.tails, weights)
+
+    def is_matrix(self, table: Table) -> bool:
+        """Whether a small table of numbers is symmetric with zeros on its diagonal."""
+        rows = [[cell.strip() for cell in row] for _, row in table.numbered()]
+        square: Sequence[Sequence[str]] = list(zip(*rows))
+        return all(map(plain_number, rows[0])) and [tuple(row) for row in rows] == square and all(int(row[k]) == 0 for k, row in enumerate(rows))
 
 
-def delimiter_of(line: str, options: ReadOptions) -> Optional[str]:
-    """The sign between columns; None for any blanks."""
-    if options.delimiter is not None:
-        sign = DELIMITERS.get(options.delimiter, options.delimiter)
-        if len(sign) != 1:
-            raise BadInput(f'a delimiter is one sign, or tab or space, and not {options.delimiter!r}')
-        return None if sign == ' ' else sign
-    counts = {sign: line.count(sign) for sign in '\t;,|'}
-    best = max(counts, key=lambda sign: counts[sign])
-    return best if counts[best] else None
+def plain(number: str) -> str:
+    """A number without zeros at its end."""
+    return number.rstrip('0').rstrip('.') if number.count('.') == 1 else 'a date or a version'

@@ -3,13 +3,19 @@ from __future__ import annotations
 
 import heapq
 import math
+from collections import Counter
 from collections.abc import Mapping, Sequence
+from dataclasses import dataclass
+from typing import Optional
 
 Point = tuple[float, float]
 Lengths = list[dict[int, float]]
 
 STEPS = 5_000_000                      # pairs that are looked at, a few seconds' work
 LEAST_GAP = 0.4                        # steps between two vertices
+CROWD = 7                              # blocks at a node that have room around it at one step
+GROWTHS = (1.0, 0.6, 0.35, 0.2)        # of the circles of a large cactus, of which the one that needs least room is taken
+FLOWER = 3                             # leaves of a node without other branches that stand in a circle around it
 
 
 # A graph
@@ -39,7 +45,9 @@ def pushed_apart(xs: list[float], ys: list[float], gap: float) -> None:
                 if xs[j] - xs[i] >= gap:
                     break
                 away_x, away_y = xs[j] - xs[i], ys[j] - ys[i]
-                length = math.hypot(away_x, away_y) or 1e-9
+                length = math.hypot(away_x, away_y)
+                if length < 1e-6 * gap:
+                    away_x, away_y, length = 1e-6 * gap * math.cos(i), 1e-6 * gap * math.sin(i), 1e-6 * gap
                 if length < gap:
                     push = (gap - length) / 2 / length
                     xs[i], ys[i], xs[j], ys[j] = xs[i] - push * away_x, ys[i] - push * away_y, xs[j] + push * away_x, ys[j] + push * away_y
@@ -114,20 +122,23 @@ def main_axis(table: list[list[float]], others: list[list[float]], turn: int) ->
 # A small cactus
 
 def small_cactus_places(count: int, bridges: Sequence[Sequence[int]], cycles: Sequence[Sequence[int]]) -> list[Point]:
-    """Places of the nodes of a cactus with up to some 40 nodes: in circles around node 0, and from there moved to where the lengths of
-    the ways fit best, as long as no two lines come to cross."""
+    """Places of the nodes of a cactus with up to some 40 nodes: in circles around its middle, and from there moved to where the lengths
+    of the ways fit best, as long as no two lines come to cross."""
     near = cactus_lengths(count, bridges, cycles)
-    places = dict(enumerate(circles_around(0, blocks_at(count, bridges, cycles))))
+    at = blocks_at(count, bridges, cycles)
+    places = dict(enumerate(circles_around(middle_of(at, [])[0], at)))
     lines = [(i, j) for i, j in bridges] + [pair for cycle in cycles for pair in zip(cycle, [*cycle[1:], cycle[0]])]
     spread(places, near, lines)
     return upright([places[i] for i in range(count)])
 
 
 def cactus_lengths(count: int, bridges: Sequence[Sequence[int]], cycles: Sequence[Sequence[int]]) -> Lengths:
-    """How far two nodes of one block should stand apart: a step for a bridge, and the chords of a regular polygon for a cycle."""
+    """How far two nodes of one block should stand apart: a step for a bridge, more where many meet, and the chords of a regular polygon
+    for a cycle."""
     near: Lengths = [{} for _ in range(count)]
+    ends = Counter(i for block in [*bridges, *cycles] for i in block)
     for i, j in bridges:
-        near[i][j] = near[j][i] = 1.0
+        near[i][j] = near[j][i] = max(1.0, ends[i] / CROWD, ends[j] / CROWD)
     for cycle in cycles:
         size = len(cycle)
         for p, i in enumerate(cycle):
@@ -175,13 +186,15 @@ def circles_around(root: int, at: list[list[list[int]]]) -> list[Point]:
         low, high = sector[i]
         angle = (low + high) / 2
         places[i] = (step * depth[i] * math.cos(angle), step * depth[i] * math.sin(angle))
-        slots = leaves[i] if i != root else leaves[root] + len(at[root])
+        slots = leaves[i] if i != root else leaves[root] + sum(len(block) > 1 for block in blocks[root])
         room = min(high - low, 2 * math.acos(depth[i] / (depth[i] + 1))) if i != root else high
         low = angle - room / 2
-        for j in below[i]:
-            depth[j] = depth[i] + 1
-            sector[j] = (low, low + room * leaves[j] / slots)
-            low = sector[j][1]
+        for block in blocks[i]:
+            for j in block:
+                depth[j] = depth[i] + 1
+                sector[j] = (low, low + room * leaves[j] / slots)
+                low = sector[j][1]
+            low += room / slots if i == root and len(block) > 1 else 0.0
     return [places[i] for i in range(len(at))]
 
 
@@ -268,7 +281,8 @@ def upright(places: list[Point]) -> list[Point]:
 
 def large_cactus_places(count: int, bridges: Sequence[Sequence[int]], cycles: Sequence[Sequence[int]]) -> tuple[list[Point], list[float]]:
     """(places, angles) of any cactus: circles around the node, or the cycle, in its middle; each branch has a sector as wide as its leaves
-    need. One unit is the room of a leaf along its circle; an angle says in which direction a node lies from the middle."""
+    need. A node whose branches all are leaves has these in a circle around it. One unit is the room of a leaf along its circle; an angle
+    says in which direction a node lies from the middle, or from the node in whose circle it stands."""
     at = blocks_at(count, bridges, cycles)
     middle, ring = middle_of(at, cycles)
     order, blocks = tree_below(middle, at)
@@ -278,14 +292,68 @@ def large_cactus_places(count: int, bridges: Sequence[Sequence[int]], cycles: Se
     tops = ring or [middle]
     depth = depths(order, blocks, dict.fromkeys(tops, 1.0 if ring else 0.0))
     below = {i: [j for block in found for j in block] for i, found in blocks.items()}
+    flowers = {i: flower_of(blocks[i], below, i in tops) for i in order if len(tops) > 1 or i not in tops}
+    best: Optional[tuple[float, dict[int, Point], dict[int, float]]] = None
+    for growth in GROWTHS:
+        found = circles(order, below, depth, tops, flowers, growth)
+        if best is None or found[0] < best[0]:
+            best = found
+    assert best is not None
+    return [best[1][i] for i in range(count)], [best[2][i] for i in range(count)]
+
+
+def circles(order: list[int], below: dict[int, list[int]], depth: dict[int, float], tops: Sequence[int],
+            flowers: dict[int, Optional[Flower]], growth: float) -> tuple[float, dict[int, Point], dict[int, float]]:
+    """(radius of all, places, angles) of a cactus on circles, where each circle behind the first is larger by that share of the first."""
+    reach = {i: depth[i] if depth[i] <= 1 else 1 + growth * (depth[i] - 1) for i in order}
     need: dict[int, float] = {}
     for i in reversed(order):
-        need[i] = max(sum(need[j] for j in below[i]), 1 / max(depth[i], 1.0))
+        flower = flowers.get(i)
+        inner = sum(need[j] for j in below[i]) if flower is None else 0.0
+        need[i] = max(inner, (1.0 if flower is None else 2 * flower.radius + 1.5) / max(reach[i], 1.0))
     whole = sum(need[i] for i in tops)
     angles = sector_angles(order, below, need, tops)
-    step = max(3.0 if max(depth.values()) < 6 else 2.0, whole / (2 * math.pi))
-    places = [(step * depth[i] * math.cos(angles[i]), step * depth[i] * math.sin(angles[i])) for i in range(count)]
-    return places, [angles[i] for i in range(count)]
+    step = max(3.0, (3.0 if max(depth.values()) < 6 else 2.0) / growth, whole / (2 * math.pi))
+    places = {i: around((0.0, 0.0), step * reach[i], angles[i]) for i in order}
+    for i, flower in flowers.items():
+        if flower is not None:
+            middle = around(places[i], flower.radius, angles[i]) if flower.whole else places[i]
+            places[i] = places[i] if flower.cycle or not flower.whole else middle
+            for j, turn in zip(below[i], flower.turns):
+                angles[j] = angles[i] + turn
+                places[j] = around(middle, flower.radius, angles[j])
+    return max(math.hypot(x, y) for x, y in places.values()), places, angles
+
+
+@dataclass
+class Flower:
+    """Leaves that stand in a circle: around the node at which they hang, or, if they are a cycle with it, around the middle of that
+    cycle. `turns` are their angles from the direction in which that node lies; where it is in the cycle in the middle of the picture
+    they stand in the outer half of the circle alone."""
+    radius: float
+    turns: list[float]
+    cycle: bool
+    whole: bool
+
+
+def flower_of(blocks: list[list[int]], below: dict[int, list[int]], in_middle: bool) -> Optional[Flower]:
+    """The flower of all that hangs at a node; None where that is no flower."""
+    leaves = [j for block in blocks for j in block]
+    if len(leaves) < FLOWER or any(below[j] for j in leaves):
+        return None
+    count = len(leaves)
+    if len(blocks) == 1:
+        turns = [math.pi + 2 * math.pi * (k + 1) / (count + 1) for k in range(count)]
+        return Flower(max(1.5, (count + 1) / (2 * math.pi)), turns, True, True)
+    if any(len(block) > 1 for block in blocks):
+        return None
+    if in_middle:
+        return Flower(max(2.0, count / math.pi), [math.pi * ((k + 0.5) / count - 0.5) for k in range(count)], False, False)
+    return Flower(max(2.0, (count + 1) / (2 * math.pi)), [math.pi * (2 * (k + 1) / (count + 1) - 1) for k in range(count)], False, True)
+
+
+def around(middle: Point, radius: float, angle: float) -> Point:
+    return middle[0] + radius * math.cos(angle), middle[1] + radius * math.sin(angle)
 
 
 def depths(order: list[int], blocks: dict[int, list[list[int]]], depth: dict[int, float]) -> dict[int, float]:
@@ -299,7 +367,7 @@ def depths(order: list[int], blocks: dict[int, list[list[int]]], depth: dict[int
 
 def sector_angles(order: list[int], below: dict[int, list[int]], need: dict[int, float], tops: Sequence[int]) -> dict[int, float]:
     """The middle of the sector of each node: as wide as its branch needs, within that of the node above."""
-    whole = sum(need[i] for i in tops)
+    whole = sum(need[i] for i in tops) or 1.0
     sectors: dict[int, Point] = {}
     low = -math.pi / 2
     for i in tops:

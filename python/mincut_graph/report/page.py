@@ -1,90 +1,77 @@
-"""The page: what is asked of the program, the tables, and all of it in one text of HTML."""
+"""The page: all parts in one text of HTML."""
 from __future__ import annotations
 
 import json
-from collections.abc import Iterable, Sequence
-from dataclasses import dataclass
+from collections.abc import Mapping, Sequence
 from html import escape
-from itertools import islice
 from pathlib import Path
 from string import Template
-from typing import Any
+from typing import Any, Optional
 
-from ..cactus import Cactus
 from ..cuts import MinimumCuts
 from ..graph import Graph, counted
-from ..program import Program
-from .drawing import SMALL_CACTUS, cactus_picture, graph_picture
-from .places import Place, Places
+from .amounts import Amounts
+from .cactus_picture import SMALL_CACTUS, cactus_picture
+from .findings import Findings, findings_of
+from .graph_picture import graph_picture
+from .places import Places
+from .tables import component_rows, level_table, link_rows, node_rows, place_rows, plan_tables, shown, table
 
 HERE = Path(__file__).resolve().parent
+SCRIPTS = ('model', 'labels', 'pictures', 'saving', 'lists', 'what_if', 'page')
 MOST_DRAWN = 300                       # vertices of a graph that is drawn
-MOST_NODES = 600                       # nodes of a cactus that is drawn
-MOST_NAMED = 20_000                    # vertices whose names the page keeps
-MOST_PLACES, MOST_LISTED = 200, 500    # rows of the list of places, and of the other lists
-SHOWN_NAMES, SHOWN_LINKS = 8, 4        # names in one cell
+MOST_NODES = 2000                      # nodes of a cactus that is drawn
+MOST_NAMED, MOST_LINKS = 200_000, 500_000      # vertices and links that the page keeps
+DENSE = 60                             # vertices of a graph whose names are shown where there is room
 
 
-@dataclass
-class Findings:
-    """What the page shows. Vertices are places in the graph; `plan` and `sets` are those of the job `augment`."""
-    graph: Graph
-    cactus: Cactus
-    count: int
-    balance: int
-    side: list[int]                    # the lighter one
-    plan: list[list[int]]
-    sets: list[list[int]]
-    places: list[Place]
+def report_page(cuts: MinimumCuts, title: str, *, unit: str = '', scale: int = 1, source: str = 'FILE',
+                levels: Optional[Sequence[Mapping[str, Any]]] = None, what_if: Optional[Sequence[Mapping[str, Any]]] = None) -> str:
+    """The whole text of the page. `unit` stands behind all weights, which are shown divided by `scale`; `source` is the file that the
+    commands on the page name; for `levels` and `what_if` see `extras`. Raises what the jobs cactus, count, balanced and augment raise,
+    and BadInput for levels or changes of another form."""
+    return page(findings_of(cuts, Amounts(unit, scale), levels, what_if), title, source)
 
 
-def report_page(cuts: MinimumCuts, title: str) -> str:
-    """The whole text of the page. Raises what the jobs cactus, count, balanced and augment raise."""
-    return page(findings_of(cuts), title)
-
-
-def findings_of(cuts: MinimumCuts) -> Findings:
-    graph, limit = cuts.graph, cuts.time_limit
-    program = Program(cuts.program, cuts.workers)
-    cactus = cuts.fastest().cactus(graph, limit)
-    _, count = cuts.fastest().count(graph, limit)
-    _, balance, side = program.balanced(graph, limit)
-    if 2 * graph.mass(side) > graph.mass(range(len(graph.names))):
-        side = sorted(set(range(len(graph.names))) - set(side))
-    _, plan, sets = program.augment(graph, limit)
-    rows = max(20, min(MOST_PLACES, 4_000_000 // len(graph.names)))
-    places = list(islice(Places(cactus, graph).by_balance(), rows))
-    return Findings(graph, cactus, count, balance, side, plan, sets, places)
-
-
-def page(found: Findings, title: str) -> str:
-    graph, cactus = found.graph, found.cactus
+def page(found: Findings, title: str, source: str = 'FILE') -> str:
+    graph = found.graph
     drawn = len(graph.names) <= MOST_DRAWN
-    cactus_drawn = len(cactus.nodes) <= MOST_NODES
-    parts = {'title': escape(title), 'summary': escape(summary(graph)), 'facts': facts(found), 'notes': notes(graph),
-             'pictures': pictures(found, drawn, cactus_drawn), 'places': place_rows(found), 'places_told': escape(places_told(found)),
-             'plan': plan_part(found, drawn), 'nodes': node_rows(found),
-             'data': json.dumps(data_of(found, cactus_drawn), ensure_ascii=False, default=str).replace('<', '\\u003c'),
-             'style': (HERE / 'page.css').read_text('utf-8'), 'script': (HERE / 'page.js').read_text('utf-8')}
+    cactus_drawn = found.cactus is not None and len(found.cactus.nodes) <= MOST_NODES and len(graph.names) <= MOST_NAMED
+    parts = {'title': escape(title), 'summary': escape(summary(found)), 'facts': facts(found), 'notes': notes(graph),
+             'pictures': pictures(found, drawn, cactus_drawn), 'how': how(found, drawn, cactus_drawn), 'legend': legend(found),
+             'sections': sections(found, drawn),
+             'data': json.dumps(data_of(found, source), ensure_ascii=False, separators=(',', ':'), default=str).replace('<', '\\u003c'),
+             'style': (HERE / 'page.css').read_text('utf-8'),
+             'script': ''.join((HERE / f'{name}.js').read_text('utf-8') for name in SCRIPTS)}
     return Template((HERE / 'page.html').read_text('utf-8')).substitute(parts)
 
 
-def data_of(found: Findings, cactus_drawn: bool) -> dict[str, Any]:
-    """What the script needs: names and masses, links, the nodes' vertices, and the cactus' edges with the number of their cycle, or -1."""
-    graph = found.graph
-    if len(graph.names) > MOST_NAMED or not cactus_drawn:
-        return {'names': [], 'masses': None, 'links': [], 'nodes': [], 'edges': [], 'value': found.cactus.value}
-    edges = [(i, j, number if kind == 'cycle' else -1) for i, j, (kind, number) in found.cactus.edges()]
-    return {'names': list(map(str, graph.names)), 'masses': graph.masses, 'links': graph.edges, 'nodes': found.cactus.nodes, 'edges': edges,
-            'value': found.cactus.value}
+def data_of(found: Findings, source: str) -> dict[str, Any]:
+    """What the script needs: names and masses, links, the nodes' vertices, and the cactus' edges with the number of their cycle, or -1.
+    `skipped` has the cycles whose cut at their top is that of another cycle."""
+    graph, cactus = found.graph, found.cactus
+    data: dict[str, Any] = {'names': [], 'masses': None, 'links': [], 'nodes': [], 'edges': [], 'skipped': [], 'value': 0,
+                            'unit': found.amounts.unit, 'scale': found.amounts.scale, 'source': source,
+                            'components': found.components if len(found.components) > 1 else [],
+                            'levels': found.levels, 'changes': found.what_if}
+    if len(graph.names) <= MOST_NAMED:
+        data.update({'names': list(map(str, graph.names)), 'masses': graph.masses})
+        data['links'] = [list(edge) for edge in graph.edges] if len(graph.edges) <= MOST_LINKS else []
+        if cactus is not None:
+            edges = [(i, j, number if kind == 'cycle' else -1) for i, j, (kind, number) in cactus.edges()]
+            data.update({'nodes': cactus.nodes, 'edges': edges, 'skipped': sorted(Places(cactus, graph).skipped())})
+    if cactus is not None:
+        data['value'] = cactus.value
+    return data
 
 
 # The parts of the page
 
-def summary(graph: Graph) -> str:
-    weights = {w for _, _, w in graph.edges}
-    told = f'each of weight {weights.pop()}' if len(weights) == 1 else f'of weight {min(weights):,} to {max(weights):,}'
-    text = f'{counted(len(graph.names), "vertex", "vertices")}, {counted(len(graph.edges), "link", "links")} {told}'
+def summary(found: Findings) -> str:
+    graph, amounts = found.graph, found.amounts
+    least, most = min(w for _, _, w in graph.edges), max(w for _, _, w in graph.edges)
+    weights = f'each of weight {amounts.text(least)}' if least == most else f'of weight {amounts.number(least)} to {amounts.text(most)}'
+    text = f'{counted(len(graph.names), "vertex", "vertices")}, {counted(len(graph.edges), "link", "links")} {weights}'
     return text if graph.masses is None else f'{text}, masses {sum(graph.masses):,} in all'
 
 
@@ -93,31 +80,53 @@ def notes(graph: Graph) -> str:
 
 
 def facts(found: Findings) -> str:
-    graph = found.graph
-    unit = 'vertices' if graph.masses is None else 'mass'
+    graph, amounts = found.graph, found.amounts
+    if found.cactus is None:
+        sizes = sorted(map(len, found.components), reverse=True)
+        return ''.join([fact('Value', amounts.text(0), 'the graph is not connected: nothing has to fail to cut it in two'),
+                        fact('Components', f'{len(sizes):,}', 'parts without a link between them'),
+                        fact('Largest component', f'{sizes[0]:,}', f'of {len(graph.names):,} vertices; its weakest places: --largest')])
+    unit = ('vertex' if found.balance == 1 else 'vertices') if graph.masses is None else 'mass'
     links = counted(len(found.plan), 'new link', 'new links')
     raises = 'raises' if len(found.plan) == 1 else 'raise'
-    return ''.join([fact('Value', f'{found.cactus.value:,}', 'the least weight of links that must fail to cut the graph in two'),
+    value, more = amounts.text(found.cactus.value), amounts.text(found.cactus.value + 1)
+    return ''.join([fact('Value', value, 'the least weight of links that must fail to cut the graph in two'),
                     fact('Weakest places', f'{found.count:,}', 'different minimum cuts of that weight'),
                     fact('Most balanced', f'{found.balance:,}', f'{unit} on the lighter side of one of them: {shown(graph, found.side)}'),
-                    fact('Fewest new links', f'{len(found.plan):,}', f'{links} of weight 1 {raises} the value to {found.cactus.value + 1:,}')])
+                    fact('Fewest new links', f'{len(found.plan):,}', f'{links} of weight {amounts.text(1)} {raises} the value to {more}')])
 
 
 def fact(name: str, number: str, text: str) -> str:
-    return f'<div class="fact"><h2>{name}</h2><p class="number">{number}</p><p>{escape(text)}</p></div>'
+    return f'<div class="fact"><h2>{name}</h2><p class="number">{escape(number)}</p><p>{escape(text)}</p></div>'
 
 
-def shown(graph: Graph, vertices: Sequence[int], most: int = SHOWN_NAMES) -> str:
-    """The names of vertices, the first of many."""
-    names = ', '.join(str(graph.names[v]) for v in vertices[:most])
-    return names if len(vertices) <= most else f'{names}, … {len(vertices):,} in all'
+def how(found: Findings, drawn: bool, cactus_drawn: bool) -> str:
+    """What can be picked on this page."""
+    ways = ['a row of a list']
+    if drawn:
+        ways.insert(0, 'a vertex (its component)' if found.cactus is None
+                    else 'a vertex (its smallest place) or a link (all places that it is in) of the graph')
+    if cactus_drawn:
+        ways.insert(0, 'a bridge, a leaf, two nodes or two edges of one cycle of the cactus')
+    drag = (' <span class="mouse">Drag to move a picture, hold Ctrl and turn the wheel to change its size, press Escape to clear.</span>'
+            '<span class="finger">Two fingers move a picture and change its size.</span>') if drawn or cactus_drawn else ''
+    return f'Pick {"; ".join(ways)}, and the page shows what comes apart.{drag}'
+
+
+def legend(found: Findings) -> str:
+    if found.cactus is None:
+        keys = {'side': 'the component that is picked', 'rest': 'the rest'}
+    else:
+        keys = {'bridge': 'bridge', 'cycle': 'cycle', 'side': 'lighter side', 'rest': 'the rest', 'cut': 'links that are cut', 'new': 'new links'}
+    return ' '.join(f'<span><i class="key {key}"></i>{text}</span>' for key, text in keys.items())
 
 
 def pictures(found: Findings, drawn: bool, cactus_drawn: bool) -> str:
     parts = []
     if drawn:
-        parts.append(pane('Graph', graph_picture(found.graph, found.cactus, found.plan), len(found.graph.names) > 60))
-    if cactus_drawn:
+        drawing = graph_picture(found.graph, found.node_of(), found.plan, found.amounts)
+        parts.append(pane('Graph', drawing, len(found.graph.names) > DENSE))
+    if found.cactus is not None and cactus_drawn:
         parts.append(pane('Cactus', cactus_picture(found.graph, found.cactus), len(found.cactus.nodes) > SMALL_CACTUS))
     if not parts:
         return '<p class="note">The graph and its cactus are too large to be drawn; the lists below have what can be shown.</p>'
@@ -125,10 +134,43 @@ def pictures(found: Findings, drawn: bool, cactus_drawn: bool) -> str:
 
 
 def pane(name: str, drawing: str, dense: bool) -> str:
-    buttons = ''.join(f'<button type="button" data-zoom="{word}" aria-label="{label}">{sign}</button>'
-                      for word, sign, label in (('in', '+', 'larger'), ('out', '−', 'smaller'), ('whole', '⤢', 'whole picture')))
+    zoom = ''.join(f'<button type="button" data-zoom="{word}" aria-label="{label}">{sign}</button>'
+                   for word, sign, label in (('in', '+', 'larger'), ('out', '−', 'smaller'), ('whole', '⤢', 'whole picture')))
+    save = ''.join(f'<button type="button" data-save="{form}" aria-label="save as {form.upper()}">{form.upper()}</button>' for form in ('svg', 'png'))
     kind = 'pane dense' if dense else 'pane'
-    return f'<figure class="{kind}"><figcaption>{name}<span class="zoom">{buttons}</span></figcaption>{drawing}</figure>'
+    return f'<figure class="{kind}"><figcaption>{name}<span class="zoom">{save}{zoom}</span></figcaption>{drawing}</figure>'
+
+
+def sections(found: Findings, drawn: bool) -> str:
+    """The lists, each with its heading."""
+    parts = []
+    if len(found.components) > 1:
+        text = ('Nothing connects these. A name that is written in two ways is often the cause; else --largest gives the weakest places of '
+                'the largest component.')
+        parts.append(section('Components', text, table('components', ['##', '#Vertices', 'Names'], component_rows(found))))
+    if found.cactus is not None:
+        heads = ['##', '#Balance', '#Vertices', 'Lighter side', 'Links that are cut', 'In the cactus']
+        text = f'By balance, which is the lesser mass of the two sides: {escape(places_told(found))}.'
+        parts.append(section('Weakest places', text, table('places', heads, place_rows(found))))
+        rows, count = link_rows(found)
+        first = f'; the first {len(rows):,}' if len(rows) < count else ''
+        text = f'{counted(count, "link is", "links are")} in some weakest place{first}.'
+        parts.append(section('Links in weakest places', text, table('links', ['From', 'To', '#Weight', '#Weakest places'], rows)))
+    if found.levels:
+        text = 'What the minimum cuts part, each part alone again, and so on. The value is that of the part by itself.'
+        parts.append(section('Levels', text, level_table(found)))
+    if drawn and found.cactus is not None:
+        form = (HERE / 'what_if.html').read_text('utf-8')
+        parts.append(section('What if', 'Links that fail or are new, and the value then.', form))
+    if found.cactus is not None:
+        parts.append(section('Fewest new links', plan_told(found, drawn), plan_tables(found)))
+        text = 'The vertices of one node of the cactus stay together in each weakest place.'
+        parts.append(section('What no minimum cut parts', text, table('nodes', ['#Node', '#Vertices', 'Names'], node_rows(found))))
+    return ''.join(parts)
+
+
+def section(name: str, text: str, content: str) -> str:
+    return f'<section>\n<h2>{name}</h2>\n<p>{text}</p>\n{content}\n</section>\n'
 
 
 def places_told(found: Findings) -> str:
@@ -136,45 +178,12 @@ def places_told(found: Findings) -> str:
     return f'all {found.count:,}' if listed == found.count else f'the {listed:,} most balanced of {found.count:,}'
 
 
-def place_rows(found: Findings) -> str:
-    graph = found.graph
-    near: list[list[tuple[int, int]]] = [[] for _ in graph.names]
-    for i, j, w in graph.edges:
-        near[i].append((j, w))
-        near[j].append((i, w))
-    places = Places(found.cactus, graph)
-    edges = found.cactus.edges()
-    rows = []
-    for k, place in enumerate(found.places, 1):
-        side = places.side(place)
-        cut = places.links(side, near)
-        names = [f'{graph.names[i]} – {graph.names[j]}' + ('' if w == 1 else f' ({w:,})') for i, j, w in cut[:SHOWN_LINKS]]
-        more = f', … {len(cut):,} in all' if len(cut) > SHOWN_LINKS else ''
-        kind = ' and '.join(f'{edges[e][0]} – {edges[e][1]}' for e in place.edges)
-        kind = f'bridge {kind}' if len(place.edges) == 1 else f'cycle {edges[place.edges[0]][2][1]}: {kind}'
-        rows.append(row([k, f'{place.balance:,}', f'{len(side):,}', shown(graph, side), ', '.join(names) + more, kind],
-                        f' class="place" tabindex="0" role="button" data-edges="{" ".join(map(str, place.edges))}"'))
-    return ''.join(rows)
-
-
-def row(cells: Iterable[Any], extra: str = '') -> str:
-    return f'<tr{extra}>{"".join(f"<td>{escape(str(cell))}</td>" for cell in cells)}</tr>\n'
-
-
-def plan_part(found: Findings, drawn: bool) -> str:
-    graph = found.graph
-    rows = ''.join(row([k, graph.names[i], graph.names[j]]) for k, (i, j) in enumerate(found.plan[:MOST_LISTED], 1))
-    sets = ''.join(row([k, shown(graph, members, 20)]) for k, members in enumerate(found.sets[:MOST_LISTED], 1))
+def plan_told(found: Findings, drawn: bool) -> str:
+    assert found.cactus is not None
+    amounts, value = found.amounts, found.cactus.value
     switch = '<label class="switch"><input type="checkbox" id="plan"> draw them in the graph</label>' if drawn else ''
-    many = len(found.plan) > 1
-    text = (f'{counted(len(found.plan), "link", "links")} of weight 1{", all together, raise" if many else " raises"} the value from '
-            f'{found.cactus.value:,} to {found.cactus.value + 1:,}. Fewer cannot: each of the {counted(len(found.sets), "set", "sets")} in the second '
+    together = ', all together, raise' if len(found.plan) > 1 else ' raises'
+    text = (f'{counted(len(found.plan), "link", "links")} of weight {amounts.text(1)}{together} the value from {amounts.text(value)} to '
+            f'{amounts.text(value + 1)}. Fewer links cannot do this: each of the {counted(len(found.sets), "set", "sets")} in the second '
             'table is one side of a weakest place and needs the end of a new link, no two share a vertex, and a link has two ends.')
-    return (f'<p>{text} {switch}</p><div class="two"><table><thead><tr><th>#</th><th>From</th><th>To</th></tr></thead><tbody>{rows}</tbody>'
-            f'</table><table><thead><tr><th>#</th><th>Set that needs an end</th></tr></thead><tbody>{sets}</tbody></table></div>')
-
-
-def node_rows(found: Findings) -> str:
-    listed = sorted(range(len(found.cactus.nodes)), key=lambda i: (-len(found.cactus.nodes[i]), i))[:MOST_LISTED]
-    return ''.join(row([i, len(found.cactus.nodes[i]), shown(found.graph, found.cactus.nodes[i], 40)], f' data-row="{i}"')
-                   for i in listed if found.cactus.nodes[i])
+    return f'{escape(text)} {switch}'

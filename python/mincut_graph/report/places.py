@@ -69,8 +69,9 @@ class Places:
             bounds.append([self.start[i] for i in cycle[1:]] + [self.end(cycle[-1])])
             first_edges.append(edge)
             edge += len(cycle)
+            masses = [self.before[bound] for bound in bounds[k]]
             for p in range(len(cycle) - 1):
-                heap += self.starts(bounds[k], k, p)
+                heap += self.starts(bounds[k], masses, k, p)
         heapq.heapify(heap)
         shared = self.skipped()
         while heap:
@@ -85,10 +86,10 @@ class Places:
             if p < heap_next < len(bounds[k]):
                 heapq.heappush(heap, self.entry(bounds[k], k, p, heap_next, rising))
 
-    def starts(self, bounds: list[int], k: int, p: int) -> list[tuple[int, int, int, int, int, int]]:
-        """The two best cuts of edge p of a cycle with a later one: of those that take off half of the mass or more, and of the others."""
-        half = self.before[bounds[p]] + self.total / 2
-        peak = max(p + 1, bisect_left(bounds, half, p + 1, key=self.before.__getitem__))
+    def starts(self, bounds: list[int], masses: list[int], k: int, p: int) -> list[tuple[int, int, int, int, int, int]]:
+        """The two best cuts of edge p of a cycle with a later one: of those that take off half of the mass or more, and of the others.
+        `masses` are those before each bound."""
+        peak = max(p + 1, bisect_left(masses, masses[p] + self.total / 2, p + 1))
         found = [self.entry(bounds, k, p, peak, True)] if peak < len(bounds) else []
         return found + ([self.entry(bounds, k, p, peak - 1, False)] if peak - 1 > p else [])
 
