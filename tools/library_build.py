@@ -3,11 +3,12 @@
 
 usage: library_build.py [PREFIX]
 
-It builds out/libmincut.a and out/libmincut.so, and copies them to PREFIX/lib, the header to PREFIX/include, and a pkg-config file to
-PREFIX/lib/pkgconfig where a folder is named. As for the program, the toolchain's gate proves the crates side by side in a copy, and what
-was proved before on this machine is taken up. In that copy `rt lib` then proves the topmost crate, that of the exports, and makes the
-archive of it. Progress goes to standard error. It takes a C compiler, ld, ar and objcopy. The status is 0 where the library was built, 1 where it
-was not, 2 for wrong words, and 130 after an interrupt; what was proved is kept, and the next run goes on from there.
+It builds out/libmincut.a and the shared library with its two links, libmincut.so.0 and libmincut.so. Where a folder is named they are
+copied to PREFIX/lib, the headers to PREFIX/include, and files for pkg-config and CMake to PREFIX/lib/pkgconfig and PREFIX/lib/cmake/mincut.
+As for the program, the toolchain's gate proves the crates side by side in a copy, and what was proved before on this machine is taken up.
+In that copy `rt lib` then proves the topmost crate, that of the exports, and makes the archive of it. Progress goes to standard error. It
+takes a C compiler, ld, ar and objcopy. The status is 0 where the library was built, 1 where it was not, 2 for wrong words, 130 after an
+interrupt, and 128 and its number after another signal; what was proved is kept, and the next run goes on from there.
 """
 import contextlib
 import hashlib
@@ -16,18 +17,24 @@ import re
 import shutil
 import subprocess
 import sys
-import tempfile
 import time
 
-from first_build import PAUSE, added, crates_below, followed, in_turn, lines_of_crates, passed, sum_of
+import guarded
+from first_build import PAUSE, added, crates_below, followed, in_turn, is_log, lines_of_crates, passed, sum_of
 from proving_time import Watch, minutes
+from versions import version
 
 ROOT = os.path.dirname(os.path.dirname(os.path.abspath(__file__)))
 CRATE = 'mincut_c'
 BINDINGS = f'{ROOT}/bindings/c'
+SHIMS = ('mincut', 'places')
 HEADER = f'{ROOT}/include/mincut.h'
+HEADERS = (HEADER, f'{ROOT}/include/mincut.hpp')
 OUT = f'{ROOT}/out'
-LIBRARIES = ('libmincut.a', 'libmincut.so')
+ARCHIVED, SHARED = 'libmincut.a', 'libmincut.so'
+# The number of the interface, by which the loader finds the shared library. It rises where a program that was linked before would no longer
+# run rightly, and with it the name in mincut.map.
+SONAME = f'{SHARED}.0'
 MADE_OF = f'{OUT}/libmincut.made_of'
 # The proved exports alone, as `rt lib` made them.
 ARCHIVE = f'{OUT}/lib{CRATE}.a'
@@ -48,7 +55,7 @@ class BuildFault(Exception):
 
 def run(*words, **more):
     """Runs a command to its end; its output is shown where it fails."""
-    done = subprocess.run(words, stdout=subprocess.PIPE, stderr=subprocess.STDOUT, text=True, **more)
+    done = guarded.run(words, stderr=subprocess.STDOUT, text=True, **more)
     if done.returncode != 0:
         raise BuildFault(f'{" ".join(words)} ended with status {done.returncode}\n{done.stdout}')
     return done.stdout
@@ -57,7 +64,7 @@ def run(*words, **more):
 def made_of(names, lines):
     """A checksum of all that the library is made of."""
     total = hashlib.sha256(sum_of(names, lines).encode())
-    for path in (HEADER, f'{BINDINGS}/mincut.c', f'{BINDINGS}/mincut.map'):
+    for path in (HEADER, *[f'{BINDINGS}/{name}.c' for name in SHIMS], f'{BINDINGS}/mincut.map'):
         with open(path, 'rb') as file:
             total.update(file.read())
     return total.hexdigest()
@@ -99,13 +106,15 @@ def are_taken(room):
 def archived(folder, names, why, earlier):
     """Makes the archive in the folder, for which `rt lib` proves these crates one after another, and answers where it is."""
     watch = Watch(names, {name: names[at - 1:at] for at, name in enumerate(names)}, earlier.measured)
-    watch.first_ratio, told_at = earlier.ratio(), time.monotonic()
+    watch.first_ratio, told_at, told_of = earlier.ratio(), time.monotonic(), set()
 
     def tell(_, ended):
         nonlocal told_at
-        if not ended and time.monotonic() - told_at >= PAUSE:
+        new = set(watch.running) - told_of
+        if new if is_log() else not ended and time.monotonic() - told_at >= PAUSE:
             say(f'working on {", ".join(watch.running) or CRATE}; {watch.left()}')
             told_at = time.monotonic()
+            told_of.update(new)
 
     say(f'{why}; {watch.left()}')
     is_well, printed = followed(folder, ['rt', 'lib'], watch, tell)
@@ -137,58 +146,73 @@ def exported():
         return re.findall(r'\bmincut_\w+', file.read())
 
 
-def version():
-    """The version of the header, as major.minor.patch."""
-    with open(HEADER, encoding='utf-8') as file:
-        number = int(re.search(r'#define MINCUT_VERSION (\d+)u', file.read())[1])
-    return f'{number // 10000}.{number // 100 % 100}.{number % 100}'
+def shared():
+    """The file of the shared library; the names SONAME and SHARED are links to it."""
+    return f'{SHARED}.{version()}'
 
 
-def link(archive, room):
-    """One object in which only the library's own names are seen, and from it both libraries."""
+def libraries():
+    """All names of the libraries, links after what they lead to."""
+    return [ARCHIVED, shared(), SONAME, SHARED]
+
+
+def link(room, *archives):
+    """One object of the shims and these archives, in which only the library's own names are seen, and from it both libraries."""
     compiler = os.environ.get('CC', 'cc')
-    run(compiler, *FLAGS, f'-I{ROOT}/include', '-c', f'{BINDINGS}/mincut.c', '-o', f'{room}/shim.o')
-    run('ld', '-r', f'{room}/shim.o', archive, f'{kit()}/c/liblibc_c.a', '-o', f'{room}/mincut.o')
+    objects = [f'{room}/{name}.shim.o' for name in SHIMS]
+    for name, target in zip(SHIMS, objects):
+        run(compiler, *FLAGS, f'-I{ROOT}/include', '-c', f'{BINDINGS}/{name}.c', '-o', target)
+    run('ld', '-r', *objects, *archives, '-o', f'{room}/mincut.o')
     run('objcopy', *[f'--keep-global-symbol={name}' for name in exported()], f'{room}/mincut.o')
-    run('ar', 'rcs', f'{room}/libmincut.a', f'{room}/mincut.o')
-    run(compiler, '-shared', f'{room}/mincut.o', f'-Wl,--version-script={BINDINGS}/mincut.map', '-Wl,-soname,libmincut.so', '-o',
-        f'{room}/libmincut.so')
+    run('ar', 'rcs', f'{room}/{ARCHIVED}', f'{room}/mincut.o')
+    run(compiler, '-shared', f'{room}/mincut.o', f'-Wl,--version-script={BINDINGS}/mincut.map', f'-Wl,-soname,{SONAME}', '-o',
+        f'{room}/{shared()}')
+    os.symlink(shared(), f'{room}/{SONAME}')
+    os.symlink(SONAME, f'{room}/{SHARED}')
 
 
 def put(source, folder):
-    """Copies a file to the folder in one step, so that who reads it there has the old one or the new one."""
+    """Copies a file or a link to the folder in one step, so that who reads it there has the old one or the new one; answers where."""
     os.makedirs(folder, exist_ok=True)
     target = f'{folder}/{os.path.basename(source)}'
-    shutil.copy(source, f'{target}.new')
+    with contextlib.suppress(FileNotFoundError):
+        os.remove(f'{target}.new')
+    shutil.copy(source, f'{target}.new', follow_symlinks=False)
     os.replace(f'{target}.new', target)
-    say(target)
+    return target
 
 
-def install(prefix):
-    """Puts all into the folder."""
-    for name in LIBRARIES:
-        put(f'{OUT}/{name}', f'{prefix}/lib')
-    put(HEADER, f'{prefix}/include')
-    with open(f'{BINDINGS}/mincut.pc.in', encoding='utf-8') as file:
-        text = file.read().replace('@PREFIX@', prefix).replace('@VERSION@', version())
-    os.makedirs(f'{prefix}/lib/pkgconfig', exist_ok=True)
-    with open(f'{prefix}/lib/pkgconfig/mincut.pc', 'w', encoding='utf-8') as file:
+def put_filled(template, folder):
+    """Puts a file into the folder that is made of a template, whose name ends in .in, with the words of this version; answers where."""
+    words = dict(zip(('MAJOR', 'MINOR'), version().split('.')), VERSION=version(), SHARED=shared(), SONAME=SONAME)
+    with open(template, encoding='utf-8') as file:
+        text = re.sub(r'@(\w+)@', lambda word: words[word[1]], file.read())
+    os.makedirs(folder, exist_ok=True)
+    with open(f'{folder}/{os.path.basename(template)[:-3]}', 'w', encoding='utf-8') as file:
         file.write(text)
-    say(file.name)
+    return file.name
+
+
+def install(prefix, made=OUT):
+    """Puts all into the folder, the libraries from where they were made; answers what was put there."""
+    templates = [f'{ROOT}/bindings/cmake/{name}.cmake.in' for name in ('mincutConfig', 'mincutConfigVersion')]
+    return [*[put(f'{made}/{name}', f'{prefix}/lib') for name in libraries()], *[put(path, f'{prefix}/include') for path in HEADERS],
+            put_filled(f'{BINDINGS}/mincut.pc.in', f'{prefix}/lib/pkgconfig'),
+            *[put_filled(path, f'{prefix}/lib/cmake/mincut') for path in templates]]
 
 
 def build_now(names, lines, total):
     """Builds both libraries, over the archive of an earlier run where the crates and the toolchain are the same."""
     of_crates = f'{sum_of(names, lines)} {run("rt", "version").strip()}'
-    with tempfile.TemporaryDirectory(prefix='mincut-library-') as room:
+    with guarded.temporary_folder('mincut-library-') as room:
         if not is_current([ARCHIVE], ARCHIVE_MADE_OF, of_crates):
             made = proved(room, names, lines)
             with noted(ARCHIVE_MADE_OF, of_crates):
                 shutil.copy(made, ARCHIVE)
-        link(ARCHIVE, room)
+        link(room, ARCHIVE, f'{kit()}/c/liblibc_c.a')
         with noted(MADE_OF, total):
-            for name in LIBRARIES:
-                put(f'{room}/{name}', OUT)
+            for name in libraries():
+                say(put(f'{room}/{name}', OUT))
 
 
 def build(prefix):
@@ -197,14 +221,15 @@ def build(prefix):
         raise BuildFault(f'not on the path: {", ".join(missing)}')
     lines = lines_of_crates()
     names = crates_below(CRATE, lines, [])
-    total, made = made_of(names, lines), [f'{OUT}/{name}' for name in LIBRARIES]
+    total, made = made_of(names, lines), [f'{OUT}/{name}' for name in libraries()]
     if not is_current(made, MADE_OF, total):
         with in_turn(say, 'the library', OUT):
             # another run may have built it meanwhile
             if not is_current(made, MADE_OF, total):
                 build_now(names, lines, total)
     if prefix:
-        install(os.path.abspath(prefix))
+        for path in install(os.path.abspath(prefix)):
+            say(path)
 
 
 def main():
@@ -217,10 +242,7 @@ def main():
     except BuildFault as fault:
         say(str(fault))
         return 1
-    except KeyboardInterrupt:
-        say('interrupted; what was proved is kept, and the next run goes on from there')
-        return 130
 
 
 if __name__ == '__main__':
-    sys.exit(main())
+    sys.exit(guarded.status_of(main, say))

@@ -13,6 +13,24 @@ static size_t bytes_of(size_t rows, uint32_t n) { return (rows < 1 << 30 ? rows 
 
 uint32_t mincut_version(void) { return MINCUT_VERSION; }
 
+const char *mincut_status_text(uint32_t status) {
+    static const char *const texts[] = {
+        [MINCUT_OK] = "there is an answer",
+        [MINCUT_NO_CUT] = "the graph has fewer than two vertices",
+        [MINCUT_OUT_OF_MEMORY] = "out of memory",
+        [MINCUT_BAD_LENGTH] = "an array is missing or has the wrong length",
+        [MINCUT_TOO_MANY_VERTICES] = "the graph has more than 4,194,304 vertices",
+        [MINCUT_TOO_MANY_EDGES] = "the graph has more than 16,777,216 edges",
+        [MINCUT_BAD_VERTEX] = "an end of an edge, or a vertex of a pair, is not a vertex",
+        [MINCUT_WEIGHT_SUM] = "the weights add up to more than 2^61",
+        [MINCUT_DISCONNECTED] = "the graph is not connected",
+        [MINCUT_NO_ROOM] = "an output array is too short",
+        [MINCUT_MASS_SUM] = "the masses add up to 2^64 or more",
+        [MINCUT_TOO_MANY_SIDES] = "the list of sides would be larger than 2^30 bytes",
+    };
+    return status < sizeof texts / sizeof *texts ? texts[status] : "this status is unknown";
+}
+
 mincut_status mincut_value(uint32_t n, size_t m, const uint32_t *u, const uint32_t *v, const uint64_t *w, uint64_t *value) {
     if (is_bad(m, u, v, w) || !value) return MINCUT_BAD_LENGTH;
     return (mincut_status)mincut_raw_value(n, some(u), m, some(v), m, some(w), m, value);
@@ -63,6 +81,13 @@ mincut_status mincut_sides_balanced(uint32_t n, size_t m, const uint32_t *u, con
     if (is_bad(m, u, v, w) || !listing || (rows > 0 && !in_side)) return MINCUT_BAD_LENGTH;
     return (mincut_status)mincut_raw_sides(n, some(u), m, some(v), m, some(w), m, some(mass), mass ? n : 0, least, listing,
                                            in_side ? in_side : &none, bytes_of(rows, n));
+}
+
+mincut_status mincut_components(uint32_t n, size_t m, const uint32_t *u, const uint32_t *v, const uint64_t *w, uint32_t *count,
+                                uint32_t *component_of) {
+    uint32_t none = 0;
+    if (is_bad(m, u, v, w) || !count || (n > 0 && !component_of)) return MINCUT_BAD_LENGTH;
+    return (mincut_status)mincut_raw_components(n, some(u), m, some(v), m, some(w), m, count, component_of ? component_of : &none, n);
 }
 
 mincut_status mincut_augment(uint32_t n, size_t m, const uint32_t *u, const uint32_t *v, const uint64_t *w, mincut_raise *raise,

@@ -1,10 +1,11 @@
 // Separation of subtour constraints: in a point x of the relaxation of a tour each set of cities has to be left by edges that
-// weigh 2 together. Every minimum cut below 2 gives a constraint that x breaks, and the cactus has all of them at once.
+// weigh 2 together. Where x falls into components, each of them gives a constraint that x breaks; else every minimum cut below 2
+// does, and the cactus has all of them at once.
 // c++ -std=c++17 subtours.cpp $(pkg-config --cflags --libs mincut) -o subtours
+#include <algorithm>
 #include <cmath>
 #include <cstdio>
 #include <mincut.h>
-#include <set>
 #include <vector>
 
 struct Edge {
@@ -12,7 +13,7 @@ struct Edge {
     double x;
 };
 
-using Cities = std::set<uint32_t>;
+using Cities = std::vector<uint32_t>;
 
 // Weights are whole numbers: a weight of 1 stands for SCALE.
 constexpr double SCALE = 1 << 30;
@@ -29,50 +30,56 @@ struct Cactus {
     explicit Cactus(uint32_t n) : node_starts(2 * n), cycle_starts(n), vertices(n), bridges(2 * n), members(3 * n) {}
 };
 
-// The cities that an integer point leaves apart from city 0.
-static Cities apart(uint32_t n, const std::vector<Edge> &edges) {
-    std::vector<bool> reached(n);
-    reached[0] = true;
-    for (bool grown = true; grown;) {
-        grown = false;
-        for (const Edge &e : edges)
-            if (e.x > 0 && reached[e.a] != reached[e.b]) reached[e.a] = reached[e.b] = grown = true;
+// The cities of each component: of two the second alone, as the same edges leave both.
+static std::vector<Cities> cities_apart(const std::vector<uint32_t> &component_of, uint32_t count) {
+    std::vector<Cities> found(count);
+    for (uint32_t i = 0; i < component_of.size(); ++i) found[component_of[i]].push_back(i);
+    if (count == 2) found.erase(found.begin());
+    return found;
+}
+
+// The cities on one side of each minimum cut. Nodes are numbered along the tree, so what hangs from a node follows it, and the cities
+// of a side stand side by side in `vertices`.
+static std::vector<Cities> sides_of(const Cactus &c) {
+    const size_t nodes = c.sizes.nodes;
+    // each node but 0 hangs from an earlier one: the upper end of its bridge, or the first node of its cycle
+    std::vector<size_t> upper(nodes), end(nodes);
+    for (size_t i = 0; i < c.sizes.bridges; ++i) upper[c.bridges[i].lower] = c.bridges[i].upper;
+    const auto cycle_end = [&](size_t i) { return i + 1 < c.sizes.cycles ? c.cycle_starts[i + 1] : c.sizes.members; };
+    for (size_t i = 0; i < c.sizes.cycles; ++i)
+        for (size_t k = c.cycle_starts[i] + 1; k < cycle_end(i); ++k) upper[c.members[k]] = c.members[c.cycle_starts[i]];
+    // where the cities of a node and of all that hangs from it end
+    for (size_t i = nodes; i-- > 0;) {
+        end[i] = std::max(end[i], i + 1 < nodes ? c.node_starts[i + 1] : c.sizes.vertices);
+        end[upper[i]] = std::max(end[upper[i]], end[i]);
     }
-    Cities found;
-    for (uint32_t i = 0; i < n; ++i)
-        if (!reached[i]) found.insert(i);
+    std::vector<Cities> found;
+    const auto add = [&](size_t first, size_t last) { found.emplace_back(c.vertices.begin() + c.node_starts[first], c.vertices.begin() + end[last]); };
+    for (size_t i = 0; i < c.sizes.bridges; ++i) add(c.bridges[i].lower, c.bridges[i].lower);
+    // two edges of a cycle leave the nodes between them; where there are very many, a solver takes some of them
+    for (size_t i = 0; i < c.sizes.cycles; ++i)
+        for (size_t k = c.cycle_starts[i] + 1; k < cycle_end(i); ++k)
+            for (size_t l = k; l < cycle_end(i); ++l) add(c.members[k], c.members[l]);
+    for (Cities &cities : found) std::sort(cities.begin(), cities.end());
     return found;
 }
 
 // Sets of cities that the point enters too seldom: none where it keeps all subtour constraints.
 static std::vector<Cities> separate(uint32_t n, const std::vector<Edge> &edges) {
-    std::vector<uint32_t> u, v;
+    std::vector<uint32_t> u, v, component_of(n);
     std::vector<uint64_t> w;
     for (const Edge &e : edges) u.push_back(e.a), v.push_back(e.b), w.push_back((uint64_t)std::llround(e.x * SCALE));
+    uint32_t count = 0;
+    if (mincut_components(n, u.size(), u.data(), v.data(), w.data(), &count, component_of.data()) != MINCUT_OK) return {};
+    if (count > 1) return cities_apart(component_of, count);
     uint64_t value = 0;
     const uint64_t bound = (uint64_t)(2 * SCALE) - EDGE_ERROR * u.size();
     if (mincut_value_below(n, u.size(), u.data(), v.data(), w.data(), bound, &value) != MINCUT_OK || value == bound) return {};
-    if (value == 0) return {apart(n, edges)};
     Cactus c(n);
     if (mincut_cactus(n, u.size(), u.data(), v.data(), w.data(), &c.sizes, c.node_starts.data(), c.vertices.data(), c.bridges.data(),
                       c.cycle_starts.data(), c.members.data()) != MINCUT_OK)
         return {};
-    // each node hangs below an earlier one: the upper end of its bridge, or the first node of its cycle
-    std::vector<size_t> upper(c.sizes.nodes);
-    for (size_t i = 0; i < c.sizes.bridges; ++i) upper[c.bridges[i].lower] = c.bridges[i].upper;
-    for (size_t i = 0; i < c.sizes.cycles; ++i) {
-        const size_t last = i + 1 < c.sizes.cycles ? c.cycle_starts[i + 1] : c.sizes.members;
-        for (size_t k = c.cycle_starts[i] + 1; k < last; ++k) upper[c.members[k]] = c.members[c.cycle_starts[i]];
-    }
-    // one constraint for each node but the first, by the cities in it and below it
-    std::vector<Cities> found(c.sizes.nodes);
-    for (size_t i = c.sizes.nodes - 1; i > 0; --i) {
-        const size_t end = i + 1 < c.sizes.nodes ? c.node_starts[i + 1] : c.sizes.vertices;
-        found[i].insert(c.vertices.begin() + c.node_starts[i], c.vertices.begin() + end);
-        if (upper[i] > 0) found[upper[i]].insert(found[i].begin(), found[i].end());
-    }
-    found.erase(found.begin());
-    return found;
+    return sides_of(c);
 }
 
 int main() {

@@ -20,7 +20,7 @@ int main(void) {
     if (status == MINCUT_OK) status = mincut_count(N, M, u, v, w, &count);
     if (status == MINCUT_OK) status = mincut_balanced(N, M, u, v, w, NULL, &balance, in_side);
     if (status != MINCUT_OK) {
-        fprintf(stderr, "no answer: status %d\n", status);
+        fprintf(stderr, "no answer: %s\n", mincut_status_text(status));
         return 1;
     }
     printf("value %llu, %llu minimum cuts\n", (unsigned long long)sizes.value, (unsigned long long)count);

@@ -20,6 +20,8 @@ int main(void) {
     const uint64_t one[] = {1, 1, 1, 1, 9, 0}, great[] = {1ull << 61, 1, 1, 1, 1, 1};
     uint64_t value = 77;
     if (mincut_version() != MINCUT_VERSION) return 16;
+    for (uint32_t status = 0; status < 40; ++status)
+        if (!mincut_status_text(status) || strlen(mincut_status_text(status)) < 10) return 60;
     if (mincut_value(4, 6, u, v, one, &value) != MINCUT_OK || value != 2) return 1;
     if (mincut_value_below(4, 6, u, v, one, 1, &value) != MINCUT_OK || value != 1) return 17;
     if (mincut_value_below(4, 6, u, v, one, 3, &value) != MINCUT_OK || value != 2) return 18;
@@ -80,6 +82,20 @@ int main(void) {
     if (mincut_raw_augment(4, u, 6, v, 6, one, 6, &raise, from, 1, to, 2, set_of, 4) != MINCUT_NO_ROOM || raise.edges != 2 || from[0] != 9) return 42;
     if (mincut_augment(2, 0, NULL, NULL, NULL, &raise, from, to, set_of) != MINCUT_DISCONNECTED || raise.sets != 4 || from[0] != 9) return 43;
     if (mincut_augment(4, 6, u, v, one, &raise, from, NULL, set_of) != MINCUT_BAD_LENGTH) return 44;
+    uint32_t parts = 77, part_of[7] = {9, 9, 9, 9, 9, 9, 9};
+    if (mincut_components(6, 6, u, v, one, &parts, part_of) != MINCUT_OK || parts != 3) return 45;
+    for (uint32_t i = 0; i < 6; ++i)
+        if (part_of[i] != (i < 4 ? 0 : i - 3)) return 46;
+    if (part_of[6] != 9) return 47;
+    const uint64_t light[] = {1, 0, 1, 0, 9, 0};
+    if (mincut_components(4, 6, u, v, light, &parts, part_of) != MINCUT_OK || parts != 2 || part_of[1] != 0 || part_of[2] != 1 || part_of[3] != 1) return 48;
+    if (mincut_components(0, 0, NULL, NULL, NULL, &parts, NULL) != MINCUT_OK || parts != 0) return 49;
+    if (mincut_components(1, 0, NULL, NULL, NULL, &parts, part_of) != MINCUT_OK || parts != 1 || part_of[0] != 0) return 50;
+    parts = 77, part_of[0] = 9;
+    if (mincut_components(3, 4, u, v, one, &parts, part_of) != MINCUT_BAD_VERTEX || parts != 77 || part_of[0] != 9) return 51;
+    if (mincut_components(4, 6, u, v, great, &parts, part_of) != MINCUT_WEIGHT_SUM || parts != 77 || part_of[0] != 9) return 52;
+    if (mincut_components(4, 6, u, v, one, &parts, NULL) != MINCUT_BAD_LENGTH || mincut_components(4, 6, u, v, one, NULL, part_of) != MINCUT_BAD_LENGTH) return 53;
+    if (mincut_raw_components(4, u, 6, v, 6, one, 6, &parts, part_of, 3) != MINCUT_NO_ROOM || parts != 77 || part_of[0] != 9) return 54;
     const uint32_t a[] = {0, 1}, b[] = {1, 2};
     if (cactus(3, 2, a, b, one) != MINCUT_OK || sizes.bridges != 2 || sizes.cycles != 0) return 13;
     puts("all checks passed");

@@ -1,9 +1,10 @@
 //! Minimum cuts of a weighted undirected graph: their value, their number, a cactus of all of them, a most balanced one, lists of
-//! their sides, and the fewest new edges that raise the value.
+//! their sides, and the fewest new edges that raise the value; and the components of a graph that is not connected.
 //!
 //! A graph has `n` vertices, 0 to n - 1; edge i joins `u[i]` and `v[i]` and weighs `w[i]`. Edges with the same ends are as one of
 //! the sum of their weights; loops and edges of weight 0 count for nothing. All limits are checked, and told by an [`Error`].
-//! The calls stand on proved exports of C, start no thread, and keep nothing.
+//! The calls stand on proved exports of C, start no thread, and keep nothing. The place of each node in a cactus, and its sides, are
+//! in [`Cactus::places`].
 //!
 //! ```
 //! // a ring of four vertices
@@ -17,8 +18,9 @@
 
 use std::fmt;
 
-/// Why a call has no answer.
+/// Why a call has no answer. A later version may have further reasons.
 #[derive(Clone, Copy, Debug, PartialEq, Eq)]
+#[non_exhaustive]
 pub enum Error {
     /// n is 0 or 1.
     NoCut,
@@ -40,12 +42,15 @@ pub enum Error {
     MassSum,
     /// n times the number of the sides that are asked for, which is told here, is above 2^30.
     TooManySides(u64),
+    /// The library answered a status that this crate does not know: it is of another version.
+    Unknown(u32),
 }
 
 impl fmt::Display for Error {
     fn fmt(&self, f: &mut fmt::Formatter<'_>) -> fmt::Result {
         f.write_str(match self {
             Error::TooManySides(sides) => return write!(f, "a list of {sides} sides is too large"),
+            Error::Unknown(status) => return write!(f, "the status {status} is unknown"),
             Error::MassSum => "the masses add up to 2^64 or more",
             Error::NoCut => "the graph has fewer than two vertices",
             Error::OutOfMemory => "out of memory",
@@ -73,7 +78,7 @@ fn told(status: u32) -> Result<(), Error> {
         7 => Error::WeightSum,
         8 => Error::Disconnected,
         10 => Error::MassSum,
-        _ => unreachable!("the room by n suffices"),
+        unknown => Error::Unknown(unknown),
     })
 }
 
@@ -134,6 +139,36 @@ impl Cactus {
         lists(&self.cycle_starts, &self.members)
     }
 
+    /// Where each node hangs, and the sides of the minimum cuts, lent without a copy.
+    ///
+    /// ```
+    /// // a path of three vertices: vertex 0 with a bridge to vertex 1, and that with one to vertex 2
+    /// let cactus = mincut::cactus(3, &[0, 1], &[1, 2], &[1, 1]).unwrap();
+    /// let places = cactus.places();
+    /// assert_eq!(places.of_node(2).upper, 1);
+    /// assert_eq!(places.bridge_side(0), [1, 2]);
+    /// assert_eq!(places.bridge_side(1), [2]);
+    /// ```
+    pub fn places(&self) -> Places<'_> {
+        let sizes = Sizes {
+            value: self.value,
+            nodes: self.node_starts.len(),
+            vertices: self.vertices.len(),
+            bridges: self.bridges.len(),
+            cycles: self.cycle_starts.len(),
+            members: self.members.len(),
+        };
+        let mut places = vec![Place::default(); sizes.nodes];
+        // SAFETY: the vectors are those that the library filled, cut to the sizes that it told; there is a place for each node.
+        unsafe {
+            mincut_places(
+                &sizes, self.node_starts.as_ptr(), self.bridges.as_ptr(), self.cycle_starts.as_ptr(), self.members.as_ptr(),
+                places.as_mut_ptr(),
+            )
+        };
+        Places { cactus: self, places }
+    }
+
     /// The node of each vertex.
     pub fn node_of(&self) -> Vec<usize> {
         let mut found = vec![0; self.vertices.len()];
@@ -143,6 +178,51 @@ impl Cactus {
             }
         }
         found
+    }
+}
+
+/// Where a node of a cactus hangs, and which vertices hang at it. Of node 0 the first three are 0.
+#[repr(C)]
+#[derive(Clone, Copy, Debug, Default, PartialEq, Eq)]
+pub struct Place {
+    /// The node above it: the upper end of its bridge, or the first node of its cycle.
+    pub upper: u64,
+    /// The number of its bridge where `position` is 0, and else of its cycle.
+    pub block: usize,
+    /// 0 for the lower end of a bridge, and else its place in the cycle, from 1.
+    pub position: usize,
+    first: usize,
+    end: usize,
+}
+
+/// The places of the nodes of a cactus, by which each side of a minimum cut is a slice of its vertices.
+#[derive(Clone, Debug)]
+pub struct Places<'a> {
+    cactus: &'a Cactus,
+    places: Vec<Place>,
+}
+
+impl Places<'_> {
+    pub fn of_node(&self, node: usize) -> &Place {
+        &self.places[node]
+    }
+
+    /// The vertices of a node and of all nodes below it: for each node but 0 one side of a minimum cut.
+    pub fn below(&self, node: usize) -> &[u32] {
+        &self.cactus.vertices[self.places[node].first..self.places[node].end]
+    }
+
+    /// The side of the minimum cut by a bridge.
+    pub fn bridge_side(&self, bridge: usize) -> &[u32] {
+        self.below(self.cactus.bridges[bridge].lower as usize)
+    }
+
+    /// The side of the minimum cut by the edges `i` and `j` of a cycle, `i` below `j`: edge i joins its nodes i and i + 1, the last its
+    /// last node and its first. It panics where the cycle has no such edges.
+    pub fn cycle_side(&self, cycle: usize, i: usize, j: usize) -> &[u32] {
+        let nodes = self.cactus.cycles().nth(cycle).expect("a cycle of this number");
+        assert!(i < j, "the first edge comes before the second");
+        &self.cactus.vertices[self.places[nodes[i + 1] as usize].first..self.places[nodes[j] as usize].end]
     }
 }
 
@@ -204,6 +284,15 @@ pub struct Augmentation {
     pub set_of: Vec<u64>,
 }
 
+/// The components of a graph, numbered from 0 in the order of their least vertices.
+#[derive(Clone, Debug, PartialEq, Eq)]
+pub struct Components {
+    /// How many they are.
+    pub count: u32,
+    /// For each vertex the number of its component.
+    pub component_of: Vec<u32>,
+}
+
 /// Lists sides by a call that takes a room: first by a small one, since the call tells how many they are.
 fn listed(n: u32, mut call: impl FnMut(&mut Listing, &mut [u8]) -> u32) -> Result<Sides, Error> {
     let mut listing = Listing::default();
@@ -233,6 +322,10 @@ pub struct Balanced {
 }
 
 extern "C" {
+    fn mincut_places(
+        sizes: *const Sizes, node_starts: *const usize, bridges: *const Bridge, cycle_starts: *const usize, members: *const u64,
+        places: *mut Place,
+    );
     fn mincut_raw_balanced(
         n: u32, u: *const u32, u_len: usize, v: *const u32, v_len: usize, w: *const u64, w_len: usize,
         mass: *const u64, mass_len: usize, balance: *mut Balance, in_side: *mut u8, in_side_len: usize,
@@ -257,6 +350,10 @@ extern "C" {
     ) -> u32;
     fn mincut_raw_count(
         n: u32, u: *const u32, u_len: usize, v: *const u32, v_len: usize, w: *const u64, w_len: usize, count: *mut u64,
+    ) -> u32;
+    fn mincut_raw_components(
+        n: u32, u: *const u32, u_len: usize, v: *const u32, v_len: usize, w: *const u64, w_len: usize, count: *mut u32,
+        component_of: *mut u32, component_of_len: usize,
     ) -> u32;
     fn mincut_raw_cactus(
         n: u32, u: *const u32, u_len: usize, v: *const u32, v_len: usize, w: *const u64, w_len: usize, sizes: *mut Sizes,
@@ -293,6 +390,25 @@ pub fn count(n: u32, u: &[u32], v: &[u32], w: &[u64]) -> Result<u64, Error> {
     // SAFETY: as above.
     let status = unsafe { mincut_raw_count(n, u.as_ptr(), u.len(), v.as_ptr(), v.len(), w.as_ptr(), w.len(), &mut number) };
     told(status).map(|()| number)
+}
+
+/// The components of a graph, connected or not, of any number of vertices. Edges of weight 0 join none.
+///
+/// ```
+/// let found = mincut::components(5, &[0, 1, 2], &[3, 2, 1], &[1, 0, 7]).unwrap();
+/// assert_eq!((found.count, found.component_of), (3, vec![0, 1, 1, 0, 2]));
+/// ```
+pub fn components(n: u32, u: &[u32], v: &[u32], w: &[u64]) -> Result<Components, Error> {
+    // a graph above the limit is refused whatever the room
+    let mut component_of = vec![0; if n > 4_194_304 { 0 } else { n as usize }];
+    let mut count = 0;
+    // SAFETY: as above.
+    let status = unsafe {
+        mincut_raw_components(
+            n, u.as_ptr(), u.len(), v.as_ptr(), v.len(), w.as_ptr(), w.len(), &mut count, component_of.as_mut_ptr(), component_of.len(),
+        )
+    };
+    told(status).map(|()| Components { count, component_of })
 }
 
 /// A cactus of all minimum cuts of a connected graph.

@@ -1,4 +1,4 @@
-use mincut::{balanced, cactus, count, sides, sides_balanced, sides_between, value, Error};
+use mincut::{balanced, cactus, components, count, sides, sides_balanced, sides_between, value, Error};
 
 #[test]
 fn each_fault_is_told() {
@@ -17,6 +17,17 @@ fn each_fault_is_told() {
     assert_eq!(sides(2, &[], &[], &[]), Err(Error::Disconnected));
     assert_eq!(sides_between(2, &[0], &[1], &[1], 0, 2), Err(Error::BadVertex));
     assert_eq!(sides_balanced(2, &[0], &[1], &[1], &[1], 0), Err(Error::BadLength));
+}
+
+#[test]
+fn components_are_of_any_graph() {
+    assert_eq!(components(0, &[], &[], &[]).unwrap().count, 0);
+    assert_eq!(components(1, &[0], &[0], &[5]).unwrap().component_of, [0]);
+    assert_eq!(components(2, &[0], &[1], &[0]).unwrap().component_of, [0, 1]);
+    assert_eq!(components(4, &[3, 1], &[1, 3], &[1, 1]).unwrap().component_of, [0, 1, 2, 1]);
+    assert_eq!(components(2, &[0], &[2], &[1]), Err(Error::BadVertex));
+    assert_eq!(components(u32::MAX, &[], &[], &[]), Err(Error::TooManyVertices));
+    assert_eq!(components(2, &[0, 0], &[1, 1], &[1 << 61, 1]), Err(Error::WeightSum));
 }
 
 #[test]
@@ -46,6 +57,26 @@ fn a_star_has_bridges() {
     let nodes = found.node_of();
     assert_eq!(nodes[0], nodes[3]);
     assert_ne!(nodes[1], nodes[2]);
+}
+
+#[test]
+fn sides_are_slices_of_the_vertices() {
+    // a ring of four vertices, with a fifth that hangs at vertex 2
+    let found = cactus(5, &[0, 1, 2, 3, 2], &[1, 2, 3, 0, 4], &[1, 1, 1, 1, 2]).unwrap();
+    let (places, nodes) = (found.places(), found.node_of());
+    let sorted = |side: &[u32]| {
+        let mut side = side.to_vec();
+        side.sort_unstable();
+        side
+    };
+    let mut told = vec![sorted(places.bridge_side(0))];
+    for (i, j) in [(0, 1), (0, 2), (0, 3), (1, 2), (1, 3), (2, 3)] {
+        told.push(sorted(places.cycle_side(0, i, j)));
+    }
+    told.sort();
+    assert_eq!(told, sides(5, &[0, 1, 2, 3, 2], &[1, 2, 3, 0, 4], &[1, 1, 1, 1, 2]).unwrap().lists().collect::<Vec<_>>());
+    assert_eq!((places.of_node(nodes[4]).upper, places.of_node(nodes[4]).position), (nodes[2] as u64, 0));
+    assert_eq!(places.below(0).len(), 5);
 }
 
 #[test]

@@ -2,10 +2,10 @@
 
     tools/check library PREFIX [--program PATH] [--graphs N] [--calls N] [--quick]
 
-It compiles the tests of bindings/c/tests against the library, and the shim anew under the address and undefined sanitizers; runs them,
-the small ones under valgrind and helgrind where these are there; makes each allocation of a call fail in turn; runs --calls random
+It compiles the tests of bindings/c/tests against the library, those of mincut.hpp by C++17 and C++20, and the shim anew under the address and
+undefined sanitizers; runs them, the small ones under valgrind and helgrind where these are there; makes each allocation of a call fail in turn; runs --calls random
 graphs with faults in them in-process; compares value, number, sides, lists of them, a most balanced cut and an augmentation on --graphs random
-multigraphs with the program; compiles and runs the examples; and has cargo test the Rust crate. --quick leaves out valgrind and cargo.
+multigraphs with the program, and the components with those by hand; compiles and runs the examples; and has cargo test the Rust crate. --quick leaves out valgrind and cargo.
 """
 import argparse
 import ctypes
@@ -57,6 +57,10 @@ class Built:
 def check_calls(built, calls, quick):
     told(f'calls: {run(built.test("calls")).strip()}')
     told(f'calls under sanitizers: {run(built.test("calls", *SANITIZERS, suffix="_san")).strip()}')
+    told(f'places: {run(built.test("places"), str(max(calls // 100, 1000))).strip()}')
+    for standard in ('c++17', 'c++20'):
+        wrapper = built.compile(f'{TESTS}/wrapper.cpp', f'wrapper_{standard}', f'-std={standard}', *SANITIZERS, compiler='c++')
+        told(f'mincut.hpp by {standard}: {run(wrapper).strip()}')
     wrap = '-Wl,--wrap=malloc,--wrap=realloc,--wrap=free'
     told(f'allocations: {run(built.test("memory", wrap)).strip()}')
     told(f'threads: {run(built.test("threads", "-pthread")).strip()}')
@@ -73,8 +77,9 @@ def check_calls(built, calls, quick):
 def check_exports(prefix):
     """The shared library shows the names of the version script and no other, and so does the archive."""
     with open(f'{ROOT}/bindings/c/mincut.map', encoding='utf-8') as file:
-        wanted = set(file.read().replace(';', ' ').split()) - {'{', '}', 'global:', 'local:', '*'}
-    shown = {line.split()[-1] for line in run('nm', '-D', '--defined-only', f'{prefix}/lib/libmincut.so').splitlines()}
+        interface, *names = file.read().replace(';', ' ').split()
+    wanted = set(names) - {'{', '}', 'global:', 'local:', '*'}
+    shown = {line.split()[-1].split('@')[0] for line in run('nm', '-D', '--defined-only', f'{prefix}/lib/libmincut.so').splitlines()} - {interface}
     held = {line.split()[-1] for line in run('nm', '-g', '--defined-only', f'{prefix}/lib/libmincut.a').splitlines() if len(line.split()) == 3}
     needed = {line.split()[-1].split('@')[0] for line in run('nm', '-D', '--undefined-only', f'{prefix}/lib/libmincut.so').splitlines() if ' w ' not in line}
     if shown != wanted or held != wanted:
@@ -127,6 +132,20 @@ def asked(library, n, u, v, w):
     assert all(v in nodes[node_of[v]] for v in range(n))
     pairs = [(b.upper, b.lower) for b in bridges[:sizes.bridges]]
     return value.value, count.value, sides_of(nodes, pairs, lists_of(members, cycles, sizes.cycles, sizes.members))
+
+
+def components_differ(library, n, u, v, w):
+    """Whether the components are not those by joining one edge after another, numbered by their least vertices."""
+    m, count, component_of = len(u), c_uint32(), (c_uint32 * n)()
+    assert library.mincut_components(c_uint32(n), c_size_t(m), (c_uint32 * m)(*u), (c_uint32 * m)(*v), (c_uint64 * m)(*w), byref(count),
+                                     component_of) == 0
+    least = list(range(n))
+    for a, b, weight in zip(u, v, w):
+        if weight:
+            low, high = sorted((least[a], least[b]))
+            least = [low if x == high else x for x in least]
+    firsts = sorted(set(least))
+    return count.value != len(firsts) or list(component_of) != [firsts.index(x) for x in least]
 
 
 def balanced(library, n, u, v, w, masses):
@@ -227,6 +246,8 @@ def check_program(prefix, program, graphs):
         lines = text.split('\n')
         value, in_order = int(lines[0].split()[1]), [tuple(map(int, line.split())) for line in lines[2:] if line]
         sides = set(in_order)
+        if components_differ(library, *graph):
+            sys.exit(f'graph {number} differs in its components: {graph}')
         found, count, of_cactus = asked(library, *graph)
         apart += count is None
         masses = [rng.choice([0, 1, 1, 2, 1 << 40]) for _ in range(graph[0])] if rng.random() < 0.7 else None
@@ -256,6 +277,10 @@ def check_examples(built, prefix):
         run('cc', f'{folder}/weakest.c', *flags, '-o', f'{built.room}/shared')
         run(f'{built.room}/shared', env={**os.environ, 'LD_LIBRARY_PATH': f'{prefix}/lib'})
         told('weakest.c by pkg-config and the shared library')
+    if shutil.which('cmake'):
+        run('cmake', '-S', folder, '-B', f'{built.room}/cmake', f'-DCMAKE_PREFIX_PATH={prefix}')
+        run('cmake', '--build', f'{built.room}/cmake')
+        told(f'cuts.cpp by CMake:\n{run(f"{built.room}/cmake/cuts", f"{ROOT}/examples/tour.graph")}'.rstrip())
 
 
 def check_rust(prefix, room):
