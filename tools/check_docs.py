@@ -11,9 +11,14 @@ import re
 import subprocess
 import sys
 
+from list_crates import page
+from versions import wrong_versions
+
 ROOT = os.path.dirname(os.path.dirname(os.path.abspath(__file__)))
 README = 'README.md'
 README_LINES, README_WORDS, ROW_WORDS = 250, 2500, 60
+# The files of edits, in a row of a table with their folder; where that is left out it is that of the one before.
+EDITS = re.compile(r'`([\w/-]+\.edit(?:\.md)?)`')
 # Files that a build or a user makes.
 MADE = re.compile(r'^(out/|crates/\w+/out/|/|report\.html|plan|picture\.svg|plan\.svg|cuts\.txt)')
 PLACES = re.compile(r'`((?:crates|docs|tools|bench|examples|python|bindings|include)/[\w./-]+|\./\w+)`')
@@ -28,7 +33,7 @@ def read(path):
 
 
 def documents():
-    return [README, *sorted(f'docs/{name}' for name in os.listdir(f'{ROOT}/docs') if name.endswith('.md')), 'python/README.md', 'examples/README.md']
+    return [README, 'CHANGELOG.md', *sorted(f'docs/{name}' for name in os.listdir(f'{ROOT}/docs') if name.endswith('.md')), 'python/README.md', 'examples/README.md']
 
 
 def crates():
@@ -123,8 +128,29 @@ def wrong_numbers():
         yield f'docs/AUDIT.md: the definitions are {wanted}'
 
 
+def wrong_pages():
+    if page() != read('crates/README.md'):
+        yield 'crates/README.md: tools/list_crates.py writes another page'
+
+
+def wrong_edits():
+    for row in read('docs/DECISIONS.md').splitlines():
+        folder = ''
+        for file in EDITS.findall(row):
+            folder = os.path.dirname(file) or folder
+            if not os.path.exists(f'{ROOT}/crates/{folder}/{os.path.basename(file)}'):
+                yield f'docs/DECISIONS.md: there is no edit {folder}/{os.path.basename(file)}'
+    folders = [f'{ROOT}/crates/{crate}/must-fail' for crate in crates()]
+    files = [name for folder in folders if os.path.isdir(folder) for name in os.listdir(folder)]
+    count = sum(name.endswith('.edit') for name in files)
+    told = [(README, f'refuses {count} planted bugs'), (README, f'There are {len(files)} such')]
+    told.append(('docs/DECISIONS.md', f'tries {count} of the {len(files)}'))
+    yield from (f"{path}: of the edits it should say '{text}'" for path, text in told if text not in read(path))
+
+
 def main():
-    found = [line for check in (wrong_places, wrong_crates, wrong_calls, wrong_lengths, wrong_numbers) for line in check()]
+    found = [line for check in (wrong_places, wrong_crates, wrong_calls, wrong_lengths, wrong_numbers, wrong_edits,
+                           wrong_pages, wrong_versions) for line in check()]
     print('\n'.join(found) if found else 'nothing found')
     return 1 if found else 0
 

@@ -1,5 +1,6 @@
 #!/usr/bin/env python3
-"""Draws the layers of crates.txt: the crates of each, and on which other layers they stand."""
+"""Draws the layers of crates.txt: the crates of each, and on which other layers they stand. What stands beside the program has a colour
+of its own."""
 import argparse
 import os
 from html import escape
@@ -9,12 +10,14 @@ WIDTH, LEFT, LETTER, BOX, GAP = 980, 14, 7.1, 24, 8
 
 
 def layers():
-    """The title of each layer, its crates and the layers, by their number, that they use."""
-    found, layer_of = [], {}
+    """The title of each layer, its crates, the layers, by their number, that they use, and whether it stands beside the program."""
+    found, layer_of, half = [], {}, 0
     with open(f'{ROOT}/crates.txt', encoding='utf-8') as file:
         for line in list(file)[1:]:
-            if line.startswith('#'):
-                found.append((line[1:].partition(':')[0].strip(), [], set()))
+            if line.startswith('####'):
+                half += 1
+            elif line.startswith('#'):
+                found.append((line[1:].partition(':')[0].strip(), [], set(), half > 1))
             elif ':' in line:
                 head, _, uses = line.partition(':')
                 name = head.split()[0]
@@ -26,8 +29,9 @@ def layers():
 
 def drawn(found):
     parts, top = [], 12
-    for number, (title, names, uses) in enumerate(found):
+    for number, (title, names, uses, is_beside) in enumerate(found):
         below = [found[other][0] for other in sorted(uses - {number})]
+        kind = 'beside' if is_beside else 'layer'
         start, x, y = top, LEFT + 12, top + 34
         boxes = []
         for name in names:
@@ -39,11 +43,11 @@ def drawn(found):
             x += width + GAP
         top = y + BOX + 12
         stands = f'stands on {", ".join(below)}' if below else 'stands on the toolchain alone'
-        parts += [f'<rect x="{LEFT}" y="{start}" width="{WIDTH - 2 * LEFT}" height="{top - start}" rx="6" class="layer"/>',
+        parts += [f'<rect x="{LEFT}" y="{start}" width="{WIDTH - 2 * LEFT}" height="{top - start}" rx="6" class="{kind}"/>',
                   f'<text x="{LEFT + 12}" y="{start + 22}" class="title">{escape(title)}</text>',
                   f'<text x="{WIDTH - LEFT - 12}" y="{start + 22}" class="uses">{escape(stands)}</text>', *boxes]
         top += GAP
-    style = ('.layer{fill:#f4f6f8;stroke:#c3ccd5}.crate{fill:#fff;stroke:#5b7083}.title{font:bold 14px sans-serif;fill:#1d2b36}'
+    style = ('.layer{fill:#f4f6f8;stroke:#c3ccd5}.beside{fill:#fbf3e4;stroke:#d9c08c}.crate{fill:#fff;stroke:#5b7083}.title{font:bold 14px sans-serif;fill:#1d2b36}'
              '.uses{font:12px sans-serif;fill:#5b7083;text-anchor:end}.name{font:12px monospace;fill:#1d2b36}')
     head = f'<svg xmlns="http://www.w3.org/2000/svg" viewBox="0 0 {WIDTH} {top + 4}" role="img" aria-label="The layers of crates">'
     return '\n'.join([head, f'<style>{style}</style>', *parts, '</svg>', ''])

@@ -5,9 +5,10 @@ usage: first_build.py [--measure]
 
 It runs the toolchain's own gate on a copy of these crates. The gate proves crates side by side and keeps on this machine what it
 proved, so that a run that was cut off is taken up again, and a later run of the gate does not prove it again. The program goes to
-crates/mincut/out/mincut, and what it was made of is written beside it. Progress goes to standard error. The status is 0 where the
-program was built, and 1 elsewhere. With --measure the processor time that each crate took here is written to tools/proof_costs.txt,
-by which the time that is left is told; all is proved anew then, and nothing else should run.
+crates/mincut/out/mincut, and what it was made of is written beside it. Progress goes to standard error: a line about each half minute
+on a terminal, and elsewhere a line for each crate. The status is 0 where the program was built, 1 where it was not, and 128 and its
+number after a signal. With --measure the processor time that each crate took here is written to tools/proof_costs.txt, by which the
+time that is left is told; all is proved anew then, with the crates of the C library, and nothing else should run.
 """
 import contextlib
 import fcntl
@@ -15,22 +16,21 @@ import hashlib
 import os
 import re
 import shutil
-import signal
-import subprocess
 import sys
 import tempfile
 import time
 
+from guarded import job_in, status_of, temporary_folder
 from proving_time import Costs, Watch, loop_seconds
 
 ROOT = os.path.dirname(os.path.dirname(os.path.abspath(__file__)))
-PROGRAM = 'mincut'
+PROGRAM, LIBRARY = 'mincut', 'mincut_c'
 OUT = f'{ROOT}/crates/{PROGRAM}/out'
 BUILT = f'{OUT}/{PROGRAM}'
 MADE_OF = f'{OUT}/made_of'
 PARTS = ('src', 'specs', 'proofs')
 COSTS = f'{ROOT}/tools/proof_costs.txt'
-# A line of progress comes at least so often, in seconds.
+# On a terminal a line of progress comes at least so often, in seconds.
 PAUSE = 25
 
 
@@ -133,34 +133,32 @@ def in_turn(say, what, out):
         yield
 
 
-@contextlib.contextmanager
-def job_in(folder, log, words):
-    """A command of the toolchain in the folder, in a session of its own, which ends with this process."""
-    job = subprocess.Popen(words, cwd=folder, stdin=subprocess.DEVNULL, stdout=log, stderr=subprocess.STDOUT, start_new_session=True)
-    try:
-        yield job
-    finally:
-        for number in (signal.SIGINT, signal.SIGKILL):
-            with contextlib.suppress(ProcessLookupError):
-                os.killpg(job.pid, number)
-            with contextlib.suppress(subprocess.TimeoutExpired):
-                job.wait(10)
+def all_from(file, at):
+    """What stands in the file from there on; its own place, at which a command may be writing, stays where it is."""
+    return os.pread(file.fileno(), os.fstat(file.fileno()).st_size - at, at)
 
 
-def followed(folder, words, watch, tell):
-    """Runs the command there to its end. About each second the watch looks at it, and `tell` gets what it printed meanwhile and whether it
-    has ended. Answers whether it passed, and all that it printed."""
-    with tempfile.NamedTemporaryFile() as log, open(log.name, 'rb') as reading, job_in(folder, log, words) as job:
-        printed = ''
+def followed(place, words, watch, tell):
+    """Runs the command there to its end. About each second the watch looks at it, and `tell` gets the lines that it printed meanwhile and
+    whether it has ended. Answers whether it passed, and all that it printed."""
+    with tempfile.TemporaryFile() as log, job_in(place, log, words) as job:
+        at = 0
         while True:
             ended = job.poll() is not None
-            new = reading.read().decode('utf-8', 'replace')
-            printed += new
+            new = all_from(log, at)
+            if not ended:
+                new = new[:new.rfind(b'\n') + 1]
+            at += len(new)
             watch.look(job.pid)
-            tell(new, ended)
+            tell(new.decode('utf-8', 'replace'), ended)
             if ended:
-                return job.returncode == 0, printed
+                return job.returncode == 0, all_from(log, 0).decode('utf-8', 'replace')
             time.sleep(1)
+
+
+def is_log():
+    """Whether standard error is no terminal, so that it gets a line where something is done, and none where time goes by."""
+    return not os.isatty(2)
 
 
 def proved(room, what, watch, say, words):
@@ -173,7 +171,10 @@ def proved(room, what, watch, say, words):
         done = [name for name in re.findall(r'^rt: (\w+) proved', new, re.M) if watch.end(name)]
         if kept:
             say(f'proved by an earlier run here, which is taken up: {len(kept)} ({", ".join(kept)})')
-        if done or not ended and time.monotonic() - told_at >= PAUSE:
+        if is_log():
+            for number, name in enumerate(done, len(watch.done) - len(done) + 1):
+                say(f'{name} is proved, {number} of {len(watch.names)} crates; {watch.left()}')
+        elif done or not ended and time.monotonic() - told_at >= PAUSE:
             say(f'{watch.told(done)}; {watch.left()}')
             told_at = time.monotonic()
 
@@ -197,9 +198,10 @@ def build_now(say, measures):
     """Proves and builds the program from the files as they stand."""
     since, lines = time.time_ns(), lines_of_crates()
     names = crates_below(PROGRAM, lines, [])
+    all_names = crates_below(LIBRARY, lines, list(names)) if measures else names
     total = sum_of(names, lines)
-    with tempfile.TemporaryDirectory(prefix='mincut-build-') as room:
-        watch = passed(room, 'the program', names, lines, say, ['rt', 'ci', '--anew'] if measures else ['rt', 'ci'])
+    with temporary_folder('mincut-build-') as room:
+        watch = passed(room, 'the program', all_names, lines, say, ['rt', 'ci', '--anew'] if measures else ['rt', 'ci'])
         if not watch:
             say("the program was not built; above stands what 'rt ci' printed")
             return False
@@ -222,11 +224,7 @@ def main():
     def say(text):
         print(f'mincut: {text}', file=sys.stderr, flush=True)
 
-    try:
-        return 0 if build(say, sys.argv[1:] == ['--measure']) else 1
-    except KeyboardInterrupt:
-        say('interrupted; what was proved is kept, and the next run goes on from there')
-        return 130
+    return status_of(lambda: 0 if build(say, sys.argv[1:] == ['--measure']) else 1, say)
 
 
 if __name__ == '__main__':

@@ -6,7 +6,8 @@ usage: first_run.py INPUT WORD ..          a first look on standard error, then 
        first_run.py INPUT --build          proves and builds the program, and runs nothing
 
 INPUT is the number of the open file that is the program's standard input, or `none` where that is closed. It is kept until the program
-is built. The status is the program's, 11 where the program cannot be proved or built, and 130 after an interrupt.
+is built. The status is the program's, 11 where the program cannot be proved or built, 130 after an interrupt, and 128 and its number after
+another signal.
 """
 import os
 import re
@@ -16,6 +17,7 @@ import sys
 import tempfile
 
 import first_build
+import guarded
 
 # A larger input has no first look: checked at run time it would take long.
 LOOK_MOST = 1_000_000
@@ -23,7 +25,6 @@ READING_JOBS = ('value', 'cactus', 'cuts', 'part', 'count', 'balanced', 'augment
 NOTICES = {'--help': 'HELP', '-h': 'HELP', '--version': 'VERSION', '-V': 'VERSION'}
 NOTICE_FILE = f'{first_build.ROOT}/crates/program_words/src/notice.rt'
 NOT_BUILT = 11
-INTERRUPTED = 130
 
 
 def say(text):
@@ -84,8 +85,8 @@ class Look:
     """What the sources answer when they are compiled without proof, with checks at run time."""
 
     def __init__(self, words, given):
-        ran = subprocess.run(['rt', 'try', '--', *words], cwd=f'{first_build.ROOT}/crates/{first_build.PROGRAM}', stdin=given.rewound(),
-                             stdout=subprocess.PIPE, stderr=subprocess.PIPE)
+        ran = guarded.run(['rt', 'try', '--', *words], cwd=f'{first_build.ROOT}/crates/{first_build.PROGRAM}', stdin=given.rewound(),
+                          stderr=subprocess.PIPE)
         told = ran.stderr.decode('utf-8', 'replace')
         self.text, self.told = ran.stdout, told
         ended = re.search(r'^run=ended status=(\d+) ', told, re.M)
@@ -156,13 +157,10 @@ def run(file, words):
 def main():
     try:
         return run(sys.argv[1], sys.argv[2:])
-    except KeyboardInterrupt:
-        say('interrupted; what was proved is kept, and the next run goes on from there')
-        return INTERRUPTED
     except OSError as error:
         say(f'the program could not be built: {error}')
         return NOT_BUILT
 
 
 if __name__ == '__main__':
-    sys.exit(main())
+    sys.exit(guarded.status_of(main, say))

@@ -1,10 +1,15 @@
 """How long a proof of the program takes on this machine: by the processor time that each crate took where it was measured, and by
-what the crates that are done took here. It is imported by first_build.py and library_build.py."""
+what the last crates took here. It is imported by first_build.py and library_build.py."""
+import collections
 import heapq
 import os
 import time
 
 TICK = os.sysconf('SC_CLK_TCK')
+# The last crates are those whose measured costs come to so much, in seconds; what is lacking to the least is made up by the test of speed.
+LAST, LEAST = 300, 60
+# How much of the processors the crates get is seen over so long, in seconds, after a start at which they are taken to get all.
+WINDOW, START = 180, 30
 
 
 def one_loop():
@@ -63,8 +68,10 @@ class Watch:
     def __init__(self, names, uses, costs, after=()):
         self.names, self.uses, self.measured, self.after = names, uses, costs, after
         self.begun, self.times, self.running = time.monotonic(), {}, []
-        self.done, self.kept = set(), set()
+        self.done, self.kept, self.ended = set(), set(), []
         self.first_ratio = loop_seconds() / costs.loop
+        # at each look the clock, the processor time that the crates could have had by then, and what they had
+        self.looks = collections.deque([(self.begun, 0.0, 0.0)])
 
     def keep(self, name):
         if name not in self.uses or name in self.done:
@@ -77,14 +84,20 @@ class Watch:
         if name not in self.uses or name in self.done:
             return False
         self.done.add(name)
+        self.ended.append(name)
         return True
 
     def look(self, session):
         """Notes the processor time of each process of the gate that works on a crate."""
-        self.running = []
+        ran, self.running = len(self.running), []
         for entry in os.listdir('/proc'):
             if entry.isdigit():
                 self.look_at(entry, session)
+        before, could, _ = self.looks[-1]
+        now = time.monotonic()
+        self.looks.append((now, could + min(ran, processors()) * (now - before), sum(map(self.taken, self.times))))
+        while now - self.looks[0][0] > WINDOW:
+            self.looks.popleft()
 
     def look_at(self, entry, session):
         try:
@@ -106,17 +119,41 @@ class Watch:
     def taken(self, name):
         return sum(self.times.get(name, {}).values())
 
+    def last_ended(self):
+        """The processor time that the last crates took here, and what they cost where it was measured."""
+        taken = cost = 0.0
+        for name in reversed(self.ended):
+            if cost < LAST and self.taken(name):
+                taken += self.taken(name)
+                cost += self.measured.of(name)
+        return taken, cost
+
     def ratio(self):
-        """How much longer a crate takes here than where it was measured."""
-        ended = [name for name in self.done - self.kept if self.taken(name)]
-        cost = sum(self.measured.of(name) for name in ended)
-        # the test of speed counts as much as a minute's work, until crates tell better
-        return (sum(map(self.taken, ended)) + 60 * self.first_ratio) / (cost + 60)
+        """How much longer a crate takes here than where it was measured, by the last that ended and by those that are late."""
+        taken, cost = self.last_ended()
+        lacking = max(LEAST - cost, 0)
+        taken, cost = taken + lacking * self.first_ratio, cost + lacking
+        ratio = taken / cost
+        for name in self.running:
+            if name in self.uses and name not in self.done and self.taken(name) > ratio * self.measured.of(name):
+                taken += self.taken(name)
+                cost += self.measured.of(name)
+        return taken / cost
+
+    def share(self):
+        """The part of the processors that the crates which are being proved got lately; the rest went to other work on this machine."""
+        (_, could_before, had_before), (_, could, had) = self.looks[0], self.looks[-1]
+        return min(max((had - had_before + START) / (could - could_before + START), 0.1), 1)
+
+    def work_left(self, name, ratio):
+        """The processor time that the crate still takes; where it is late, a tenth of what it took."""
+        taken = self.taken(name)
+        return max(ratio * self.measured.of(name) - taken, taken / 10, 1)
 
     def seconds_left(self):
         """By the clock: the rest is dealt to the processors, crates with the longest chain of others behind them first."""
-        ratio = self.ratio()
-        left = {name: max(ratio * self.measured.of(name) - self.taken(name), 1) for name in self.names if name not in self.done}
+        ratio, share = self.ratio(), self.share()
+        left = {name: self.work_left(name, ratio) for name in self.names if name not in self.done}
         behind = dict(left)
         for name in reversed(self.names):
             for used in self.uses[name]:
@@ -131,7 +168,7 @@ class Watch:
             else:
                 now, ended = heapq.heappop(busy)
                 open_names.remove(ended)
-        return now + ratio * sum(map(self.measured.of, self.after))
+        return (now + ratio * sum(map(self.measured.of, self.after))) / share
 
     def left(self):
         return f'about {minutes(self.seconds_left())} more'

@@ -3,6 +3,7 @@
 
 usage: test_first_run.py"""
 import os
+import re
 import shutil
 import signal
 import stat
@@ -12,17 +13,28 @@ import tempfile
 import time
 import unittest
 
+from versions import versions
+
 TOP = os.path.dirname(os.path.dirname(os.path.abspath(__file__)))
 GRAPH = b'2 1\n2\n1\n'
+# Where the program's version stands.
+NOTICE = 'crates/program_words/src/notice.rt'
 
-# It keeps what it 'proved' beside itself, as the toolchain does, and can be told to be slow at a crate, or to fail.
+# It keeps what it 'proved' beside itself, as the toolchain does, and can be told to be slow at a crate or a command, or to fail. What it
+# does there is in a file of its own, where there is one.
 PLAYED = r'''#!/usr/bin/env python3
 import os, subprocess, sys, time
 at = os.path.dirname(os.path.abspath(__file__))
 def told(name):
     path = os.path.join(at, name)
     return open(path).read().split() if os.path.exists(path) else []
+def wait_if_slow(name):
+    if name in told('slow'):
+        if os.path.exists(at + '/brood'):
+            subprocess.call([at + '/brood'])
+        time.sleep(60)
 open(os.path.join(at, 'calls'), 'a').write(' '.join(sys.argv[1:]) + '\n')
+wait_if_slow(sys.argv[1])
 if sys.argv[1] == 'try':
     sys.stdout.write('looked at %d bytes for %s\n' % (len(sys.stdin.read()), ' '.join(sys.argv[3:])))
     sys.stderr.write('a line of the program\nchecked: ended status=7\nrun=ended status=7 runners=1 races=unchecked proved=no\n')
@@ -41,8 +53,7 @@ for line in open('crates.txt'):
     if name in kept:
         print('rt: %s is kept: an earlier run on this machine proved the same files' % name, flush=True)
         continue
-    if name in told('slow'):
-        time.sleep(60)
+    wait_if_slow(name)
     if name in told('fails'):
         print('rt: %s NOT PROVED' % name, flush=True)
         print('0 passed, 1 failed')
@@ -75,6 +86,13 @@ def crates_below(top):
 class Played(unittest.TestCase):
     script = 'mincut'
 
+    @classmethod
+    def setUpClass(cls):
+        # what is started here heeds signals, also where these tests run under nohup or behind an `&`
+        signal.signal(signal.SIGINT, signal.default_int_handler)
+        for number in (signal.SIGTERM, signal.SIGHUP):
+            signal.signal(number, signal.SIG_DFL)
+
     def setUp(self):
         self.room = tempfile.TemporaryDirectory()
         self.addCleanup(self.room.cleanup)
@@ -85,6 +103,13 @@ class Played(unittest.TestCase):
         os.chmod(f'{self.kit}/rt', stat.S_IRWXU)
         # python3 itself, and not a shim that needs more of the path
         os.symlink(sys.executable, f'{self.kit}/python3')
+
+    def equip_for_library(self):
+        """What ./library needs of the toolchain."""
+        for folder in ('bin', 'c'):
+            os.mkdir(f'{self.kit}/{folder}')
+        self.tell('bin/rtlib.py', MODULE)
+        subprocess.run(['ar', 'rcs', f'{self.kit}/c/liblibc_c.a'], check=True)
 
     def tell(self, name, text):
         with open(f'{self.kit}/{name}', 'w', encoding='utf-8') as file:
@@ -103,9 +128,12 @@ class Played(unittest.TestCase):
     def kept(self):
         return self.told('kept')
 
+    def environment(self, path=None):
+        return {**os.environ, 'PATH': path or f'{self.kit}:/usr/bin:/bin'}
+
     def start(self, *words, path=None, **how):
-        env = {**os.environ, 'PATH': path or f'{self.kit}:/usr/bin:/bin'}
-        return subprocess.Popen([f'{self.top}/{self.script}', *words], env=env, stdout=subprocess.PIPE, stderr=subprocess.PIPE, **how)
+        how = {'stdout': subprocess.PIPE, 'stderr': subprocess.PIPE, **how}
+        return subprocess.Popen([f'{self.top}/{self.script}', *words], env=self.environment(path), **how)
 
     def run_script(self, *words, given=b'', path=None):
         child = self.start(*words, path=path, stdin=subprocess.PIPE)
@@ -146,7 +174,7 @@ class FirstRun(Played):
 
     def test_a_built_program_starts_at_once_until_a_file_of_its_own_changes(self):
         self.mincut('value')
-        for crate, builds in (('base_tests', 1), ('outside', 2)):
+        for crate, builds in (('value_tests', 1), ('outside', 2)):
             with open(f'{self.top}/crates/{crate}/src/lib.rt', 'a', encoding='utf-8') as file:
                 file.write('\n// changed\n')
             os.utime(f'{self.top}/crates/vertex_set/src/side.rt')
@@ -162,6 +190,13 @@ class FirstRun(Played):
         status, _, err = self.mincut('--build')
         self.assertEqual(status, 0)
         self.assertIn(f'taken up: {kept} (', err)
+
+    def test_a_log_gets_a_line_for_each_crate(self):
+        status, _, err = self.mincut('--build')
+        lines = re.findall(r'^mincut: (\w+) is proved, (\d+) of (\d+) crates; about \d+ (?:seconds|minutes) more$', err, re.M)
+        self.assertEqual((status, [name for name, _, _ in lines]), (0, self.kept()))
+        self.assertEqual([int(number) for _, number, _ in lines], list(range(1, len(lines) + 1)))
+        self.assertEqual({int(total) for _, _, total in lines}, {len(lines)})
 
     def test_without_the_toolchain_one_line_says_where_to_look(self):
         os.remove(f'{self.kit}/rt')
@@ -179,13 +214,12 @@ class FirstRun(Played):
     def test_words_of_the_script(self):
         self.assertEqual(self.mincut('--look', 'cuts', '--least', '2')[:2], (7, f'looked at {len(GRAPH)} bytes for cuts --least 2\n'))
         self.assertTrue(self.mincut('--help')[1].startswith('usage: mincut JOB'))
-        self.assertEqual(self.mincut('-V')[:2], (0, 'mincut 0.1.0\n'))
+        self.assertEqual(self.mincut('-V')[:2], (0, f'mincut {versions()[NOTICE]}\n'))
         self.assertEqual([call for call in self.calls() if call == 'ci'], [])
 
     def test_standard_input_that_cannot_be_read_is_left_to_the_program(self):
         for given in ('<.', '<&-'):
-            env = {**os.environ, 'PATH': f'{self.kit}:/usr/bin:/bin'}
-            ran = subprocess.run(['sh', '-c', f'./mincut value {given}'], cwd=self.top, env=env, stdout=subprocess.PIPE, stderr=subprocess.PIPE, timeout=100)
+            ran = subprocess.run(['sh', '-c', f'./mincut value {given}'], cwd=self.top, env=self.environment(), stdout=subprocess.PIPE, stderr=subprocess.PIPE, timeout=100)
             self.assertEqual((ran.returncode, ran.stdout[:13]), (3, b'proved value\n'))
             self.assertIn(b'wc: ', ran.stderr)
 
@@ -196,10 +230,7 @@ class Library(Played):
 
     def setUp(self):
         super().setUp()
-        for folder in ('bin', 'c'):
-            os.mkdir(f'{self.kit}/{folder}')
-        self.tell('bin/rtlib.py', MODULE)
-        subprocess.run(['ar', 'rcs', f'{self.kit}/c/liblibc_c.a'], check=True)
+        self.equip_for_library()
 
     def work(self):
         """The calls of the toolchain that prove something."""
@@ -211,8 +242,10 @@ class Library(Played):
         self.assertEqual((status, out), (0, ''))
         self.assertNotIn('one after another', err)
         self.assertEqual(sorted(self.told('stamped')), sorted(set(self.kept()) - {'mincut_c'}))
-        for name in ('lib/libmincut.a', 'lib/libmincut.so', 'lib/pkgconfig/mincut.pc', 'include/mincut.h'):
+        for name in ('lib/libmincut.a', 'lib/libmincut.so', 'lib/libmincut.so.0', 'lib/pkgconfig/mincut.pc', 'lib/cmake/mincut/mincutConfig.cmake',
+                     'include/mincut.h', 'include/mincut.hpp'):
             self.assertTrue(os.path.isfile(f'{prefix}/{name}'))
+        self.assertIn(b'[libmincut.so.0]', subprocess.run(['readelf', '-d', f'{prefix}/lib/libmincut.so'], stdout=subprocess.PIPE, check=True).stdout)
         self.assertEqual(self.work(), ['ci', 'lib'])
 
     def test_what_is_built_is_built_again_only_where_its_files_changed(self):
