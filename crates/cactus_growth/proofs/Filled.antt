@@ -33,7 +33,7 @@ use Rattle.rooted_cactus.proofs.Trims.{cuts_out}
 use Rattle.cactus_growth.proofs.CycleKept.{node_inside}
 use Rattle.cactus_growth.proofs.WaysDown.{below_at}
 
--- it has a vertex, and so has each of its cuts
+-- a set has a vertex, and so has each of the cuts below it
 abbrev pub IsFilled : VertexSet → List VertexSet → Type 0
 IsFilled below cuts = HasOne below × ((s : VertexSet) → Contains cuts s → HasOne s)
 

@@ -21,3 +21,4 @@ pub mod Stepped
 pub mod Kept
 pub mod Filled
 pub mod Limits
+pub mod Joined

@@ -86,7 +86,7 @@ inserted_weight e edges =
       weight_places e edges,
     )
 
-more_by : (p : Edge → Bool) (d : Edge) (ds : List Edge) → length (filter p (d ∷ ds)) ≡ (if p d then 1 else 0) + length (filter p ds)
+pub more_by : (p : Edge → Bool) (d : Edge) (ds : List Edge) → length (filter p (d ∷ ds)) ≡ (if p d then 1 else 0) + length (filter p ds)
 more_by p d ds =
     ⊎_elim
     (λ (h : p d ≡ true). rw h (omega arith))
@@ -126,12 +126,3 @@ within_limits g u v w h u1 un v1 vn ne w1 =
       }),
       (λ k. (omega (arith, inserted_weight e g.edges, k.is_graph.total), omega (arith, inserted_length e g.edges, k.few_edges))),
     )
-
--- steps of the loops
-pub filter_few : (p : Edge → Bool) (xs : List Edge) → length (filter p xs) ≤ length xs
-filter_few p [] = omega arith
-filter_few p (x ∷ xs) = omega (arith, more_by p x xs, filter_few p xs, at_most_one (p x))
-  where
-    at_most_one : (b : Bool) → (if b then 1 else 0) ≤ 1
-    at_most_one true = omega arith
-    at_most_one false = omega arith

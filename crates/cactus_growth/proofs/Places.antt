@@ -62,10 +62,10 @@ behind_behind a b e (inr h) k = let same : a.u ≡ b.u = h.0 in let less : a.v <
 not_both : (d e : Edge) → comes_before d e ≡ true → comes_before e d ≡ false
 not_both d e h = grind (arith, nat_tests)
 
-before_apart : (d e : Edge) → comes_before d e ≡ true → same_ends d e ≡ false
+pub before_apart : (d e : Edge) → comes_before d e ≡ true → same_ends d e ≡ false
 before_apart d e h = grind (arith, nat_tests)
 
-behind_apart : (d e : Edge) → comes_before e d ≡ true → same_ends d e ≡ false
+pub behind_apart : (d e : Edge) → comes_before e d ≡ true → same_ends d e ≡ false
 behind_apart d e h = grind (arith, nat_tests)
 
 -- what a search by halving asks of the list

@@ -62,7 +62,7 @@ cycle_without (x ∷ xs) p ys v h s e c = elim (cycle_cases x (xs ++ p ∷ ys) s
   ]
 ]
 
--- and each of these is a cut of the cycle
+-- a cut of the walk before a child, of the child, or of the walk behind it is a cut of the cycle
 pub cycle_before : (xs ys : List Part) (s : VertexSet) → Contains (cycle_cuts xs) s → Contains (cycle_cuts (xs ++ ys)) s
 cycle_before [] ys s c = absurd (Contains-nil s c)
 cycle_before (x ∷ xs) ys s c = elim (cycle_cases x xs s c) [

@@ -1,4 +1,5 @@
-//! What becomes of a tree where two of its nodes become one: the cuts that part them go, and all others stay.
+//! What becomes of a tree where two of its nodes become one:
+//! the cuts that part them go, and all others stay.
 
 ghost use Rattle.std.specs.Prelude.{ℕ, ◌≡◌, ◌≢◌, ◌<◌, ◌++◌, ◌∷◌, false, true, take, slice_get, IfOk};
 ghost use Rattle.rooted_cactus.specs.declared.tree.Node.{Node};
@@ -78,7 +79,8 @@ fn dissolve(alloc: Global, top: Node, node: Node, step: Step) -> Result<(Node, N
     Ok((top, child))
 }
 
-/// The node that has a vertex, to which the way leads, merged with all nodes above it up to the given one.
+/// The node that has a vertex, to which the way leads,
+/// merged with all nodes above it up to the given one.
 ///
 /// It moves the blocks and the nodes beside the way, in a loop.
 pub fn pull(alloc: Global, node: Node, v: u32, way: &[Step]) -> Result<Node, NoMemory>
@@ -109,8 +111,8 @@ fn begin_in_one_block(first: &[Step], second: &[Step]) -> bool
     first.len() > 0 && second.len() > 0 && first[0].block == second[0].block
 }
 
-/// A node below which the ways to two vertices lead to different nodes of one block, the way to `u` to the earlier: these
-/// two become one.
+/// A node below which the ways to two vertices lead to different nodes of one block, the way to
+/// `u` to the earlier: these two become one.
 fn join_children(
     alloc: Global,
     node: Node,
@@ -198,7 +200,8 @@ fn ascend(alloc: Global, levels: Vec<Opened>, node: Node) -> Result<Node, NoMemo
 
 /// A node and all below it, without the cuts that part two vertices that are in it or below it.
 ///
-/// It looks for the two nodes, and then moves the blocks and the nodes beside the ways to them, all in loops.
+/// It looks for the two nodes, and then moves the blocks and the nodes beside the
+/// ways to them, all in loops.
 pub fn grow_node(alloc: Global, root: Node, u: u32, v: u32) -> Result<Node, NoMemory>
     requires u_inside { below root u ≡ true }
     requires v_inside { below root v ≡ true }

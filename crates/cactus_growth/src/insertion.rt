@@ -1,10 +1,10 @@
 //! The edge list after an insertion.
 
-ghost use Rattle.std.specs.Prelude.{IsTrue, ◌↔◌, not, length, ◌≡◌, ◌≢◌, ◌≤◌, ◌+◌, ◌^◌, if◌then◌else◌, true, false, IfOk};
-ghost use Rattle.std.specs.List.{AllPairs, filter, sum_by};
+ghost use Rattle.std.specs.Prelude.{IsTrue, ◌↔◌, length, ◌≡◌, ◌≢◌, ◌≤◌, ◌+◌, ◌^◌, if◌then◌else◌, true, false, IfOk};
+ghost use Rattle.std.specs.List.{AllPairs, sum_by};
 ghost use Rattle.std.specs.List.Sorted.{IsPartitionPoint};
 ghost use Rattle.cut_definitions.specs.Graph.{IsBefore, IsEdgeList};
-ghost use Rattle.cactus_growth.specs.Insertion.{comes_before, edge_between, enlarged, inserted, same_ends, weight_there};
+ghost use Rattle.cactus_growth.specs.Insertion.{comes_before, edge_between, enlarged, inserted, is_joined, same_ends, weight_there};
 
 use cut_definitions::{Edge, EdgeList, MOST_EDGES, MOST_WEIGHT, NoMemory};
 use std::alloc::Global;
@@ -71,7 +71,8 @@ fn edge_between(u: u32, v: u32, w: u64) -> Edge
     }
 }
 
-/// The ascending list with an edge put in its place, where its weight is added to that of the edge with its ends.
+/// The ascending list with an edge put in its place, where its weight is added to that
+/// of the edge with its ends.
 ///
 /// The place is found by halving; the edges before it and behind it are copied whole.
 fn inserted(alloc: Global, edges: &[Edge], added: &Edge) -> Result<Vec<Edge>, NoMemory>
@@ -95,35 +96,38 @@ fn inserted(alloc: Global, edges: &[Edge], added: &Edge) -> Result<Vec<Edge>, No
 }
 
 /// The weight of all edges of a list.
-fn total_weight(edges: &[Edge]) -> u64
-    requires { sum_by (λ d. d.w) edges.now ≤ 2 ^ 61 }
-    ensures { result ≡ sum_by (λ d. d.w) edges.now }
+///
+/// One pass over the edges. It takes no memory.
+pub fn total_weight(list: &EdgeList) -> u64
+    ensures value { result ≡ sum_by (λ d. d.w) list.now.edges }
+    ensures edge_list { IsEdgeList list.now }
 {
     let mut weight = 0;
+    let edges = list.edges();
     'edges: for edge in edges {
         weight += edge.w;
     }
     weight
 }
 
-/// The number of the edges of a list that have other ends than an edge.
-fn count_others(edges: &[Edge], ends: &Edge) -> usize
-    requires { length edges.now ≤ 16777216 }
-    ensures { result ≡ length (filter (λ d. not (same_ends d ends.now)) edges.now) }
+/// Whether an edge of a list joins `u` and `v`.
+///
+/// Its place is found by halving, so time O(log m). It takes no memory.
+pub fn has_edge(list: &EdgeList, u: u32, v: u32) -> bool
+    ensures { result ≡ is_joined (edge_between u v 0) list.now.edges }
 {
-    let mut count = 0;
-    'edges: for edge in edges {
-        if !has_same_ends(edge, ends) {
-            count += 1;
-        }
-    }
-    count
+    let ends = edge_between(u, v, 0);
+    let edges = list.edges();
+    let first = place_before(edges, &ends);
+    let end = place_behind(edges, &ends);
+    first < end
 }
 
-/// Whether the list with the weight `w` added between `u` and `v` is within the limits of a graph: its weights add up to
-/// at most 2^61, and it has at most 16,777,216 edges. So `with_edge` may be called.
+/// Whether the list with the weight `w` added between `u` and `v` is within the limits of a
+/// graph: its weights add up to at most 2^61, and it has at most 16,777,216 edges. So
+/// `with_edge` may be called.
 ///
-/// Two passes over the edges, so time O(m). It takes no memory.
+/// One pass over the edges, so time O(m). It takes no memory.
 pub fn is_within_limits(list: &EdgeList, u: u32, v: u32, w: u64) -> bool
     requires u_from_one { 1 ≤ u }
     requires u_to_n { u ≤ list.now.vertices }
@@ -133,14 +137,13 @@ pub fn is_within_limits(list: &EdgeList, u: u32, v: u32, w: u64) -> bool
     requires weight { 1 ≤ w }
     ensures { IsTrue result ↔ IsEdgeList (enlarged list.now (edge_between u v w)) }
 {
-    let added = edge_between(u, v, w);
-    let edges = list.edges();
-    let weight = total_weight(edges);
-    let others = count_others(edges, &added);
-    w <= MOST_WEIGHT - weight && others < MOST_EDGES as usize
+    let weight = total_weight(list);
+    let joined = has_edge(list, u, v);
+    w <= MOST_WEIGHT - weight && (joined || list.len() < MOST_EDGES as usize)
 }
 
-/// The list with the weight `w` added between `u` and `v`: to the edge that joins them, or as a new edge.
+/// The list with the weight `w` added between `u` and `v`:
+/// to the edge that joins them, or as a new edge.
 ///
 /// Time and memory in proportion to the edges; it is refused only where memory is wanting.
 pub fn with_edge(

@@ -26,7 +26,8 @@ fn hang(node: Node, block: Block) -> Result<Node, NoMemory>
     Ok(node)
 }
 
-/// The closed walk through the node above and some nodes in their order: a cycle or, where there is one node alone, a bridge.
+/// The closed walk through the node above and some nodes in their order: a cycle or, where there
+/// is one node alone, a bridge.
 fn closed(alloc: Global, nodes: Children) -> Result<Block, NoMemory>
     requires { 0 < length (nodes_in nodes) }
     ensures part { IfOk result (λ b. block_part b ≡ cycle_of (map part (nodes_in nodes))) }
@@ -75,7 +76,8 @@ fn append(list: &mut VertexList, more: &VertexList) -> Result<(), NoMemory>
     Ok(())
 }
 
-/// Two nodes become one, with the blocks of both, and the vertices of the second behind those of the first.
+/// Two nodes become one, with the blocks of both, and the vertices of the second
+/// behind those of the first.
 pub fn take_in(node: Node, other: Node) -> Result<Node, NoMemory>
     ensures { IfOk result (λ x. IsTakenIn node other x) }
 {

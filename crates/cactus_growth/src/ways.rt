@@ -44,8 +44,8 @@ fn has_vertex(list: &VertexList, v: u32) -> bool
     found
 }
 
-/// Looks at a node: gives the step to it where it has a vertex. Where it has not, and a block is below it, it is put on
-/// the stack.
+/// Looks at a node: gives the step to it where it has a vertex. Where it has not, and a block is
+/// below it, it is put on the stack.
 fn visit_node<'a>(
     stack: &mut Vec<Visit<'a>>,
     node: &'a Node,
@@ -65,8 +65,8 @@ fn visit_node<'a>(
     Ok(None)
 }
 
-/// Looks at the nodes of a block: gives the step to one that has a vertex. Where none has, those with a block below
-/// them are put on the stack.
+/// Looks at the nodes of a block: gives the step to one that has a vertex. Where none has, those
+/// with a block below them are put on the stack.
 fn visit_nodes<'a>(
     stack: &mut Vec<Visit<'a>>,
     nodes: &'a [Node],
@@ -86,8 +86,8 @@ fn visit_nodes<'a>(
     Ok(None)
 }
 
-/// Looks at the nodes right below a node, to which so many steps lead: gives the step to one that has a vertex. Where
-/// none has, those with a block below them are put on the stack.
+/// Looks at the nodes right below a node, to which so many steps lead: gives the step to one that
+/// has a vertex. Where none has, those with a block below them are put on the stack.
 fn visit_below<'a>(
     stack: &mut Vec<Visit<'a>>,
     node: &'a Node,
@@ -107,9 +107,10 @@ fn visit_below<'a>(
 
 /// The steps from a node to the node that has a vertex, which is the node itself or below it.
 ///
-/// One step for each node and vertex until it is found, in a loop with a stack. A node is looked at before it would be
-/// put there, and one with no block below it never is. So it takes memory in proportion to the steps and to the nodes
-/// with a block below them that were looked at, and is refused only where that is wanting.
+/// One step for each node and vertex until it is found, in a loop with a stack. A node is looked
+/// at before it would be put there, and one with no block below it never is. So it takes memory in
+/// proportion to the steps and to the nodes with a block below them that were looked at, and is
+/// refused only where that is wanting.
 pub fn way_to(alloc: Global, root: &Node, v: u32) -> Result<Vec<Step>, NoMemory>
     requires { below root.now v ≡ true }
     ensures { IfOk result (λ way. LeadsTo v root.now way.items) }

@@ -53,7 +53,7 @@ one_component g count two counted none few =
     let one : count ≡ 1 = omega (arith, some, few) in
     subst (HasComponents g) one counted
 
--- and is connected
+-- a graph with one component is connected
 pub connected_of : (g : Graph) → HasComponents g 1 → IsConnected g
 connected_of g one = (law_of_one_component g 1 one).0 refl
 

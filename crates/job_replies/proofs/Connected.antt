@@ -50,6 +50,6 @@ one_of_connected g connected = record {
   );
 }
 
--- and no more
+-- a connected graph has no two components
 pub none_apart : (g : Graph) (count : ℕ) → IsConnected g → HasComponents g count → 2 ≤ count → ⊥
 none_apart g count connected has several = omega (arith, law_of_one_number g count 1 has (one_of_connected g connected), several)

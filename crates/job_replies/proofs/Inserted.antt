@@ -1,5 +1,5 @@
 -- Graphs after insertions, and what is answered for them.
-use Rattle.std.proofs.Common.{◌≡◌, ℕ, ◌+◌, ◌<◌, ◌≤◌, ◌⊎◌, Bool, true, false, List, [], ◌∷◌, ◌++◌, length, take, drop, append_assoc, min, max, refl, sym, ◌∙◌, ap, subst, arith, inl, inr, ⊎_elim, Some}
+use Rattle.std.proofs.Common.{◌≡◌, ℕ, ◌+◌, ◌<◌, ◌≤◌, Bool, true, false, List, [], ◌∷◌, ◌++◌, length, take, drop, append_assoc, min, max, refl, sym, ◌∙◌, ap, subst, arith, inr, ⊎_elim, Some}
 use Rattle.std.specs.Prelude.{slice_get}
 use Rattle.std.specs.List.{All, Contains}
 use Rattle.std.proofs.lemmas.Bool.{cases_lt}
@@ -115,20 +115,6 @@ module _ (g : Graph) (is : List Insertion) (i : ℕ) (x : Insertion) (at : slice
       subst (λ (j : ℕ). IsEdgeList (grown g (take j is))) (sym same) (subst IsEdgeList (grown_next current (with_insertion current x) now refl) next))
       (cases_lt k (i + 1))
 
-  pub limit_stop : (current : Graph) (s : Stop) → i < length is → current ≡ grown g (take i is) → ((k : ℕ) → k ≤ i → IsEdgeList (grown g (take k is))) →
-      (s ≡ stop.NoMemory) ⊎ ((s ≡ stop.GrowTooLarge (i + 1)) × (IsEdgeList (with_insertion current x) → ⊥)) →
-      (s ≡ stop.NoMemory) ⊎ ((number : ℕ) × (s ≡ stop.GrowTooLarge number) × IsFirstBeyond g is number)
-  limit_stop current s lt now before (inl memory) = inl memory
-  limit_stop current s lt now before (inr large) = inr (
-    i + 1,
-    large.0,
-    record {
-      to_end = omega (arith, lt);
-      within_before = λ k less. before k (omega (arith, less));
-      beyond = λ edges. large.1 (subst IsEdgeList (sym (grown_next current (with_insertion current x) now refl)) edges);
-    },
-  )
-
   pub fits_now : (current : Graph) → i < length is → current ≡ grown g (take i is) → StaysWithin g is → IsEdgeList (with_insertion current x)
   fits_now current lt now within =
       subst IsEdgeList (sym (grown_next current (with_insertion current x) now refl)) (within (i + 1) (omega (arith, lt)))
@@ -146,9 +132,7 @@ whole_growth g graph is count text e counted within connected told = record {
   answer = inr (connected, told);
 }
 
-pub growth_stop : (g graph : Graph) (is : List Insertion) (count : ℕ) (s : Stop) → graph ≡ g → HasComponents graph count →
-    (s ≡ stop.NoMemory) ⊎ ((number : ℕ) × (s ≡ stop.GrowTooLarge number) × IsFirstBeyond g is number) → IsGrowStop g is s
-growth_stop g graph is count s e counted (inl memory) = subst (IsGrowStop g is) (sym memory) tt
-growth_stop g graph is count s e counted (inr large) = subst (IsGrowStop g is) (sym large.1) ((count, subst (λ (h : Graph). HasComponents h count) e counted), large.2)
+pub growth_stop : (g : Graph) (is : List Insertion) (count : ℕ) (s : Stop) → HasComponents g count → (number : ℕ) × (s ≡ stop.GrowTooLarge number) × IsFirstBeyond g is number → IsGrowStop g is s
+growth_stop g is count s counted large = subst (IsGrowStop g is) (sym large.1) ((count, counted), large.2)
 
 -- ---- in the words of the job

@@ -19,7 +19,7 @@ grown g (i ∷ is) = grown (with_insertion g i) is
 abbrev pub step_of : Graph → Step
 step_of g = record { value = value g; count = length (mincuts g) }
 
--- those after each of some insertions
+-- the value and the number of the minimum cuts after each of some insertions
 abbrev pub steps_of : Graph → List Insertion → List Step
 steps_of g [] = []
 steps_of g (i ∷ is) = step_of (with_insertion g i) ∷ steps_of (with_insertion g i) is

@@ -64,7 +64,7 @@ pub record IsGrowText (g : Graph) (insertions : List Insertion) (text : List ℕ
   pub shows : ShowsCuts (grown g insertions) (flat_of cactus)
   pub text_is : text ≡ growth_text (steps_of g insertions) (value (grown g insertions)) (flat_of cactus)
 
--- those of some cuts that a listing has: those that part two vertices, those of at least a balance, or all
+-- of some cuts, the ones that a listing has: those that part two vertices, those of at least a balance, or all
 abbrev pub asked_of : Job → Option ℕ → List ℕ → List (List ℕ) → List (List ℕ)
 asked_of (Part u v) least masses cuts = filter (λ s. parts (has s) u v) cuts
 asked_of Cuts (Some least) masses cuts = filter (λ s. nat_le least (balance masses s)) cuts

@@ -1,4 +1,5 @@
-//! What the jobs answer for a graph in several components: its minimum cuts are the unions of these.
+//! What the jobs answer for a graph in several components:
+//! its minimum cuts are the unions of these.
 
 ghost use Rattle.std.specs.Prelude.{◌≡◌, ◌≤◌, IfOk, IfErr, length};
 ghost use Rattle.cut_definitions.specs.Components.{HasComponents};
@@ -106,7 +107,8 @@ fn balanced_union(
     }
 }
 
-/// What a job on the cuts answers for a graph whose components are these, of which there are so many.
+/// What a job on the cuts answers for a graph whose components are these,
+/// of which there are so many.
 fn union_reply(
     alloc: Global,
     command: &Command,

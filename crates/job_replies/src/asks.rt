@@ -61,7 +61,7 @@ impl Asked<'_> {
     }
 }
 
-/// Those of some sides over n that are asked for, in their order. It takes no memory.
+/// Of some sides over n, the ones that are asked for, in their order. It takes no memory.
 pub fn select_asked(ask: Ask, n: u32, mut sides: Vec<Side>) -> Vec<Side>
     requires over_n { All (λ s. s.vertices ≡ n) sides.items }
     requires within { IsAskWithin n ask }

@@ -44,7 +44,8 @@ fn all_sides(alloc: Global, graph: &EdgeList, solved: &Solved) -> Result<Vec<Sid
     lister.list(alloc, &solved.cactus)
 }
 
-/// The sides of the minimum cuts that are asked for, in order, or their number where they are too many.
+/// The sides of the minimum cuts that are asked for, in order,
+/// or their number where they are too many.
 fn asked_sides(
     alloc: Global,
     ask: Ask,
@@ -92,7 +93,8 @@ fn listing_reply(
     }
 }
 
-/// The number of all minimum cuts of a solved graph, from the tree of its cactus: one step for each node and block.
+/// The number of all minimum cuts of a solved graph, from the tree of its cactus:
+/// one step for each node and block.
 pub fn count_of_cuts(alloc: Global, solved: &Solved) -> Result<u64, NoMemory>
     requires few { solved.now.cactus.vertices ≤ 4194304 }
     requires normal { is_normal solved.now.cactus.root ≡ true }
@@ -138,6 +140,42 @@ fn balanced_reply(
     })
 }
 
+/// What a job on the cuts of a connected graph answers, from all its minimum cuts,
+/// for a command that the caller keeps.
+fn solved_reply(
+    alloc: Global,
+    command: &Command,
+    graph: &EdgeList,
+    weights: &VertexWeights,
+    solved: Solved,
+) -> Result<Reply, Stop>
+    requires enough { 2 ≤ graph.now.vertices }
+    requires weighed { length weights.now ≡ graph.now.vertices }
+    requires one { HasComponents graph.now 1 }
+    requires in_range { IsInRange command.now.job graph.now.vertices }
+    requires job { AsksCuts command.now.job }
+    requires solved { IsSolved graph.now solved }
+    ensures text { IfOk result (λ reply. IsAnswerOf command.now weights.now graph.now (text_of reply)) }
+    ensures printable { IfOk result IsPrintable }
+    ensures stop { IfErr result (IsStopFor command.now weights.now graph.now) }
+{
+    match command.job {
+        Job::Cuts => {
+            let ask = ask_of(command.least, weights);
+            listing_reply(alloc, ask, graph, solved, command.workers)
+        }
+        Job::Part(u, v) => {
+            let ask = Ask::Parting(u as u32, v as u32);
+            listing_reply(alloc, ask, graph, solved, command.workers)
+        }
+        Job::Count => Ok(count_reply(alloc, graph, &solved)?),
+        Job::Balanced => Ok(balanced_reply(alloc, graph, weights, solved)?),
+        Job::Cactus => Ok(cactus_reply(alloc, graph, solved, command.workers)?),
+        Job::Augment => Ok(augment_reply(alloc, graph, solved)?),
+        Job::Value | Job::Grow(_) | Job::Trial(_) => unreachable!(),
+    }
+}
+
 /// What a job on the cuts of a connected graph answers, from all its minimum cuts.
 pub fn cuts_reply(
     alloc: Global,
@@ -156,21 +194,7 @@ pub fn cuts_reply(
     ensures printable { IfOk result IsPrintable }
     ensures stop { IfErr result (IsStopFor command weights.now graph.now) }
 {
-    match command.job {
-        Job::Cuts => {
-            let ask = ask_of(command.least, weights);
-            listing_reply(alloc, ask, graph, solved, command.workers)
-        }
-        Job::Part(u, v) => {
-            let ask = Ask::Parting(u as u32, v as u32);
-            listing_reply(alloc, ask, graph, solved, command.workers)
-        }
-        Job::Count => Ok(count_reply(alloc, graph, &solved)?),
-        Job::Balanced => Ok(balanced_reply(alloc, graph, weights, solved)?),
-        Job::Cactus => Ok(cactus_reply(alloc, graph, solved, command.workers)?),
-        Job::Augment => Ok(augment_reply(alloc, graph, solved)?),
-        Job::Value | Job::Grow(_) | Job::Trial(_) => unreachable!(),
-    }
+    solved_reply(alloc, &command, graph, weights, solved)
 }
 
 /// The canonical cactus of a solved graph.

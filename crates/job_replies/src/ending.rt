@@ -13,8 +13,8 @@ use std::mem::forget;
 use std::thread::Threads;
 use stop_lines::{Status, Stop};
 
-/// Writes the reply that was found to `out`, or tells on `err` why there is none or why it is not written, and answers how
-/// that ended. The memory of the reply is left to the end of the process.
+/// Writes the reply that was found to `out`, or tells on `err` why there is none or why it is not
+/// written, and answers how that ended. The memory of the reply is left to the end of the process.
 pub fn finish<R: Threads + Sync, K: Sink, E: Sink>(
     rt: &R,
     alloc: Global,
@@ -30,7 +30,8 @@ pub fn finish<R: Threads + Sync, K: Sink, E: Sink>(
     match found {
         Ok(reply) => {
             let written = write_reply(rt, alloc, out, &reply);
-            // the run is over: giving each node of a large cactus back would take a tenth of its time
+            // the run is over: giving each node of a large cactus back would
+            // take a tenth of its time
             forget(reply);
             match written {
                 Ok(()) => Status::Ok,

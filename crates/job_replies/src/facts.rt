@@ -38,8 +38,8 @@ fn masses_of_one(alloc: Global, graph: &EdgeList) -> Result<VertexWeights, NoMem
     Ok(VertexWeights::from_list(list))
 }
 
-/// The text of a solved graph: its numbers of vertices and edges, its value, the number of its minimum cuts and the greatest
-/// balance of one.
+/// The text of a solved graph: its numbers of vertices and edges, its value, the number of its
+/// minimum cuts and the greatest balance of one.
 fn describe(alloc: Global, graph: &EdgeList, solved: &Solved) -> Result<String, NoMemory>
     requires enough { 2 ≤ graph.now.vertices }
     requires solved { IsSolved graph.now solved.now }

@@ -1,4 +1,5 @@
-//! What the job `grow` keeps from step to step, what it tells after each, and its reply after the last.
+//! What the job `grow` keeps from step to step, what it tells after each,
+//! and its reply after the last.
 
 ghost use Rattle.std.specs.Prelude.{◌≡◌, ◌≤◌, List, IfErr, IfNone, IfOk, IfSome};
 ghost use Rattle.std.specs.List.{All};
@@ -66,8 +67,8 @@ pub fn grown_reply(alloc: Global, growing: Growing, steps: Vec<Step>) -> Result<
     })
 }
 
-/// The reply of `grow` that needs no minimum cuts: that of a graph in several components, and none for a connected one. Or the
-/// first insertion after which the graph would be too large.
+/// The reply of `grow` that needs no minimum cuts: that of a graph in several components, and none
+/// for a connected one. Or the first insertion after which the graph would be too large.
 pub fn apart_growth(
     alloc: Global,
     insertions: &Insertions,
@@ -83,7 +84,7 @@ pub fn apart_growth(
     ensures stop { IfErr result (IsGrowStop list.now insertions.now) }
 {
     let components = count_components(alloc, list)?;
-    match check_limits(alloc, insertions, list) {
+    match check_limits(insertions, list) {
         Ok(()) => {}
         Err(stop) => return Err(stop),
     }

@@ -21,13 +21,15 @@ use vertex_set::Side;
 pub enum Reply {
     /// A text that is in memory.
     Text(String),
-    /// The weight of the minimum cuts, the flat cactus of them all, and how many workers make the text.
+    /// The weight of the minimum cuts, the flat cactus of them all,
+    /// and how many workers make the text.
     Cactus {
         value: u64,
         cactus: FlatCactus,
         workers: u32,
     },
-    /// The weight of the minimum cuts, the sides of a list of them, and how many workers make the text.
+    /// The weight of the minimum cuts, the sides of a list of them,
+    /// and how many workers make the text.
     Listing {
         value: u64,
         sides: Vec<Side>,
@@ -39,7 +41,8 @@ pub enum Reply {
         balance: u128,
         side: Side,
     },
-    /// What is told after each of some insertions, and all minimum cuts after the last, with their weight.
+    /// What is told after each of some insertions, and all minimum cuts after the
+    /// last, with their weight.
     Growth {
         steps: Vec<Step>,
         solved: Solved,

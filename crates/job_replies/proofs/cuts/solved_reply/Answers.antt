@@ -8,11 +8,11 @@ use Rattle.job_replies.specs.Jobs.{IsAnswerOf, IsListed, IsStopFor, IsTextOf, as
 use Rattle.job_replies.specs.Asked.{IsListReply, IsListStop}
 use Rattle.job_replies.specs.Replies.{text_of}
 use Rattle.job_replies.proofs.Answering.{over_err, listed_answer, listed_stop, whole_answer}
-use Rattle.job_replies.proofs.cuts.cuts_reply.Goals as goal
+use Rattle.job_replies.proofs.cuts.solved_reply.Goals as goal
 
 pub returns-in-Cuts-clause-text : goal.returns-in-Cuts-clause-text
 returns-in-Cuts-clause-text c =
-    let command = c.args.command in
+    let command = c.args.command.now in
     let masses = c.args.weights.now in
     let g = c.args.graph.now in
     if_ok_more (λ reply. IsListReply c.ask_of-ask.result g (text_of reply)) (λ reply. IsAnswerOf command masses g (text_of reply)) c.listing_reply.result
@@ -23,7 +23,7 @@ returns-in-Cuts-clause-text c =
 
 pub returns-in-Cuts-clause-stop : goal.returns-in-Cuts-clause-stop
 returns-in-Cuts-clause-stop c =
-    let command = c.args.command in
+    let command = c.args.command.now in
     let masses = c.args.weights.now in
     let g = c.args.graph.now in
     over_err (IsListStop c.ask_of-ask.result g) (IsStopFor command masses g) c.listing_reply.result
@@ -33,7 +33,7 @@ returns-in-Cuts-clause-stop c =
 
 pub returns-in-Part-clause-text : goal.returns-in-Part-clause-text
 returns-in-Part-clause-text c =
-    let command = c.args.command in
+    let command = c.args.command.now in
     let masses = c.args.weights.now in
     let g = c.args.graph.now in
     let ask : Ask = Parting c.in-Part.u c.in-Part.v in
@@ -45,7 +45,7 @@ returns-in-Part-clause-text c =
 
 pub returns-in-Part-clause-stop : goal.returns-in-Part-clause-stop
 returns-in-Part-clause-stop c =
-    let command = c.args.command in
+    let command = c.args.command.now in
     let masses = c.args.weights.now in
     let g = c.args.graph.now in
     let ask : Ask = Parting c.in-Part.u c.in-Part.v in
@@ -54,38 +54,56 @@ returns-in-Part-clause-stop c =
     (subst IsListed (sym c.in-Part.is) tt) c.requires.in_range c.requires.enough c.requires.one s r)
     c.listing_reply-in-Part.ensures.stop
 
-pub returns-in-Count-clause-text : goal.returns-in-Count-clause-text
-returns-in-Count-clause-text c =
-    let command = c.args.command in
+pub returns-in_ok-count_reply-in-Count-clause-text : goal.returns-in_ok-count_reply-in-Count-clause-text
+returns-in_ok-count_reply-in-Count-clause-text c =
+    let command = c.args.command.now in
     let masses = c.args.weights.now in
     let g = c.args.graph.now in
     let text = text_of (c.in_ok-count_reply-in-Count).field-0 in
     whole_answer command masses g c.requires.in_range c.requires.enough c.requires.one c.requires.job (λ listed. subst IsListed c.in-Count.is listed) text
     (subst (λ (j : Job). IsTextOf j (asked_cuts command masses g) masses g text) (sym c.in-Count.is) (c.in_ok-count_reply-in-Count).ensures.text)
 
-pub returns-in-Balanced-clause-text : goal.returns-in-Balanced-clause-text
-returns-in-Balanced-clause-text c =
-    let command = c.args.command in
+pub returns-in_ok-balanced_reply-in-Balanced-clause-text : goal.returns-in_ok-balanced_reply-in-Balanced-clause-text
+returns-in_ok-balanced_reply-in-Balanced-clause-text c =
+    let command = c.args.command.now in
     let masses = c.args.weights.now in
     let g = c.args.graph.now in
     let text = text_of (c.in_ok-balanced_reply-in-Balanced).field-0 in
     whole_answer command masses g c.requires.in_range c.requires.enough c.requires.one c.requires.job (λ listed. subst IsListed c.in-Balanced.is listed) text
     (subst (λ (j : Job). IsTextOf j (asked_cuts command masses g) masses g text) (sym c.in-Balanced.is) (c.in_ok-balanced_reply-in-Balanced).ensures.text)
 
-pub returns-in-Cactus-clause-text : goal.returns-in-Cactus-clause-text
-returns-in-Cactus-clause-text c =
-    let command = c.args.command in
+pub returns-in_ok-cactus_reply-in-Cactus-clause-text : goal.returns-in_ok-cactus_reply-in-Cactus-clause-text
+returns-in_ok-cactus_reply-in-Cactus-clause-text c =
+    let command = c.args.command.now in
     let masses = c.args.weights.now in
     let g = c.args.graph.now in
     let text = text_of (c.in_ok-cactus_reply-in-Cactus).field-0 in
     whole_answer command masses g c.requires.in_range c.requires.enough c.requires.one c.requires.job (λ listed. subst IsListed c.in-Cactus.is listed) text
     (subst (λ (j : Job). IsTextOf j (asked_cuts command masses g) masses g text) (sym c.in-Cactus.is) (c.in_ok-cactus_reply-in-Cactus).ensures.text)
 
-pub returns-in-Augment-clause-text : goal.returns-in-Augment-clause-text
-returns-in-Augment-clause-text c =
-    let command = c.args.command in
+pub returns-in_ok-augment_reply-in-Augment-clause-text : goal.returns-in_ok-augment_reply-in-Augment-clause-text
+returns-in_ok-augment_reply-in-Augment-clause-text c =
+    let command = c.args.command.now in
     let masses = c.args.weights.now in
     let g = c.args.graph.now in
     let text = text_of (c.in_ok-augment_reply-in-Augment).field-0 in
     whole_answer command masses g c.requires.in_range c.requires.enough c.requires.one c.requires.job (λ listed. subst IsListed c.in-Augment.is listed) text
     (subst (λ (j : Job). IsTextOf j (asked_cuts command masses g) masses g text) (sym c.in-Augment.is) (c.in_ok-augment_reply-in-Augment).ensures.text)
+
+pub returns-in-Cuts-clause-printable : goal.returns-in-Cuts-clause-printable
+returns-in-Cuts-clause-printable c = c.listing_reply.ensures.printable
+
+pub returns-in-Part-clause-printable : goal.returns-in-Part-clause-printable
+returns-in-Part-clause-printable c = c.listing_reply-in-Part.ensures.printable
+
+pub returns-in_ok-count_reply-in-Count-clause-printable : goal.returns-in_ok-count_reply-in-Count-clause-printable
+returns-in_ok-count_reply-in-Count-clause-printable c = (c.in_ok-count_reply-in-Count).ensures.printable
+
+pub returns-in_ok-balanced_reply-in-Balanced-clause-printable : goal.returns-in_ok-balanced_reply-in-Balanced-clause-printable
+returns-in_ok-balanced_reply-in-Balanced-clause-printable c = (c.in_ok-balanced_reply-in-Balanced).ensures.printable
+
+pub returns-in_ok-cactus_reply-in-Cactus-clause-printable : goal.returns-in_ok-cactus_reply-in-Cactus-clause-printable
+returns-in_ok-cactus_reply-in-Cactus-clause-printable c = (c.in_ok-cactus_reply-in-Cactus).ensures.printable
+
+pub returns-in_ok-augment_reply-in-Augment-clause-printable : goal.returns-in_ok-augment_reply-in-Augment-clause-printable
+returns-in_ok-augment_reply-in-Augment-clause-printable c = (c.in_ok-augment_reply-in-Augment).ensures.printable
