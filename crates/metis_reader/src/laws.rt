@@ -24,13 +24,14 @@ pub fn a_fixed_fault_is_the_first()
     ensures { (bytes more : List ℕ) (fault : Fault) → fixed bytes ≡ Some fault → graph_of (bytes ++ more) ≡ Err fault }
 {}
 
-/// A reader that has refused nothing stands for bytes that fix no fault, and takes what is left of 2^33 bytes.
+/// A reader that has refused nothing stands for bytes that fix no fault,
+/// and takes what is left of 2^33 bytes.
 pub fn a_reader_is_still_fed()
     ensures { LawOfReader }
 {}
 
-/// A text of the first form, which has numbers with one space between two and no weights, is accepted, and gives the graph of
-/// its rows.
+/// A text of the first form, which has numbers with one space between two and no weights, is
+/// accepted, and gives the graph of its rows.
 pub fn a_first_form_is_accepted()
     ensures { LawOfFirstForm }
 {}

@@ -1,6 +1,7 @@
-//! Entries whose lesser neighbour is far away, which wait for their mates until the last row is read.
+//! Entries whose lesser neighbour is far away, which wait for their mates
+//! until the last row is read.
 
-ghost use Rattle.std.specs.Prelude.{◌≡◌, ◌≢◌, ◌≤◌, ◌<◌, ◌+◌, ◌*◌, ◌/◌, ◌-◌, ◌^◌, true, ◌++◌, ◌∷◌, [], ℕ, false, IfOk, IsTrue, length, get_or, replicate, vec_capacity};
+ghost use Rattle.std.specs.Prelude.{◌≡◌, ◌≢◌, ◌≤◌, ◌<◌, ◌+◌, ◌*◌, ◌/◌, ◌%◌, ◌-◌, ◌^◌, true, ◌++◌, ◌∷◌, [], ℕ, false, IfOk, IsTrue, length, get_or, replicate, vec_capacity};
 ghost use Rattle.std.specs.List.{All};
 ghost use Rattle.std.specs.List.Sorted.{IsPermutation};
 ghost use Rattle.cut_definitions.specs.declared.edge_list.Edge.{Edge};
@@ -19,12 +20,16 @@ const ROWS: u32 = 1024;
 /// So many vertices there are at most.
 const MOST: u32 = 4_194_304;
 
-/// An entry waits from this distance on. It is more than a block, so the lesser neighbour's block is ended by then.
+/// An entry waits from this distance on. It is more than a block,
+/// so the lesser neighbour's block is ended by then.
 const FAR: u32 = 16_384;
 
 /// How many entries of a block lead far, with one more at this distance.
 #[inline(always)]
-pub fn far_after(far: usize, distance: u32) -> usize {
+pub(crate) fn far_after(far: usize, distance: u32) -> usize
+    ensures far { 16384 ≤ distance → result ≡ (far + 1) % 2 ^ 64 }
+    ensures near { distance < 16384 → result ≡ far }
+{
     if distance >= FAR {
         return far.wrapping_add(1);
     }
@@ -57,7 +62,8 @@ fn add_weights(weights: &mut Vec<u64>, are_kept: bool)
     }
 }
 
-/// Writes the weight of the entry at this place, where it is kept or is not 1. It tells whether the place has it now.
+/// Writes the weight of the entry at this place, where it is kept or is not 1.
+/// It tells whether the place has it now.
 #[inline(always)]
 fn write_weight(weights: &mut [u64], place: usize, w: u64) -> bool
     ensures written { IsTrue result → get_or weights.new place 1 ≡ w }
@@ -70,7 +76,8 @@ fn write_weight(weights: &mut [u64], place: usize, w: u64) -> bool
     w == 1
 }
 
-/// Puts an entry at a place of this block, the lesser end's, if the place is empty. It tells whether it did.
+/// Puts an entry at a place of this block, the lesser end's, if the place is empty.
+/// It tells whether it did.
 #[inline(always)]
 fn put_place(
     owners: &[u32],
@@ -119,8 +126,8 @@ fn entry_of(owners: &[u32], weights: &[u64], place: usize, packed: u32) -> Edge
     Edge { u, v, w: 1 }
 }
 
-/// Looks for the entry at a place, if there is one, at the cursor of its row, and empties the place where it is there. It tells
-/// whether it is.
+/// Looks for the entry at a place, if there is one, at the cursor of its row, and empties the
+/// place where it is there. It tells whether it is.
 #[inline(always)]
 fn meet_place(
     greater: &[Edge],
@@ -150,8 +157,9 @@ fn meet_place(
     true
 }
 
-/// Reads the rows of the block whose entries stand in this part of the places, where its region begins there. The entries are met
-/// sooner then, since what lies at their cursors is near. The answer says nothing, and only keeps the reads from being left out.
+/// Reads the rows of the block whose entries stand in this part of the places, where its region
+/// begins there. The entries are met sooner then, since what lies at their cursors is near. The
+/// answer says nothing, and only keeps the reads from being left out.
 #[inline(never)]
 fn read_ahead(greater: &[Edge], owners: &[u32], cursors: &[u32], part: usize) -> u32 {
     if part >= owners.len() {
@@ -179,8 +187,8 @@ fn read_ahead(greater: &[Edge], owners: &[u32], cursors: &[u32], part: usize) ->
     read
 }
 
-/// Looks for each entry that waits at the cursor of its row, and empties the places of those that are there. It tells how many are
-/// left of so many.
+/// Looks for each entry that waits at the cursor of its row, and empties the places of those that
+/// are there. It tells how many are left of so many.
 fn meet_waiting(
     greater: &[Edge],
     owners: &[u32],
@@ -225,12 +233,13 @@ fn put_back_waiting(owners: &[u32], weights: &[u64], packed: &[u32], lesser: &mu
     }
 }
 
-/// Entries to far lesser neighbours, which wait for their mates in a region for each block of vertices. So at the end those of a
-/// block are met together, while its rows are near. How far is far and where an entry stands decides the time alone: what does not
-/// fit is not taken.
+/// Entries to far lesser neighbours, which wait for their mates in a region for each block of
+/// vertices. So at the end those of a block are met together, while its rows are near. How far is
+/// far and where an entry stands decides the time alone: what does not fit is not taken.
 #[derive(Drop)]
 pub struct Waiting {
-    // for each place 0, or the number of an entry: where its lesser end stands in the block, and its greater end
+    // for each place 0, or the number of an entry:
+    // where its lesser end stands in the block, and its greater end
     packed: Vec<u32>,
     // the weights of the entries, where edges have weights
     weights: Vec<u64>,
@@ -315,7 +324,8 @@ impl Waiting {
         self.held == 0
     }
 
-    /// Takes an entry, if its neighbours are far from each other and there is room for it. It tells whether it did.
+    /// Takes an entry, if its neighbours are far from each other and there is room for it.
+    /// It tells whether it did.
     #[inline(always)]
     pub fn take(&mut self, u: u32, v: u32, w: u64) -> bool
         requires from_one { 1 ≤ u }
@@ -330,7 +340,8 @@ impl Waiting {
         self.take_far(u, v, w)
     }
 
-    /// Takes an entry, if there is room for it in the region of its lesser end's block. It tells whether it did.
+    /// Takes an entry, if there is room for it in the region of its lesser end's block.
+    /// It tells whether it did.
     #[inline(never)]
     fn take_far(&mut self, u: u32, v: u32, w: u64) -> bool
         requires from_one { 1 ≤ u }
@@ -364,8 +375,8 @@ impl Waiting {
         true
     }
 
-    /// Ends a row, where so many rows are ended then, and so many entries of their block lead far. It tells how many entries of the
-    /// block of the next row do.
+    /// Ends a row, where so many rows are ended then, and so many entries of their block lead far.
+    /// It tells how many entries of the block of the next row do.
     #[inline(always)]
     pub fn end_row(&mut self, rows: usize, far: usize) -> usize
         ensures { waiting_of self.new ≡ waiting_of self.old }
