@@ -36,6 +36,6 @@ in_order_more g least owners sets s own last are new k l =
 pub shares_before : (g : Graph) (least : ℕ) (owners : List ℕ) (xs rest : List Share) (s : Share) → xs ≡ rest ++ s ∷ [] → All (IsFoundShare g least owners) xs → All (IsFoundShare g least owners) rest
 shares_before g least owners xs rest s is all = All-front (IsFoundShare g least owners) rest (s ∷ []) (subst (All (IsFoundShare g least owners)) is all)
 
--- and the last one
+-- the last share
 pub last_share : (g : Graph) (least : ℕ) (owners : List ℕ) (xs rest : List Share) (s : Share) → xs ≡ rest ++ s ∷ [] → All (IsFoundShare g least owners) xs → IsFoundShare g least owners s
 last_share g least owners xs rest s is all = All-back (IsFoundShare g least owners) rest (s ∷ []) (subst (All (IsFoundShare g least owners)) is all) 0 s (omega arith)

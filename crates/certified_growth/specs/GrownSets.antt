@@ -28,7 +28,7 @@ pub record IsSetNamed (g : Graph) (owners : List ℕ) (s : Share) : Type 0 where
   pub to_n : s.root ≤ g.vertices
   pub own : slice_index owners s.root ≡ s.own
 
--- the same share, of which the set was looked for
+-- a share of the owner and first vertex of another, after its set was looked for
 pub record IsGrownFrom (g : Graph) (least : ℕ) (owners : List ℕ) (old new : Share) : Type 0 where
   pub own : new.own ≡ old.own
   pub root : new.root ≡ old.root

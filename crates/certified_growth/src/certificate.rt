@@ -30,9 +30,10 @@ pub struct Rule {
 pub enum Kind {
     /// All sets around it weigh at least what is asked.
     Heavy,
-    /// The same of all but the vertex alone, which weighs one less.
+    /// All sets around it weigh at least what is asked, but for the vertex alone, which weighs one
+    /// less.
     Leaf,
-    /// Nothing.
+    /// Nothing was shown.
     Open,
 }
 
@@ -44,10 +45,12 @@ pub(crate) fn may_be_leaf(graph: &Graph, t: u32, amount: u64, rule: Rule) -> boo
     t > 1 && rule.leaf_weight > 0 && amount == rule.leaf_weight && graph.degree(t) == amount
 }
 
-/// How many arcs the rows have that the first search for a vertex goes along; each next one goes along four times as many.
+/// How many arcs the rows have that the first search for a vertex goes along; each next one goes
+/// along four times as many.
 const FIRST_ARCS: usize = 32;
 
-/// Feeds a vertex as much as its stop, or less where so many searches do not bring that, of which each goes further.
+/// Feeds a vertex as much as its stop, or less where so many searches do not bring that,
+/// of which each goes further.
 pub(crate) fn feed_by_steps(graph: &Graph, flow: &mut RegionFlow, t: u32, stop: u64, searches: u32)
     requires flow { IsRegionFlow graph.now flow.old }
     requires to_n { t ≤ graph.now.vertices }
@@ -68,8 +71,8 @@ pub(crate) fn feed_by_steps(graph: &Graph, flow: &mut RegionFlow, t: u32, stop: 
 
 /// What is shown of a vertex outside the source.
 ///
-/// First it is fed by searches of bounded length. Only a vertex that is fed what is asked, or all that it weighs, is looked at
-/// further: of it one more search tells, which ends at once.
+/// First it is fed by searches of bounded length. Only a vertex that is fed what is asked, or all
+/// that it weighs, is looked at further: of it one more search tells, which ends at once.
 pub(crate) fn certify(
     graph: &Graph,
     flow: &mut RegionFlow,

@@ -13,7 +13,8 @@ use cut_definitions::NoMemory;
 use std::alloc::Global;
 use weighted_graph::{Graph, Labels};
 
-/// A graph whose vertices are classes of those of another, their labels, and the vertices that were noted.
+/// A graph whose vertices are classes of those of another, their labels,
+/// and the vertices that were noted.
 #[derive(Drop)]
 pub struct Grown {
     pub graph: Graph,
@@ -58,9 +59,11 @@ pub fn contract_sets(
     })
 }
 
-/// Contracts each set to one vertex, where the sets around their vertices weigh at least a bound, which no vertex alone is below.
+/// Contracts each set to one vertex, where the sets around their vertices weigh at least a bound,
+/// which no vertex alone is below.
 ///
-/// The value is then the lesser of the bound and the value of the graph on the classes, or the bound where that has one vertex.
+/// The value is then the lesser of the bound and the value of the graph on the classes, or the
+/// bound where that has one vertex.
 pub fn contract_at_bound(
     alloc: Global,
     graph: &Graph,

@@ -1,6 +1,7 @@
 //! How much work may go into a set that grows.
 
-/// Where the work on sets ends, and what is worth a set of its own. No promise rests on any of these numbers.
+/// Where the work on sets ends, and what is worth a set of its own.
+/// No promise rests on any of these numbers.
 #[derive(Clone, Copy)]
 pub struct Limits {
     /// How many ranges there are at most: each has a flow of its own, in proportion to n + m.
@@ -12,8 +13,8 @@ pub struct Limits {
     /// How many edges join ranges or lead far away at most, for each 1,000 vertices.
     pub most_across: u64,
 
-    /// How many searches feed one vertex, each time it is tried. The first goes along rows of some 32 arcs, and each next one
-    /// four times as far.
+    /// How many searches feed one vertex, each time it is tried. The first goes along rows of some
+    /// 32 arcs, and each next one four times as far.
     pub searches: u32,
 
     /// From how many vertices a search looks at most that tells a leaf or a pair.
@@ -22,7 +23,8 @@ pub struct Limits {
     /// How often a vertex is tried.
     pub most_tries: u8,
 
-    /// After so many tries the work on a set ends once fewer than a quarter of them let a vertex come.
+    /// After so many tries the work on a set ends once fewer than a quarter
+    /// of them let a vertex come.
     pub first_tries: u32,
 }
 
@@ -33,12 +35,12 @@ pub(crate) struct Effort {
 }
 
 impl Effort {
-    /// None yet.
+    /// No vertex was tried yet.
     pub(crate) fn new() -> Effort {
         Effort { tried: 0 }
     }
 
-    /// One more.
+    /// One more vertex was tried.
     pub(crate) fn next(self) -> Effort {
         Effort {
             tried: self.tried.saturating_add(1),

@@ -20,8 +20,8 @@ use weighted_graph::Graph;
 /// A root that has more neighbours is paired with none of them.
 const MOST_NEIGHBOURS: usize = 64;
 
-/// A set that grows from one vertex by certified ones of the same owner, and what it takes to go on. Each vertex has an owner, whose
-/// numbers stand in a list from vertex 0 on.
+/// A set that grows from one vertex by certified ones of the same owner, and what it takes to go
+/// on. Each vertex has an owner, whose numbers stand in a list from vertex 0 on.
 #[derive(Drop)]
 pub(crate) struct Growing {
     flow: RegionFlow,
@@ -142,7 +142,8 @@ impl Growing {
         Ok(growing)
     }
 
-    /// Lets a certified vertex enter, notes what is to be noted with it, and lets its neighbours wait.
+    /// Lets a certified vertex enter, notes what is to be noted with it,
+    /// and lets its neighbours wait.
     fn enter(
         &mut self,
         graph: &Graph,
@@ -196,8 +197,8 @@ impl Growing {
         Ok(())
     }
 
-    /// Lets a neighbour of the root enter next, and notes both, where a flow shows that they may begin a set. Answers whether
-    /// it did.
+    /// Lets a neighbour of the root enter next, and notes both, where a flow shows that they may
+    /// begin a set. Answers whether it did.
     fn enter_pair(
         &mut self,
         graph: &Graph,
@@ -231,8 +232,8 @@ impl Growing {
         Ok(true)
     }
 
-    /// Where the root weighs no more than the value, no vertex can be certified while it is alone: one of its neighbours enters
-    /// beside it, if one can.
+    /// Where the root weighs no more than the value, no vertex can be certified while it is alone:
+    /// one of its neighbours enters beside it, if one can.
     pub(crate) fn pair_root(
         &mut self,
         graph: &Graph,

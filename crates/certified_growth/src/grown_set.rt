@@ -17,8 +17,8 @@ use std::thread::Threads;
 use vertex_classes::Classes;
 use weighted_graph::{Graph, Labels};
 
-/// A set that has grown: the vertex that came first, how many came, for each vertex from 0 on when it came, from 1 on, or 0,
-/// and the noted ones.
+/// A set that has grown: the vertex that came first, how many came, for each vertex from 0 on when
+/// it came, from 1 on, or 0, and the noted ones.
 #[derive(Drop)]
 pub struct GrownSet {
     pub root: u32,
@@ -112,7 +112,8 @@ fn class_of(owners: &[u32], sets: &[GrownSet], v: u32) -> u32
     }
 }
 
-/// The labels of the classes that sets make: each set is a class, and each vertex of no set is one.
+/// The labels of the classes that sets make:
+/// each set is a class, and each vertex of no set is one.
 pub fn labels_of_sets(
     alloc: Global,
     graph: &Graph,

@@ -26,8 +26,8 @@ fn set_in(graph: &Graph, owners: &[u32], least: u64, share: Share) -> Result<Gro
     share.grown.unwrap()
 }
 
-/// The sets of shares, in the order of their owners from 0 on. None where the last share is not that of the first owner, or
-/// another one not that of the next.
+/// The sets of shares, in the order of their owners from 0 on. None where the last share is not
+/// that of the first owner, or another one not that of the next.
 fn sets_of_shares(
     alloc: Global,
     graph: &Graph,
@@ -87,17 +87,20 @@ fn are_many(sets: &[GrownSet], n: u32) -> bool {
     came >= n / 10
 }
 
-/// The graph in which each of several grown sets is one vertex, the labels, and the vertices that were noted as leaves: the minimum
-/// cuts are these, each alone, and those cuts of that graph that weigh the value.
+/// The graph in which each of several grown sets is one vertex, the labels, and the vertices
+/// that were noted as leaves: the minimum cuts are these, each alone, and those cuts of that
+/// graph that weigh the value.
 ///
-/// The vertices are divided into runs of numbers, one for each of some workers, and each of these lets a set grow from a vertex of its
-/// run, by vertices that a flow certifies: no set around one of them that avoids what came before weighs at most the
-/// value, but itself alone, which is noted then. Certificates stay true while the set grows, so workers share nothing. None
-/// comes where the graph is too small, too many edges join runs or lead far away, or fewer than a tenth of the vertices came.
-/// The source that grows is that of Hao and Orlin (1994).
+/// The vertices are divided into runs of numbers, one for each of some workers, and each of these
+/// lets a set grow from a vertex of its run, by vertices that a flow certifies: no set around one
+/// of them that avoids what came before weighs at most the value, but itself alone, which is noted
+/// then. Certificates stay true while the set grows, so workers share nothing. None comes where
+/// the graph is too small, too many edges join runs or lead far away, or fewer than a tenth of the
+/// vertices came. The source that grows is that of Hao and Orlin (1994).
 ///
-/// Searches for one vertex go no further than the limits say, and a set ends early where most vertices are tried in vain. Each worker
-/// has a flow, which takes memory in proportion to n + m. It is refused only where memory is wanting.
+/// Searches for one vertex go no further than the limits say, and a set ends early where most
+/// vertices are tried in vain. Each worker has a flow, which takes memory in proportion to n + m.
+/// It is refused only where memory is wanting.
 pub fn grown_kernel<R: Threads + Sync>(
     rt: &R,
     alloc: Global,

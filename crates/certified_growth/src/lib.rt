@@ -1,5 +1,5 @@
-//! Sets that grow by vertices that are certified one after another: what each certificate says, and what the contraction of the
-//! grown sets keeps.
+//! Sets that grow by vertices that are certified one after another: what each certificate says,
+//! and what the contraction of the grown sets keeps.
 #![tactic(auto)]
 
 mod certificate;

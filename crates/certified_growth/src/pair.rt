@@ -32,8 +32,9 @@ fn other_neighbour(graph: &Graph, v: u32, but: u32) -> u32
     but
 }
 
-/// Whether a flow shows that each set around the second vertex that weighs the value is that vertex alone, or all but the
-/// first. It is not always found, and not where one of them is vertex 1, which is never noted.
+/// Whether a flow shows that each set around the second vertex that weighs the value is that
+/// vertex alone, or all but the first. It is not always found, and not where one of them is vertex
+/// 1, which is never noted.
 pub(crate) fn shows_pair(
     graph: &Graph,
     flow: &mut RegionFlow,

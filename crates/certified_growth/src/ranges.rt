@@ -10,14 +10,16 @@ use cut_definitions::{Edge, NoMemory};
 use std::alloc::Global;
 use weighted_graph::Graph;
 
-/// So many runs of numbers of one size, but for the last, which has what is left too.
+/// The ranges of the vertices: how many there are, and how many vertices each has. The last has
+/// the vertices that are left over too.
 #[derive(Clone, Copy)]
 struct Ranges {
     count: u32,
     size: u32,
 }
 
-/// One range for each worker, or fewer where they would be too many or too small. None where two would be too small.
+/// One range for each worker, or fewer where they would be too many or too small.
+/// None where two would be too small.
 fn ranges_for(n: u32, workers: u32, limits: Limits) -> Option<Ranges>
     ensures { IfSome result (λ r. 1 ≤ r.count) }
 {
@@ -69,7 +71,8 @@ fn edges_across(edges: &[Edge], n: u32, owners: &[u32]) -> u64
     across
 }
 
-/// Whether so few edges join ranges or lead far away that most vertices can be certified inside theirs.
+/// Whether so few edges join ranges or lead far away that most vertices can be
+/// certified inside theirs.
 fn are_few(across: u64, n: u32, limits: Limits) -> bool {
     across.saturating_mul(1_000) <= limits.most_across.saturating_mul(u64::from(n))
 }
@@ -82,8 +85,9 @@ fn is_in_range(graph: &Graph, owners: &[u32], own: u32, v: u32) -> bool
     v > 0 && v <= graph.n() && owners[v as usize] == own
 }
 
-/// The vertex of a range from which its set is to grow: one that weighs more than the value, if there is one, the first after the
-/// middle; else the middle one, unless it stands in a chain, as on a ring, where no vertex can be certified.
+/// The vertex of a range from which its set is to grow: one that weighs more than the value, if
+/// there is one, the first after the middle; else the middle one, unless it stands in a chain, as
+/// on a ring, where no vertex can be certified.
 fn root_of(graph: &Graph, owners: &[u32], own: u32, ranges: Ranges, value: u64) -> Option<u32>
     requires { length owners.now ≡ graph.now.vertices + 1 }
     ensures { IfSome result (λ r. (1 ≤ r) × (r ≤ graph.now.vertices) × (slice_index owners.now r ≡ own)) }
@@ -130,7 +134,8 @@ fn shares_by(
     Ok(Some(shares))
 }
 
-/// For each vertex of a graph from 0 on the range in which it is, of so many, and a share for each of these, the last one first.
+/// For each vertex of a graph from 0 on the range in which it is, of so many, and a share for each
+/// of these, the last one first.
 #[derive(Drop)]
 pub(crate) struct Divided {
     pub(crate) count: u32,
@@ -138,8 +143,8 @@ pub(crate) struct Divided {
     pub(crate) shares: Vec<Share>,
 }
 
-/// The graph divided into ranges for so many workers. None where it is too small for that, or too many edges join ranges or lead
-/// far away.
+/// The graph divided into ranges for so many workers. None where it is too small for that, or too
+/// many edges join ranges or lead far away.
 pub(crate) fn divide(
     alloc: Global,
     graph: &Graph,

@@ -59,7 +59,7 @@ stays_more s s' s'' h k = record { inner = λ v l. k.inner v (h.inner v l); oute
 
 -- ---- a search from a hub
 
--- the same with another search of a hub
+-- a splitter with another search of a hub
 abbrev pub restarted : Splitter → HubSearch → Splitter
 restarted s hub = record { near = s.near; hub = hub; inner = s.inner; outer = s.outer; good = s.good; touched = s.touched; memory = s.memory }
 
@@ -168,7 +168,7 @@ pub some_kept : (side : Side) (old s : Splitter) → 1 ≤ (half_of side s).coun
 some_kept Inner old s some other = (λ k. some, λ k. subst (λ (x : ListingState). 1 ≤ x.count) (sym other) k)
 some_kept Outer old s some other = (λ k. subst (λ (x : ListingState). 1 ≤ x.count) (sym other) k, λ k. some)
 
--- and both have a part once more was taken into the list of the other side
+-- both sides have a part once more was taken into the list of the other side
 pub some_taken : (side : Side) (s new : Splitter) → 1 ≤ (half_of side s).count → IsSameButHalf (other_side side) s new → 1 ≤ (half_of (other_side side) new).count →
     (1 ≤ new.inner.count) × (1 ≤ new.outer.count)
 some_taken Inner s new some same taken = (subst (λ (x : ListingState). 1 ≤ x.count) (sym same.other) some, taken)
@@ -201,7 +201,7 @@ pub hub_further : (g : Graph) (f : RegionState) (t : ℕ) (s s' : Splitter) (hub
     (h : ℕ) × (hub ≡ At h) × ((1 ≤ get_or s'.inner.turns h 0) ⊎ (1 ≤ get_or s'.outer.turns h 0)) → IsFurther s s'
 hub_further g f t s s' hub is p = let free = is.free p.0 p.1 in inr (p.0, free.0, free.1, p.2)
 
--- so is what the search of the hub found, once it is taken into the list of the other side
+-- a splitter is further once what the search of the hub found is taken into the list of the other side
 pub taken_further : (side : Side) (g : Graph) (f : RegionState) (t : ℕ) (old mid new : Splitter) (hub : Hub) → IsHub g f t old hub → (hub ≡ Outside → side ≡ Inner) → 1 ≤ (half_of (other_side side) new).count →
     ((v : ℕ) → is_seen mid.hub.search.seen v ≡ true → 1 ≤ get_or (half_of (other_side side) new).turns v 0) → ((h : ℕ) → hub ≡ At h → is_seen mid.hub.search.seen h ≡ true) → IsFurther old new
 taken_further Inner g f t old mid new Outside is from some taken seen = inl ((is.outside refl).0, some)
@@ -319,7 +319,7 @@ light_with_one g f t s hub h is none =
     (record { some = some_of g f t s hub is; inner_listed = h.halves.inner_half.listed; outer_listed = h.halves.outer_half.listed; apart = apart_of g f t s h })
     (omega arith) (λ e. left_of g f t s hub h is) (λ e. absurd (omega (arith, e))) none
 
--- and with none
+-- the chain of the region with no part between
 pub light_with_none : (g : Graph) (f : RegionState) (t : ℕ) (s : Splitter) → IsBetween g f t s → 1 ≤ s.inner.count → 1 ≤ s.outer.count → IsAllBesideListed f t s →
     AreLightParts g f.labels t (s.inner.count + s.outer.count + 0) (get_or f.feed t 0) (two_sided (λ v. get_or s.inner.turns v 0) s.inner.count (outer_of f t s) s.outer.count 0)
 light_with_none g f t s h some_inner some_outer all =

@@ -29,14 +29,14 @@ listed_on f t v s s' stays h e = ⊎_elim (λ l. inl (stays.inner v l)) (λ l. i
 
 -- ---- what holds before a place of a list
 
--- it holds of a list that has more
+-- what holds before a place of a list holds of a list that has more
 pub before_on : (P Q : ℕ → Type 0) (old new : List ℕ) (place : ℕ) → ((v : ℕ) → P v → Q v) → HasMore old new → HoldsBefore P old place → HoldsBefore Q new place
 before_on P Q old new place on more h = record {
   within = omega (arith, h.within, more.longer);
   each = λ i l. subst Q (sym (more.same i (omega (arith, l, h.within)))) (on (get_or old i 0) (h.each i l));
 }
 
--- and of one that keeps what stands before a later place
+-- what holds before a place of a list holds of one that keeps what is before a later place
 before_kept : (P : ℕ → Type 0) (old new : List ℕ) (from place : ℕ) → from ≤ place → take place new ≡ take place old → HoldsBefore P old from → HoldsBefore P new from
 before_kept P old new from place le same h = record {
   within =
@@ -158,13 +158,13 @@ all_read Front f t fronts fronts' s p place le read h = record {
   unread = h.unread;
 }
 
--- and what holds of all before it
+-- to look at a vertex behind what is passed keeps what holds of all before it
 pub kept_around : (P : ℕ → Type 0) (around : Around) (f : RegionState) (t : ℕ) (fronts fronts' : FrontsState) (s : Splitter) (place : ℕ) → IsReadAt around f t s place fronts fronts' →
     HoldsBefore P (list_around around f t fronts s) place → HoldsBefore P (list_around around f t fronts' s) place
 kept_around P around f t fronts fronts' s place read h =
     before_kept P (list_around around f t fronts s) (list_around around f t fronts' s) place place (omega arith) read.before h
 
--- and what the search of a hub has looked at, which is nothing where the hub is inside
+-- to look at a vertex behind what is passed keeps what the search of a hub has looked at, which is nothing where the hub is inside
 pub begun_around : (around : Around) (g : Graph) (f : RegionState) (t : ℕ) (fronts fronts' : FrontsState) (s : Splitter) (place : ℕ) → IsReadAt around f t s place fronts fronts' →
     IsSearching (side_around around) g f t s → (s.hub.hub ≢ Outside → s.hub.place ≡ 0) → HaveBegun f t (list_at fronts.lists (get_or f.labels t 0)) s.hub →
     HaveBegun f t (list_at fronts'.lists (get_or f.labels t 0)) s.hub
@@ -179,7 +179,7 @@ more_around Front g f t fronts fronts' s s' h on keeps =
     let front = list_at fronts.lists (get_or f.labels t 0) in
     subst (λ (k : FrontsState). HasMore front (list_at k.lists (get_or f.labels t 0))) (sym (keeps.same (hub_inside g f t s h))) (more_same front)
 
--- so all up to that vertex are settled
+-- once a vertex is settled, all up to it are
 pub settled_next : (around : Around) (g : Graph) (f : RegionState) (t : ℕ) (fronts fronts' : FrontsState) (s s' : Splitter) (place v : ℕ) → IsSearching (side_around around) g f t s →
     GoesOnSettling (side_around around) s s' → KeepsFrontsFor f.labels s.hub.hub fronts fronts' → slice_get (list_around around f t fronts s) place ≡ Some v →
     IsSettledIn (side_around around) g f t s' v → HoldsBefore (IsSettledIn (side_around around) g f t s) (list_around around f t fronts s) place →
@@ -196,7 +196,7 @@ abbrev pub most_around : Around → Graph → RegionState → ℕ → FrontsStat
 most_around (Border side) g f t fronts = g.vertices + 1
 most_around Front g f t fronts = length (list_at fronts.lists (get_or f.labels t 0))
 
--- so there is less to do behind each vertex
+-- once a vertex is settled, there is less to do behind it
 pub less_around : (around : Around) (g : Graph) (f : RegionState) (t : ℕ) (fronts read fronts' : FrontsState) (s : Splitter) (place v : ℕ) → IsReadAt around f t s place fronts read →
     IsSearching (side_around around) g f t s → KeepsFrontsFor f.labels s.hub.hub read fronts' → slice_get (list_around around f t read s) place ≡ Some v →
     most_around around g f t fronts' - (place + 1) < most_around around g f t fronts - place

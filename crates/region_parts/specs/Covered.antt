@@ -24,12 +24,12 @@ abbrev pub LawOfOneRegion : Type 0
 LawOfOneRegion = (g : Graph) (labels : List ℕ) (f : FrontsState) → IsGraph g →
     ((u v : ℕ) → 1 ≤ u → u ≤ g.vertices → 1 ≤ v → v ≤ g.vertices → slice_index labels u ≡ slice_index labels v) → IsCovered g labels f
 
--- no vertex of it is fed either
+-- no vertex of a region is fed where all share one
 abbrev pub LawOfFedStart : Type 0
 LawOfFedStart = (g : Graph) (f : RegionState) → IsGraph g → IsRegionFlow g f →
     ((u v : ℕ) → 1 ≤ u → u ≤ g.vertices → 1 ≤ v → v ≤ g.vertices → slice_index f.labels u ≡ slice_index f.labels v) → FedAreOpen g f
 
--- so does a vertex that enters
+-- vertices that share a region after one vertex has entered shared one before
 abbrev pub LawOfRefiningOne : Type 0
 LawOfRefiningOne = (labels : List ℕ) (t : ℕ) → IsRefined labels (slice_set labels t 0)
 
@@ -49,7 +49,7 @@ LawOfFedOthers = (g : Graph) (f f' : RegionState) (t : ℕ) → FedAreOpen g f �
     ((v : ℕ) → v ≢ t → slice_index f'.feed v ≤ slice_index f.feed v) →
     (v : ℕ) → v ≢ t → 1 ≤ slice_index f'.labels v → 1 ≤ slice_index f'.feed v → IsOpenAt g f'.labels v
 
--- so a flow into an open vertex leaves fed vertices open
+-- a flow into an open vertex leaves fed vertices open
 abbrev pub LawOfFedByFlow : Type 0
 LawOfFedByFlow = (g : Graph) (f f' : RegionState) (t : ℕ) → FedAreOpen g f → IsOpenAt g f.labels t → f'.labels ≡ f.labels →
     ((v : ℕ) → v ≢ t → slice_index f'.feed v ≤ slice_index f.feed v) → FedAreOpen g f'

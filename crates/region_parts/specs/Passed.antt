@@ -27,7 +27,7 @@ pub record HoldsBefore (holds : ℕ → Type 0) (list : List ℕ) (place : ℕ) 
 abbrev pub IsPassed : RegionState → ℕ → Splitter → List ℕ → ℕ → Type 0
 IsPassed f t s = HoldsBefore (IsListedIn f t s)
 
--- so it is beside the lists of both sides, and of the front; this is not looked at before something is listed from the outside
+-- all before a place are listed, in the lists beside both sides and in the front, which is not looked at before something is listed from the outside
 pub record ArePassed (f : RegionState) (t : ℕ) (fronts : FrontsState) (s : Splitter) (p : Passed) : Type 0 where
   pub inner : IsPassed f t s s.inner.border p.inner
   pub outer : IsPassed f t s s.outer.border p.outer

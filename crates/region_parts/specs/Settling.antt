@@ -21,6 +21,6 @@ pub record IsBeside (side : Side) (g : Graph) (f : RegionState) (t : ℕ) (s : S
 abbrev pub last_of : SearchState → ℕ
 last_of s = slice_index s.order (s.count - 1)
 
--- that vertex always halts the search, is good, or has been found from the hub
+-- the vertex that a search found last always halts it, is good, or has been found from the hub
 abbrev pub HasMet : Side → RegionState → ℕ → Splitter → Type 0
 HasMet side f t s = (stops side f t (last_of s.near) ≡ true) ⊎ ((is_seen s.good.items (last_of s.near) ≡ true) ⊎ (is_seen s.hub.search.seen (last_of s.near) ≡ true))

@@ -25,15 +25,15 @@ use region_fronts::Fronts;
 /// What is left between the lists of the two sides.
 #[derive(Clone, Copy, Debug, PartialEq, Eq)]
 pub enum Between {
-    /// Nothing.
+    /// Nothing is left.
     Nothing,
     /// One part, which is not listed.
     One,
 }
 
 impl Splitter {
-    /// The hub of what is left between the lists; none where no vertex that is left is beside the list from `t`. All that is
-    /// beside it before the first such vertex was passed.
+    /// The hub of what is left between the lists; none where no vertex that is left is beside the
+    /// list from `t`. All that is beside it before the first such vertex was passed.
     fn choose_hub(&self, region: Region<'_>, passed: Passed) -> Option<Hub>
         requires between { IsBetween region.graph.now region.flow.now region.t self.now }
         requires some { 1 ≤ self.now.inner.count + self.now.outer.count }
@@ -54,7 +54,8 @@ impl Splitter {
         Some(Hub::At(v))
     }
 
-    /// Settles all around the list of a side. Answers false where the search of the hub ended first.
+    /// Settles all around the list of a side. Answers false where the
+    /// search of the hub ended first.
     fn settle_side(
         &mut self,
         region: Region<'_>,
@@ -89,7 +90,8 @@ impl Splitter {
         }
     }
 
-    /// Searches around the list of a side, where it has a part, from a hub. Answers false where more is listed instead.
+    /// Searches around the list of a side, where it has a part, from a hub.
+    /// Answers false where more is listed instead.
     fn search_side(
         &mut self,
         region: Region<'_>,
@@ -131,8 +133,8 @@ impl Splitter {
         Ok(false)
     }
 
-    /// Searches around the lists of both sides, from a hub. Answers false where a search of the hub ended, and what it found
-    /// is listed, or where another has listed the hub.
+    /// Searches around the lists of both sides, from a hub. Answers false where a search of the
+    /// hub ended, and what it found is listed, or where another has listed the hub.
     fn search_around(
         &mut self,
         region: Region<'_>,

@@ -26,8 +26,8 @@ pub enum Hub {
     At(u32),
 }
 
-/// The search from a hub. From the outside it starts from the vertices that are fed, which it takes from the front of the
-/// region a few at a time.
+/// The search from a hub. From the outside it starts from the vertices that are fed, which it
+/// takes from the front of the region a few at a time.
 #[derive(Drop)]
 pub struct HubSearch {
     search: Search,
@@ -66,7 +66,8 @@ impl HubSearch {
         }
     }
 
-    /// Looks at a vertex of the region, the next entry of the front, and begins from it if it is fed.
+    /// Looks at a vertex of the region, the next entry of the front,
+    /// and begins from it if it is fed.
     fn look_at(&mut self, region: Region<'_>, v: u32)
         requires within { v < length self.old.search.seen }
         requires feed { v < length region.flow.now.feed }
@@ -86,7 +87,8 @@ impl HubSearch {
         }
     }
 
-    /// Looks at a few more entries of the front, and begins from those that are fed. Answers whether all were looked at.
+    /// Looks at a few more entries of the front, and begins from those that are fed. Answers
+    /// whether all were looked at.
     fn begin_fed(&mut self, region: Region<'_>, fronts: &mut Fronts) -> bool
         requires flow { IsRegionFlow region.graph.now region.flow.now }
         requires to_n { region.t ≤ region.graph.now.vertices }
@@ -111,7 +113,8 @@ impl HubSearch {
         false
     }
 
-    /// Looks at a few more entries of the front where the hub is outside. Answers whether none is left to be looked at.
+    /// Looks at a few more entries of the front where the hub is outside.
+    /// Answers whether none is left to be looked at.
     fn take_up(&mut self, region: Region<'_>, fronts: &mut Fronts) -> bool
         requires flow { IsRegionFlow region.graph.now region.flow.now }
         requires to_n { region.t ≤ region.graph.now.vertices }

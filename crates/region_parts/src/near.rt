@@ -8,8 +8,8 @@ use crate::side::Side;
 use arc_search::Halts;
 use region_flow::RegionFlow;
 
-/// What halts a search of a side: what always does, what is known to lead to the hub or to come from it, and what the search
-/// of the hub has found.
+/// What halts a search of a side: what always does, what is known to lead to the hub or to come
+/// from it, and what the search of the hub has found.
 #[derive(Clone, Copy)]
 pub struct NearHalts<'a> {
     pub side: Side,
@@ -19,7 +19,8 @@ pub struct NearHalts<'a> {
     pub met: &'a [bool],
 }
 
-/// Whether a vertex always halts a search of a side: a fed one, but for `t`, where it goes against the arcs, else `t`.
+/// Whether a vertex always halts a search of a side:
+/// a fed one, but for `t`, where it goes against the arcs, else `t`.
 fn always_halts(side: Side, flow: &RegionFlow, t: u32, v: u32) -> bool
     requires { v < length flow.now.feed }
     ensures { result ≡ stops side flow.now t v }

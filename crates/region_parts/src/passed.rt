@@ -1,7 +1,7 @@
 //! The vertices around what is listed, and how far they are known to be listed themselves.
 //!
-//! What is listed stays so. So each hub may begin behind what the hubs before it passed, and all of them together go once
-//! along what is listed.
+//! What is listed stays so. So each hub may begin behind what the hubs before it passed, and all
+//! of them together go once along what is listed.
 
 ghost use Rattle.std.specs.Prelude.{◌≡◌, ◌+◌, ◌<◌, ◌≤◌, ◌^◌, None, Some, IfSome, IsTrue, IsFalse, length, slice_get};
 ghost use Rattle.region_flow.specs.Regions.{IsRegionFlow};
@@ -16,7 +16,7 @@ use region_fronts::Fronts;
 /// Vertices around what is listed, which stand in a list.
 #[derive(Clone, Copy)]
 pub enum Around {
-    /// Those beside the list of a side.
+    /// The vertices beside the list of a side.
     Border(Side),
     /// The open vertices of the region, which are beside what is outside it.
     Front,
@@ -34,8 +34,8 @@ impl Around {
     }
 }
 
-/// How many vertices at the start of the lists of those beside what is listed, from both sides, and of the front are known
-/// to be listed by now.
+/// How many vertices at the start of the lists of those beside what is listed, from both sides,
+/// and of the front are known to be listed by now.
 #[derive(Clone, Copy, Debug, PartialEq, Eq)]
 pub struct Passed {
     pub inner: usize,
@@ -69,7 +69,8 @@ impl Splitter {
         region.flow.label(v) == region.label() && !self.is_listed(v)
     }
 
-    /// The vertex at a place beside the list of a side, counted from 0; none where there are no more.
+    /// The vertex at a place beside the list of a side, counted from 0;
+    /// none where there are no more.
     pub(crate) fn beside(&self, side: Side, place: usize) -> Option<u32>
         ensures at { result ≡ slice_get (half_of side self.now).border place }
         ensures next { IfSome result (λ v. place + 1 < 2 ^ 64) }
@@ -77,7 +78,8 @@ impl Splitter {
         self.listing(side).border().get(place).copied()
     }
 
-    /// The vertex at a place of those around, counted from 0; none where there are no more. Those before the place stay.
+    /// The vertex at a place of those around, counted from 0; none where there are no more.
+    /// Those before the place stay.
     pub(crate) fn vertex_at(
         &self,
         region: Region<'_>,
@@ -101,7 +103,8 @@ impl Splitter {
         }
     }
 
-    /// How far those around can be passed: the place of the first that is left, or the end where none is.
+    /// How far those around can be passed: the place of the first that is left,
+    /// or the end where none is.
     fn pass_around(
         &self,
         region: Region<'_>,
@@ -128,8 +131,8 @@ impl Splitter {
         place
     }
 
-    /// Moves on behind all that is listed by now. It takes time for what it passes. The front is not looked at before
-    /// something is listed from the outside.
+    /// Moves on behind all that is listed by now. It takes time for what it passes. The front is
+    /// not looked at before something is listed from the outside.
     pub(crate) fn pass(&self, region: Region<'_>, fronts: &mut Fronts, passed: Passed) -> Passed
         requires flow { IsRegionFlow region.graph.now region.flow.now }
         requires between { IsBetween region.graph.now region.flow.now region.t self.now }

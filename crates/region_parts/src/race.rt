@@ -18,8 +18,9 @@ use crate::side::Side;
 use arc_search::{Reached, Search};
 use region_fronts::Fronts;
 
-/// How many arcs the search from beside a list looks at before that of the hub begins, which often ends at once. It looks at
-/// more each time, up to `STEP`. A search that finds no more than a short row is done in the first step, and does not pause.
+/// How many arcs the search from beside a list looks at before that of the hub begins, which often
+/// ends at once. It looks at more each time, up to `STEP`. A search that finds no more than a
+/// short row is done in the first step, and does not pause.
 const FIRST_STEP: usize = 8;
 
 /// How a race between a search from beside a list and that of the hub ended.
@@ -27,13 +28,14 @@ const FIRST_STEP: usize = 8;
 pub enum Race {
     /// The search from beside the list found a vertex that halts it.
     Met,
-    /// It found all that it can find.
+    /// The search from beside the list found all that it can find.
     Ended,
-    /// The search of the hub did.
+    /// The search of the hub found all that it can find.
     HubEnded,
 }
 
-/// What a search from beside the list of a side goes by: the turns in that list, and which vertices are good.
+/// What a search from beside the list of a side goes by:
+/// the turns in that list, and which vertices are good.
 #[derive(Clone, Copy)]
 pub struct NearTask<'a> {
     pub region: Region<'a>,
@@ -42,7 +44,8 @@ pub struct NearTask<'a> {
     pub good: &'a [bool],
 }
 
-/// Lets a search of a side go on for about so many steps. What is good, or was met by the search of the hub, halts it.
+/// Lets a search of a side go on for about so many steps.
+/// What is good, or was met by the search of the hub, halts it.
 fn go_near(near: &mut Search, met: &[bool], task: NearTask<'_>, steps: usize) -> Reached
     requires graph { IsGraph task.region.graph.now }
     requires flow { IsRegionFlow task.region.graph.now task.region.flow.now }
@@ -70,12 +73,12 @@ fn go_near(near: &mut Search, met: &[bool], task: NearTask<'_>, steps: usize) ->
     near.advance(&arcs, &halts, task.own, steps)
 }
 
-/// Lets a search of a side, from beside its list, and that of the hub, from the other side, go on in turn, each a few steps
-/// at a time, until one of them ends.
+/// Lets a search of a side, from beside its list, and that of the hub, from the other side, go on
+/// in turn, each a few steps at a time, until one of them ends.
 ///
-/// What has a turn in a list is passed over by the search of its side. A vertex that is good, or that the search of the
-/// hub has found, halts the first search. It takes time for the rows that both follow and the entries of the front that
-/// are looked at, and no memory.
+/// What has a turn in a list is passed over by the search of its side. A vertex that is good, or
+/// that the search of the hub has found, halts the first search. It takes time for the rows that
+/// both follow and the entries of the front that are looked at, and no memory.
 pub fn run_race(
     near: &mut Search,
     hub: &mut HubSearch,

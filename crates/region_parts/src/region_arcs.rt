@@ -11,7 +11,8 @@ use arc_search::{Direction, StepArcs};
 use region_flow::RegionFlow;
 use weighted_graph::{Arc, Graph};
 
-/// The arcs inside the regions of a flow that can still carry something, taken along or against them.
+/// The arcs inside the regions of a flow that can still carry something,
+/// taken along or against them.
 #[derive(Clone, Copy)]
 pub struct RegionArcs<'a> {
     pub graph: &'a Graph,

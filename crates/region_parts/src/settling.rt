@@ -99,8 +99,8 @@ impl Splitter {
         }
     }
 
-    /// Settles the vertex that the race began from, unless the search of the hub ended it: what is on the way to where the
-    /// searches met is good, and what was found without that is listed.
+    /// Settles the vertex that the race began from, unless the search of the hub ended it: what is
+    /// on the way to where the searches met is good, and what was found without that is listed.
     fn end_race(&mut self, region: Region<'_>, side: Side, race: Race) -> Result<(), NoMemory>
         requires flow { IsRegionFlow region.graph.now region.flow.now }
         requires searching { IsSearching side region.graph.now region.flow.now region.t self.old }
@@ -127,8 +127,8 @@ impl Splitter {
         }
     }
 
-    /// Settles a vertex beside the list of a side: it is listed, or known to bring the hub, or to come with it. Answers
-    /// false where the search of the hub ended first.
+    /// Settles a vertex beside the list of a side: it is listed, or known to bring the hub, or to
+    /// come with it. Answers false where the search of the hub ended first.
     pub(crate) fn settle(
         &mut self,
         region: Region<'_>,
@@ -161,8 +161,8 @@ impl Splitter {
         Ok(has_settled(race))
     }
 
-    /// Settles all vertices of those around, behind what is passed of them. Answers false where the search of the hub ended
-    /// first.
+    /// Settles all vertices of those around, behind what is passed of them. Answers false where
+    /// the search of the hub ended first.
     pub(crate) fn settle_around(
         &mut self,
         region: Region<'_>,

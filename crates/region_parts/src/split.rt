@@ -1,10 +1,11 @@
 //! The parts of a region around one of its vertices.
 //!
-//! Parts are listed from that of `t` and from that with all that is outside the region, until at most one part is left between
-//! the two lists, which is not listed. It is the part of a hub: all that is outside, or `t`, or any vertex that is left. Around
-//! each list searches start from the vertices beside it, each in a race with one from the hub: where they meet, no part ends
-//! between, and where one of them ends first, what it found is further parts of a list. So what is listed is paid for by
-//! searches that would have listed more.
+//! Parts are listed from that of `t` and from that with all that is outside the region, until at
+//! most one part is left between the two lists, which is not listed. It is the part of a hub: all
+//! that is outside, or `t`, or any vertex that is left. Around each list searches start from the
+//! vertices beside it, each in a race with one from the hub: where they meet, no part ends
+//! between, and where one of them ends first, what it found is further parts of a list. So what is
+//! listed is paid for by searches that would have listed more.
 
 ghost use Rattle.std.specs.Prelude.{◌≡◌, ◌≢◌, ◌+◌, ◌-◌, ◌<◌, ◌≤◌, ◌^◌, ℕ, true, false, if◌then◌else◌, nat_lt, IfOk, OnOk, IsTrue, IsFalse, length, slice_index};
 ghost use Rattle.std.specs.List.{Contains};
@@ -47,7 +48,8 @@ fn parts_left(between: Between) -> u32
     }
 }
 
-/// The number of the part that is not listed, which comes after those from the outside; 0 where there is none.
+/// The number of the part that is not listed, which comes after those from the
+/// outside; 0 where there is none.
 fn unlisted_number(between: Between, outer: u32) -> u32
     requires { outer + parts_between between < 2 ^ 32 }
     ensures nothing { between ≡ Between.Nothing → result ≡ 0 }
@@ -91,7 +93,8 @@ fn put_from_last(parts: &mut Parts, listing: &Listing, last: u32) -> Result<(), 
 }
 
 impl Splitter {
-    /// Searches from `t` against the arcs, with nothing listed, in a race with the search from all outside.
+    /// Searches from `t` against the arcs, with nothing listed,
+    /// in a race with the search from all outside.
     fn race_from_t(&mut self, region: Region<'_>, fronts: &mut Fronts) -> Race
         requires flow { IsRegionFlow region.graph.now region.flow.now }
         requires region { IsRegionOf region.graph.now region.flow.now region.t }
@@ -114,7 +117,8 @@ impl Splitter {
         run_race(&mut self.near, &mut self.hub, task, fronts, outer)
     }
 
-    /// Lists what was found by the search that ended, as the first part of its side. Answers false where there are no parts.
+    /// Lists what was found by the search that ended, as the first part of its side. Answers false
+    /// where there are no parts.
     fn take_first_part(&mut self, region: Region<'_>, race: Race) -> Result<bool, NoMemory>
         requires flow { IsRegionFlow region.graph.now region.flow.now }
         requires region { IsRegionOf region.graph.now region.flow.now region.t }
@@ -142,8 +146,8 @@ impl Splitter {
         }
     }
 
-    /// Lists the first part from one side, whichever is found first. Answers false where there are no parts: each set around
-    /// `t` in its region weighs more than `t` is fed.
+    /// Lists the first part from one side, whichever is found first. Answers false where there are
+    /// no parts: each set around `t` in its region weighs more than `t` is fed.
     fn list_first(&mut self, region: Region<'_>, fronts: &mut Fronts) -> Result<bool, NoMemory>
         requires flow { IsRegionFlow region.graph.now region.flow.now }
         requires region { IsRegionOf region.graph.now region.flow.now region.t }
@@ -161,7 +165,8 @@ impl Splitter {
         Ok(some)
     }
 
-    /// Gives the parts of both lists their numbers: those from the outside first, then that between, then those from `t`.
+    /// Gives the parts of both lists their numbers: those from the outside first, then that
+    /// between, then those from `t`.
     fn number_parts(
         &self,
         region: Region<'_>,
@@ -207,10 +212,12 @@ impl Splitter {
         self.outer.clear();
     }
 
-    /// Lists the parts of the region of `t`: the sets around `t` in its region that weigh just what `t` is fed are all parts from
-    /// one on. Answers false where there is none; all such sets weigh more then.
+    /// Lists the parts of the region of `t`: the sets around `t` in its region that weigh
+    /// just what `t` is fed are all parts from one on. Answers false where there is none; all
+    /// such sets weigh more then.
     ///
-    /// It takes time for the parts that it lists, all but one, and for searches that meet. Want of memory is its only refusal.
+    /// It takes time for the parts that it lists, all but one, and for searches that meet. Want of
+    /// memory is its only refusal.
     pub fn split(
         &mut self,
         graph: &Graph,

@@ -24,7 +24,8 @@ pub struct Splitter {
     pub(crate) inner: Listing,
     pub(crate) outer: Listing,
 
-    // the vertices that are known to bring the hub, or to come with it, and a list that has all of these
+    // the vertices that are known to bring the hub, or to come with it,
+    // and a list that has all of these
     pub(crate) good: Vec<bool>,
     pub(crate) touched: Vec<u32>,
     pub(crate) memory: PathMemory,

@@ -72,7 +72,7 @@ root_part h t amount tree homes none =
       };
     }
 
--- the same for a graph that is another one
+-- the root alone, where no cut has the weight, for a graph that is given by another name
 pub root_part_of : (h part : Graph) (t : HomedTree) (amount n : ℕ) → part ≡ h → n ≡ part.vertices → t.tree ≡ record { uppers = 0 ∷ []; follows = false ∷ [] } → t.homes.items ≡ replicate (n + 1) 0 →
     ((x : VertexSet) → IsCut part.vertices x → weight part x ≡ amount → ⊥) → IsPartTree amount h t
 root_part_of h part t amount n is e tree homes none =

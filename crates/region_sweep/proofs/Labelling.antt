@@ -142,7 +142,7 @@ not_owner labels q v w r has at one ne same =
     let e : get_or labels v 0 ≡ r = ap (λ (k : ℕ). get_or labels k 0) same ∙ at in
     ⊎_elim (λ (h : get_or labels v 0 ≡ q). ne (sym h ∙ e)) (λ (h : get_or labels v 0 ≡ 0). absurd (omega (arith, h, e, one))) has
 
--- as a region is split t owns its label
+-- as a region is split, t owns its label
 pub around : (n : ℕ) (labels : List ℕ) (region t fresh : ℕ) → AreNumbered n labels fresh → t ≤ n → get_or labels t 0 ≡ region → 1 ≤ region → AreNumberedAround n labels region t fresh
 around n labels region t fresh h to_n at one =
     let below : region < fresh = omega (arith, h.below t, at) in

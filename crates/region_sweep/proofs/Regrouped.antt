@@ -43,7 +43,7 @@ listed_cases p v = ⊎_elim (λ (e : get_or p.numbers v 0 ≡ 0). inr e) (λ (ne
 pub last_number : (n : ℕ) (labels : List ℕ) (region t : ℕ) (p : PartsState) → AreListed n labels region p → part_in p labels region t ≡ p.count → 1 ≤ get_or p.numbers t 0 → get_or p.numbers t 0 ≡ p.count
 last_number n labels region t p listed last one = sym (part_listed p labels region t one) ∙ last
 
--- and not that of the first
+-- t is in the last part, so its number is not that of the first
 pub not_first : (n : ℕ) (labels : List ℕ) (region t i : ℕ) (p : PartsState) → AreListed n labels region p → part_in p labels region t ≡ p.count → i ≡ 1 → get_or p.numbers t 0 ≢ i
 not_first n labels region t i p listed last e d =
     let k = last_number n labels region t p listed last (omega (arith, d, e)) in

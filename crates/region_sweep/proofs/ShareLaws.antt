@@ -236,7 +236,7 @@ share_is g labels list s upto is all one root outside h =
 pub last_share : (g : Graph) (labels : List ℕ) (xs rest : List Share) (share : Share) → xs ≡ rest ++ share ∷ [] → All (IsSolvedShare g labels) xs → IsSolvedShare g labels share
 last_share g labels xs rest share is all = All-back (IsSolvedShare g labels) rest (share ∷ []) (subst (All (IsSolvedShare g labels)) is all) 0 share (omega arith)
 
--- those that are left are of other regions than the one that entered
+-- the shares that are left are of other regions than the one that entered
 pub shares_left : (g : Graph) (labels labels' : List ℕ) (xs rest : List Share) (share : Share) → xs ≡ rest ++ share ∷ [] → All (IsSolvedShare g labels) xs →
     AllPairs (λ (p q : Share). p.region ≢ q.region) xs → HasLeft labels share.region labels' →
     All (IsSolvedShare g labels') rest × AllPairs (λ (p q : Share). p.region ≢ q.region) rest

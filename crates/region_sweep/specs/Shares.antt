@@ -48,7 +48,7 @@ pub record IsPartTree (amount : ℕ) (h : Graph) (t : HomedTree) : Type 0 where
 abbrev pub HasTree : Graph → Share → Type 0
 HasTree g s = IfSome s.tree (λ found. IfOk found (IsPartTree (value g) (relabel g s.classes)))
 
--- the same share, of which the tree was looked for
+-- a share of the region, owner and classes of another, after its tree was looked for
 pub record IsSolvedFrom (g : Graph) (old new : Share) : Type 0 where
   pub region : new.region ≡ old.region
   pub own : new.own ≡ old.own
@@ -75,7 +75,7 @@ regions_of shares = map (λ (s : Share). s.region) shares
 abbrev pub HasLeft : List ℕ → ℕ → List ℕ → Type 0
 HasLeft labels region labels' = (v : ℕ) → slice_index labels' v ≡ (if slice_index labels v == region then 0 else slice_index labels v)
 
--- the same of several regions
+-- all vertices of several regions have left them and entered, and all other labels stay
 abbrev pub HaveLeft : List ℕ → List ℕ → List ℕ → Type 0
 HaveLeft labels regions labels' = (v : ℕ) → slice_index labels' v ≡ (if has regions (slice_index labels v) then 0 else slice_index labels v)
 

@@ -27,8 +27,9 @@ fn first_of_region(graph: &Graph, labels: &[u32], p: u32, region: u32, t: u32) -
     None
 }
 
-/// An open vertex of the region of `t`, other than `t`, that an edge joins to a vertex outside which one joins to `t` too.
-/// Rows of more than 32 arcs are passed over, so it takes some thousand steps at most. No answer rests on which it is.
+/// An open vertex of the region of `t`, other than `t`, that an edge joins to a vertex outside
+/// which one joins to `t` too. Rows of more than 32 arcs are passed over, so it takes some
+/// thousand steps at most. No answer rests on which it is.
 pub fn open_across(graph: &Graph, labels: &[u32], t: u32) -> Option<u32>
     requires to_n { t ≤ graph.now.vertices }
     requires labels { length labels.now ≡ graph.now.vertices + 1 }

@@ -14,8 +14,8 @@ use rooted_cactus::Solved;
 use std::alloc::Global;
 use weighted_graph::Graph;
 
-/// The tree of the minimum cuts of a graph whose value is given: read off the graph where it is a tree whose edges all have
-/// the value, and else by a sweep.
+/// The tree of the minimum cuts of a graph whose value is given: read off the graph where it is a
+/// tree whose edges all have the value, and else by a sweep.
 fn tree_alone(alloc: Global, graph: &Graph, value: u64) -> Result<HomedTree, NoMemory>
     requires connected { IsConnected graph.now }
     requires enough { 2 ≤ graph.now.vertices }
@@ -28,9 +28,10 @@ fn tree_alone(alloc: Global, graph: &Graph, value: u64) -> Result<HomedTree, NoM
     }
 }
 
-/// The value of a connected graph of two or more vertices, which is given, and the cactus of its minimum cuts, in its normal
-/// form: no thread is started, and no runtime is asked for. Nothing is contracted before, so this is the sweep over regions on
-/// the whole graph. Memory is in proportion to n + m. It is refused only where that is wanting.
+/// The value of a connected graph of two or more vertices, which is given, and the cactus of its
+/// minimum cuts, in its normal form: no thread is started, and no runtime is asked for. Nothing is
+/// contracted before, so this is the sweep over regions on the whole graph. Memory is in
+/// proportion to n + m. It is refused only where that is wanting.
 pub fn solve_alone(alloc: Global, graph: &Graph, value: u64) -> Result<Solved, NoMemory>
     requires connected { IsConnected graph.now }
     requires enough { 2 ≤ graph.now.vertices }

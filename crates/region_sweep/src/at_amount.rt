@@ -13,9 +13,9 @@ use std::alloc::Global;
 use std::thread::Threads;
 use weighted_graph::Graph;
 
-/// The tree of the cuts of a connected graph that weigh an amount, which is at most the value: that of the minimum cuts as
-/// `tree_by_workers` makes it, or the root alone where the value is greater, or the graph has one vertex. It is refused only
-/// where memory is wanting.
+/// The tree of the cuts of a connected graph that weigh an amount, which is at most the value:
+/// that of the minimum cuts as `tree_by_workers` makes it, or the root alone where the value is
+/// greater, or the graph has one vertex. It is refused only where memory is wanting.
 pub fn tree_at_amount<R: Threads + Sync>(
     rt: &R,
     alloc: Global,

@@ -10,8 +10,9 @@ use node_tree::{HomedTree, cactus_of_tree, normal_form};
 use rooted_cactus::Solved;
 use std::alloc::Global;
 
-/// The cactus of the minimum cuts of a graph, in its normal form, made of the tree of these cuts and beside the value, which is
-/// given; rows are not needed. Time and memory are in proportion to the nodes of the tree and the vertices. It is refused only where memory is wanting.
+/// The cactus of the minimum cuts of a graph, in its normal form, made of the tree of these cuts
+/// and beside the value, which is given; rows are not needed. Time and memory are in proportion to
+/// the nodes of the tree and the vertices. It is refused only where memory is wanting.
 pub fn cactus_by_tree(
     alloc: Global,
     list: &EdgeList,

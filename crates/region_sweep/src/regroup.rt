@@ -17,7 +17,8 @@ use weighted_graph::Graph;
 /// The part that all vertices outside the region are in too.
 const FIRST_PART: u32 = 1;
 
-/// Cuts the vertices that are listed of one part off from the region, puts them into a node, and answers the next fresh label.
+/// Cuts the vertices that are listed of one part off from the region, puts them into a node, and
+/// answers the next fresh label.
 ///
 /// They get the fresh label, but the only vertex of any part but the first enters.
 fn place_part(
@@ -60,7 +61,8 @@ fn place_part(
     fresh + 1
 }
 
-/// Places each part that is listed, with the node at the place of its number, and answers the next fresh label.
+/// Places each part that is listed, with the node at the place of its number,
+/// and answers the next fresh label.
 fn place_parts(
     parted: PartedRegion<'_>,
     flow: &mut RegionFlow,
@@ -110,11 +112,13 @@ fn enter_last(graph: &Graph, flow: &mut RegionFlow, t: u32)
     }
 }
 
-/// Splits the region of `t`, which is parted, into its parts, lets `t` enter, and answers the next fresh label.
+/// Splits the region of `t`, which is parted, into its parts, lets `t` enter,
+/// and answers the next fresh label.
 ///
-/// A part that is listed gets a label of its own, but the only vertex of a part between the first and the last enters; the
-/// part that is not listed keeps the label of the region. The vertices of part i get the node at place i. It takes one step
-/// for each part and for each arc of `t` and of what is listed, and no memory. It refuses nothing: labels do not run out.
+/// A part that is listed gets a label of its own, but the only vertex of a part between the first
+/// and the last enters; the part that is not listed keeps the label of the region. The vertices of
+/// part i get the node at place i. It takes one step for each part and for each arc of `t` and of
+/// what is listed, and no memory. It refuses nothing: labels do not run out.
 pub fn regroup(
     parted: PartedRegion<'_>,
     flow: &mut RegionFlow,

@@ -19,8 +19,8 @@ use std::thread;
 use std::thread::Threads;
 use weighted_graph::{Graph, Labels};
 
-/// A region, its vertices as those from 2 on of a graph in which vertex 1 stands for all others, and the tree of that graph
-/// once it was looked for.
+/// A region, its vertices as those from 2 on of a graph in which vertex 1 stands for all others,
+/// and the tree of that graph once it was looked for.
 #[derive(Drop)]
 pub struct Share {
     pub region: u32,
@@ -29,7 +29,8 @@ pub struct Share {
     pub tree: Option<Result<HomedTree, NoMemory>>,
 }
 
-/// Gives the next vertex its class: the next one from 2 on where it is in the region, and 1 elsewhere.
+/// Gives the next vertex its class: the next one from 2 on where it is in the
+/// region, and 1 elsewhere.
 fn add_class(
     own: &mut Vec<u32>,
     classes: &mut Vec<u32>,
@@ -49,7 +50,8 @@ fn add_class(
     Ok(())
 }
 
-/// A region that is to be solved. It takes four bytes for each vertex of the graph and of the region.
+/// A region that is to be solved. It takes four bytes for each vertex of the
+/// graph and of the region.
 pub fn share_of(
     alloc: Global,
     graph: &Graph,
@@ -95,7 +97,8 @@ fn has_degree(graph: &Graph, degree: u64) -> bool
     false
 }
 
-/// Whether all cuts of a graph weigh more than a weight. It looks at the degrees first, which mostly tell.
+/// Whether all cuts of a graph weigh more than a weight.
+/// It looks at the degrees first, which mostly tell.
 pub(crate) fn is_heavier(alloc: Global, graph: &Graph, weight: u64) -> Result<bool, NoMemory>
     requires enough { 2 ≤ graph.now.vertices }
     requires small { weight ≤ 2 ^ 62 }
@@ -146,8 +149,8 @@ fn solve_share(alloc: Global, graph: &Graph, value: u64, share: &mut Share)
     share.tree = Some(tree_of_part(alloc, graph, value, &share.classes));
 }
 
-/// Looks for the trees of the shares side by side, by so many workers: the list and the workers are halved until one worker
-/// or one share is left.
+/// Looks for the trees of the shares side by side, by so many workers: the list and the workers
+/// are halved until one worker or one share is left.
 pub fn solve_shares<R: Threads + Sync>(
     rt: &R,
     alloc: Global,

@@ -63,7 +63,8 @@ fn put_away(homes: &mut Homes, classes: &Labels, nodes: &[usize], node: usize, c
     }
 }
 
-/// Puts one vertex, if it is in the region, into the node of its class in a tree that was grafted on a node.
+/// Puts one vertex, if it is in the region, into the node of its class in a tree
+/// that was grafted on a node.
 fn put_one(homes: &mut Homes, classes: &Labels, nodes: &[usize], node: usize, count: usize, v: u32)
     requires from_one { 1 ≤ v }
     requires to_n { v ≤ length classes.now }
@@ -82,7 +83,8 @@ fn put_one(homes: &mut Homes, classes: &Labels, nodes: &[usize], node: usize, co
 }
 
 impl Sweep {
-    /// The regions of the parts that are listed last, of those with at least so many vertices, ascending.
+    /// The regions of the parts that are listed last, of those with at least so
+    /// many vertices, ascending.
     fn large_regions(&self, alloc: Global, n: u32, least: usize) -> Result<Vec<u32>, NoMemory>
         requires { length self.now.flow.labels ≡ n + 1 }
         ensures outside { IfOk result (λ regions. All (λ region. 1 ≤ region) regions.items) }
@@ -103,8 +105,8 @@ impl Sweep {
         Ok(regions)
     }
 
-    /// The region of a part with at least so many vertices. The vertex that entered when the parts were made is not the last
-    /// one of its list.
+    /// The region of a part with at least so many vertices. The vertex that entered when the parts
+    /// were made is not the last one of its list.
     fn large_region(&self, part: u32, n: u32, least: usize) -> Option<u32>
         requires part { part ≤ self.now.parts.count }
         requires labels { length self.now.flow.labels ≡ n + 1 }
@@ -171,7 +173,8 @@ impl Sweep {
         Ok(())
     }
 
-    /// Solves the large regions that the last split listed side by side, where there are two or more of them.
+    /// Solves the large regions that the last split listed side by side,
+    /// where there are two or more of them.
     fn share_large<R: Threads + Sync>(
         &mut self,
         rt: &R,
@@ -199,7 +202,8 @@ impl Sweep {
         self.graft_all(graph, shares)
     }
 
-    /// Goes on until all vertices have entered, with large regions solved side by side where there are two or more workers.
+    /// Goes on until all vertices have entered, with large regions solved side by side where there
+    /// are two or more workers.
     pub fn run_shared<R: Threads + Sync>(
         &mut self,
         rt: &R,

@@ -5,22 +5,26 @@ ghost use Rattle.std.specs.Prelude.{◌≡◌, ◌↔◌, ◌<◌, ◌≤◌, �
 /// How many vertices a search from what is fed may find before that is called far.
 const NEAR: usize = 64;
 
-/// How many it may find before the sweep leaves the order of the newest. A search that meets near by may still find some two hundred,
-/// most of them fed vertices of a long front that it only began from, as on a torus.
+/// How many it may find before the sweep leaves the order of the newest. A search that meets near
+/// by may still find some two hundred, most of them fed vertices of a long front that it only
+/// began from, as on a torus.
 const FAR: usize = 256;
 
 /// How many splits are passed over once it was in vain to feed a vertex beside.
 const PAUSE: u32 = 3;
 
-/// How far the searches of splits went to what the region is fed, and whether it helps to feed a vertex beside the next one.
+/// How far the searches of splits went to what the region is fed, and whether it helps to feed a
+/// vertex beside the next one.
 ///
-/// On a long closed band in which each vertex is a minimum cut alone, what a region is fed comes to lie at the other end of the
-/// band, and a search from there goes halfway round at each split, or at each second or third. A little that is brought near
-/// once stays near. So a far search is remembered for a while. Where feeding was in vain, some splits are passed over before it
-/// is tried again.
+/// On a long closed band in which each vertex is a minimum cut alone, what a region is fed comes
+/// to lie at the other end of the band, and a search from there goes halfway round at each
+/// split, or at each second or third. A little that is brought near once stays near. So a far
+/// search is remembered for a while. Where feeding was in vain, some splits are passed over
+/// before it is tried again.
 #[derive(Clone, Copy)]
 pub struct Supply {
-    // how many vertices the searches from what is fed found in the last splits: a sixteenth is forgotten at each
+    // how many vertices the searches from what is fed found in the last splits:
+    // a sixteenth is forgotten at each
     reach: usize,
     // whether a vertex beside was fed since
     tried: bool,
@@ -42,7 +46,8 @@ impl Supply {
         }
     }
 
-    /// Whether searches of the last splits went so far that another vertex is to enter than the newest.
+    /// Whether searches of the last splits went so far that another vertex is
+    /// to enter than the newest.
     pub fn went_far(self) -> bool
         ensures { IsTrue result ↔ 256 < self.reach }
     {
@@ -56,7 +61,8 @@ impl Supply {
         self.reach > NEAR && !self.tried && self.pause == 0
     }
 
-    /// What a vertex is to be fed that is fed so much already: something, and where searches went very far one more.
+    /// What a vertex is to be fed that is fed so much already:
+    /// something, and where searches went very far one more.
     pub fn wanted(self, fed: u64) -> u64
         ensures far { 256 < self.reach → result ≡ min (fed + 1) (2 ^ 64 - 1) }
         ensures near { self.reach ≤ 256 → result ≡ 1 }

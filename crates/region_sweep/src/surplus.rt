@@ -7,9 +7,9 @@ use region_flow::Outcome;
 
 /// How much more than the value the next vertex is to be fed that enters alone: 1 at first.
 ///
-/// It doubles once as many vertices got it as is wanted, so that few of them need to be fed from far away. Where one cannot
-/// get it, all that leads to that vertex was searched in vain. So it is 1 again then, and twice as many are wanted from
-/// there on.
+/// It doubles once as many vertices got it as is wanted, so that few of them need to be fed from
+/// far away. Where one cannot get it, all that leads to that vertex was searched in vain. So it is
+/// 1 again then, and twice as many are wanted from there on.
 #[derive(Clone, Copy)]
 pub struct Surplus {
     amount: u64,

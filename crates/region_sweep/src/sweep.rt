@@ -30,7 +30,8 @@ use weighted_graph::Graph;
 /// The vertex from which the sweep starts.
 const ROOT: u32 = 1;
 
-/// Regions that are left, the tree of the minimum cuts that lie in none of them, and memory for the steps.
+/// Regions that are left, the tree of the minimum cuts that lie in none of them,
+/// and memory for the steps.
 #[derive(Drop)]
 pub struct Sweep {
     pub(crate) flow: RegionFlow,
@@ -73,7 +74,8 @@ fn put_listed(
     Ok(())
 }
 
-/// The flow and its fronts as the sweep starts: vertex 1 has entered, and all others are in one region.
+/// The flow and its fronts as the sweep starts:
+/// vertex 1 has entered, and all others are in one region.
 fn enter_first(alloc: Global, graph: &Graph) -> Result<(RegionFlow, Fronts), NoMemory>
     requires { 1 ≤ graph.now.vertices }
     ensures { IfOk result (λ start. IsStarted graph.now start.0 start.1) }
@@ -107,7 +109,8 @@ fn first_node(alloc: Global, n: u32) -> Result<(FlatTree, Homes), NoMemory>
     Ok((tree, homes))
 }
 
-/// Memory for the parts of a region of n vertices: their nodes, and what lies between each and all later parts, and the next.
+/// Memory for the parts of a region of n vertices: their nodes, and what lies between each and all
+/// later parts, and the next.
 fn part_rows(alloc: Global, n: u32) -> Result<(Vec<usize>, Vec<u64>, Vec<u64>), NoMemory>
     ensures nodes { IfOk result (λ rows. length rows.0.items ≡ n + 2) }
     ensures later { IfOk result (λ rows. length rows.1.items ≡ n + 2) }
@@ -150,7 +153,8 @@ impl Sweep {
         })
     }
 
-    /// Lists the parts of the region of `t`, if a set around `t` in its region weighs just the value.
+    /// Lists the parts of the region of `t`, if a set around `t` in its
+    /// region weighs just the value.
     fn find_parts(&mut self, graph: &Graph, t: u32, value: u64) -> Result<bool, NoMemory>
         requires under_way { IsUnderWay graph.now self.old }
         requires connected { IsConnected graph.now }
@@ -172,8 +176,8 @@ impl Sweep {
             .split(graph, &self.flow, &mut self.fronts, t, &mut self.parts)
     }
 
-    /// Brings an open vertex of the region of `t` something that others than `t` there are fed: as much as is wanted of it. Answers
-    /// whether it is fed more than before.
+    /// Brings an open vertex of the region of `t` something that others than `t` there are fed: as
+    /// much as is wanted of it. Answers whether it is fed more than before.
     fn bring_to(&mut self, graph: &Graph, v: u32, t: u32) -> bool
         requires under_way { IsUnderWay graph.now self.old }
         requires open { IsOpenAt graph.now self.old.flow.labels v }
@@ -188,8 +192,8 @@ impl Sweep {
         self.flow.feed(v) > before
     }
 
-    /// Brings an open vertex beside `t` something that others than `t` in its region are fed. Answers whether one is fed more than
-    /// before.
+    /// Brings an open vertex beside `t` something that others than `t` in its region are fed.
+    /// Answers whether one is fed more than before.
     fn feed_beside(&mut self, graph: &Graph, t: u32) -> bool
         requires under_way { IsUnderWay graph.now self.old }
         requires open { IsOpenAt graph.now self.old.flow.labels t }
@@ -202,7 +206,8 @@ impl Sweep {
         self.bring_to(graph, arc.to, t)
     }
 
-    /// Brings the newest open vertex of the region but `t`, if there is one, something that others than `t` there are fed.
+    /// Brings the newest open vertex of the region but `t`, if there is one,
+    /// something that others than `t` there are fed.
     fn feed_newest(&mut self, graph: &Graph, t: u32)
         requires under_way { IsUnderWay graph.now self.old }
         requires open { IsOpenAt graph.now self.old.flow.labels t }
@@ -215,8 +220,8 @@ impl Sweep {
         let _more = self.bring_to(graph, v, t);
     }
 
-    /// Feeds `t` the value and a vertex beside it a little, where what its region is fed lies far away; and where that does not help
-    /// and searches went very far, another new open vertex.
+    /// Feeds `t` the value and a vertex beside it a little, where what its region is fed lies far
+    /// away; and where that does not help and searches went very far, another new open vertex.
     ///
     /// So the searches for parts need not go there, nor for those after it. No answer rests on it.
     fn feed_near(&mut self, graph: &Graph, t: u32, value: u64)
@@ -236,8 +241,9 @@ impl Sweep {
 
     /// Feeds a vertex more than the value, where no set around it in its region weighs the value.
     ///
-    /// When it enters it hands that on to the vertices beside it. Without it, each of them might have to be fed anew from far
-    /// away, or be shown by searches that meet far away to have no such set around it.
+    /// When it enters it hands that on to the vertices beside it. Without it, each of them
+    /// might have to be fed anew from far away, or be shown by searches that meet far away to
+    /// have no such set around it.
     fn feed_more(&mut self, graph: &Graph, t: u32, value: u64)
         requires under_way { IsUnderWay graph.now self.old }
         requires open { IsOpenAt graph.now self.old.flow.labels t }
@@ -268,7 +274,8 @@ impl Sweep {
         Ok(())
     }
 
-    /// Hangs the parts that are listed into the tree, gives them regions of their own, and lets `t` enter.
+    /// Hangs the parts that are listed into the tree, gives them regions of their
+    /// own, and lets `t` enter.
     fn split_region(&mut self, graph: &Graph, t: u32, value: u64) -> Result<(), NoMemory>
         requires under_way { IsUnderWay graph.now self.old }
         requires open { IsOpenAt graph.now self.old.flow.labels t }
@@ -315,9 +322,10 @@ impl Sweep {
         self.supply.is_far() && open_beside(graph, self.flow.labels(), t).is_some()
     }
 
-    /// The vertex that is to enter in place of the newest open one, where the searches of late went far: one across, if nothing
-    /// beside the newest can be fed, or that did not help. So a sweep that goes along one side of a band comes back for what
-    /// it left behind. No answer rests on which open vertex it is.
+    /// The vertex that is to enter in place of the newest open one, where the searches of late
+    /// went far: one across, if nothing beside the newest can be fed, or that did not help. So a
+    /// sweep that goes along one side of a band comes back for what it left behind. No answer
+    /// rests on which open vertex it is.
     fn choose(&self, graph: &Graph, newest: u32) -> u32
         requires labels { length self.now.flow.labels ≡ graph.now.vertices + 1 }
         requires open { IsOpenAt graph.now self.now.flow.labels newest }
@@ -348,7 +356,8 @@ impl Sweep {
         Some(self.choose(graph, newest))
     }
 
-    /// Lets `t` enter, and before that splits its region where a minimum cut inside it has `t`. It answers whether there was one.
+    /// Lets `t` enter, and before that splits its region where a minimum cut inside it has `t`. It
+    /// answers whether there was one.
     pub(crate) fn step(&mut self, graph: &Graph, t: u32, value: u64) -> Result<bool, NoMemory>
         requires under_way { IsUnderWay graph.now self.old }
         requires connected { IsConnected graph.now }
@@ -383,8 +392,8 @@ impl Sweep {
         Ok(())
     }
 
-    /// The tree and the nodes of the vertices, which are those of the minimum cuts once all have entered. All other memory of
-    /// the sweep is given back.
+    /// The tree and the nodes of the vertices, which are those of the minimum cuts once all have
+    /// entered. All other memory of the sweep is given back.
     fn into_tree(self, graph: &Graph) -> HomedTree
         requires { 1 ≤ graph.now.vertices }
         ensures { IsUnderWay graph.now self → ((v : ℕ) → slice_index self.flow.labels v ≡ 0) → IsFinished graph.now result }
@@ -398,9 +407,11 @@ impl Sweep {
     }
 }
 
-/// The tree of the minimum cuts of a connected graph of two or more vertices, whose value is given.
+/// The tree of the minimum cuts of a connected graph of two or more
+/// vertices, whose value is given.
 ///
-/// Its sides are just the minimum cuts, and some may be sides twice. It is refused only where memory is wanting.
+/// Its sides are just the minimum cuts, and some may be sides twice.
+/// It is refused only where memory is wanting.
 pub fn tree_of(alloc: Global, graph: &Graph, value: u64) -> Result<HomedTree, NoMemory>
     requires connected { IsConnected graph.now }
     requires enough { 2 ≤ graph.now.vertices }
@@ -417,8 +428,8 @@ pub fn tree_of(alloc: Global, graph: &Graph, value: u64) -> Result<HomedTree, No
     Ok(tree)
 }
 
-/// The tree of the minimum cuts as `tree_of` makes it, by so many workers, of whom each takes some of the large regions, where a
-/// split leaves two or more of them.
+/// The tree of the minimum cuts as `tree_of` makes it, by so many workers, of whom each takes some
+/// of the large regions, where a split leaves two or more of them.
 pub fn tree_by_workers<R: Threads + Sync>(
     rt: &R,
     alloc: Global,

@@ -57,7 +57,8 @@ fn add(later: &mut [u64], next: &mut [u64], part: u32, after: u32, weight: u64)
     }
 }
 
-/// Adds the weight of an arc of the row of a listed vertex, unless the edge counts at its other end or lies inside a part.
+/// Adds the weight of an arc of the row of a listed vertex, unless the edge counts at its other
+/// end or lies inside a part.
 fn weigh_arc(
     parted: PartedRegion<'_>,
     flow: &RegionFlow,
@@ -90,7 +91,8 @@ fn weigh_arc(
     }
 }
 
-/// Adds the weights of the arcs of the row of a listed vertex, but of those that count at their other end or lie inside a part.
+/// Adds the weights of the arcs of the row of a listed vertex, but of those that count at their
+/// other end or lie inside a part.
 fn weigh_row(
     parted: PartedRegion<'_>,
     flow: &RegionFlow,
@@ -142,10 +144,11 @@ fn weigh_part(
     }
 }
 
-/// Writes for each part between the first and the last what lies between it and all later ones, and between it and the next.
+/// Writes for each part between the first and the last what lies between it and all later ones,
+/// and between it and the next.
 ///
-/// It takes one step for each part and each arc of a listed vertex, and no memory. It leaves the numbers of the two lists
-/// from the last part's on as they are.
+/// It takes one step for each part and each arc of a listed vertex, and no memory. It leaves the
+/// numbers of the two lists from the last part's on as they are.
 pub fn weigh_parts(parted: PartedRegion<'_>, flow: &RegionFlow, later: &mut [u64], next: &mut [u64])
     requires flow { IsRegionFlow parted.graph.now flow.now }
     requires region { 1 ≤ parted.region }

@@ -5,7 +5,7 @@ use Rattle.std.proofs.lemmas.List.{with_items_is}
 use Rattle.std.proofs.lemmas.Result.{on_ok_weaker}
 use Rattle.weighted_graph.specs.Searches.{is_seen}
 use Rattle.region_parts.specs.declared.splitter.Splitter.{Splitter}
-use Rattle.region_parts.proofs.RacesAround.{on_ok_always, on_ok_both, order_within, near_earlier, way_of, marked_searching, marked_settled, goes_on_same, ended_beside, taken_searching, taken_goes_on, listed_settled, first_seen}
+use Rattle.region_parts.proofs.RacesAround.{on_ok_always, on_ok_both, order_within, near_earlier, way_of, marked_searching, marked_settled, goes_on_same, goes_on_start, ended_beside, taken_searching, taken_goes_on, listed_settled, first_seen}
 use Rattle.region_parts.proofs.splitter.Splitter.end_race.Goals as goal
 
 pub mark_way-requires-clause-earlier : goal.mark_way-requires-clause-earlier
@@ -91,3 +91,36 @@ returns-in-Met-clause-near c = on_ok_always c.mark_way.result refl
 
 pub returns-in-Met-clause-hub : goal.returns-in-Met-clause-hub
 returns-in-Met-clause-hub c = on_ok_always c.mark_way.result refl
+
+pub take_near-requires-clause-flow : goal.take_near-requires-clause-flow
+take_near-requires-clause-flow c = c.requires.flow
+
+pub take_near-requires-clause-between : goal.take_near-requires-clause-between
+take_near-requires-clause-between c = c.requires.searching.between
+
+pub take_near-requires-clause-some : goal.take_near-requires-clause-some
+take_near-requires-clause-some c = c.requires.searching.some
+
+pub mark_way-requires-clause-some : goal.mark_way-requires-clause-some
+mark_way-requires-clause-some c = rw c.count.ensures c.requires.beside.1.some
+
+pub returns-in-Ended-clause-near : goal.returns-in-Ended-clause-near
+returns-in-Ended-clause-near c = on_ok_weaker c.take_near.result (λ same. same.near) c.take_near.ensures.same
+
+pub returns-in-Ended-clause-hub : goal.returns-in-Ended-clause-hub
+returns-in-Ended-clause-hub c = on_ok_weaker c.take_near.result (λ same. same.hub) c.take_near.ensures.same
+
+pub returns-in-HubEnded-clause-searching : goal.returns-in-HubEnded-clause-searching
+returns-in-HubEnded-clause-searching c = c.requires.searching
+
+pub returns-in-HubEnded-clause-goes_on : goal.returns-in-HubEnded-clause-goes_on
+returns-in-HubEnded-clause-goes_on c = goes_on_start c.args.side c.args.self.now
+
+pub returns-in-HubEnded-clause-near : goal.returns-in-HubEnded-clause-near
+returns-in-HubEnded-clause-near c = refl
+
+pub returns-in-HubEnded-clause-hub : goal.returns-in-HubEnded-clause-hub
+returns-in-HubEnded-clause-hub c = refl
+
+pub returns-in-HubEnded-clause-settled : goal.returns-in-HubEnded-clause-settled
+returns-in-HubEnded-clause-settled c = λ x beside no. absurd (no c.in-HubEnded.is)

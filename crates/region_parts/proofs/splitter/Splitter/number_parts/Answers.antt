@@ -1,5 +1,5 @@
 -- The numbers of the parts are those of the two lists together.
-use Rattle.std.proofs.Common.{◌≡◌, ℕ, ◌+◌, ◌≤◌, get_or, sym, ◌∙◌, subst, ap, arith}
+use Rattle.std.proofs.Common.{◌≡◌, ℕ, List, length, ◌+◌, ◌≤◌, get_or, sym, ◌∙◌, subst, ap, arith}
 use Rattle.cut_definitions.specs.Chain.{IsNumbered}
 use Rattle.region_parts.specs.Between.{parts_between}
 use Rattle.region_fronts.specs.Listed.{part_in}
@@ -95,3 +95,31 @@ returns-clause-light c =
     let total = s.inner.count + s.outer.count + parts_between b in
     subst (λ (k : ℕ). AreLightParts g f.labels t k amount (part_in p f.labels (get_or f.labels t 0))) (sym (made.count ∙ is))
     (subst (λ (part : ℕ → ℕ). AreLightParts g f.labels t total amount part) (same_parts g f t s b p numbered) c.requires.light)
+
+pub put_by_turn-requires-clause-kept : goal.put_by_turn-requires-clause-kept
+put_by_turn-requires-clause-kept c = (c.args.region.graph.now.vertices, c.requires.between.halves.outer_half.kept, c.begin.ensures.long ∙ c.requires.numbers)
+
+pub put_by_turn-requires-clause-free : goal.put_by_turn-requires-clause-free
+put_by_turn-requires-clause-free c = λ v listed. c.begin.ensures.none v
+
+pub put_from_last-requires-clause-kept : goal.put_from_last-requires-clause-kept
+put_from_last-requires-clause-kept c = (c.args.region.graph.now.vertices, c.requires.between.halves.inner_half.kept, c.put_by_turn.ensures.long ∙ (c.begin.ensures.long ∙ c.requires.numbers))
+
+pub put_from_last-requires-clause-few : goal.put_from_last-requires-clause-few
+put_from_last-requires-clause-few c = omega (arith, c.count.ensures)
+
+pub finish-requires-clause-from_one : goal.finish-requires-clause-from_one
+finish-requires-clause-from_one c =
+    let two = c.requires.light.numbered.two in omega (arith, two, c.count.ensures, c.count-outer.ensures, c.parts_left.ensures)
+
+pub returns-in_err-put_by_turn-clause-numbers : goal.returns-in_err-put_by_turn-clause-numbers
+returns-in_err-put_by_turn-clause-numbers c = c.put_by_turn.ensures.long ∙ (c.begin.ensures.long ∙ c.requires.numbers)
+
+pub returns-in_err-put_from_last-clause-numbers : goal.returns-in_err-put_from_last-clause-numbers
+returns-in_err-put_from_last-clause-numbers c = c.put_from_last.ensures.long ∙ (c.put_by_turn.ensures.long ∙ (c.begin.ensures.long ∙ c.requires.numbers))
+
+pub returns-in_err-finish-clause-numbers : goal.returns-in_err-finish-clause-numbers
+returns-in_err-finish-clause-numbers c = ap (λ (xs : List ℕ). length xs) c.finish.ensures.numbers ∙ (c.put_from_last.ensures.long ∙ (c.put_by_turn.ensures.long ∙ (c.begin.ensures.long ∙ c.requires.numbers)))
+
+pub returns-clause-numbers : goal.returns-clause-numbers
+returns-clause-numbers c = ap (λ (xs : List ℕ). length xs) c.finish.ensures.numbers ∙ (c.put_from_last.ensures.long ∙ (c.put_by_turn.ensures.long ∙ (c.begin.ensures.long ∙ c.requires.numbers)))

@@ -59,3 +59,36 @@ returns-clause-left c =
     let t = c.args.region.t in
     let list = list_around c.args.around f t c.vertex_at.new.fronts c.args.self.now in
     subst (λ (o : Option ℕ). IfSome o (IsLeft f t c.args.self.now)) (sym (slice_get_past list c.places.place (c.vertex_at.ensures.end c.in_default.is))) tt
+
+pub vertex_at-requires-clause-flow : goal.vertex_at-requires-clause-flow
+vertex_at-requires-clause-flow c = c.requires.flow
+
+pub vertex_at-requires-clause-between : goal.vertex_at-requires-clause-between
+vertex_at-requires-clause-between c = c.requires.between
+
+pub vertex_at-requires-clause-front : goal.vertex_at-requires-clause-front
+vertex_at-requires-clause-front c = c.places.invariant.front
+
+pub returns-then-is_left-clause-front : goal.returns-then-is_left-clause-front
+returns-then-is_left-clause-front c = c.vertex_at.ensures.front
+
+pub returns-then-is_left-clause-left : goal.returns-then-is_left-clause-left
+returns-then-is_left-clause-left c = rw c.in-Some.ensures.at (c.is_left.ensures.yes c.if-is_left.true)
+
+pub returns-clause-front : goal.returns-clause-front
+returns-clause-front c = c.vertex_at.ensures.front
+
+pub is_left-requires-clause-v : goal.is_left-requires-clause-v
+is_left-requires-clause-v c = omega (arith, c.in-Some.ensures.vertex.1, c.requires.flow.labels_length)
+
+pub is_left-requires-clause-t : goal.is_left-requires-clause-t
+is_left-requires-clause-t c = omega (arith, c.requires.between.region.at_border.to_n, c.requires.flow.labels_length)
+
+pub is_left-requires-clause-inner : goal.is_left-requires-clause-inner
+is_left-requires-clause-inner c = omega (arith, c.in-Some.ensures.vertex.1, c.requires.between.halves.inner_half.kept.turns_length)
+
+pub is_left-requires-clause-outer : goal.is_left-requires-clause-outer
+is_left-requires-clause-outer c = omega (arith, c.in-Some.ensures.vertex.1, c.requires.between.halves.outer_half.kept.turns_length)
+
+pub overflow_add-place : goal.overflow_add-place
+overflow_add-place c = omega (arith, c.in-Some.ensures.next)

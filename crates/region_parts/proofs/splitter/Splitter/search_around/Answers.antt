@@ -70,3 +70,78 @@ pub returns-clause-some : goal.returns-clause-some
 returns-clause-some c =
     let some = c.in_ok-search_side.ensures.some in
     on_ok_weaker c.search_side-2.result (λ last. (λ k. last.0 (some.0 k), λ k. last.1 (some.1 k))) c.search_side-2.ensures.some
+
+pub search_side-requires-clause-flow : goal.search_side-requires-clause-flow
+search_side-requires-clause-flow c = c.requires.flow
+
+pub search_side-requires-clause-between : goal.search_side-requires-clause-between
+search_side-requires-clause-between c = c.requires.between
+
+pub search_side-requires-clause-near : goal.search_side-requires-clause-near
+search_side-requires-clause-near c = c.requires.near
+
+pub search_side-requires-clause-front : goal.search_side-requires-clause-front
+search_side-requires-clause-front c = c.requires.front
+
+pub search_side-requires-clause-hub : goal.search_side-requires-clause-hub
+search_side-requires-clause-hub c = c.requires.hub
+
+pub search_side-requires-clause-passed : goal.search_side-requires-clause-passed
+search_side-requires-clause-passed c = c.requires.passed
+
+pub search_side-requires-2-clause-flow : goal.search_side-requires-2-clause-flow
+search_side-requires-2-clause-flow c = c.requires.flow
+
+pub search_side-requires-2-clause-between : goal.search_side-requires-2-clause-between
+search_side-requires-2-clause-between c = c.in_ok-search_side.ensures.between
+
+pub search_side-requires-2-clause-near : goal.search_side-requires-2-clause-near
+search_side-requires-2-clause-near c = c.in_ok-search_side.ensures.near
+
+pub search_side-requires-2-clause-passed : goal.search_side-requires-2-clause-passed
+search_side-requires-2-clause-passed c = c.in_ok-search_side.ensures.passed
+
+pub search_side-requires-2-clause-front : goal.search_side-requires-2-clause-front
+search_side-requires-2-clause-front c = c.search_side.ensures.front
+
+pub search_side-requires-2-clause-hub : goal.search_side-requires-2-clause-hub
+search_side-requires-2-clause-hub c = c.in_ok-search_side.ensures.hub c.if-not-branch.false
+
+pub returns-in_err-search_side-clause-front : goal.returns-in_err-search_side-clause-front
+returns-in_err-search_side-clause-front c = c.search_side.ensures.front
+
+pub returns-then-not-branch-clause-between : goal.returns-then-not-branch-clause-between
+returns-then-not-branch-clause-between c = c.in_ok-search_side.ensures.between
+
+pub returns-then-not-branch-clause-near : goal.returns-then-not-branch-clause-near
+returns-then-not-branch-clause-near c = c.in_ok-search_side.ensures.near
+
+pub returns-then-not-branch-clause-passed : goal.returns-then-not-branch-clause-passed
+returns-then-not-branch-clause-passed c = c.in_ok-search_side.ensures.passed
+
+pub returns-then-not-branch-clause-stays : goal.returns-then-not-branch-clause-stays
+returns-then-not-branch-clause-stays c = c.in_ok-search_side.ensures.stays
+
+pub returns-then-not-branch-clause-front : goal.returns-then-not-branch-clause-front
+returns-then-not-branch-clause-front c = c.search_side.ensures.front
+
+pub returns-then-not-branch-clause-hub : goal.returns-then-not-branch-clause-hub
+returns-then-not-branch-clause-hub c = λ done. cc
+
+pub returns-then-not-branch-clause-none : goal.returns-then-not-branch-clause-none
+returns-then-not-branch-clause-none c = λ done. cc
+
+pub returns-clause-between : goal.returns-clause-between
+returns-clause-between c = c.search_side-2.ensures.between
+
+pub returns-clause-near : goal.returns-clause-near
+returns-clause-near c = c.search_side-2.ensures.near
+
+pub returns-clause-front : goal.returns-clause-front
+returns-clause-front c = c.search_side-2.ensures.front
+
+pub returns-clause-passed : goal.returns-clause-passed
+returns-clause-passed c = c.search_side-2.ensures.passed
+
+pub returns-clause-hub : goal.returns-clause-hub
+returns-clause-hub c = c.search_side-2.ensures.hub

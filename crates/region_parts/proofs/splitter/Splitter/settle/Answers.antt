@@ -1,11 +1,11 @@
 -- The search begins from the vertex, races, and is ended.
-use Rattle.std.proofs.Common.{length, get_or, refl, sym, ◌∙◌, subst, ap}
+use Rattle.std.proofs.Common.{length, get_or, refl, sym, ◌∙◌, subst, ap, arith}
 use Rattle.region_parts.specs.declared.hub.HubSearch.{HubSearch}
 use Rattle.region_parts.specs.declared.splitter.Splitter.{Splitter}
 use Rattle.arc_search.specs.Found.{SearchState}
 use Rattle.region_fronts.specs.Fronts.{list_at}
 use Rattle.region_parts.specs.Hubs.{HaveBegun, HasAll}
-use Rattle.region_parts.proofs.RacesAround.{begin_beside, known_settled, searched_on, goes_on_same, goes_on_more}
+use Rattle.region_parts.proofs.RacesAround.{begin_beside, known_settled, searched_on, goes_on_same, goes_on_start, goes_on_more}
 use Rattle.region_parts.proofs.splitter.Splitter.settle.Goals as goal
 
 pub race-race-requires-clause-beside : goal.race-race-requires-clause-beside
@@ -103,3 +103,57 @@ race-race-requires-clause-searching c =
     let begun : Splitter = record { near = c.begin.new.self; hub = s.hub; inner = s.inner; outer = s.outer; good = s.good; touched = s.touched; memory = s.memory } in
     searched_on c.args.side c.args.region.graph.now c.args.region.flow.now c.args.region.t s begun c.requires.searching (record { inner = refl; outer = refl; memory = refl }) refl refl refl
     c.requires.searching.hub_search
+
+pub end_race-requires-clause-flow : goal.end_race-requires-clause-flow
+end_race-requires-clause-flow c = c.requires.flow
+
+pub end_race-requires-clause-searching : goal.end_race-requires-clause-searching
+end_race-requires-clause-searching c = c.race-race.ensures.searching
+
+pub end_race-requires-clause-met : goal.end_race-requires-clause-met
+end_race-requires-clause-met c = c.race-race.ensures.met
+
+pub end_race-requires-clause-ended : goal.end_race-requires-clause-ended
+end_race-requires-clause-ended c = c.race-race.ensures.ended
+
+pub race-race-requires-clause-flow : goal.race-race-requires-clause-flow
+race-race-requires-clause-flow c = c.requires.flow
+
+pub race-race-requires-clause-vertices : goal.race-race-requires-clause-vertices
+race-race-requires-clause-vertices c = c.requires.front.vertices
+
+pub returns-clause-fronts : goal.returns-clause-fronts
+returns-clause-fronts c = c.race-race.ensures.fronts
+
+pub returns-in_err-end_race-clause-fronts : goal.returns-in_err-end_race-clause-fronts
+returns-in_err-end_race-clause-fronts c = c.race-race.ensures.fronts
+
+pub returns-then-is_settled-clause-searching : goal.returns-then-is_settled-clause-searching
+returns-then-is_settled-clause-searching c = c.requires.searching
+
+pub returns-then-is_settled-clause-near : goal.returns-then-is_settled-clause-near
+returns-then-is_settled-clause-near c = c.requires.near
+
+pub returns-then-is_settled-clause-begun : goal.returns-then-is_settled-clause-begun
+returns-then-is_settled-clause-begun c = c.requires.begun
+
+pub returns-then-is_settled-clause-goes_on : goal.returns-then-is_settled-clause-goes_on
+returns-then-is_settled-clause-goes_on c = goes_on_start c.args.side c.args.self.now
+
+pub returns-then-is_settled-clause-ended : goal.returns-then-is_settled-clause-ended
+returns-then-is_settled-clause-ended c = λ ended. cc
+
+pub is_settled-requires-clause-v : goal.is_settled-requires-clause-v
+is_settled-requires-clause-v c = omega (arith, c.requires.to_n, c.requires.flow.labels_length)
+
+pub is_settled-requires-clause-t : goal.is_settled-requires-clause-t
+is_settled-requires-clause-t c = omega (arith, c.requires.searching.between.region.at_border.to_n, c.requires.flow.labels_length)
+
+pub is_settled-requires-clause-inner : goal.is_settled-requires-clause-inner
+is_settled-requires-clause-inner c = omega (arith, c.requires.to_n, c.requires.searching.between.halves.inner_half.kept.turns_length)
+
+pub is_settled-requires-clause-outer : goal.is_settled-requires-clause-outer
+is_settled-requires-clause-outer c = omega (arith, c.requires.to_n, c.requires.searching.between.halves.outer_half.kept.turns_length)
+
+pub is_settled-requires-clause-good : goal.is_settled-requires-clause-good
+is_settled-requires-clause-good c = omega (arith, c.requires.to_n, c.requires.searching.between.good_length)

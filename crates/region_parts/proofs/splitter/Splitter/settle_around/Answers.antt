@@ -106,3 +106,64 @@ returns-clause-settled c = λ _.
     let good = IsSettledIn (side_around c.args.around) c.args.region.graph.now f t c.places.self in
     before_end good (list_around c.args.around f t c.vertex_at.new.fronts c.places.self) c.places.place (c.vertex_at.ensures.end c.in_default.is)
     (kept_around good c.args.around f t c.places.fronts c.vertex_at.new.fronts c.places.self c.places.place c.vertex_at.ensures.read c.places.invariant.settled)
+
+pub vertex_at-requires-clause-flow : goal.vertex_at-requires-clause-flow
+vertex_at-requires-clause-flow c = c.requires.flow
+
+pub vertex_at-requires-clause-between : goal.vertex_at-requires-clause-between
+vertex_at-requires-clause-between c = c.places.invariant.searching.between
+
+pub vertex_at-requires-clause-front : goal.vertex_at-requires-clause-front
+vertex_at-requires-clause-front c = c.places.invariant.front
+
+pub settle-requires-clause-flow : goal.settle-requires-clause-flow
+settle-requires-clause-flow c = c.requires.flow
+
+pub settle-requires-clause-searching : goal.settle-requires-clause-searching
+settle-requires-clause-searching c = rw c.side.ensures c.places.invariant.searching
+
+pub settle-requires-clause-near : goal.settle-requires-clause-near
+settle-requires-clause-near c = c.places.invariant.near
+
+pub settle-requires-clause-front : goal.settle-requires-clause-front
+settle-requires-clause-front c = c.vertex_at.ensures.front
+
+pub settle-requires-clause-from_one : goal.settle-requires-clause-from_one
+settle-requires-clause-from_one c = c.in-Some.ensures.vertex.0
+
+pub settle-requires-clause-to_n : goal.settle-requires-clause-to_n
+settle-requires-clause-to_n c = c.in-Some.ensures.vertex.1
+
+pub returns-in_err-settle-clause-front : goal.returns-in_err-settle-clause-front
+returns-in_err-settle-clause-front c =
+    front_on c.args.region.graph.now c.args.region.flow.now c.args.region.t c.places.self.hub.hub c.vertex_at.new.fronts c.settle.new.fronts c.vertex_at.ensures.front c.settle.ensures.fronts
+
+pub returns-then-not-branch-clause-searching : goal.returns-then-not-branch-clause-searching
+returns-then-not-branch-clause-searching c = rw c.side.ensures at c.in_ok-settle.ensures.searching
+
+pub returns-then-not-branch-clause-near : goal.returns-then-not-branch-clause-near
+returns-then-not-branch-clause-near c = c.in_ok-settle.ensures.near
+
+pub returns-then-not-branch-clause-begun : goal.returns-then-not-branch-clause-begun
+returns-then-not-branch-clause-begun c = c.in_ok-settle.ensures.begun
+
+pub returns-then-not-branch-clause-settled : goal.returns-then-not-branch-clause-settled
+returns-then-not-branch-clause-settled c = λ done. cc
+
+pub returns-then-not-branch-clause-ended : goal.returns-then-not-branch-clause-ended
+returns-then-not-branch-clause-ended c = λ ended. c.in_ok-settle.ensures.ended c.if-not-branch.true
+
+pub returns-clause-searching : goal.returns-clause-searching
+returns-clause-searching c = c.places.invariant.searching
+
+pub returns-clause-near : goal.returns-clause-near
+returns-clause-near c = c.places.invariant.near
+
+pub returns-clause-goes_on : goal.returns-clause-goes_on
+returns-clause-goes_on c = c.places.invariant.goes_on
+
+pub returns-clause-front : goal.returns-clause-front
+returns-clause-front c = c.vertex_at.ensures.front
+
+pub returns-clause-ended : goal.returns-clause-ended
+returns-clause-ended c = λ ended. cc

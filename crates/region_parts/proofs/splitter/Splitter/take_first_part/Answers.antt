@@ -1,5 +1,5 @@
 -- What was found by the search that ended is the first part of its side, and where t brings vertex 1 there are no parts.
-use Rattle.std.proofs.Common.{◌≡◌, ℕ, Bool, true, false, eqb, List, get_or, sym, subst}
+use Rattle.std.proofs.Common.{◌≡◌, ℕ, Bool, true, false, eqb, List, get_or, sym, subst, arith}
 use Rattle.std.specs.Prelude.{◌≢◌, if◌then◌else◌}
 use Rattle.std.specs.List.{All, AllPairs}
 use Rattle.cut_definitions.specs.Cuts.{has}
@@ -96,3 +96,45 @@ returns-in_ok-take_first-in-HubEnded-clause-between c =
     let turns = subst (λ (xs : List ℕ). (v : ℕ) → get_or new.turns v 0 ≡ (if has xs v then 1 else 0)) c.found-in-HubEnded.ensures took.turns in
     let no : is_seen s.hub.search.seen t ≡ false = subst (λ (bs : List Bool). is_seen bs t ≡ false) c.seen.ensures c.if-seen-region.false in
     between_of g f t s race s.inner new c.requires.region c.requires.raced (outer_halves g f t s race c.requires.region c.requires.raced c.in-HubEnded.is no new turns took.count took.kept (rw c.labels-in-HubEnded.ensures at took.bordered))
+
+pub take_first-requires-clause-nothing : goal.take_first-requires-clause-nothing
+take_first-requires-clause-nothing c = c.requires.raced.inner
+
+pub take_first-requires-in-HubEnded-clause-nothing : goal.take_first-requires-in-HubEnded-clause-nothing
+take_first-requires-in-HubEnded-clause-nothing c = c.requires.raced.outer
+
+pub take_first-requires-clause-labels : goal.take_first-requires-clause-labels
+take_first-requires-clause-labels c = rw c.labels.ensures c.requires.flow.labels_length
+
+pub take_first-requires-in-HubEnded-clause-labels : goal.take_first-requires-in-HubEnded-clause-labels
+take_first-requires-in-HubEnded-clause-labels c = rw c.labels-in-HubEnded.ensures c.requires.flow.labels_length
+
+pub returns-in-Met-clause-near : goal.returns-in-Met-clause-near
+returns-in-Met-clause-near c = c.requires.raced.near.seen_length
+
+pub returns-in-Met-clause-some : goal.returns-in-Met-clause-some
+returns-in-Met-clause-some c = λ some. cc
+
+pub returns-then-seen-region-clause-near : goal.returns-then-seen-region-clause-near
+returns-then-seen-region-clause-near c = c.requires.raced.near.seen_length
+
+pub returns-then-seen-region-clause-some : goal.returns-then-seen-region-clause-some
+returns-then-seen-region-clause-some c = λ some. cc
+
+pub returns-in_ok-take_first-in-Ended-clause-near : goal.returns-in_ok-take_first-in-Ended-clause-near
+returns-in_ok-take_first-in-Ended-clause-near c = c.requires.raced.near.seen_length
+
+pub returns-in_ok-take_first-in-Ended-clause-some : goal.returns-in_ok-take_first-in-Ended-clause-some
+returns-in_ok-take_first-in-Ended-clause-some c = λ some. omega (arith, c.in_ok-take_first-in-Ended.ensures.count)
+
+pub returns-in_ok-take_first-in-Ended-clause-none : goal.returns-in_ok-take_first-in-Ended-clause-none
+returns-in_ok-take_first-in-Ended-clause-none c = λ none. cc
+
+pub returns-in_ok-take_first-in-HubEnded-clause-near : goal.returns-in_ok-take_first-in-HubEnded-clause-near
+returns-in_ok-take_first-in-HubEnded-clause-near c = c.requires.raced.near.seen_length
+
+pub returns-in_ok-take_first-in-HubEnded-clause-some : goal.returns-in_ok-take_first-in-HubEnded-clause-some
+returns-in_ok-take_first-in-HubEnded-clause-some c = λ some. omega (arith, c.in_ok-take_first-in-HubEnded.ensures.count)
+
+pub returns-in_ok-take_first-in-HubEnded-clause-none : goal.returns-in_ok-take_first-in-HubEnded-clause-none
+returns-in_ok-take_first-in-HubEnded-clause-none c = λ none. cc

@@ -1,7 +1,8 @@
 -- What the search from beside the list found is further parts of it.
+use Rattle.std.proofs.Common.{arith}
 use Rattle.region_parts.specs.declared.side.Side.TheVariants.{Inner, Outer}
 use Rattle.region_parts.proofs.SplitterLemmas.{taken_stays}
-use Rattle.region_parts.proofs.SplitterStates.{on_ok, on_ok_three, near_from, fit_in, inner_in, outer_in, inner_stays, outer_stays, each_taken}
+use Rattle.region_parts.proofs.SplitterStates.{on_ok, on_ok_two, inner_taken_same, outer_taken_same, on_ok_three, near_from, fit_in, inner_in, outer_in, inner_stays, outer_stays, each_taken}
 use Rattle.region_parts.proofs.splitter.Splitter.take_near.Goals as goal
 
 pub take-requires-clause-few : goal.take-requires-clause-few
@@ -103,3 +104,39 @@ take-requires-clause-bordered c = rw c.labels.ensures c.requires.between.halves.
 
 pub take-requires-in-Outer-clause-bordered : goal.take-requires-in-Outer-clause-bordered
 take-requires-in-Outer-clause-bordered c = rw c.labels-in-Outer.ensures c.requires.between.halves.outer_half.bordered
+
+pub take-requires-clause-labels : goal.take-requires-clause-labels
+take-requires-clause-labels c = rw c.labels.ensures c.requires.flow.labels_length
+
+pub take-requires-clause-kept : goal.take-requires-clause-kept
+take-requires-clause-kept c = c.requires.between.halves.inner_half.kept
+
+pub take-requires-clause-memory : goal.take-requires-clause-memory
+take-requires-clause-memory c = omega (arith, c.requires.between.memory)
+
+pub take-requires-clause-some : goal.take-requires-clause-some
+take-requires-clause-some c =
+    (fit_in c.args.side Inner _ _ _ _ _ _ _ _ c.args.self.now.near _ _ c.in-Inner.is c.arcs-arcs.ensures.graph c.arcs-arcs.ensures.flow c.arcs-arcs.ensures.direction c.found-found.ensures c.requires.between c.requires.some
+    (near_from c.args.side _ _ _ _ c.requires.ended.0 c.requires.ended.1)).some
+
+pub returns-in-Inner-clause-same : goal.returns-in-Inner-clause-same
+returns-in-Inner-clause-same c = on_ok_two c.take.result c.take.ensures.taken c.take.ensures.border (λ taken border.
+    inner_taken_same c.args.side c.args.self.now c.take.new.self c.take.new.memory c.in-Inner.is border taken.further.more)
+
+pub take-requires-in-Outer-clause-labels : goal.take-requires-in-Outer-clause-labels
+take-requires-in-Outer-clause-labels c = rw c.labels-in-Outer.ensures c.requires.flow.labels_length
+
+pub take-requires-in-Outer-clause-kept : goal.take-requires-in-Outer-clause-kept
+take-requires-in-Outer-clause-kept c = c.requires.between.halves.outer_half.kept
+
+pub take-requires-in-Outer-clause-memory : goal.take-requires-in-Outer-clause-memory
+take-requires-in-Outer-clause-memory c = omega (arith, c.requires.between.memory)
+
+pub take-requires-in-Outer-clause-some : goal.take-requires-in-Outer-clause-some
+take-requires-in-Outer-clause-some c =
+    (fit_in c.args.side Outer _ _ _ _ _ _ _ _ c.args.self.now.near _ _ c.in-Outer.is c.arcs-arcs.ensures.graph c.arcs-arcs.ensures.flow c.arcs-arcs.ensures.direction c.found-found.ensures c.requires.between c.requires.some
+    (near_from c.args.side _ _ _ _ c.requires.ended.0 c.requires.ended.1)).some
+
+pub returns-in-Outer-clause-same : goal.returns-in-Outer-clause-same
+returns-in-Outer-clause-same c = on_ok_two c.take-in-Outer.result c.take-in-Outer.ensures.taken c.take-in-Outer.ensures.border (λ taken border.
+    outer_taken_same c.args.side c.args.self.now c.take-in-Outer.new.self c.take-in-Outer.new.memory c.in-Outer.is border taken.further.more)

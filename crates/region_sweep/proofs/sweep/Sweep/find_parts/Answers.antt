@@ -59,3 +59,48 @@ returns-clause-light c =
     IfOk-weaker c.split.result _ _
     (λ some h is. subst (λ (k : ℕ). AreLightParts c.args.graph.now labels c.args.t c.split.new.parts.count k (part_in c.split.new.parts labels (get_or labels c.args.t 0))) fed (h is))
     c.split.ensures.light
+
+pub flow-fed-requires-clause-flow : goal.flow-fed-requires-clause-flow
+flow-fed-requires-clause-flow c = c.requires.under_way.flow
+
+pub flow-fed-requires-clause-to_n : goal.flow-fed-requires-clause-to_n
+flow-fed-requires-clause-to_n c = c.requires.open.to_n
+
+pub flow-fed-requires-clause-outside : goal.flow-fed-requires-clause-outside
+flow-fed-requires-clause-outside c = c.requires.open.outside
+
+pub returns-then-feed-value-clause-labels : goal.returns-then-feed-value-clause-labels
+returns-then-feed-value-clause-labels c = c.flow-fed.ensures.labels
+
+pub returns-then-feed-value-clause-listed : goal.returns-then-feed-value-clause-listed
+returns-then-feed-value-clause-listed c = λ some. cc
+
+pub returns-then-feed-value-clause-light : goal.returns-then-feed-value-clause-light
+returns-then-feed-value-clause-light c = λ some. cc
+
+pub split-requires-clause-ready : goal.split-requires-clause-ready
+split-requires-clause-ready c = c.requires.under_way.ready
+
+pub split-requires-clause-connected : goal.split-requires-clause-connected
+split-requires-clause-connected c = c.requires.connected
+
+pub split-requires-clause-flow : goal.split-requires-clause-flow
+split-requires-clause-flow c = c.flow-fed.ensures.flow
+
+pub split-requires-clause-open : goal.split-requires-clause-open
+split-requires-clause-open c = rw c.flow-fed.ensures.labels c.requires.open
+
+pub split-requires-clause-vertices : goal.split-requires-clause-vertices
+split-requires-clause-vertices c = c.requires.under_way.room.vertices
+
+pub split-requires-clause-covered : goal.split-requires-clause-covered
+split-requires-clause-covered c = rw c.flow-fed.ensures.labels c.requires.under_way.covered
+
+pub split-requires-clause-numbers : goal.split-requires-clause-numbers
+split-requires-clause-numbers c = c.requires.under_way.room.numbers
+
+pub returns-clause-labels : goal.returns-clause-labels
+returns-clause-labels c = c.flow-fed.ensures.labels
+
+pub returns-clause-listed : goal.returns-clause-listed
+returns-clause-listed c = c.split.ensures.listed

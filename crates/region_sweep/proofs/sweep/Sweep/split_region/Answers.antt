@@ -1,5 +1,5 @@
 -- The region is split.
-use Rattle.std.proofs.Common.{◌≡◌, ℕ, inl, ◌<◌, List, length, get_or, set, ◌∙◌, ap, subst, arith}
+use Rattle.std.proofs.Common.{◌≡◌, ℕ, inl, ◌<◌, List, length, get_or, set, sym, ◌∙◌, ap, subst, arith}
 use Rattle.std.proofs.lemmas.List.{length-set, get_or-set_same}
 use Rattle.std.specs.Vec.{with_items}
 use Rattle.node_tree.specs.Flat.{AreLinked}
@@ -175,3 +175,60 @@ returns c =
       entered = r.entered;
       stay = r.stay;
     }
+
+pub weigh_parts-requires-clause-flow : goal.weigh_parts-requires-clause-flow
+weigh_parts-requires-clause-flow c = c.requires.under_way.flow
+
+pub weigh_parts-requires-clause-region : goal.weigh_parts-requires-clause-region
+weigh_parts-requires-clause-region c = rw c.label-region.ensures c.requires.open.outside
+
+pub weigh_parts-requires-clause-listed : goal.weigh_parts-requires-clause-listed
+weigh_parts-requires-clause-listed c = rw c.label-region.ensures c.requires.listed
+
+pub hang_parts-requires-clause-two : goal.hang_parts-requires-clause-two
+hang_parts-requires-clause-two c = rw c.count-count.ensures c.requires.listed.two
+
+pub regroup-self-requires-clause-flow : goal.regroup-self-requires-clause-flow
+regroup-self-requires-clause-flow c = c.requires.under_way.flow
+
+pub regroup-self-requires-clause-to_n : goal.regroup-self-requires-clause-to_n
+regroup-self-requires-clause-to_n c = c.requires.open.to_n
+
+pub regroup-self-requires-clause-outside : goal.regroup-self-requires-clause-outside
+regroup-self-requires-clause-outside c = rw c.label-region.ensures c.requires.open.outside
+
+pub regroup-self-requires-clause-label : goal.regroup-self-requires-clause-label
+regroup-self-requires-clause-label c = sym c.label-region.ensures
+
+pub regroup-self-requires-clause-listed : goal.regroup-self-requires-clause-listed
+regroup-self-requires-clause-listed c = rw c.label-region.ensures c.requires.listed
+
+pub regroup-self-requires-clause-numbered : goal.regroup-self-requires-clause-numbered
+regroup-self-requires-clause-numbered c = c.requires.under_way.numbered
+
+pub regroup-self-requires-clause-homes_entered : goal.regroup-self-requires-clause-homes_entered
+regroup-self-requires-clause-homes_entered c = c.requires.under_way.room.entered
+
+pub regroup-self-requires-clause-homes_regions : goal.regroup-self-requires-clause-homes_regions
+regroup-self-requires-clause-homes_regions c = c.requires.under_way.room.regions
+
+pub put_listed-requires-clause-labels : goal.put_listed-requires-clause-labels
+put_listed-requires-clause-labels c = c.regroup-self.ensures.flow.labels_length
+
+pub put_listed-requires-clause-vertices : goal.put_listed-requires-clause-vertices
+put_listed-requires-clause-vertices c = c.requires.under_way.room.vertices
+
+pub put_listed-requires-clause-numbers : goal.put_listed-requires-clause-numbers
+put_listed-requires-clause-numbers c = c.requires.under_way.room.numbers
+
+pub put_listed-requires-clause-lists : goal.put_listed-requires-clause-lists
+put_listed-requires-clause-lists c = c.requires.listed.lists
+
+pub put_ends-requires-clause-to_n : goal.put_ends-requires-clause-to_n
+put_ends-requires-clause-to_n c = c.requires.open.to_n
+
+pub put_ends-requires-clause-labels : goal.put_ends-requires-clause-labels
+put_ends-requires-clause-labels c = rw c.labels.ensures c.regroup-self.ensures.flow.labels_length
+
+pub put_ends-requires-clause-vertices : goal.put_ends-requires-clause-vertices
+put_ends-requires-clause-vertices c = c.in_ok-put_listed.ensures.vertices ∙ c.requires.under_way.room.vertices
