@@ -36,8 +36,8 @@ pub enum Job {
     Trial(u32),
 }
 
-/// A job, the number of workers, 1 to 64, and for the job `cuts` the least balance of the cuts that are listed, where one
-/// is named.
+/// A job, the number of workers, 1 to 64, and for the job `cuts` the least balance of the cuts
+/// that are listed, where one is named.
 #[derive(Debug, Drop)]
 pub struct Command {
     pub job: Job,
