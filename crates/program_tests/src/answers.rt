@@ -282,7 +282,8 @@ fn trials_are_printed_unread(rt: HostRuntime) -> Result<(), Fail> {
     Ok(())
 }
 
-/// The cactus is made by `reduce`, which runs a round of its own after those of the value. What it answers has fewer vertices.
+/// The cactus is made by `reduce`, which runs a round of its own after those of the value. What it
+/// answers has fewer vertices.
 #[test]
 fn a_kernel_is_made(rt: HostRuntime) -> Result<(), Fail> {
     let value = passes_of(&rt, rt.alloc(), &["value", "--workers", "1"], TWO_CYCLES)?;

@@ -1,4 +1,5 @@
-//! Reads and writes that fail one after the other, files that end early, and a sink that takes one byte at a time.
+//! Reads and writes that fail one after the other, files that end early,
+//! and a sink that takes one byte at a time.
 
 use crate::graphs::{COMPLETE, HEAVY_PAIR, ONE_EDGE, PATH, SQUARE, TRIANGLE, TWO_CYCLES};
 use crate::runs::{
@@ -49,7 +50,8 @@ fn each_read_may_fail(rt: HostRuntime) -> Result<(), Fail> {
     Ok(())
 }
 
-/// The number of the first write of a run that does not fail where it should, of the first hundred: there is no such write.
+/// The number of the first write of a run that does not fail where it should, of the first
+/// hundred: there is no such write.
 fn first_unmade<R: Threads + Sync>(rt: &R, alloc: Global) -> Result<u64, Fail> {
     for k in 0..100u64 {
         if !writes_part(rt, alloc, &["cuts"], TRIANGLE, CUTS, k)? {

@@ -246,8 +246,8 @@ pub(crate) fn passes_of<R: Threads + Sync>(
     Ok(gate.passes.load(Ordering::SeqCst))
 }
 
-/// Whether a run whose read of this number fails says so, writes nothing, and reads no further. The read behind the failed
-/// one fails too, and is made here.
+/// Whether a run whose read of this number fails says so, writes nothing, and reads no further.
+/// The read behind the failed one fails too, and is made here.
 pub(crate) fn reads_no_more<R: Threads + Sync>(
     rt: &R,
     alloc: Global,
@@ -271,7 +271,8 @@ pub(crate) fn reads_no_more<R: Threads + Sync>(
     )
 }
 
-/// Whether a run whose write of this number fails says so by its status alone, with a first part of the text written.
+/// Whether a run whose write of this number fails says so by its status alone,
+/// with a first part of the text written.
 pub(crate) fn writes_part<R: Threads + Sync>(
     rt: &R,
     alloc: Global,
@@ -329,7 +330,8 @@ fn printed_by_bytes<R: Threads + Sync>(
     Ok((status == Status::Ok).then_some(out.bytes))
 }
 
-/// Whether a run whose sink takes one byte at each write answers `Ok`, and writes what it writes to a sink that takes all.
+/// Whether a run whose sink takes one byte at each write answers `Ok`, and writes what it writes
+/// to a sink that takes all.
 pub(crate) fn answers_by_bytes<R: Threads + Sync>(
     rt: &R,
     alloc: Global,

@@ -45,7 +45,8 @@ fn edgeless(alloc: Global, n: u32) -> Result<Vec<u8>, Fail> {
     Ok(text)
 }
 
-/// The sets of components without that of vertex 1 are 2 to the 126th power, and one of them is empty.
+/// The sets of components without that of vertex 1 are 2 to the 126th power,
+/// and one of them is empty.
 #[test]
 fn the_number_of_127_components_is_told(rt: HostRuntime) -> Result<(), Fail> {
     let text = edgeless(rt.alloc(), 127)?;

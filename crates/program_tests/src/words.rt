@@ -71,19 +71,20 @@ fn other_words_are_refused_unread(rt: HostRuntime) -> Result<(), Fail> {
 }
 
 const HELP: &str = "usage: mincut JOB [U V] [--workers N]\n\
-    reads a graph in METIS text from standard input\n\
-    JOB is one of\n\
+    the graph comes in METIS text from standard input: mincut JOB < GRAPH\n\
     value: prints the least weight of a cut\n\
+    count: prints this value and the number of minimum cuts\n\
     cactus: prints all minimum cuts as one cactus\n\
     cuts: lists the minimum cuts, each by its side without vertex 1\n\
-    part: lists those that part the vertices U and V\n\
-    count: prints the number of all minimum cuts\n\
+    part U V: lists those that separate the vertices U and V\n\
     balanced: prints a minimum cut whose lighter side is heaviest\n\
-    augment: prints the fewest unit edges that raise the value, and the sets that show it\n\
-    grow: inserts the edges U V of weight W that follow, three numbers each, and prints the cuts after them\n\
-    trial: prints five facts about a graph that it makes for the number U of 12 to 100000\n\
-    N, the number of workers, is 1 to 64, and 4 where it is not named\n\
-    --least W with cuts: lists those whose lighter side weighs W or more\n";
+    augment: prints the fewest edges of weight 1 that raise the value, and the sets that show it\n\
+    grow U V W ..: inserts edges U V of weight W, and prints value and count after each, then the cactus\n\
+    trial N: prints five facts about a graph of about N vertices that it makes, 12 to 100000\n\
+    --workers N: the number of threads, 1 to 64, and 4 if not given; the text is the same\n\
+    --least W, with cuts: only those whose lighter side weighs W or more\n\
+    --help, -h: prints this text\n\
+    --version, -V: prints the version\n";
 
 const NOTICES: &[(&str, &str)] = &[
     ("--help", HELP),

@@ -28,7 +28,7 @@ use Rattle.tree_tests.specs.Sketches.{AreWide, lists_of, own_of}
 abbrev is_home : List ℕ → ℕ → ℕ → Bool
 is_home homes node v = slice_index homes (v - 1) == node
 
--- those of the first vertices
+-- the vertices of a node among the first vertices
 abbrev pub own_to : List ℕ → ℕ → ℕ → List ℕ
 own_to homes node m = filter (is_home homes node) (range_with_len 1 m)
 

@@ -8,7 +8,7 @@ use Rattle.rooted_cactus.specs.Widths.{widths}
 abbrev pub own_of : List ℕ → ℕ → List ℕ
 own_of homes node = filter (λ v. slice_index homes (v - 1) == node) (range_with_len 1 (length homes))
 
--- those of each of the first nodes
+-- the vertices of each of the first nodes
 abbrev pub lists_of : List ℕ → ℕ → List (List ℕ)
 lists_of homes count = map (own_of homes) (range_with_len 0 count)
 

@@ -14,8 +14,8 @@ use std::test::Fail;
 use tree_flattening::canonical_flat;
 use worker_team::Alone;
 
-/// Files of graphs whose trees have a vertex in each node and no cycle of three: a path, a star and a ring, numbered at random, and
-/// two rings through vertex 1.
+/// Files of graphs whose trees have a vertex in each node and no cycle of three: a path, a star
+/// and a ring, numbered at random, and two rings through vertex 1.
 const PLAIN: [&str; 4] = [
     "4 3\n3\n4\n1 4\n3 2\n",
     "5 4\n4\n4\n4\n1 2 3 5\n4\n",
@@ -23,7 +23,8 @@ const PLAIN: [&str; 4] = [
     "7 8\n2 4 5 7\n1 3\n2 4\n3 1\n1 6\n5 7\n6 1\n",
 ];
 
-/// A triangle, whose cactus is a star, and a complete graph of four, whose tree has a node without vertices.
+/// A triangle, whose cactus is a star, and a complete graph of four,
+/// whose tree has a node without vertices.
 const OTHER: [&str; 2] = ["3 3\n2 3\n1 3\n1 2\n", "4 6\n2 3 4\n1 3 4\n1 2 4\n1 2 3\n"];
 
 /// Whether two flat cactuses are the same.

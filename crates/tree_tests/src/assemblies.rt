@@ -75,7 +75,8 @@ fn single_parts(alloc: Global, chain: &Chain) -> Result<Vec<PartCactus>, Fail>
     Ok(parts)
 }
 
-/// The cactus of the chain from vertex 1 to t of a graph of this value, with the cactus of one node for each part.
+/// The cactus of the chain from vertex 1 to t of a graph of this value,
+/// with the cactus of one node for each part.
 fn assembled(alloc: Global, graph: &Graph, t: u32, least: u64) -> Result<Cactus, Fail>
     requires joined { IsJoined graph.now 1 t }
     requires apart { 1 ≢ t }

@@ -21,8 +21,8 @@ fn masses(alloc: Global, first: u64, n: usize) -> Result<VertexWeights, NoMemory
     Ok(VertexWeights::from_list(list))
 }
 
-/// A cactus, the mass of vertex 1 where all others have the mass 1, the best sides, the first of them first, and their
-/// balance.
+/// A cactus, the mass of vertex 1 where all others have the mass 1, the best sides, the first of
+/// them first, and their balance.
 struct Row {
     sketch: Sketch,
     first: u64,
@@ -76,7 +76,8 @@ const ROWS: &[Row] = &[
     },
 ];
 
-/// Whether a best side is among those of the row, with their balance, and the first best side is the first of them.
+/// Whether a best side is among those of the row, with their balance,
+/// and the first best side is the first of them.
 fn is_balanced(alloc: Global, row: &Row) -> Result<bool, Fail> {
     let cactus = cactus_of(alloc, &row.sketch)?;
     if cactus.n() == 0 || cactus.root().blocks.len() == 0 || row.sides.is_empty() {

@@ -25,7 +25,8 @@ pub(crate) fn is_among(side: &Side, lists: &[&[u32]]) -> bool {
     bit_among(side, lists) != 0
 }
 
-/// The bit at the place of the side among the lists, of which there are at most 64; 0 where it is none of them.
+/// The bit at the place of the side among the lists, of which there are at most 64;
+/// 0 where it is none of them.
 fn bit_among(side: &Side, lists: &[&[u32]]) -> u64 {
     let mut bit = 1;
     for vertices in lists {
@@ -37,8 +38,8 @@ fn bit_among(side: &Side, lists: &[&[u32]]) -> u64 {
     0
 }
 
-/// Whether a walk over the cactus gives just these sides, as lists of their vertices, each once, and then says, whenever
-/// it is asked, that there is no more.
+/// Whether a walk over the cactus gives just these sides, as lists of their vertices, each once,
+/// and then says, whenever it is asked, that there is no more.
 pub(crate) fn has_sides(
     alloc: Global,
     cactus: &Cactus,
@@ -115,7 +116,8 @@ fn is_bridge_between(root: &Node, upper: &[u32], lower: &[u32]) -> bool {
     }
 }
 
-/// The cactus of 1, with a bridge down to 2, with the vertices of the classes 1, 1 and 2 in place of these.
+/// The cactus of 1, with a bridge down to 2, with the vertices of the classes 1,
+/// 1 and 2 in place of these.
 fn spread_out(alloc: Global) -> Result<Cactus, Fail> {
     let narrow = cactus_of(alloc, &ONE_BRIDGE)?;
     if narrow.n() != 2 {
@@ -138,7 +140,8 @@ fn classes_are_spread(rt: HostRuntime) -> Result<(), Fail> {
     Ok(())
 }
 
-/// The cuts of the ring are ranges: its nodes begin at the places 1, 2 and 3, and the last ends at 4.
+/// The cuts of the ring are ranges: its nodes begin at the places 1,
+/// 2 and 3, and the last ends at 4.
 fn are_ring_places(places: &CutPlaces) -> bool {
     places.order.as_slice() == [1, 2, 3, 4].as_slice()
         && places.borders.len() == 4
@@ -190,7 +193,8 @@ fn has_one(list: &Children, v: u32) -> bool {
     list.len() == 1 && list.at(0).vertices.as_slice() == [v].as_slice()
 }
 
-/// Whether a ring of two nodes comes apart into one with 3 and one with 4, and is put together again in the other order.
+/// Whether a ring of two nodes comes apart into one with 3 and one with 4, and is put together
+/// again in the other order.
 fn comes_apart(ring: Children) -> Result<bool, NoMemory> {
     let mut ring = ring;
     if ring.len() != 2 {

@@ -22,7 +22,8 @@ fn is_told(alloc: Global, sketch: &Sketch, canonical: bool) -> Result<bool, Fail
     Ok(is_canonical(&cactus) == canonical && within == canonical)
 }
 
-/// A ring and a star in order are canonical; a turned ring, a turned star and a cycle of three nodes are not.
+/// A ring and a star in order are canonical;
+/// a turned ring, a turned star and a cycle of three nodes are not.
 const TOLD: &[(Sketch, bool)] = &[
     (ONE_RING, true),
     (STAR, true),

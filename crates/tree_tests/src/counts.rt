@@ -26,8 +26,8 @@ const COUNTED: &[(Sketch, &[&[u32]])] = &[
     // one node has no side
     (ONE_NODE, &[]),
     (ONE_RING, RING),
-    // An empty node between two cycles counts once: 3 intervals in each cycle, less the whole lower cycle, which is an
-    // interval of the upper one.
+    // An empty node between two cycles counts once: 3 intervals in each cycle, less the whole
+    // lower cycle, which is an interval of the upper one.
     (TWO_RINGS, &[&[2], &[2, 3], &[2, 3, 4], &[3], &[4]]),
 ];
 
@@ -43,8 +43,8 @@ fn each_side_of_a_normal_cactus_counts_once(rt: HostRuntime) -> Result<(), Fail>
     Ok(())
 }
 
-/// A cactus of so many nodes, whether it is normal, and the number of nodes and the sides of the normal one that it
-/// becomes.
+/// A cactus of so many nodes, whether it is normal, and the number of nodes and the sides of the
+/// normal one that it becomes.
 struct Row {
     sketch: Sketch,
     nodes: u64,
@@ -72,8 +72,8 @@ const ROWS: &[Row] = &[
     },
 ];
 
-/// Whether the cactus is as the row says, and becomes a normal one of so many nodes, with just these sides, each counted
-/// once.
+/// Whether the cactus is as the row says, and becomes a normal one of so many nodes, with just
+/// these sides, each counted once.
 fn becomes(alloc: Global, row: &Row) -> Result<bool, Fail> {
     let cactus = cactus_of(alloc, &row.sketch)?;
     let is_told = cactus.is_normal() == row.is_normal && cactus.nodes() == row.nodes;

@@ -16,7 +16,8 @@ pub(crate) fn edges_of(alloc: Global, text: &str) -> Option<EdgeList> {
     }
 }
 
-/// A connected graph, its value, and the sides of its minimum cuts, as lists of the vertices apart from vertex 1.
+/// A connected graph, its value, and the sides of its minimum cuts,
+/// as lists of the vertices apart from vertex 1.
 #[derive(Clone, Copy)]
 pub struct Known {
     pub name: &'static str,

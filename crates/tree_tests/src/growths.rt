@@ -107,7 +107,8 @@ fn has_two_bridges(node: &Node, own: &[u32], first: u32, second: u32) -> bool {
             || leads_to(node.blocks.at(0), second) && leads_to(node.blocks.at(1), first))
 }
 
-/// Whether the ring of four nodes, with 1 and 3 in one, has two bridges, and no cut once 2 and 4 are joined too.
+/// Whether the ring of four nodes, with 1 and 3 in one, has two bridges,
+/// and no cut once 2 and 4 are joined too.
 fn falls_into_bridges(alloc: Global) -> Result<bool, Fail> {
     let ring = cactus_of(alloc, &ONE_RING)?;
     if ring.n() != 4 || ring.root().blocks.len() == 0 {

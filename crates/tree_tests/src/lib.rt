@@ -1,6 +1,7 @@
-//! Tests of the crates from the solver on, through their public calls: chains, assemblies and the tree of the minimum cuts, over
-//! small graphs whose minimum cuts are known; and the cactus, its canonical form, listings, balances, augmentations, growth and
-//! texts, over small trees whose sides are known.
+//! Tests of the crates from the solver on, through their public calls: chains, assemblies and
+//! the tree of the minimum cuts, over small graphs whose minimum cuts are known; and the
+//! cactus, its canonical form, listings, balances, augmentations, growth and texts, over small
+//! trees whose sides are known.
 #![tactic(auto)]
 
 #[cfg(test)]

@@ -81,7 +81,8 @@ fn unions_of(alloc: Global, graph: &EdgeList) -> Result<Vec<Side>, NoMemory>
     parts.sides(alloc)
 }
 
-/// Those of the minimum cuts of a graph in several components that part two vertices, by a closure that tests it.
+/// The minimum cuts of a graph in several components that part two
+/// vertices, selected by a closure.
 fn selected_parting(alloc: Global, graph: &EdgeList, u: u32, v: u32) -> Result<Vec<Side>, NoMemory>
     requires few { graph.now.vertices ≤ 4 }
     requires ask { IsAskWithin graph.now.vertices (Parting u v) }
@@ -165,8 +166,8 @@ fn all_sides_of_a_cactus_come_once(rt: HostRuntime) -> Result<(), Fail> {
     Ok(())
 }
 
-/// Whether the sides of the cactus of a least balance of 2 are these, in this order, where the first vertex has most of
-/// the mass.
+/// Whether the sides of the cactus of a least balance of 2 are these, in this order, where the
+/// first vertex has most of the mass.
 fn are_balanced(alloc: Global, cactus: &Cactus, lists: &[&[u32]]) -> Result<bool, Fail> {
     if cactus.n() != 4 {
         return Ok(false);

@@ -7,7 +7,8 @@ use std::alloc::Global;
 use std::test::Fail;
 use worker_team::Alone;
 
-/// The weight of the edge from a vertex of the path to the next: the first and the last are lighter.
+/// The weight of the edge from a vertex of the path to the next:
+/// the first and the last are lighter.
 fn weight_after(v: u32) -> u32 {
     if v == 1 || v == 1_100 { 3 } else { 5 }
 }

@@ -1,4 +1,5 @@
-//! The tree of the minimum cuts by sets that grow in ranges of a few vertices each: it has the sides that the sweep alone finds.
+//! The tree of the minimum cuts by sets that grow in ranges of a few vertices each: it has the
+//! sides that the sweep alone finds.
 
 ghost use Rattle.std.specs.Prelude.{◌≡◌, ◌≤◌};
 ghost use Rattle.cut_definitions.specs.Components.{IsConnected};
@@ -72,7 +73,8 @@ fn have_same_sides(alloc: Global, one: &Solved, other: &Solved) -> Result<bool, 
     Ok(are_among(&sides, &others) && are_among(&others, &sides))
 }
 
-/// How many of these numbers of workers had sets grow; none where a tree of theirs has other sides than that of the sweep alone.
+/// How many of these numbers of workers had sets grow; none where a tree of theirs has other sides
+/// than that of the sweep alone.
 fn grown_times<R: Threads + Sync>(
     rt: &R,
     alloc: Global,
@@ -100,7 +102,9 @@ fn grown_times<R: Threads + Sync>(
     Ok(Some(grown))
 }
 
-/// The same for the graph of a file.
+/// For how many of one, two, three and four workers sets grow in the graph of a file;
+/// none if it is not a connected graph of two or more vertices, or a tree has other
+/// sides than that of the sweep.
 fn grown_by_text<R: Threads + Sync>(
     rt: &R,
     alloc: Global,

@@ -1,4 +1,5 @@
-//! Graphs whose vertices are numbered far from their neighbours, on more vertices than the nearer caches hold.
+//! Graphs whose vertices are numbered far from their neighbours,
+//! on more vertices than the nearer caches hold.
 
 use crate::graphs::edges_of;
 use cactus_solver::{Cuts, SolvedList, solve_list};
@@ -44,7 +45,8 @@ fn star(alloc: Global) -> Result<String, NoMemory> {
     Ok(text)
 }
 
-/// The labels of vertex 1 and the vertices beside it on the ring of 33,000 steps, where the graph of a file is renumbered.
+/// The labels of vertex 1 and the vertices beside it on the ring of 33,000 steps, where the graph
+/// of a file is renumbered.
 fn first_labels(alloc: Global, text: &str) -> Result<Option<[u32; 3]>, Fail> {
     let Some(list) = edges_of(alloc, text) else {
         return Err(Fail::from("no graph"));

@@ -52,8 +52,8 @@ fn a_cactus_is_printed(rt: HostRuntime) -> Result<(), Fail> {
     Ok(())
 }
 
-/// A sink with room for so many bytes, in which the writes of some numbers fail, after a value and a flat cactus were
-/// printed, and whether they were printed whole.
+/// A sink with room for so many bytes, in which the writes of some numbers fail, after a value and
+/// a flat cactus were printed, and whether they were printed whole.
 fn printed_into(
     alloc: Global,
     room: usize,
@@ -120,7 +120,8 @@ impl Sink for Narrow {
     }
 }
 
-/// Whether a sink with so much room takes so much of the text, and fails once where that is not the whole.
+/// Whether a sink with so much room takes so much of the text,
+/// and fails once where that is not the whole.
 fn takes_first_part(alloc: Global, flat: &FlatCactus, room: usize) -> Result<bool, NoMemory> {
     let mut sink = Narrow {
         bytes: Vec::new(alloc),

@@ -1,4 +1,5 @@
-//! The cactuses of the tests: each told by a sketch, which is a constant, and made by one function.
+//! The cactuses of the tests: each told by a sketch, which is a constant,
+//! and made by one function.
 
 ghost use Rattle.std.specs.Prelude.{◌≡◌, ◌<◌, ◌≤◌, ◌^◌, ◌++◌, ◌∷◌, [], ℕ, true, IfOk, OnOk, length, slice_index};
 ghost use Rattle.std.specs.List.{All, flat_map};
@@ -18,8 +19,8 @@ use vertex_set::Side;
 pub struct Sketch {
     /// The node of each vertex, from vertex 1 on.
     pub homes: &'static [usize],
-    /// For each node the blocks that end with it, the lowest first: each by the number of its nodes below its upper one,
-    /// which is 1 for a bridge and 2 or more for a cycle.
+    /// For each node the blocks that end with it, the lowest first: each by the number of its
+    /// nodes below its upper one, which is 1 for a bridge and 2 or more for a cycle.
     pub ends: &'static [&'static [usize]],
 }
 
@@ -89,39 +90,44 @@ pub const TWO_AND_ONE: Sketch = Sketch {
     ends: &[&[], &[1]],
 };
 
-/// The cactus of 1, with a bridge down to an empty node, and from there bridges down to 2 and to 3.
+/// The cactus of 1, with a bridge down to an empty node,
+/// and from there bridges down to 2 and to 3.
 pub const STAR: Sketch = Sketch {
     homes: &[0, 2, 3],
     ends: &[&[], &[], &[1], &[1, 1]],
 };
 
-/// The cactus of 1, with a bridge down to an empty node, and from there bridges down to 3 and then to 2.
+/// The cactus of 1, with a bridge down to an empty node,
+/// and from there bridges down to 3 and then to 2.
 pub const TURNED_STAR: Sketch = Sketch {
     homes: &[0, 3, 2],
     ends: &[&[], &[], &[1], &[1, 1]],
 };
 
-/// The cactus of 1, with a way of two bridges down to 5 and 6, then a cycle through 2, which has 3 below a bridge, and 4,
-/// then a bridge down to 7.
+/// The cactus of 1, with a way of two bridges down to 5 and 6, then a cycle through 2, which has 3
+/// below a bridge, and 4, then a bridge down to 7.
 pub const NESTED: Sketch = Sketch {
     homes: &[0, 3, 4, 5, 1, 2, 6],
     ends: &[&[], &[], &[1, 1], &[], &[1], &[2], &[1]],
 };
 
-/// The cactus of 1, with a cycle through an empty node, which has a cycle through 2 and 3, and through 4.
+/// The cactus of 1, with a cycle through an empty node,
+/// which has a cycle through 2 and 3, and through 4.
 pub const TWO_RINGS: Sketch = Sketch {
     homes: &[0, 2, 3, 4],
     ends: &[&[], &[], &[], &[2], &[2]],
 };
 
-/// The cactus of 1, with a cycle through 2, 3 and an empty node, and below that a cycle through 4, 5 and 6.
+/// The cactus of 1, with a cycle through 2, 3 and an empty node,
+/// and below that a cycle through 4, 5 and 6.
 pub const RINGS_AT_AN_EMPTY_NODE: Sketch = Sketch {
     homes: &[0, 1, 2, 4, 5, 6],
     ends: &[&[], &[], &[], &[], &[], &[], &[3, 3]],
 };
 
-/// The cactus of 1, with a bridge down to an empty node, which has a cycle through 2 and 3, and with a cycle through an
-/// empty node, which has a bridge down to 4, and through 5: both empty nodes can be spared.
+/// The cactus of 1, with a bridge down to an empty node, which has a cycle through 2 and 3,
+/// and with a cycle through an empty node, which has a bridge down to 4, and through 5: both
+/// empty nodes can be spared.
 pub const TWO_SPARE: Sketch = Sketch {
     homes: &[0, 2, 3, 5, 6],
     ends: &[&[], &[], &[], &[2, 1], &[], &[1], &[2]],

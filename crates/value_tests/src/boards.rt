@@ -21,8 +21,8 @@ pub(crate) fn degree_of(graph: &Graph, v: u32) -> u64
     graph.degree(v)
 }
 
-/// Lowers the bound by the degree of vertex 3, and marks edge 0 twice. Whether the bound is 5 then, and edge 0 was not
-/// marked before and is now.
+/// Lowers the bound by the degree of vertex 3, and marks edge 0 twice. Whether the bound is 5
+/// then, and edge 0 was not marked before and is now.
 fn marks_the_heavy_edge(graph: &Graph, board: &Board, seat: &mut BoardSeat) -> bool
     requires seat { seat.old.board ≡ board.now }
     requires graph { board.now.graph ≡ graph.now }

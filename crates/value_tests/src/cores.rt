@@ -11,8 +11,8 @@ use std::alloc::Global;
 use vertex_set::Side;
 use weighted_graph::Graph;
 
-/// The machine on the uneven triangle, opened with the weight 6 of vertex 1. Its value is 5, and the cut around vertex 3 parts
-/// the edges 1 and 2.
+/// The machine on the uneven triangle, opened with the weight 6 of vertex 1. Its value is 5, and
+/// the cut around vertex 3 parts the edges 1 and 2.
 fn open_triangle(alloc: Global, graph: &Graph) -> Result<Core, NoMemory>
     requires { graph.now ≡ record { vertices = 3; edges = record { u = 1; v = 2; w = 5 } ∷ record { u = 1; v = 3; w = 1 } ∷ record { u = 2; v = 3; w = 4 } ∷ [] } }
     ensures { IfOk result (λ core. Shows core (opening_machine graph.now 0 6)) }
@@ -34,8 +34,8 @@ enum Turn {
 /// A turn, whether it is allowed, the bound after it, and what its seat has seen then.
 type Step = (Turn, bool, u64, Option<u64>);
 
-// The first mark of edge 2 by seat 2 is refused, since it saw 6 and the cut around vertex 3, of weight 5, parts the edge. There is
-// no seat 7, and no vertex 4.
+// The first mark of edge 2 by seat 2 is refused, since it saw 6 and the cut around vertex 3, of
+// weight 5, parts the edge. There is no seat 7, and no vertex 4.
 const STALE: [Step; 10] = [
     (Turn::Split(1), true, 6, Some(6)),
     (Turn::Load(2), true, 6, Some(6)),
@@ -49,8 +49,8 @@ const STALE: [Step; 10] = [
     (Turn::Take(1, 3), true, 5, Some(5)),
 ];
 
-// Refused are a mark of an edge that the lowered cut parts, a step of a seat that was joined away, a seat joined to itself, and a
-// vertex that is not there.
+// Refused are a mark of an edge that the lowered cut parts, a step of a seat that was joined away,
+// a seat joined to itself, and a vertex that is not there.
 const JOINED: [Step; 11] = [
     (Turn::Split(1), true, 6, Some(6)),
     (Turn::Split(1), true, 6, Some(6)),
@@ -140,8 +140,8 @@ fn replayed(core: &mut Core, graph: &Graph, events: &[Event]) -> Result<u64, NoM
     Ok(allowed)
 }
 
-/// Steps from the opening, how many of their events are replayed, and what is left of these: how many were allowed, which edges
-/// are marked, whether vertex 2 is taken, and what seat 2 saw last.
+/// Steps from the opening, how many of their events are replayed, and what is left of these: how
+/// many were allowed, which edges are marked, whether vertex 2 is taken, and what seat 2 saw last.
 struct Told {
     steps: &'static [Step],
     replayed: usize,

@@ -10,8 +10,9 @@ use min_value::lesser_of_list;
 use std::alloc::Global;
 use worker_team::Alone;
 
-// Files, bounds, and the classes that are tied for these: the complete graph of four vertices, where the last edge alone finds
-// its ends joined twice before; two components; a triangle with the weights 5, 1 and 4.
+// Files, bounds, and the classes that are tied for these: the complete graph of four vertices,
+// where the last edge alone finds its ends joined twice before; two components; a triangle
+// with the weights 5, 1 and 4.
 const TIED: [(&str, u64, &[u32]); 4] = [
     ("4 6\n2 3 4\n1 3 4\n1 2 4\n1 2 3\n", 3, &[1, 2, 3, 3]),
     ("4 6\n2 3 4\n1 3 4\n1 2 4\n1 2 3\n", 4, &[1, 2, 3, 4]),
@@ -96,7 +97,8 @@ fn leaves(alloc: Global, list: &EdgeList, bound: u64, vertices: Option<u32>) -> 
     left.bound == bound && count == vertices
 }
 
-/// Whether contraction leaves this bound and so many vertices, and whether the list tells this value.
+/// Whether contraction leaves this bound and so many vertices,
+/// and whether the list tells this value.
 fn is_contracted(
     alloc: Global,
     list: Option<EdgeList>,

@@ -8,7 +8,8 @@ use std::alloc::Global;
 use vertex_set::Side;
 use weighted_graph::{Arc, Graph, Labels, relabel_list};
 
-/// Whether it is the triangle by its counts, the row, the degree and an edge of vertex 2, and the weight of another edge.
+/// Whether it is the triangle by its counts, the row, the degree and an edge of vertex 2,
+/// and the weight of another edge.
 fn is_triangle(graph: &Graph) -> bool
     requires { graph.now.vertices ≡ 3 }
 {

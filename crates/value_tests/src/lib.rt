@@ -1,6 +1,6 @@
-//! Tests of the crates up to the value, through their public calls and over small graphs whose answers are known by hand: sets of
-//! vertices, lists of edges, sources and sinks; the reader of METIS files; graphs, flows and scans; the shared board and its
-//! machine; and the value.
+//! Tests of the crates up to the value, through their public calls and over small graphs whose
+//! answers are known by hand: sets of vertices, lists of edges, sources and sinks; the reader of
+//! METIS files; graphs, flows and scans; the shared board and its machine; and the value.
 #![tactic(auto)]
 
 #[cfg(test)]
@@ -41,6 +41,8 @@ mod narrowing;
 mod pieces;
 #[cfg(test)]
 mod rounds;
+#[cfg(test)]
+mod row_pieces;
 #[cfg(test)]
 mod scans;
 #[cfg(test)]

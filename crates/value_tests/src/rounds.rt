@@ -65,7 +65,8 @@ fn the_first_edge_of_a_triangle_is_contracted(rt: HostRuntime) -> Result<(), NoM
     Ok(())
 }
 
-/// A graph, the vertex whose degree opens the bound, the slack, the bound that is answered, and of each edge whether it is marked.
+/// A graph, the vertex whose degree opens the bound, the slack, the bound that is answered, and of
+/// each edge whether it is marked.
 struct Forced {
     text: &'static str,
     opener: u32,
@@ -76,8 +77,9 @@ struct Forced {
 
 const UNEVEN: &str = "3 3 1\n2 5 3 1\n1 5 3 4\n1 1 2 4\n";
 
-// The bound is the value, and each edge is certified or parted by a minimum cut. In the triangle edge 0 is certified, and the cut
-// around vertex 3 parts the ends of both others. In the other graph vertex 1 hangs by an edge of weight 2 at six vertices that
+// The bound is the value, and each edge is certified or parted by a minimum cut. In the
+// triangle edge 0 is certified, and the cut around vertex 3 parts the ends of both
+// others. In the other graph vertex 1 hangs by an edge of weight 2 at six vertices that
 // are joined by edges of weight 3.
 const FORCED: [Forced; 2] = [
     Forced {
@@ -166,9 +168,9 @@ fn the_bound_falls_to_a_prefix(rt: HostRuntime) {
 // Each of 1, 2, 3 joined to each of 4, 5, 6.
 const THREE_BY_THREE: &str = "6 9\n4 5 6\n4 5 6\n4 5 6\n1 2 3\n1 2 3\n1 2 3\n";
 
-/// Whether no edge passes a certificate at 3 and yet a round that is opened with the degree of vertex 1 keeps this bound, 3,
-/// and one worker marks an edge. Of several each may have scanned so little before the others took the rest that no link
-/// reaches the bound.
+/// Whether no edge passes a certificate at 3 and yet a round that is opened with the degree of
+/// vertex 1 keeps this bound, 3, and one worker marks an edge. Of several each may have scanned so
+/// little before the others took the rest that no link reaches the bound.
 fn marks_by_links<R: Threads + Sync>(rt: &R, alloc: Global, workers: u32) -> bool
     requires { (1 ≤ workers) × (workers ≤ 64) }
 {

@@ -33,7 +33,8 @@ fn has_links(graph: &Graph, scan: &Scan, second: u64, third: u64) -> bool
     links == (second, third)
 }
 
-/// Whether the scan that starts at vertex 1 with cap 6 goes through all three vertices, with the links between.
+/// Whether the scan that starts at vertex 1 with cap 6 goes through all three
+/// vertices, with the links between.
 fn goes_from_first(graph: &Graph, scan: &mut Scan) -> bool
     requires stands { StandsFor scan.old graph.now }
     requires three { graph.now.vertices ≡ 3 }

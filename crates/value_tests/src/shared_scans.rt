@@ -20,7 +20,8 @@ const TURNS: u32 = 1_000_000_000;
 // The vertices of a block, which are joined to each other.
 const SIZE: u32 = 24;
 
-// The vertices of the graph: four blocks, of which an edge joins the first two, and another one the last two.
+// The vertices of the graph: four blocks, of which an edge joins the first two,
+// and another one the last two.
 const VERTICES: u32 = 96;
 
 // A gate that holds each of two workers until both are there, and counts those who saw the other.
@@ -72,7 +73,8 @@ fn two_pairs_of_blocks(alloc: Global) -> Result<String, NoMemory> {
     Ok(text)
 }
 
-/// Whether an edge is marked between two vertices above a number of them, and at most so many further ones.
+/// Whether an edge is marked between two vertices above a number of them,
+/// and at most so many further ones.
 fn marks_between(graph: &Graph, marks: &Marks, after: u32, until: u32) -> bool
     requires { marks.now.edges ≡ length graph.now.edges }
 {
@@ -85,8 +87,8 @@ fn marks_between(graph: &Graph, marks: &Marks, after: u32, until: u32) -> bool
     false
 }
 
-/// Whether two workers scan at the same time, and an edge is marked in each pair of blocks. Neither reaches the pair of the other,
-/// so both have marked one.
+/// Whether two workers scan at the same time, and an edge is marked in each pair of blocks.
+/// Neither reaches the pair of the other, so both have marked one.
 fn marks_both_pairs<R: Threads + Sync>(
     rt: &R,
     alloc: Global,

@@ -41,7 +41,8 @@ fn values_of_a_triangle(rt: HostRuntime) -> Result<(), NoMemory> {
 // The complete graph of four vertices, all edges of weight 1.
 const FOUR: &str = "4 6\n2 3 4\n1 3 4\n1 2 4\n1 2 3\n";
 
-// The same with one heavier edge, so that the least degree is not at once known to be the value.
+// The complete graph of four vertices with one edge of weight 2, so that the least degree is not
+// at once known to be the value.
 const UNEVEN_FOUR: &str = "4 6 1\n2 2 3 1 4 1\n1 2 3 1 4 1\n1 1 2 1 4 1\n1 1 2 1 3 1\n";
 
 // Two vertices with no edge.
@@ -70,9 +71,10 @@ fn a_sweep_is_cut_short(rt: HostRuntime) {
     assert!(rt; keeps_its_limit(rt.alloc(), FOUR, Swept::Whole(3)));
 }
 
-// Files, what `value_of_dense` tells of their graphs, and the least degrees: the complete graph of five vertices; one of four where vertex 4 has
-// the least degree, 12, and four times the heaviest edge is twice that; the same with an edge of weight 7; one of four where
-// an edge of weight 2 is too heavy for the least degree, 3; a ring of eight; two vertices with an edge, and without one.
+// Files, what `value_of_dense` tells of their graphs, and the least degrees: the complete graph of
+// five vertices; one of four where vertex 4 has the least degree, 12, and four times the heaviest
+// edge is twice that; the same with an edge of weight 7; one of four where an edge of weight 2 is
+// too heavy for the least degree, 3; a ring of eight; two vertices with an edge, and without one.
 const DENSE: [(&str, Option<u64>, u64); 7] = [
     (
         "5 10\n2 3 4 5\n1 3 4 5\n1 2 4 5\n1 2 3 5\n1 2 3 4\n",
@@ -115,7 +117,8 @@ fn values_of_dense_graphs(rt: HostRuntime) {
     }
 }
 
-// Files of two to six vertices, one of them with a vertex that has no edge, and the values of their graphs.
+// Files of two to six vertices, one of them with a vertex that has no edge,
+// and the values of their graphs.
 const FILES: [(&str, u64); 9] = [
     ("3 3\n2 3\n1 3\n1 2\n", 2),
     ("3 3 1\n2 5 3 1\n1 5 3 4\n1 1 2 4\n", 5),

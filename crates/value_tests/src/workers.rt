@@ -52,8 +52,8 @@ fn meeting_gate() -> MeetingGate {
     }
 }
 
-/// Feeds the row of a vertex, counted from 0, which is joined to all others of its block; the last vertex of a block is joined
-/// to the first of the next one.
+/// Feeds the row of a vertex, counted from 0, which is joined to all others of its block; the last
+/// vertex of a block is joined to the first of the next one.
 fn feed_row(reader: &mut Reader, vertex: u32, blocks: u32, size: u32)
     requires vertex { vertex ≤ 100000 }
     requires blocks { blocks ≤ 1000 }
@@ -107,8 +107,9 @@ fn marked_blocks(graph: &Graph, marks: &Marks) -> u32
     count
 }
 
-/// Whether two workers run at the same time, lower the bound to 2 at most, and mark an edge in each of the 64 blocks. A block is
-/// scanned by one of them, or half of it at least by one of them once the bound has fallen.
+/// Whether two workers run at the same time, lower the bound to 2 at most, and mark an edge in
+/// each of the 64 blocks. A block is scanned by one of them, or half of it at least by one of them
+/// once the bound has fallen.
 fn marks_each_block<R: Threads + Sync>(rt: &R, alloc: Global, graph: &Graph) -> bool
     requires { 2 ≤ graph.now.vertices }
 {
