@@ -55,7 +55,7 @@ line_put a ts from i low h p q =
     ∙ ap (λ (l : List ℕ). a ++ l) (ap (λ (l : List ℕ). joined_between ts from i ++ l) (sym (between_one ts i h)) ∙ between_join ts from i (i + 1) low (omega arith)))
     (split_then (get_or ts i []) p q)
 
--- the same, with further lines behind them
+-- the lines from a number on, one more, and those behind it are the lines of the whole range
 pub lines_behind : (a : List ℕ) (ts : List (List ℕ)) (from i to : ℕ) → from ≤ i → i < to → to ≤ length ts
     → ((a ++ joined_between ts from i) ++ get_or ts i []) ++ joined_between ts (i + 1) to ≡ a ++ joined_between ts from to
 lines_behind a ts from i to low high h =
@@ -74,12 +74,12 @@ range_put a ts from mid to low high p q =
     split_as (append_assoc a (joined_between ts from mid) (joined_between ts mid to) ∙ ap (λ (l : List ℕ). a ++ l) (between_join ts from mid to low high))
     (split_then (joined_between ts mid to) p q)
 
--- the same, where nothing else is wanting
+-- two ranges of lines, one behind the other, are the lines of both
 pub range_end : (a : List ℕ) (ts : List (List ℕ)) (from mid to : ℕ) → from ≤ mid → mid ≤ to
     → (a ++ joined_between ts from mid) ++ joined_between ts mid to ≡ a ++ joined_between ts from to
 range_end a ts from mid to low high = append_assoc a (joined_between ts from mid) (joined_between ts mid to) ∙ ap (λ (l : List ℕ). a ++ l) (between_join ts from mid to low high)
 
--- and with others behind them
+-- three ranges of lines, one behind another, are the lines of all
 pub range_behind : (a : List ℕ) (ts : List (List ℕ)) (from mid end to : ℕ) → from ≤ mid → mid ≤ end → end ≤ to
     → ((a ++ joined_between ts from mid) ++ joined_between ts mid end) ++ joined_between ts end to ≡ a ++ joined_between ts from to
 range_behind a ts from mid end to low there high =

@@ -31,7 +31,7 @@ rest_put a xs i h =
     append_assoc a (step_lines 1 (take i xs)) (step_lines (i + 1) (drop i xs))
     ∙ ap (λ (l : List ℕ). a ++ l) (sym (from_taken xs (drop i xs) i h) ∙ ap (step_lines 1) (take-append-drop i xs))
 
--- and with all that follow
+-- the lines of the first steps, of one more, and of all that follow are the lines of all steps
 pub steps_put : (a : List ℕ) (xs : List Step) (i : ℕ) (x : Step) → x ≡ get_or xs i x → i < length xs
     → ((a ++ step_lines 1 (take i xs)) ++ step_line (i + 1) x) ++ step_lines (i + 1 + 1) (drop (i + 1) xs) ≡ a ++ step_lines 1 xs
 steps_put a xs i x is h = ap (λ (l : List ℕ). l ++ step_lines (i + 1 + 1) (drop (i + 1) xs)) (step_put a xs i x is h) ∙ rest_put a xs (i + 1) (omega (arith, h))

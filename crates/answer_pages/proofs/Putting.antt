@@ -101,7 +101,7 @@ rest_put f a xs i =
     append_assoc a (flat_map f (take i xs)) (flat_map f (drop i xs))
     ∙ ap (λ (l : List ℕ). a ++ l) (sym (flat_map-append f (take i xs) (drop i xs)) ∙ ap (flat_map f) (take-append-drop i xs))
 
--- and with all entries that follow
+-- the bytes of the first entries, of one more, and of all that follow are the bytes of the list
 pub entries_put : {X : Type 0} (f : X → List ℕ) (a : List ℕ) (xs : List X) (i : ℕ) (x : X) → x ≡ get_or xs i x → i < length xs
     → ((a ++ flat_map f (take i xs)) ++ f x) ++ flat_map f (drop (i + 1) xs) ≡ a ++ flat_map f xs
 entries_put f a xs i x is h = ap (λ (l : List ℕ). l ++ flat_map f (drop (i + 1) xs)) (entry_put f a xs i x is h) ∙ rest_put f a xs (i + 1)

@@ -34,7 +34,8 @@ fn put_sets<K: Sink>(page: &mut Page, sink: &mut K, plan: &Plan) -> Result<(), S
 
 /// The text of an augmentation: the value of the graph, and the plan.
 ///
-/// It has the value, the number of the new edges and these, and the number of the sets and these, one a line.
+/// It has the value, the number of the new edges and these,
+/// and the number of the sets and these, one a line.
 #[derive(Clone, Copy, Drop)]
 pub struct AugmentText<'a>(pub u64, pub &'a Plan);
 

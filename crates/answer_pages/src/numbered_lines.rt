@@ -1,4 +1,5 @@
-//! Texts by their lines, each of which is known by its number: so a part of a text can be made without what stands before it.
+//! Texts by their lines, each of which is known by its number: so a part of a text can be made
+//! without what stands before it.
 
 ghost use Rattle.std.specs.Prelude.{◌≡◌, ℕ, ◌+◌, ◌-◌, ◌*◌, ◌^◌, ◌<◌, ◌≤◌, ◌++◌, length, min, slice_index_or, []};
 ghost use Rattle.answer_pages.specs.Lines.{joined_between, room_wanted, texts};
@@ -79,8 +80,9 @@ impl Lines<'_> {
         Ok(())
     }
 
-    /// How many bytes are kept for a line: eight for each number, and eight more for a line with a word. They are enough where
-    /// no number has more than seven digits, as in all texts of this program.
+    /// How many bytes are kept for a line: eight for each number, and eight more for a
+    /// line with a word. They are enough where no number has more than seven digits, as in
+    /// all texts of this program.
     pub(crate) fn room_for(&self, i: usize) -> usize
         requires { i < length (texts self.now) }
         ensures { result ≡ min (room_wanted self.now i) (2 ^ 64 - 1) }
@@ -94,7 +96,8 @@ impl Lines<'_> {
         }
     }
 
-    /// The first line from one on for which so many bytes may not be enough, or how many lines there are.
+    /// The first line from one on for which so many bytes may not be enough,
+    /// or how many lines there are.
     pub(crate) fn next_long(&self, from: usize, room: usize) -> usize
         requires { from ≤ length (texts self.now) }
         ensures no_less { from ≤ result }
@@ -111,7 +114,8 @@ impl Lines<'_> {
     }
 }
 
-/// How many bytes a number has at most, of those that a text of this program has, with a space before it.
+/// How many bytes a number has at most, of those that a text of this program
+/// has, with a space before it.
 const NUMBER_SIZE: usize = 8;
 
 /// How many bytes a line with so many numbers has at most.

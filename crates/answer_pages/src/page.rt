@@ -13,9 +13,11 @@ use std::marker::Model;
 /// How many bytes go out in one piece.
 const PAGE_SIZE: usize = 32768;
 
-/// Bytes on their way to a sink, which are held until there are enough for a write. Contracts see what it holds.
+/// Bytes on their way to a sink, which are held until there are enough for a write.
+/// Contracts see what it holds.
 ///
-/// It takes its memory at the start. What the sink took and what the page holds are together the text so far.
+/// It takes its memory at the start. What the sink took and what the page holds are
+/// together the text so far.
 #[derive(Drop)]
 pub struct Page {
     bytes: Vec<u8>,
@@ -57,7 +59,8 @@ impl Page {
         Ok(())
     }
 
-    /// Sees that so many more bytes have room: where the page would get too full, what it holds is written out.
+    /// Sees that so many more bytes have room: where the page would get too full,
+    /// what it holds is written out.
     fn make_room<K: Sink>(&mut self, sink: &mut K, count: usize) -> Result<(), SinkFailed>
         requires { count ≤ 41 }
         ensures puts { Puts self.old (K.taken sink.old) (K.taken sink.new) (K.faults sink.old) (K.faults sink.new) self.new result }
@@ -69,7 +72,8 @@ impl Page {
         Ok(())
     }
 
-    /// Puts a short piece behind what is held, which is written out before where the page would get too full.
+    /// Puts a short piece behind what is held, which is written out before where the
+    /// page would get too full.
     pub fn put<K: Sink>(&mut self, sink: &mut K, piece: &[u8]) -> Result<(), SinkFailed>
         requires { length piece.now ≤ 40 }
         ensures { Puts (self.old ++ piece.now) (K.taken sink.old) (K.taken sink.new) (K.faults sink.old) (K.faults sink.new) self.new result }

@@ -84,7 +84,8 @@ fn put_worded_side<K: Sink>(page: &mut Page, sink: &mut K, side: &Side) -> Resul
 
 /// The text of a listing of cuts: who makes its lines into text, the value, and the sides.
 ///
-/// It has the value, the number of the sides, and the sides, one a line. Time besides for each side in proportion to n/64.
+/// It has the value, the number of the sides, and the sides, one a line. Time besides for each
+/// side in proportion to n/64.
 #[derive(Drop)]
 pub struct ListingText<'a, M>(pub M, pub u64, pub &'a [Side]);
 
@@ -101,7 +102,8 @@ impl<M: TextMaker> Text for ListingText<'_, M> {
     }
 }
 
-/// The text of a side with its balance: the value of its cut, the balance, and the side. Time besides in proportion to n/64.
+/// The text of a side with its balance: the value of its cut, the balance, and the side. Time
+/// besides in proportion to n/64.
 #[derive(Clone, Copy, Drop)]
 pub struct BalancedText<'a>(pub u64, pub u128, pub &'a Side);
 

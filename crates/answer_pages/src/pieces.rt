@@ -1,8 +1,10 @@
-//! Long texts that several workers make side by side, a piece each, and that are written in their order.
+//! Long texts that several workers make side by side, a piece each,
+//! and that are written in their order.
 //!
-//! In each round the lines that come next are dealt to the pieces, each of which takes as many as surely fit; the pieces are
-//! made side by side, and written one after another. No promise rests on which lines a piece was dealt, nor on whether it was
-//! made: where what it has is not the text of the lines that come next, they are put one by one.
+//! In each round the lines that come next are dealt to the pieces, each of which takes as many as
+//! surely fit; the pieces are made side by side, and written one after another. No promise rests
+//! on which lines a piece was dealt, nor on whether it was made: where what it has is not the text
+//! of the lines that come next, they are put one by one.
 
 ghost use Rattle.std.specs.Prelude.{⊤, Some, ◌≡◌, ◌<◌, ◌≤◌, ◌+◌, ◌++◌, ◌*◌, ◌/◌, ◌∷◌, false, IfOk, codes, length, min};
 ghost use Rattle.std.specs.List.{All, concat};
@@ -107,7 +109,8 @@ impl Piece {
         })
     }
 
-    /// Takes as many lines as there is room for, from one on, but none from another on, and answers the next one.
+    /// Takes as many lines as there is room for, from one on, but none from another on,
+    /// and answers the next one.
     fn take(&mut self, lines: Lines, from: usize, to: usize) -> usize
         requires ordered { from ≤ to }
         requires within { to ≤ length (texts lines) }
@@ -238,7 +241,8 @@ fn put_made<K: Sink>(
     lines.put(page, sink, next, to)
 }
 
-/// Workers who make pieces of a text side by side. A piece takes a few MiB; where these are wanting, its lines are put one by one.
+/// Workers who make pieces of a text side by side. A piece takes a few MiB; where these are
+/// wanting, its lines are put one by one.
 #[derive(Drop)]
 pub struct Crew<'a, R> {
     rt: &'a R,
@@ -246,8 +250,9 @@ pub struct Crew<'a, R> {
 }
 
 impl<'a, R: Threads + Sync> Crew<'a, R> {
-    /// Workers for the text of a cactus: one for each piece that it fills, at eight bytes for each number, but no more than so
-    /// many. Each has a page of its own, and they are refused only where these are wanting.
+    /// Workers for the text of a cactus: one for each piece that it fills, at eight bytes for each
+    /// number, but no more than so many. Each has a page of its own, and they are refused only
+    /// where these are wanting.
     pub fn for_cactus(
         rt: &'a R,
         alloc: Global,
@@ -267,7 +272,8 @@ impl<'a, R: Threads + Sync> Crew<'a, R> {
         Crew::new(rt, alloc, workers, numbers.saturating_mul(8))
     }
 
-    /// Workers for the text of a listing, as if it had three bytes for each vertex of each side; else as by `for_cactus`.
+    /// Workers for the text of a listing, as if it had three bytes for each vertex of each side;
+    /// else as by `for_cactus`.
     pub fn for_sides(
         rt: &'a R,
         alloc: Global,

@@ -67,9 +67,10 @@ fn put_first_line<K: Sink>(
     put_line(page, sink, b"cactus", &counts)
 }
 
-/// The text of a flat cactus with a value: who makes its lines into text, the value, and the cactus.
+/// The text of a flat cactus with a value: who makes its lines into text,
+/// the value, and the cactus.
 ///
-/// It is the same text by several workers, who make a long one side by side.
+/// A maker with several workers makes a long text side by side; the text is the same.
 #[derive(Drop)]
 pub struct CactusText<'a, M>(pub M, pub u64, pub &'a FlatCactus);
 
@@ -89,7 +90,8 @@ impl<M: TextMaker> Text for CactusText<'_, M> {
 
 /// Writes the text of a flat cactus with a value, by way of an empty page. It takes no memory.
 ///
-/// Where a write fails, what was taken is a first part of the text. Time in proportion to the text.
+/// Where a write fails, what was taken is a first part of the text.
+/// Time in proportion to the text.
 pub fn print_flat<K: Sink>(
     page: &mut Page,
     cactus: &FlatCactus,
@@ -106,9 +108,10 @@ pub fn print_flat<K: Sink>(
 
 /// Writes the text of a cactus with a value.
 ///
-/// The nodes are numbered in the order in which the tree is entered. All memory is taken before the first byte, the
-/// flat cactus and one page; where it is wanting nothing is written, and the sink stays as it was. Where a write fails,
-/// what was taken is a first part of the text. Time in proportion to the text.
+/// The nodes are numbered in the order in which the tree is entered. All memory is taken before
+/// the first byte, the flat cactus and one page; where it is wanting nothing is written, and the
+/// sink stays as it was. Where a write fails, what was taken is a first part of the text. Time
+/// in proportion to the text.
 pub fn print<K: Sink>(
     alloc: Global,
     cactus: &Cactus,

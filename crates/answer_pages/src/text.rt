@@ -59,8 +59,9 @@ pub(crate) fn write_text<T: Text, K: Sink>(
 
 /// Writes a text by way of a page that is made for it.
 ///
-/// It takes the page before the first byte; where memory for it is wanting nothing is written, and the sink stays as it was.
-/// Where a write fails, what was taken is a first part of the text. Time in proportion to the text.
+/// It takes the page before the first byte; where memory for it is wanting nothing is written, and
+/// the sink stays as it was. Where a write fails, what was taken is a first part of the text. Time
+/// in proportion to the text.
 pub fn print_text<T: Text, K: Sink>(
     alloc: Global,
     text: T,

@@ -11,7 +11,7 @@ use Rattle.weighted_graph.proofs.OneComponent.{law_of_one_component}
 pub connected_by_value : (g : Graph) → IsGraph g → 2 ≤ g.vertices → 1 ≤ value g → IsConnected g
 connected_by_value g ok two some = record { some_vertex = omega arith; each_cut = λ s cut. omega (arith, some, value-le_cut g ok s cut) }
 
--- and so is one with fewer than two components
+-- a graph with two or more vertices and fewer than two components is connected
 pub connected_by_count : (g : Graph) (count : ℕ) → 2 ≤ g.vertices → HasComponents g count → (count ≡ 0) ↔ (g.vertices ≡ 0) → count < 2 → IsConnected g
 connected_by_count g count two counted none few =
     let some : (count ≡ 0) → ⊥ = λ is. omega (arith, none.0 is, two) in

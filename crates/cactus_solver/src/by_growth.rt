@@ -14,8 +14,9 @@ use std::alloc::Global;
 use std::thread::Threads;
 use weighted_graph::Graph;
 
-/// Where sets are grown, and how much work may go into them: each range is worth a flow of its own, of which four take as much memory
-/// as is bearable, and searches go along a few times as many arcs as where they gain.
+/// Where sets are grown, and how much work may go into them: each range is worth a flow of its
+/// own, of which four take as much memory as is bearable, and searches go along a few times as
+/// many arcs as where they gain.
 pub const LIMITS: Limits = Limits {
     most_ranges: 4,
     least_range: 100_000,
@@ -26,7 +27,8 @@ pub const LIMITS: Limits = Limits {
     first_tries: 300,
 };
 
-/// The tree of the minimum cuts of a graph, by that of the graph on grown sets and the vertices that were noted.
+/// The tree of the minimum cuts of a graph, by that of the graph on grown sets and the
+/// vertices that were noted.
 fn tree_by_grown<R: Threads + Sync>(
     rt: &R,
     alloc: Global,
@@ -48,9 +50,10 @@ fn tree_by_grown<R: Threads + Sync>(
     tree_with_leaves(alloc, graph, &grown.labels, tree, &grown.leaves)
 }
 
-/// The tree of the minimum cuts of a connected graph of two or more vertices, whose value is given, by sets that workers grow
-/// side by side, each in a range of the vertices, and a sweep over what is left. None where `grown_kernel` leaves nothing smaller
-/// by these limits. It is refused only where memory is wanting.
+/// The tree of the minimum cuts of a connected graph of two or more vertices, whose value is
+/// given, by sets that workers grow side by side, each in a range of the vertices, and a sweep
+/// over what is left. None where `grown_kernel` leaves nothing smaller by these limits. It is
+/// refused only where memory is wanting.
 pub fn tree_by_growth<R: Threads + Sync>(
     rt: &R,
     alloc: Global,

@@ -26,7 +26,8 @@ use std::alloc::Global;
 use std::thread::Threads;
 use worker_team::{Crew, Team};
 
-/// A graph with rows that stands for that of a list: on classes that no minimum cut parts, where there are such.
+/// A graph with rows that stands for that of a list:
+/// on classes that no minimum cut parts, where there are such.
 fn with_rows<T: Team>(
     team: &T,
     list: EdgeList,
@@ -45,7 +46,8 @@ fn with_rows<T: Team>(
     between.lead_from(team.alloc(), list, classes.labels)
 }
 
-/// The minimum cuts of a connected graph whose value is known, by those of a graph that stands for it.
+/// The minimum cuts of a connected graph whose value is known,
+/// by those of a graph that stands for it.
 fn sweep_reduced<T: SweepTeam>(
     team: &T,
     reduced: Reduced,
@@ -66,8 +68,8 @@ fn sweep_reduced<T: SweepTeam>(
     })
 }
 
-/// The minimum cuts of a connected graph whose value is known, by those of a graph that stands for it; scans make that
-/// smaller first, where edges can be contracted.
+/// The minimum cuts of a connected graph whose value is known, by those of a graph that stands for
+/// it; scans make that smaller first, where edges can be contracted.
 fn solve_reduced<T: SweepTeam>(
     team: &T,
     reduced: Reduced,
@@ -85,7 +87,8 @@ fn solve_reduced<T: SweepTeam>(
     sweep_reduced(team, reduced, value)
 }
 
-/// The minimum cuts of a graph whose list does not tell a value above 0, by its rows; or the number of components.
+/// The minimum cuts of a graph whose list does not tell a value above 0, by its rows;
+/// or the number of components.
 fn solve_by_rows<T: SweepTeam>(team: &T, list: EdgeList) -> Result<SolvedList<SolvedTree>, NoMemory>
     requires ready { T.ready team.now }
     requires enough { 2 ≤ list.vertices }
@@ -105,8 +108,9 @@ fn solve_by_rows<T: SweepTeam>(team: &T, list: EdgeList) -> Result<SolvedList<So
     solve_reduced(team, reduced, value)
 }
 
-/// The minimum cuts of a graph with more than 1,024 edges, as `tree_of_list` finds them; a shorter list is solved as well, but
-/// without rounds. Any team can do it, the calling thread alone among them.
+/// The minimum cuts of a graph with more than 1,024 edges, as `tree_of_list` finds them; a
+/// shorter list is solved as well, but without rounds. Any team can do it, the calling
+/// thread alone among them.
 pub fn tree_of_long_list<T: SweepTeam>(
     team: &T,
     list: EdgeList,
@@ -153,16 +157,19 @@ fn tree_of_few<R: Threads + Sync, G: Gate>(
     sweep_reduced(&crew.threads, reduced, value)
 }
 
-/// The minimum cuts of a graph of two or more vertices, whose list of edges is taken over and given back with the answer: how
-/// many components there are, where it has several, or the value and the tree of the minimum cuts, in arrays.
+/// The minimum cuts of a graph of two or more vertices, whose list of edges is taken over and
+/// given back with the answer: how many components there are, where it has several, or the value
+/// and the tree of the minimum cuts, in arrays.
 ///
-/// A graph with at most 1,024 edges is solved as by `solve`. Of a larger one the value is told by the list where forests make that
-/// shorter, and the same forests show classes that no minimum cut parts. Where these are a tenth fewer than the vertices only the
-/// graph on the classes has rows. Else the graph has rows; scans which lead to the value may leave a smaller graph at once, and
-/// the rows are dropped once the tree is made. What has rows is numbered anew where that brings neighbours nearer. Components are
-/// counted by the list, in O(m log(n) + n) steps.
+/// A graph with at most 1,024 edges is solved as by `solve`. Of a larger one the value is told by
+/// the list where forests make that shorter, and the same forests show classes that no minimum cut
+/// parts. Where these are a tenth fewer than the vertices only the graph on the classes has rows.
+/// Else the graph has rows; scans which lead to the value may leave a smaller graph at once, and
+/// the rows are dropped once the tree is made. What has rows is numbered anew where that brings
+/// neighbours nearer. Components are counted by the list, in O(m log(n) + n) steps.
 ///
-/// Memory is in proportion to n + m. It is refused only where memory is wanting; the list is gone then.
+/// Memory is in proportion to n + m. It is refused only where memory is
+/// wanting; the list is gone then.
 pub fn tree_of_list<R: Threads + Sync, G: Gate>(
     crew: &Crew<R, G>,
     list: EdgeList,
@@ -194,11 +201,13 @@ fn with_cactus(alloc: Global, found: SolvedList<SolvedTree>) -> Result<SolvedLis
     Ok(SolvedList { list, cuts })
 }
 
-/// The minimum cuts of a graph of two or more vertices, whose list of edges is taken over and given back with the answer: how
-/// many components there are, where it has several, or the value and the cactus of the minimum cuts, in its normal form.
+/// The minimum cuts of a graph of two or more vertices, whose list of edges is taken over and
+/// given back with the answer: how many components there are, where it has several, or the value
+/// and the cactus of the minimum cuts, in its normal form.
 ///
-/// The tree of the cuts comes from `tree_of_list`, and the cactus is made of it, when the graph has no rows any more. Memory is in
-/// proportion to n + m. It is refused only where memory is wanting; the list is gone then.
+/// The tree of the cuts comes from `tree_of_list`, and the cactus is made of it, when the graph
+/// has no rows any more. Memory is in proportion to n + m. It is refused only where memory is
+/// wanting; the list is gone then.
 pub fn solve_list<R: Threads + Sync, G: Gate>(
     crew: &Crew<R, G>,
     list: EdgeList,
@@ -211,8 +220,8 @@ pub fn solve_list<R: Threads + Sync, G: Gate>(
     with_cactus(crew.threads.alloc, found)
 }
 
-/// What `solve_list` answers, by any team, the calling thread alone among them. It is for graphs with more than 1,024 edges; a
-/// shorter list is solved as well, but without rounds.
+/// What `solve_list` answers, by any team, the calling thread alone among them. It is for graphs
+/// with more than 1,024 edges; a shorter list is solved as well, but without rounds.
 pub fn solve_long_list<T: SweepTeam>(
     team: &T,
     list: EdgeList,

@@ -1,11 +1,13 @@
 //! All minimum cuts of a connected graph, as a cactus.
 //!
-//! `solve` finds the value, contracts what lies in no minimum cut, and has the tree of the minimum cuts of what is left made:
-//! read off the graph where that is a tree whose edges all have the value, and else by a sweep over the regions of a flow.
-//! Each vertex is put into the node of its class, and the cactus is made of that and brought to its normal form. `solve_at`
-//! does so for a value that is known, and `solve_list` takes a list of edges: it goes by the list where forests make that
-//! shorter before a graph has rows, and tells of several components. `tree_of_list` stops before its last step, and answers the
-//! tree in arrays, of which `solve_list` makes the cactus.
+//! `solve` finds the value, contracts what lies in no minimum cut, and has the tree of the minimum
+//! cuts of what is left made: read off the graph where that is a tree whose edges all have the
+//! value, and else by a sweep over the regions of a flow. Each vertex is put into the node of its
+//! class, and the cactus is made of that and brought to its normal form. `solve_at` makes the
+//! cactus for a value that is known, and `solve_list` takes a list of edges: it goes by the list
+//! where forests make that shorter before a graph has rows, and tells of several components.
+//! `tree_of_list` stops before its last step, and answers the tree in arrays, of which
+//! `solve_list` makes the cactus.
 #![tactic(auto)]
 
 mod by_growth;

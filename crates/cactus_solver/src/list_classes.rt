@@ -19,7 +19,8 @@ pub(crate) struct ListClasses {
     pub(crate) labels: Labels,
 }
 
-/// Whether the edges weigh at most the value for each vertex but one, so that as many forests can hold them all.
+/// Whether the edges weigh at most the value for each vertex but one,
+/// so that as many forests can hold them all.
 fn is_light(list: &EdgeList, value: u64) -> bool {
     let mut total = 0u64;
     for edge in list.edges() {
@@ -28,8 +29,8 @@ fn is_light(list: &EdgeList, value: u64) -> bool {
     total <= value.saturating_mul(u64::from(list.n().saturating_sub(1)))
 }
 
-/// The edges between classes that no cut parts which weighs at most the value; none where the classes are not a tenth fewer
-/// than the vertices.
+/// The edges between classes that no cut parts which weighs at most the value; none where the
+/// classes are not a tenth fewer than the vertices.
 fn between(
     alloc: Global,
     list: &EdgeList,
@@ -52,8 +53,8 @@ fn between(
     }))
 }
 
-/// Classes that forests show for the value, and the edges between them; none where the edges are light, or the classes not a
-/// tenth fewer than the vertices.
+/// Classes that forests show for the value, and the edges between them; none where the edges are
+/// light, or the classes not a tenth fewer than the vertices.
 fn by_forests(alloc: Global, list: &EdgeList, value: u64) -> Result<Option<ListClasses>, NoMemory>
     requires enough { 2 ≤ list.now.vertices }
     requires value { value ≡ least_value list.now }
@@ -84,8 +85,9 @@ fn shrunk_further(alloc: Global, classes: ListClasses) -> Result<ListClasses, No
     })
 }
 
-/// Classes that no minimum cut parts, by those that were found with the value, or where there are none by forests. Those
-/// that were found for more than one more than the value are made larger by forests for the value.
+/// Classes that no minimum cut parts, by those that were found with the value, or where there are
+/// none by forests. Those that were found for more than one more than the value are made larger
+/// by forests for the value.
 pub(crate) fn classes_of(
     alloc: Global,
     list: &EdgeList,

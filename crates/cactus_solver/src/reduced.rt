@@ -14,8 +14,9 @@ use vertex_order::{NearGraph, near_graph};
 use weighted_graph::{Graph, Labels};
 use worker_team::Team;
 
-/// The graph of a list of edges, or beside the list a graph with the same value whose minimum cuts, lifted by the labels, are
-/// those of the list: a smaller one, or one that is numbered anew. Only the graph that is solved has rows.
+/// The graph of a list of edges, or beside the list a graph with the same value whose minimum
+/// cuts, lifted by the labels, are those of the list: a smaller one, or one that is numbered anew.
+/// Only the graph that is solved has rows.
 #[derive(Drop)]
 pub(crate) enum Reduced {
     Whole(Graph),
@@ -67,7 +68,8 @@ impl Reduced {
         }
     }
 
-    /// What stands for the graph on classes of the vertices of a list stands for that list, by the labels of the classes.
+    /// What stands for the graph on classes of the vertices of a list stands for that list,
+    /// by the labels of the classes.
     pub(crate) fn lead_from(
         self,
         alloc: Global,
@@ -121,7 +123,8 @@ impl Reduced {
         }
     }
 
-    /// The list and the tree of its minimum cuts, by the tree of those of the graph. The rows are given back.
+    /// The list and the tree of its minimum cuts, by the tree of those of the graph.
+    /// The rows are given back.
     pub(crate) fn lift(
         self,
         alloc: Global,
@@ -146,7 +149,8 @@ impl Reduced {
     }
 }
 
-/// The tree of the minimum cuts of a graph, by that of a smaller graph whose minimum cuts, lifted by the labels, are the same.
+/// The tree of the minimum cuts of a graph, by that of a smaller graph whose minimum cuts, lifted
+/// by the labels, are the same.
 pub(crate) fn lifted(
     alloc: Global,
     list: &EdgeList,

@@ -6,7 +6,8 @@ use node_tree::HomedTree;
 /// The minimum cuts of a graph.
 #[derive(Drop)]
 pub enum Cuts<T> {
-    /// So many components, of which there are several: the minimum cuts weigh 0, and are the unions of these.
+    /// The number of components, which is two or more:
+    /// the minimum cuts weigh 0, and are the unions of components.
     Apart(u32),
     /// What is known of the minimum cuts of a connected graph.
     Joined(T),

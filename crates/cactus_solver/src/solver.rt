@@ -20,8 +20,8 @@ use std::thread::Threads;
 use weighted_graph::Graph;
 use worker_team::Crew;
 
-/// The tree of the minimum cuts of a graph whose value is given: read off the graph where it is a tree whose edges all have
-/// the value, and else by a sweep.
+/// The tree of the minimum cuts of a graph whose value is given: read off the graph where it is a
+/// tree whose edges all have the value, and else by a sweep.
 pub(crate) fn tree_of_cuts<T: SweepTeam>(
     team: &T,
     graph: &Graph,
@@ -39,7 +39,8 @@ pub(crate) fn tree_of_cuts<T: SweepTeam>(
     }
 }
 
-/// The tree of the minimum cuts of a graph whose value is given: by a smaller graph, where edges can be contracted.
+/// The tree of the minimum cuts of a graph whose value is given:
+/// by a smaller graph, where edges can be contracted.
 fn tree_at_value<R: Threads + Sync, G: Gate>(
     crew: &Crew<R, G>,
     graph: &Graph,
@@ -68,13 +69,15 @@ fn tree_at_value<R: Threads + Sync, G: Gate>(
     }
 }
 
-/// The cactus of the minimum cuts of a connected graph of two or more vertices whose value is given, in its normal form.
+/// The cactus of the minimum cuts of a connected graph of two or more vertices whose value is
+/// given, in its normal form.
 ///
-/// Scans or rounds contract edges that lie in no minimum cut, where there are some. What is left is mostly a tree whose edges
-/// all have the value where that is 1; else the sweep over regions makes the tree of its minimum cuts. Each vertex of the graph
-/// is put into the node of its class, and the cactus is made of that, once all else is given back, and made normal where a node
-/// has no vertex. Memory is in proportion to n + m. The workers share the large regions, where the sweep lists two or more of them
-/// at once. It is refused only where memory is wanting.
+/// Scans or rounds contract edges that lie in no minimum cut, where there are some. What is left
+/// is mostly a tree whose edges all have the value where that is 1; else the sweep over regions
+/// makes the tree of its minimum cuts. Each vertex of the graph is put into the node of its class,
+/// and the cactus is made of that, once all else is given back, and made normal where a node has
+/// no vertex. Memory is in proportion to n + m. The workers share the large regions, where the
+/// sweep lists two or more of them at once. It is refused only where memory is wanting.
 pub fn solve_at<R: Threads + Sync, G: Gate>(
     crew: &Crew<R, G>,
     graph: &Graph,
@@ -93,10 +96,11 @@ pub fn solve_at<R: Threads + Sync, G: Gate>(
     Ok(solved)
 }
 
-/// The value of a connected graph of two or more vertices, and the cactus of its minimum cuts, in its normal form.
+/// The value of a connected graph of two or more vertices,
+/// and the cactus of its minimum cuts, in its normal form.
 ///
-/// The value comes from rounds of contraction and a sweep of flows, the cactus is `solve_at` of it. Memory is in proportion to n +
-/// m. It is refused only where that is wanting.
+/// The value comes from rounds of contraction and a sweep of flows, the cactus is `solve_at` of
+/// it. Memory is in proportion to n + m. It is refused only where that is wanting.
 pub fn solve<R: Threads + Sync, G: Gate>(
     crew: &Crew<R, G>,
     graph: &Graph,

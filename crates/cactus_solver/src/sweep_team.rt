@@ -15,9 +15,9 @@ use worker_team::{Alone, Team, Threaded};
 
 /// Workers who can also sweep over regions.
 pub trait SweepTeam: Team {
-    /// The tree of the minimum cuts of a connected graph whose value is given: `tree_by_growth`, where that gives one, and else
-    /// `region_sweep::tree_by_workers`; of the calling thread alone `region_sweep::tree_of`. It is refused only where memory is
-    /// wanting.
+    /// The tree of the minimum cuts of a connected graph whose value is given: `tree_by_growth`,
+    /// where that gives one, and else `region_sweep::tree_by_workers`; of the calling thread alone
+    /// `region_sweep::tree_of`. It is refused only where memory is wanting.
     fn sweep(&self, graph: &Graph, value: u64) -> Result<HomedTree, NoMemory>
         requires ready { Self.ready self.now }
         requires connected { IsConnected graph.now }

@@ -18,8 +18,8 @@ use vertex_order::near_graph;
 use weighted_graph::Graph;
 use worker_team::{Crew, Team};
 
-/// The graph of a list that is taken over, as it is swept over: in an order by which neighbours are nearer, but that on a graph
-/// little denser than a ring flows cost less than another order.
+/// The graph of a list that is taken over, as it is swept over: in an order by which neighbours
+/// are nearer, but that on a graph little denser than a ring flows cost less than another order.
 fn graph_to_sweep<T: Team>(team: &T, list: EdgeList) -> Result<Graph, NoMemory>
     requires ready { T.ready team.now }
     requires enough { 2 ≤ list.vertices }
@@ -34,7 +34,8 @@ fn graph_to_sweep<T: Team>(team: &T, list: EdgeList) -> Result<Graph, NoMemory>
     Ok(near.into_graph())
 }
 
-/// The lesser of a bound and the value of a list that is taken over, or the bound where that has fewer than two vertices.
+/// The lesser of a bound and the value of a list that is taken over, or the bound where that has
+/// fewer than two vertices.
 fn lesser_by_rows<T: Team>(team: &T, list: EdgeList, bound: u64) -> Result<u64, NoMemory>
     requires ready { T.ready team.now }
     ensures { IfOk result (λ weight. weight ≡ (if nat_lt list.vertices 2 then bound else min bound (value list))) }
@@ -47,13 +48,15 @@ fn lesser_by_rows<T: Team>(team: &T, list: EdgeList, bound: u64) -> Result<u64, 
     lesser_away(team, graph, bound)
 }
 
-/// The lesser of a bound and the value of a graph of two or more vertices, whose list of edges is taken over. A low bound that the
-/// value reaches is told sooner than the value, since each flow ends there.
+/// The lesser of a bound and the value of a graph of two or more vertices, whose list of
+/// edges is taken over. A low bound that the value reaches is told sooner than the value,
+/// since each flow ends there.
 ///
-/// Where the graph is dense the list alone tells it. Else a list of more than 1,024 edges is made shorter by forests, which
-/// contract what no lighter cut parts, before anything has rows; what is left is swept by flows, and contracted by scans where
-/// these look far. No two graphs have rows at a time. It takes memory O(n + m), and is refused only where that is wanting; the list
-/// is gone then.
+/// Where the graph is dense the list alone tells it. Else a list of more than 1,024 edges is
+/// made shorter by forests, which contract what no lighter cut parts, before anything has
+/// rows; what is left is swept by flows, and contracted by scans where these look far. No two
+/// graphs have rows at a time. It takes memory O(n + m), and is refused only where that is
+/// wanting; the list is gone then.
 pub fn lesser_of_list<T: Team>(team: &T, list: EdgeList, bound: u64) -> Result<u64, NoMemory>
     requires ready { T.ready team.now }
     requires enough { 2 ≤ list.vertices }
@@ -87,8 +90,8 @@ fn value_of_few<R: Threads + Sync, G: Gate>(
     value_by_rounds(crew, &graph)
 }
 
-/// The value of a graph of two or more vertices, whose list of edges is taken over: as `value` tells it where there are at most
-/// 1,024 edges, and else as `lesser_of_list`.
+/// The value of a graph of two or more vertices, whose list of edges is taken over: as `value`
+/// tells it where there are at most 1,024 edges, and else as `lesser_of_list`.
 pub fn value_of_list<R: Threads + Sync, G: Gate>(
     crew: &Crew<R, G>,
     list: EdgeList,
@@ -105,14 +108,16 @@ pub fn value_of_list<R: Threads + Sync, G: Gate>(
     Ok(weight)
 }
 
-/// The value of a graph, and classes that no minimum cut parts, if the forests for the value came upon such.
+/// The value of a graph, and classes that no minimum cut parts,
+/// if the forests for the value came upon such.
 #[derive(Drop)]
 pub struct ValueWithTies {
     pub value: u64,
     pub ties: Option<Ties>,
 }
 
-/// The value of a graph by what contraction leaves of its list of edges, or none where that leaves the list as it is.
+/// The value of a graph by what contraction leaves of its list of edges,
+/// or none where that leaves the list as it is.
 fn value_of_contracted<T: Team>(team: &T, left: Contracted) -> Result<Option<u64>, NoMemory>
     requires ready { T.ready team.now }
     ensures { (g : EdgeGraph) → Tells g left → IfOk result (λ found. IfSome found (λ weight. weight ≡ value g)) }
@@ -126,13 +131,14 @@ fn value_of_contracted<T: Team>(team: &T, left: Contracted) -> Result<Option<u64
     Ok(Some(weight))
 }
 
-/// The value of a graph of two or more vertices by its list of edges, if that can be told without rows for the whole graph: where
-/// the graph is dense, or a vertex has no edge, or forests make the list shorter. With it come classes that no minimum cut parts,
-/// where these forests come upon such: the pass over the list that these want besides is saved. None where nothing comes of that;
-/// the value is that of the graph with rows then. Whether there are such classes is free.
+/// The value of a graph of two or more vertices by its list of edges, if that can be told without
+/// rows for the whole graph: where the graph is dense, or a vertex has no edge, or forests make
+/// the list shorter. With it come classes that no minimum cut parts, where these forests come upon
+/// such: the pass over the list that these want besides is saved. None where nothing comes of
+/// that; the value is that of the graph with rows then. Whether there are such classes is free.
 ///
-/// It takes memory O(n + m), for most graphs a few bytes for each vertex beside the list, and is refused only where that is
-/// wanting.
+/// It takes memory O(n + m), for most graphs a few bytes for each vertex beside the list, and is
+/// refused only where that is wanting.
 pub fn value_with_ties<T: Team>(
     team: &T,
     list: &EdgeList,

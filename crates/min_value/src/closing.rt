@@ -1,4 +1,5 @@
-//! Classes by which a kernel is closed: where there are none, no certificate holds and a whole scan meets no link.
+//! Classes by which a kernel is closed: where there are none,
+//! no certificate holds and a whole scan meets no link.
 
 ghost use Rattle.std.specs.Prelude.{◌≡◌, ◌+◌, ◌<◌, ◌≤◌, ◌^◌, IfOk, IfSome, IfNone, length, true, false};
 ghost use Rattle.cut_definitions.specs.Cuts.{has, value as least_value};
@@ -24,8 +25,9 @@ use std::thread::Threads;
 use weighted_graph::{Graph, Labels};
 use worker_team::{Crew, Team};
 
-/// Scans the whole graph from vertex 1 with the cap value + 1, marks each edge whose link reaches it, and answers whether
-/// there is one. Where there is none, each vertex had at most the value to those scanned before it, so the graph is light.
+/// Scans the whole graph from vertex 1 with the cap value + 1, marks each edge whose link reaches
+/// it, and answers whether there is one. Where there is none, each vertex had at most the value to
+/// those scanned before it, so the graph is light.
 pub(crate) fn mark_by_whole_scan(
     graph: &Graph,
     scan: &mut Scan,
@@ -54,8 +56,9 @@ pub(crate) fn mark_by_whole_scan(
     some
 }
 
-/// Classes that a whole scan with slack 1 shows, which no minimum cut parts; none where each vertex is a class, and the graph is
-/// light then. It costs O((n + m) log n). The scan is gone once the classes are answered.
+/// Classes that a whole scan with slack 1 shows, which no minimum cut parts; none where each
+/// vertex is a class, and the graph is light then. It costs O((n + m) log n). The scan is gone
+/// once the classes are answered.
 fn whole_scan(alloc: Global, graph: &Graph, value: u64) -> Result<Option<Labels>, NoMemory>
     requires enough { 2 ≤ graph.now.vertices }
     requires value { value ≡ least_value graph.now }
@@ -76,8 +79,9 @@ fn whole_scan(alloc: Global, graph: &Graph, value: u64) -> Result<Option<Labels>
     Ok(Some(labels))
 }
 
-/// Classes that scans with slack 1 by so many workers show, or a whole scan by one where there is one, or where several show
-/// none: each of those passes over what others took. None where that shows none either, and the graph is light then.
+/// Classes that scans with slack 1 by so many workers show, or a whole scan by one where there is
+/// one, or where several show none: each of those passes over what others took. None where that
+/// shows none either, and the graph is light then.
 fn kept_classes<T: Team>(
     team: &T,
     graph: &Graph,
@@ -104,8 +108,8 @@ fn kept_classes<T: Team>(
     whole_scan(team.alloc(), graph, value)
 }
 
-/// Classes that a round with slack 1 shows or, where it shows none, a whole scan of the very same graph. None where that shows
-/// none either.
+/// Classes that a round with slack 1 shows or, where it shows none, a whole scan of the very same
+/// graph. None where that shows none either.
 fn closing_classes<R: Threads + Sync, G: Gate>(
     crew: &Crew<R, G>,
     graph: &Graph,
@@ -125,7 +129,8 @@ fn closing_classes<R: Threads + Sync, G: Gate>(
     whole_scan(crew.threads.alloc, graph, value)
 }
 
-/// Contracts the classes of a round or a whole scan in what is kept of a graph, and answers whether there were any.
+/// Contracts the classes of a round or a whole scan in what is kept of a graph,
+/// and answers whether there were any.
 pub(crate) fn close_once<R: Threads + Sync, G: Gate>(
     crew: &Crew<R, G>,
     kept: &mut Kernel,
@@ -145,7 +150,8 @@ pub(crate) fn close_once<R: Threads + Sync, G: Gate>(
     Ok(true)
 }
 
-/// A round or a whole scan, and the contraction of the classes that it shows; none where it shows none.
+/// A round or a whole scan, and the contraction of the classes that it shows;
+/// none where it shows none.
 pub(crate) fn close_first<R: Threads + Sync, G: Gate>(
     crew: &Crew<R, G>,
     graph: &Graph,
@@ -164,7 +170,8 @@ pub(crate) fn close_first<R: Threads + Sync, G: Gate>(
     Ok(Some(kept))
 }
 
-/// Scans by so many workers and their contraction once more, and whether another one is worth its time.
+/// Scans by so many workers and their contraction once more,
+/// and whether another one is worth its time.
 fn scan_again<T: Team>(team: &T, kept: &mut Kernel, workers: u32) -> Result<bool, NoMemory>
     requires ready { T.ready team.now }
     requires enough { 2 ≤ kept.old.graph.vertices }
@@ -185,7 +192,8 @@ fn scan_again<T: Team>(team: &T, kept: &mut Kernel, workers: u32) -> Result<bool
     Ok(is_worth_another(kept.graph.n(), before, edges))
 }
 
-/// What scans by so many workers leave of a graph, after the first ones, as long as another one is worth its time.
+/// What scans by so many workers leave of a graph, after the first ones,
+/// as long as another one is worth its time.
 fn scan_on<T: Team>(
     team: &T,
     graph: &Graph,
@@ -206,9 +214,10 @@ fn scan_on<T: Team>(
     Ok(kept)
 }
 
-/// Scans and their contractions, as long as another one is worth its time. It answers what is left and the labels that lead
-/// there, or none where the graph is bare or the first scan marks nothing, and the graph is light then. There are O(log n)
-/// scans, each of O((n + m) log n). Several workers scan side by side where the graph is large; where these take away too
+/// Scans and their contractions, as long as another one is worth its time. It answers what is
+/// left and the labels that lead there, or none where the graph is bare or the first scan marks
+/// nothing, and the graph is light then. There are O(log n) scans, each of O((n + m) log n).
+/// Several workers scan side by side where the graph is large; where these take away too
 /// little, one goes on alone.
 pub fn reduce_by_scans<T: Team>(
     team: &T,

@@ -15,8 +15,9 @@ use std::thread::Threads;
 use weighted_graph::{Graph, Labels};
 use worker_team::{Crew, Team, Threaded, contracted};
 
-/// The value of a graph, a smaller graph with the same value, and labels that give each vertex of the graph a vertex of
-/// the smaller one. The minimum cuts of the graph are those of the smaller graph, lifted by the labels.
+/// The value of a graph, a smaller graph with the same value, and labels that give each vertex of
+/// the graph a vertex of the smaller one. The minimum cuts of the graph are those of the smaller
+/// graph, lifted by the labels.
 #[derive(Drop)]
 pub struct Kernel {
     pub value: u64,
@@ -27,8 +28,8 @@ pub struct Kernel {
 // A graph with so many times as many edges as vertices is dense.
 const EDGES_FOR_EACH_VERTEX: usize = 32;
 
-/// Whether a scan of a graph leaves so few vertices that another one is worth its time: a tenth less, and of a dense graph, on
-/// which flows are dear, a fiftieth.
+/// Whether a scan of a graph leaves so few vertices that another one is worth its time: a tenth
+/// less, and of a dense graph, on which flows are dear, a fiftieth.
 pub(crate) fn is_worth_another(left: u32, before: u32, edges: usize) -> bool
     ensures { result ≡ true → left * 50 ≤ before * 49 }
 {
@@ -84,8 +85,8 @@ pub(crate) fn keep_less<T: Team>(
     Ok(())
 }
 
-/// The classes that a round with slack 1 shows, which is opened with the value, where its bound stays. Where each vertex is a
-/// class, no certificate holds.
+/// The classes that a round with slack 1 shows, which is opened with the value, where its bound
+/// stays. Where each vertex is a class, no certificate holds.
 pub(crate) fn round_at_value<R: Threads + Sync, G: Gate>(
     crew: &Crew<R, G>,
     graph: &Graph,
@@ -141,8 +142,8 @@ fn contract_again<R: Threads + Sync, G: Gate>(
     Ok(is_tenth_less(kept.graph.n(), before))
 }
 
-/// Further rounds by one worker, after the first one has left a smaller graph, as long as each takes away a tenth of the
-/// vertices.
+/// Further rounds by one worker, after the first one has left a smaller graph, as long as each
+/// takes away a tenth of the vertices.
 pub(crate) fn go_on_by_rounds<R: Threads + Sync, G: Gate>(
     crew: &Crew<R, G>,
     graph: &Graph,
@@ -160,8 +161,8 @@ pub(crate) fn go_on_by_rounds<R: Threads + Sync, G: Gate>(
     Ok(kept)
 }
 
-/// Rounds with slack 1 and their contractions, as long as each takes away a tenth of the vertices. It answers what is left
-/// and the labels that lead there. The workers share the first round.
+/// Rounds with slack 1 and their contractions, as long as each takes away a tenth of the vertices.
+/// It answers what is left and the labels that lead there. The workers share the first round.
 pub(crate) fn contract_by_rounds<R: Threads + Sync, G: Gate>(
     crew: &Crew<R, G>,
     graph: &Graph,

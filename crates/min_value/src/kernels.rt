@@ -16,14 +16,16 @@ use std::thread::Threads;
 use weighted_graph::Graph;
 use worker_team::Crew;
 
-/// The kernel of a graph of two or more vertices: a smaller graph with the same value whose minimum cuts, lifted by the
-/// labels, are exactly those of the graph (after Padberg and Rinaldi, 1990, and Nagamochi, Ono and Ibaraki, 1994).
+/// The kernel of a graph of two or more vertices: a smaller graph with the same value whose
+/// minimum cuts, lifted by the labels, are exactly those of the graph (after Padberg and Rinaldi,
+/// 1990, and Nagamochi, Ono and Ibaraki, 1994).
 ///
-/// No edge of the kernel's graph passes one of the four certificates at the value with slack 1, and the weights of its
-/// edges add up to at most the value for each vertex but one. It takes the value first, and then at most n rounds with
-/// slack 1, each of O((n + m) log n) and the certificates, until one marks nothing and a whole scan meets no link above the
-/// value; each round but the last makes a new graph. The number of workers is 1 to 64. It is refused only where memory is
-/// wanting.
+/// No edge of the kernel's graph passes one of the four certificates at the value with slack 1,
+/// and the weights of its edges add up to at most the value for each vertex but one. It takes the
+/// value first, and then at most n rounds with slack 1, each of O((n + m) log n) and the
+/// certificates, until one marks nothing and a whole scan meets no link above the value; each
+/// round but the last makes a new graph. The number of workers is 1 to 64. It is refused only
+/// where memory is wanting.
 pub fn kernel<R: Threads + Sync, G: Gate>(
     crew: &Crew<R, G>,
     graph: &Graph,
@@ -43,8 +45,8 @@ pub fn kernel<R: Threads + Sync, G: Gate>(
     Ok(kept)
 }
 
-/// Rounds with slack 1 and their contractions, as long as each takes away a tenth of the vertices; none where the first and a
-/// whole scan mark nothing.
+/// Rounds with slack 1 and their contractions, as long as each takes away a tenth of the vertices;
+/// none where the first and a whole scan mark nothing.
 fn reduce_by_rounds<R: Threads + Sync, G: Gate>(
     crew: &Crew<R, G>,
     graph: &Graph,
@@ -63,16 +65,18 @@ fn reduce_by_rounds<R: Threads + Sync, G: Gate>(
     Ok(Some(kept))
 }
 
-/// A smaller graph with the same value whose minimum cuts, lifted by the labels, are exactly those of the graph; none where
-/// no edge was found that may be contracted, and the weights of the edges add up to at most the value for each vertex but
-/// one then. A smaller graph has fewer vertices; where there is none, no second graph is made.
+/// A smaller graph with the same value whose minimum cuts, lifted by the labels, are exactly those
+/// of the graph; none where no edge was found that may be contracted, and the weights of the edges
+/// add up to at most the value for each vertex but one then. A smaller graph has fewer vertices;
+/// where there is none, no second graph is made.
 ///
-/// On a graph of at most 1,024 edges it goes by rounds with slack 1, and a whole scan where the first of them marks nothing; on
-/// a larger one by scans with slack 1, as long as each takes away a tenth of the vertices, or a fiftieth of a dense graph.
-/// Several workers scan side by side where the graph is large. It is a kernel that is not closed: edges may be left that a
-/// certificate or a link shows to lie in no minimum cut. The graph has two or more vertices, and the value is its value. It
-/// costs O((n + m) log n), and on a small graph the certificates. The number of workers is 1 to 64. It is refused only where
-/// memory is wanting.
+/// On a graph of at most 1,024 edges it goes by rounds with slack 1, and a whole scan where the
+/// first of them marks nothing; on a larger one by scans with slack 1, as long as each takes away
+/// a tenth of the vertices, or a fiftieth of a dense graph. Several workers scan side by side
+/// where the graph is large. It is a kernel that is not closed: edges may be left that a
+/// certificate or a link shows to lie in no minimum cut. The graph has two or more vertices, and
+/// the value is its value. It costs O((n + m) log n), and on a small graph the certificates. The
+/// number of workers is 1 to 64. It is refused only where memory is wanting.
 pub fn reduce<R: Threads + Sync, G: Gate>(
     crew: &Crew<R, G>,
     graph: &Graph,

@@ -1,8 +1,9 @@
-//! The value of a graph, by sweeps of flows, by scans, and by rounds that contract safe edges; and its kernel. `value_of_list`
-//! takes a list of edges over, and makes it shorter before anything has rows; `lesser_of_list` does so up to a bound.
+//! The value of a graph, by sweeps of flows, by scans, and by rounds that contract safe edges; and
+//! its kernel. `value_of_list` takes a list of edges over, and makes it shorter before anything
+//! has rows; `lesser_of_list` does so up to a bound.
 //!
-//! The contractions are those of Padberg and Rinaldi (1990) and of Nagamochi, Ono and Ibaraki (1994), the sweep that of Hao
-//! and Orlin (1994). All memory is O(n + m).
+//! The contractions are those of Padberg and Rinaldi (1990) and of Nagamochi, Ono and Ibaraki
+//! (1994), the sweep that of Hao and Orlin (1994). All memory is O(n + m).
 #![tactic(auto)]
 
 mod bare;

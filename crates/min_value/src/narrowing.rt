@@ -1,4 +1,5 @@
-//! The value of a graph, and where flows look far on it also a smaller graph that has all its minimum cuts.
+//! The value of a graph, and where flows look far on it also a smaller graph that
+//! has all its minimum cuts.
 
 ghost use Rattle.std.specs.Prelude.{◌≡◌, ◌*◌, ◌<◌, ◌≤◌, ◌^◌, IfOk, IfSome};
 ghost use Rattle.cut_definitions.specs.Cuts.{value as least_value};
@@ -14,15 +15,16 @@ use round_workers::Threshold;
 use weighted_graph::{Graph, Labels};
 use worker_team::{Team, contracted};
 
-/// The value of a graph, and a smaller graph with the same minimum cuts, if the scans for the value came upon one.
+/// The value of a graph, and a smaller graph with the same minimum cuts,
+/// if the scans for the value came upon one.
 #[derive(Drop)]
 pub struct ValueWithKernel {
     pub value: u64,
     pub kernel: Option<Kernel>,
 }
 
-/// What scans leave of a graph before its value is known: a bound on that, and a smaller graph with the same value whose minimum
-/// cuts, lifted by the labels, are exactly those of the graph.
+/// What scans leave of a graph before its value is known: a bound on that, and a smaller graph
+/// with the same value whose minimum cuts, lifted by the labels, are exactly those of the graph.
 #[derive(Drop)]
 struct Narrowed {
     bound: u64,
@@ -54,7 +56,8 @@ fn narrow<T: Team>(team: &T, graph: &Graph, bound: u64) -> Result<Option<Narrowe
     }))
 }
 
-/// What further scans leave of a graph, after the first one, as long as another one is worth its time.
+/// What further scans leave of a graph, after the first one,
+/// as long as another one is worth its time.
 fn narrow_on<T: Team>(team: &T, graph: &Graph, first: Narrowed) -> Result<Narrowed, NoMemory>
     requires ready { T.ready team.now }
     requires narrowed { IsNarrowed graph.now first.bound first.graph first.labels }
@@ -70,8 +73,9 @@ fn narrow_on<T: Team>(team: &T, graph: &Graph, first: Narrowed) -> Result<Narrow
     Ok(left)
 }
 
-/// The value of a graph whose value is at most a bound, by scans with slack 1, which keep all minimum cuts, and where these take
-/// away too little by scans that keep the value alone, or a sweep.
+/// The value of a graph whose value is at most a bound, by scans with slack 1, which
+/// keep all minimum cuts, and where these take away too little by scans that keep the
+/// value alone, or a sweep.
 fn value_by_narrowing<T: Team>(
     team: &T,
     graph: &Graph,
@@ -105,12 +109,14 @@ fn value_by_narrowing<T: Team>(
     })
 }
 
-/// The value of a graph of two or more vertices as `value` tells it, and a smaller graph with the same minimum cuts, if the way to
-/// the value leads by one: where flows look far on a large graph, scans contract edges that lie in no cut of at most the least
-/// weight that is known (Nagamochi, Ono and Ibaraki, 1994), so the scans that `reduce` would make are saved.
+/// The value of a graph of two or more vertices as `value` tells it, and a smaller graph with the
+/// same minimum cuts, if the way to the value leads by one: where flows look far on a large graph,
+/// scans contract edges that lie in no cut of at most the least weight that is known (Nagamochi,
+/// Ono and Ibaraki, 1994), so the scans that `reduce` would make are saved.
 ///
-/// Whether there is one is free; where there is, it has fewer vertices. The number of workers is 1 to 64. It costs as much as
-/// `value`, takes memory O(n + m), and is refused only where that is wanting.
+/// Whether there is one is free; where there is, it has fewer vertices. The number of
+/// workers is 1 to 64. It costs as much as `value`, takes memory O(n + m), and is refused
+/// only where that is wanting.
 pub fn value_with_kernel<T: Team>(team: &T, graph: &Graph) -> Result<ValueWithKernel, NoMemory>
     requires ready { T.ready team.now }
     requires enough { 2 ≤ graph.now.vertices }

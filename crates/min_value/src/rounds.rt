@@ -14,8 +14,8 @@ use std::thread::Threads;
 use weighted_graph::Graph;
 use worker_team::{Crew, Team, Threaded, contract};
 
-/// A round with slack 0 of so many workers, opened with the least degree, and the contraction of what it marked. It answers the
-/// round's bound and the contracted graph.
+/// A round with slack 0 of so many workers, opened with the least degree, and the contraction of
+/// what it marked. It answers the round's bound and the contracted graph.
 fn contract_once<R: Threads + Sync, G: Gate>(
     crew: &Crew<R, G>,
     graph: &Graph,
@@ -34,9 +34,10 @@ fn contract_once<R: Threads + Sync, G: Gate>(
     Ok((low, smaller))
 }
 
-/// The value by rounds that contract what they show safe, as long as each takes away a tenth of the vertices; the least bound
-/// of all rounds and what is left then decide. A round costs O((n + m) log n) and the certificates. The workers share the first
-/// round; what is left for later ones is small, and starting threads would cost more than it.
+/// The value by rounds that contract what they show safe, as long as each takes away a tenth of
+/// the vertices; the least bound of all rounds and what is left then decide. A round costs
+/// O((n + m) log n) and the certificates. The workers share the first round; what is left for
+/// later ones is small, and starting threads would cost more than it.
 pub(crate) fn value_by_rounds<R: Threads + Sync, G: Gate>(
     crew: &Crew<R, G>,
     graph: &Graph,
@@ -61,10 +62,11 @@ pub(crate) fn value_by_rounds<R: Threads + Sync, G: Gate>(
 
 /// The value of a graph of two or more vertices: the least weight of a cut.
 ///
-/// A graph of at most 1,024 edges is contracted by rounds, whose certificates look at each edge (Padberg and Rinaldi, 1990); a
-/// larger one is swept by flows (Hao and Orlin, 1994), and contracted by scans where these look far, of several workers side by
-/// side where it is large. It takes memory O(n + m), and is refused only where that is wanting. A sweep has no good bound in n and
-/// m; on most graphs it takes about as long as reading them.
+/// A graph of at most 1,024 edges is contracted by rounds, whose certificates look at each edge
+/// (Padberg and Rinaldi, 1990); a larger one is swept by flows (Hao and Orlin, 1994), and
+/// contracted by scans where these look far, of several workers side by side where it is large. It
+/// takes memory O(n + m), and is refused only where that is wanting. A sweep has no good bound in
+/// n and m; on most graphs it takes about as long as reading them.
 pub fn value<R: Threads + Sync, G: Gate>(crew: &Crew<R, G>, graph: &Graph) -> Result<u64, NoMemory>
     requires { 2 ≤ graph.now.vertices }
     ensures { IfOk result (λ weight. weight ≡ value graph.now) }

@@ -18,7 +18,8 @@ use round_workers::{Threshold, lowered, mark_links};
 use weighted_graph::{Graph, Labels};
 use worker_team::Team;
 
-/// What a scan tells: a bound, and classes that no minimum cut parts if the value is below that and the slack.
+/// What a scan tells: a bound, and classes that no minimum cut parts if the value is
+/// below that and the slack.
 #[derive(Drop)]
 pub(crate) struct Scanned {
     pub(crate) bound: u64,
@@ -26,7 +27,8 @@ pub(crate) struct Scanned {
 }
 
 impl Scanned {
-    /// Whether there are so few classes that another scan, of the graph on them, is worth its time.
+    /// Whether there are so few classes that another scan,
+    /// of the graph on them, is worth its time.
     pub(crate) fn is_worth_another(&self, graph: &Graph) -> bool
         ensures { result ≡ true → classes self.now.labels * 50 ≤ graph.now.vertices * 49 }
     {
@@ -34,8 +36,9 @@ impl Scanned {
     }
 }
 
-/// Scans the graph from vertex 1, with the bound and the slack of a threshold as the cap, and marks by links. It answers the lesser
-/// of the bound and the weights of the sets that were scanned.
+/// Scans the graph from vertex 1, with the bound and the slack of a threshold as the
+/// cap, and marks by links. It answers the lesser of the bound and the weights of
+/// the sets that were scanned.
 fn mark_by_links(graph: &Graph, scan: &mut Scan, threshold: Threshold, marks: &mut Marks) -> u64
     requires stands { StandsFor scan.old graph.now }
     requires some { 1 ≤ graph.now.vertices }
@@ -97,8 +100,8 @@ pub(crate) fn scan_together<T: Team>(
     Ok(Scanned { bound, labels })
 }
 
-/// One scan: of workers side by side where the graph is large, who open with the least degree, and of one where it is not, or
-/// where theirs take away too little.
+/// One scan: of workers side by side where the graph is large, who open with the least degree, and
+/// of one where it is not, or where theirs take away too little.
 pub(crate) fn scan<T: Team>(
     team: &T,
     graph: &Graph,

@@ -10,16 +10,16 @@ use round_workers::Threshold;
 use weighted_graph::Graph;
 use worker_team::Team;
 
-/// What a scan leaves: the least weight that is known, and the edges of the contracted graph, if it is so much smaller that
-/// another scan is worth its time.
+/// What a scan leaves: the least weight that is known, and the edges of the contracted graph, if
+/// it is so much smaller that another scan is worth its time.
 #[derive(Drop)]
 pub(crate) struct Shrunk {
     pub(crate) best: u64,
     pub(crate) smaller: Option<EdgeList>,
 }
 
-/// One scan, or where that takes away too little a sweep by flows, after which the weight that is known is the lesser of the
-/// bound and the value.
+/// One scan, or where that takes away too little a sweep by flows, after which the weight that is
+/// known is the lesser of the bound and the value.
 pub(crate) fn scan_or_sweep<T: Team>(
     team: &T,
     graph: &Graph,
@@ -49,10 +49,11 @@ pub(crate) fn scan_or_sweep<T: Team>(
 
 /// The number that a scan left to be told.
 ///
-/// Scans contract what their links show safe, as long as each takes away a tenth of the vertices, or a fiftieth of a dense
-/// graph; what is left is swept by flows. Several workers scan side by side where a graph is large. There are O(log n) scans
-/// (Nagamochi, Ono and Ibaraki, 1994), each of O((n + m) log n). Only one graph has rows at a time. It is refused only where
-/// memory is wanting.
+/// Scans contract what their links show safe, as long as each takes away a tenth of the
+/// vertices, or a fiftieth of a dense graph; what is left is swept by flows. Several workers
+/// scan side by side where a graph is large. There are O(log n) scans (Nagamochi, Ono and
+/// Ibaraki, 1994), each of O((n + m) log n). Only one graph has rows at a time. It is refused
+/// only where memory is wanting.
 pub(crate) fn value_of_shrunk<T: Team>(team: &T, shrunk: Shrunk) -> Result<u64, NoMemory>
     requires ready { T.ready team.now }
     requires small { shrunk.best ≤ 2 ^ 62 }

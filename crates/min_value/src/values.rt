@@ -11,8 +11,8 @@ use std::alloc::Global;
 use weighted_graph::Graph;
 use worker_team::Team;
 
-/// The lesser of a bound and the value of a graph, by a sweep of flows, which are local on most graphs. It is cut short where
-/// they go along each row more than four times on the average.
+/// The lesser of a bound and the value of a graph, by a sweep of flows, which are local on most
+/// graphs. It is cut short where they go along each row more than four times on the average.
 pub(crate) fn sweep(alloc: Global, graph: &Graph, bound: u64) -> Result<Swept, NoMemory>
     requires { 2 ≤ graph.now.vertices }
     ensures { IfOk result (TellsLesser graph.now bound) }
@@ -24,7 +24,8 @@ pub(crate) fn sweep(alloc: Global, graph: &Graph, bound: u64) -> Result<Swept, N
     Ok(swept)
 }
 
-/// A sweep, and where that is cut short one scan: what is left to be told of the lesser of a bound and the value.
+/// A sweep, and where that is cut short one scan:
+/// what is left to be told of the lesser of a bound and the value.
 fn sweep_or_scan<T: Team>(team: &T, graph: &Graph, bound: u64) -> Result<Shrunk, NoMemory>
     requires ready { T.ready team.now }
     requires enough { 2 ≤ graph.now.vertices }
@@ -40,8 +41,8 @@ fn sweep_or_scan<T: Team>(team: &T, graph: &Graph, bound: u64) -> Result<Shrunk,
     }
 }
 
-/// A sweep of a graph that is taken over, and where that is cut short one scan; the graph is given back before a smaller one gets
-/// its rows.
+/// A sweep of a graph that is taken over, and where that is cut short one scan; the graph is given
+/// back before a smaller one gets its rows.
 fn sweep_or_scan_away<T: Team>(team: &T, graph: Graph, bound: u64) -> Result<Shrunk, NoMemory>
     requires ready { T.ready team.now }
     requires enough { 2 ≤ graph.vertices }
@@ -51,7 +52,8 @@ fn sweep_or_scan_away<T: Team>(team: &T, graph: Graph, bound: u64) -> Result<Shr
     sweep_or_scan(team, &graph, bound)
 }
 
-/// The lesser of a bound and the value of a graph that is taken over, and given back as soon as a smaller one is known.
+/// The lesser of a bound and the value of a graph that is taken over,
+/// and given back as soon as a smaller one is known.
 pub(crate) fn lesser_away<T: Team>(team: &T, graph: Graph, bound: u64) -> Result<u64, NoMemory>
     requires ready { T.ready team.now }
     requires enough { 2 ≤ graph.vertices }
@@ -61,7 +63,8 @@ pub(crate) fn lesser_away<T: Team>(team: &T, graph: Graph, bound: u64) -> Result
     value_of_shrunk(team, shrunk)
 }
 
-/// The value of a graph of two or more vertices, by a sweep, and where that is cut short by scans and a further one.
+/// The value of a graph of two or more vertices, by a sweep,
+/// and where that is cut short by scans and a further one.
 pub(crate) fn value_by_sweeps<T: Team>(team: &T, graph: &Graph) -> Result<u64, NoMemory>
     requires ready { T.ready team.now }
     requires enough { 2 ≤ graph.now.vertices }
