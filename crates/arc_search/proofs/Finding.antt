@@ -153,7 +153,7 @@ goes_on_same s = record {
   seen_kept = λ v is. is;
 }
 
--- so does one with a vertex more
+-- a search with one vertex more goes on from it
 pub goes_on_put : (s : SearchState) (x parent : ℕ) → x < length s.seen → GoesOn s (with_vertex s x parent)
 goes_on_put s x parent x_in = record {
   more = omega arith;

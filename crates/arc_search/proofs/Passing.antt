@@ -32,7 +32,7 @@ pub record IsPassing (n first : ℕ) (arcs : SearchArcs) (goes : ℕ → ℕ →
 
 -- ---- room
 
--- so have they for fewer places
+-- lists with room for some places have room for fewer
 fewer_places : {n k : ℕ} → {stack back next borders : List ℕ} → k ≤ n → IsRoomy n stack back next borders → IsRoomy k stack back next borders
 fewer_places {n} {k} {stack} {back} {next} {borders} l r = record {
   for_stack = omega (arith, r.for_stack);

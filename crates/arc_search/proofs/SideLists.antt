@@ -174,7 +174,7 @@ bordered_after g labels s new found list border at_border last h grown stays met
 pub bordered_nothing : (g : Graph) (labels : List ℕ) (s : ListingState) → IsNothingListed g.vertices s → IsBordered g labels s
 bordered_nothing g labels s h v some = absurd (omega (arith, some, h.turns v))
 
--- the same in other words for the numbers of before
+-- what was taken into a list, with equal numbers of vertices and of listed ones and equal turns in their places
 pub taken_as : (m n : ℕ) (goes : ℕ → ℕ → Bool) (found turns old : List ℕ) (new : ℕ → ℕ) (was count last : ℕ) → m ≡ n → turns ≡ old → was ≡ count →
     AreTaken m goes found (λ v. get_or turns v 0) new was last → AreTaken n goes found (λ v. get_or old v 0) new count last
 taken_as m n goes found turns old new was count last vertices same counted t =

@@ -85,7 +85,7 @@ pub record MayBegin (n : ℕ) (halts : ℕ → Bool) (turns : List ℕ) (starts 
   pub start : IsTrue (starts v)
   pub quiet : IsQuiet halts s
 
--- the same with one vertex more, at the end of the order
+-- a search with one vertex more, at the end of the order
 abbrev pub with_vertex : SearchState → ℕ → ℕ → SearchState
 with_vertex s v parent = record {
   seen = slice_set s.seen v true;

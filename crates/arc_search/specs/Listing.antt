@@ -53,11 +53,11 @@ pub record IsNothingListed (n : ℕ) (s : ListingState) : Type 0 where
 abbrev pub IsMet : List ℕ → ℕ → List ℕ → List Bool → ℕ → Type 0
 IsMet labels region turns at_border v = slice_index labels v ≡ region → (1 ≤ slice_index turns v) ⊎ (is_seen at_border v ≡ true)
 
--- so is each end of a row that stays in the region
+-- each end of the row of a vertex that is in its region is listed or at the border
 abbrev pub IsRowMet : Graph → List ℕ → List ℕ → List Bool → ℕ → Type 0
 IsRowMet g labels turns at_border v = All (λ (a : Arc). IsMet labels (slice_index labels v) turns at_border a.to) (row_of g v)
 
--- and each end of the rows of all listed vertices
+-- each neighbour of a listed vertex in its region is listed or at the border
 abbrev pub IsBordered : Graph → List ℕ → ListingState → Type 0
 IsBordered g labels s = (v : ℕ) → 1 ≤ slice_index s.turns v → IsRowMet g labels s.turns s.at_border v
 

@@ -10,7 +10,7 @@ pub record SearchArcs : Type 0 where
   pub to : ℕ → ℕ → ℕ
   pub open_at : ℕ → ℕ → Bool
 
--- the same, by the rows and by which of their places are open
+-- the arcs that a search may take, by the rows and by which of their places are open
 abbrev pub arcs_in_rows : (ℕ → List Arc) → (ℕ → ℕ → Bool) → SearchArcs
 arcs_in_rows rows open_at = record {
   size = λ v. length (rows v);
@@ -34,7 +34,7 @@ pub record HasArcs (n : ℕ) (arcs : SearchArcs) (goes : ℕ → ℕ → Bool) :
   pub step_from_one : (u v : ℕ) → IsTrue (goes u v) → (1 ≤ u) × (1 ≤ v)
   pub step_to_n : (u v : ℕ) → IsTrue (goes u v) → (u ≤ n) × (v ≤ n)
 
--- as many places for each of the lists of a path
+-- each of the three lists of a path has so many places
 pub record HasRoom (places : ℕ) (back next borders : List ℕ) : Type 0 where
   pub for_back : length back ≡ places
   pub for_next : length next ≡ places
@@ -73,7 +73,7 @@ pub record IsLooking (arcs : SearchArcs) (v from : ℕ) (part_of marks borders :
   pub above : (k : ℕ) → from ≤ k → k < place → LeadsOn arcs v k part_of → (i : ℕ) → i < left → slice_index borders i < mark_of marks (arcs.to v k)
   pub joined : left < depth → LeadsBack arcs v from place part_of marks (slice_index borders left)
 
--- the same for all arcs up to the first one that leads to a vertex without a mark, if there is one
+-- a look went on up to the first arc that leads to a vertex without a mark, or over all arcs if there is none
 pub record IsLook (arcs : SearchArcs) (v from : ℕ) (part_of marks borders : List ℕ) (depth place left : ℕ) : Type 0 where
   pub looking : IsLooking arcs v from part_of marks borders depth place left
   pub within : from ≤ arcs.size v → place ≤ arcs.size v

@@ -1,4 +1,5 @@
-//! How far the arcs of a vertex on the path lead back into the path, and where they first lead to a new vertex.
+//! How far the arcs of a vertex on the path lead back into the path,
+//! and where they first lead to a new vertex.
 
 ghost use Rattle.std.specs.Prelude.{◌≡◌, ◌==◌, ◌&&◌, ◌<◌, ◌≤◌, length};
 ghost use Rattle.weighted_graph.specs.Rows.{arc_at};
@@ -29,8 +30,8 @@ fn leads_on<A: StepArcs>(arcs: &A, v: u32, place: usize, arc: Arc, part_of: &[u3
     arcs.is_open(v, place, arc) && part_of[arc.to as usize - 1] == 0
 }
 
-/// How many sets are left where all from the one of a vertex on are joined; the mark of that vertex is one more than its
-/// place on the stack.
+/// How many sets are left where all from the one of a vertex on are joined; the mark of that
+/// vertex is one more than its place on the stack.
 fn join(borders: &[u32], depth: usize, mark: u32) -> usize
     requires within { depth ≤ length borders.now }
     requires ascending { IsAscending borders.now depth }
@@ -43,8 +44,9 @@ fn join(borders: &[u32], depth: usize, mark: u32) -> usize
     depth
 }
 
-/// Looks at the open arcs of a vertex in the top set of the path, from a place of its row on, up to one that leads to a
-/// vertex without a mark. Where one leads to a vertex on the stack, the sets from that of this vertex on are joined.
+/// Looks at the open arcs of a vertex in the top set of the path, from a place of its row on, up
+/// to one that leads to a vertex without a mark. Where one leads to a vertex on the stack, the
+/// sets from that of this vertex on are joined.
 pub fn look<A: StepArcs>(
     arcs: &A,
     v: u32,

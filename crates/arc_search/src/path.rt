@@ -16,7 +16,8 @@ pub fn put(v: u32, height: usize, marks: &mut [u32], stack: &mut [u32])
     stack[height] = v;
 }
 
-/// Begins a set with the vertex at a place of the stack alone, which was reached from the vertex at `current`.
+/// Begins a set with the vertex at a place of the stack alone,
+/// which was reached from the vertex at `current`.
 pub fn begin_set(
     place: usize,
     depth: usize,

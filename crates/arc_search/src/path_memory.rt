@@ -6,7 +6,8 @@ use cut_definitions::NoMemory;
 use std::alloc::Global;
 use std::marker::Model;
 
-/// Memory for path-based searches among the vertices 1 to n, one after another; contracts see it as the number n.
+/// Memory for path-based searches among the vertices 1 to n, one after another;
+/// contracts see it as the number n.
 #[derive(Drop)]
 pub struct PathMemory {
     // the vertices of the path; the other lists go by their places
@@ -34,7 +35,8 @@ impl Model for PathMemory {
 }
 
 impl PathMemory {
-    /// Memory for searches among `n` vertices. It takes time and memory O(n); want of memory is the only refusal.
+    /// Memory for searches among `n` vertices. It takes time and memory O(n);
+    /// want of memory is the only refusal.
     pub fn new(alloc: Global, n: u32) -> Result<PathMemory, NoMemory>
         ensures { IfOk result (λ m. m ≡ n) }
     {

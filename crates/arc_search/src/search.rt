@@ -18,13 +18,14 @@ use weighted_graph::Arc;
 pub enum Reached {
     /// The vertex that it found last halts it.
     Halted,
-    /// It has found all that can be found.
+    /// The search has found all that can be found.
     Ended,
-    /// It has looked at as many arcs as it was to look at.
+    /// The search has looked at as many arcs as it was to look at.
     Paused,
 }
 
-/// The vertices that a search found, in the order in which it did, each with the place that it was found from.
+/// The vertices that a search found, in the order in which it did,
+/// each with the place that it was found from.
 ///
 /// Contracts see it as a `SearchState`. It takes no memory but when it is made.
 #[derive(Drop)]
@@ -107,7 +108,8 @@ impl Search {
         &self.order[..self.count]
     }
 
-    /// For each place below the count the one that it was found from, lent without a copy; a start has its own.
+    /// For each place below the count the one that it was found from,
+    /// lent without a copy; a start has its own.
     pub fn parents(&self) -> &[u32]
         ensures { result.now ≡ self.now.parents }
     {
@@ -172,7 +174,8 @@ impl Search {
         self.order[self.place]
     }
 
-    /// Follows the arc at a place of the next row. Answers whether it found a vertex that halts the search.
+    /// Follows the arc at a place of the next row.
+    /// Answers whether it found a vertex that halts the search.
     fn follow_arc<A: StepArcs, H: Halts>(
         &mut self,
         arcs: &A,
@@ -214,8 +217,8 @@ impl Search {
         self.place += 1;
     }
 
-    /// Follows the next row, up to a vertex that halts the search, and answers whether there is one. A row that was
-    /// followed to its end is done.
+    /// Follows the next row, up to a vertex that halts the search, and answers whether there is
+    /// one. A row that was followed to its end is done.
     fn follow_row<A: StepArcs, H: Halts>(
         &mut self,
         arcs: &A,
@@ -246,11 +249,12 @@ impl Search {
         false
     }
 
-    /// Goes on, up to the first vertex that halts the search; that is then the last one that was found, and its row and
-    /// the rest of the row that it was found in are left to be followed. What has a turn is passed over.
+    /// Goes on, up to the first vertex that halts the search; that is then the last one that was
+    /// found, and its row and the rest of the row that it was found in are left to be followed.
+    /// What has a turn is passed over.
     ///
-    /// It pauses at the end of a row, where it has looked at `most` arcs or more, and has followed at least one row. It
-    /// takes time for the rows that it follows, and no memory.
+    /// It pauses at the end of a row, where it has looked at `most` arcs or more, and has followed
+    /// at least one row. It takes time for the rows that it follows, and no memory.
     pub fn advance<A: StepArcs, H: Halts>(
         &mut self,
         arcs: &A,

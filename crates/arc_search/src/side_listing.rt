@@ -1,4 +1,5 @@
-//! The parts of a region that are listed from one side: what leads to a vertex, or what is led to from the outside.
+//! The parts of a region that are listed from one side:
+//! what leads to a vertex, or what is led to from the outside.
 
 ghost use Rattle.std.specs.Prelude.{◌≡◌, ◌≢◌, ◌+◌, ◌++◌, ◌<◌, ◌≤◌, ◌^◌, ◌⊎◌, ℕ, false, if◌then◌else◌, nat_lt, IfOk, OnOk, IsTrue, length, slice_index};
 ghost use Rattle.std.specs.List.{All, AllPairs};
@@ -17,7 +18,8 @@ use std::alloc::Global;
 use std::marker::Model;
 use weighted_graph::Graph;
 
-/// The parts that are listed so far, numbered from 1 on, and the vertices of the region that arcs join to them.
+/// The parts that are listed so far, numbered from 1 on,
+/// and the vertices of the region that arcs join to them.
 #[derive(Drop)]
 pub struct Listing {
     turns: Vec<u32>,
@@ -99,8 +101,8 @@ fn put(
     Ok(())
 }
 
-/// Puts all ends of the row of a vertex, and the vertex itself, into the border, each unless it is outside the
-/// region, listed or there already.
+/// Puts all ends of the row of a vertex, and the vertex itself, into the border, each unless it is
+/// outside the region, listed or there already.
 fn put_ends(
     regions: Regions<'_>,
     turns: &[u32],
@@ -190,7 +192,8 @@ fn take_parts<A: StepArcs>(
 }
 
 impl Listing {
-    /// A listing for vertices 1 to n with nothing listed. It takes time and memory O(n); want of memory is the only refusal.
+    /// A listing for vertices 1 to n with nothing listed. It takes time and memory O(n); want of
+    /// memory is the only refusal.
     pub fn new(alloc: Global, n: u32) -> Result<Listing, NoMemory>
         ensures { IfOk result (IsNothingListed n) }
     {
@@ -208,7 +211,8 @@ impl Listing {
         })
     }
 
-    /// The number of the part of each vertex from 0 on, from 1 in the order of listing; 0 where it is not listed.
+    /// The number of the part of each vertex from 0 on, from 1 in the order of listing;
+    /// 0 where it is not listed.
     pub fn turns(&self) -> &[u32]
         ensures { result.now ≡ self.now.turns }
     {
@@ -229,8 +233,8 @@ impl Listing {
         self.list.as_slice()
     }
 
-    /// The vertices that arcs from listed ones led to before they were listed themselves, each once, in the order in which
-    /// they were found; some may be listed by now.
+    /// The vertices that arcs from listed ones led to before they were listed themselves, each
+    /// once, in the order in which they were found; some may be listed by now.
     pub fn border(&self) -> &[u32]
         ensures { result.now ≡ self.now.border }
     {
@@ -271,11 +275,11 @@ impl Listing {
         Ok(())
     }
 
-    /// Lists different vertices as further parts: all of them are reached from the first, and they lead only to one another
-    /// and to what is listed.
+    /// Lists different vertices as further parts: all of them are reached from the first, and they
+    /// lead only to one another and to what is listed.
     ///
-    /// It takes one step for each of their arcs, and the memory for the search comes from the caller. Want of memory is the
-    /// only refusal.
+    /// It takes one step for each of their arcs, and the memory for the search comes from the
+    /// caller. Want of memory is the only refusal.
     pub fn take<A: StepArcs>(
         &mut self,
         graph: &Graph,

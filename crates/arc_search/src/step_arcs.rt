@@ -7,8 +7,8 @@ ghost use Rattle.arc_search.specs.Paths.{arcs_in_rows, HasArcs};
 
 use weighted_graph::Arc;
 
-/// The steps between the vertices 1 to n, as the open arcs of rows that are lent: there is a step from one vertex to
-/// another just where an open arc of its row leads there.
+/// The steps between the vertices 1 to n, as the open arcs of rows that are lent: there is a step
+/// from one vertex to another just where an open arc of its row leads there.
 pub trait StepArcs {
     /// The number of vertices.
     ghost vertices: { Self → ℕ };
@@ -32,7 +32,8 @@ pub trait StepArcs {
         requires to_n { v ≤ vertices self.now }
         ensures { result.now ≡ rows self.now v };
 
-    /// Whether an arc, which is at a place of the row of a vertex of 1 to n, is open. It takes O(1).
+    /// Whether an arc, which is at a place of the row of a vertex of 1 to n, is open.
+    /// It takes O(1).
     fn is_open(&self, v: u32, place: usize, arc: Arc) -> bool
         requires can { can_search self.now }
         requires from_one { 1 ≤ v }

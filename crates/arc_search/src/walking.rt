@@ -1,4 +1,5 @@
-//! The path-based search from one vertex, which gives parts to all that it reaches and that had none.
+//! The path-based search from one vertex, which gives parts to all that it
+//! reaches and that had none.
 
 ghost use Rattle.std.specs.Prelude.{◌≡◌, ◌≢◌, ◌≤◌, length};
 ghost use Rattle.arc_search.specs.Marks.{mark_of};
@@ -9,17 +10,20 @@ use crate::path::{begin_set, number, put};
 use crate::path_memory::PathMemory;
 use crate::step_arcs::StepArcs;
 
-/// Gives parts to `start` and to all that open arcs reach from it through vertices without a mark, marks them, and answers
-/// the number of the last part.
+/// Gives parts to `start` and to all that open arcs reach from it through vertices without a mark,
+/// marks them, and answers the number of the last part.
 ///
-/// `start` is a vertex of 1 to n without a mark, and `parts` the number of the last part so far; 0 stands for no part and
-/// for no mark. A set is closed where no open arc leaves it. The vertices that have a part are to be closed, and so are
-/// they with those without a mark. Each new part with all before it is closed then, and a closed set that has a vertex of
-/// a new part has all of it.
+/// `start` is a vertex of 1 to n without a mark, and `parts` the number of the last part so
+/// far; 0 stands for no part and for no mark. A set is closed where no open arc leaves it.
+/// The vertices that have a part are to be closed, and so are they with those without a
+/// mark. Each new part with all before it is closed then, and a closed set that has a vertex
+/// of a new part has all of it.
 ///
-/// It keeps a path of sets, each of which reaches the next and each vertex of which reaches the others: an arc to a set
-/// of the path joins the sets from that one on, and a set that no arc leaves any more is the next part. It takes time
-/// for the vertices that it marks and their rows, looks at no others, and takes no memory. (Gabow, 2000)
+/// It keeps a path of sets, each of which reaches the next and each vertex of which reaches the
+/// others: an arc to a set of the path joins the sets from that one on, and a set that no arc
+/// leaves any more is the next part. It takes time for the vertices that it marks and their rows,
+/// looks at no others, and takes no memory. The new parts are the strongly connected components of
+/// the vertices that it marks, found by the path-based algorithm of Gabow (2000).
 pub fn walk<A: StepArcs>(
     arcs: &A,
     start: u32,

@@ -19,10 +19,11 @@ fn mark(v: u32, marks: &mut [bool], touched: &mut Vec<u32>) -> Result<(), NoMemo
     Ok(())
 }
 
-/// Marks the vertices from the last place that was found up to the start, and puts each that was not marked before at
-/// the end of `touched`.
+/// Marks the vertices from the last place that was found up to the start, and puts each that was
+/// not marked before at the end of `touched`.
 ///
-/// Want of memory is its only refusal; what is marked by then is in `touched` too. It takes time for the way alone.
+/// Want of memory is its only refusal; what is marked by then is in `touched` too.
+/// It takes time for the way alone.
 pub fn mark_way(
     order: &[u32],
     parents: &[u32],

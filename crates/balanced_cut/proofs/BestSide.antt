@@ -14,7 +14,7 @@ use Rattle.balanced_cut.specs.Ends.{IsRangeOf, IsScale, IsScaleOf, NoneGreater, 
 use Rattle.balanced_cut.specs.declared.scale.Scale.{Scale}
 
 -- ---- the scale of a list of vertices
--- it has a place for each vertex
+-- the scale has a place for each vertex
 pub scale_places : (n : ℕ) (masses order : List ℕ) (s : Scale) → length order ≡ n → IsScaleOf masses order s → places_of s ≡ n
 scale_places n masses order s long of = omega (arith, long, of.long)
 

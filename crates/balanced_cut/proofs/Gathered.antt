@@ -13,7 +13,7 @@ use Rattle.cut_definitions.proofs.Ranges.{range_push}
 abbrev pub mass_among : List ℕ → VertexSet → ℕ → ℕ
 mass_among masses s k = sum_by (mass_term masses s) (range_with_len 1 k)
 
--- that of one vertex more
+-- the mass of the vertices 1 to k of a set, with one vertex more
 next_among : (masses : List ℕ) (s : VertexSet) (k : ℕ) → mass_among masses s (suc k) ≡ mass_among masses s k + mass_term masses s (1 + k)
 next_among masses s k =
     let terms = mass_term masses s in

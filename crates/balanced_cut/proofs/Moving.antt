@@ -84,7 +84,7 @@ ranges_fit n (b ∷ bs) h c =
     (all_to (IsRangeOf n) b.place bs b.following h.1 (λ k l. between_fits n (b ∷ bs) 0 (suc k) h c (omega arith) (omega (arith, l))))
     (ranges_fit n bs h.2 c.1)
 
--- so is any one of them
+-- any one of the ranges is a range of n places
 pub best_fits : (n : ℕ) (bs : List Border) (r : Range) → AreBorders n bs → AreChained bs → Contains (ranges_between bs) r → IsRangeOf n r
 best_fits n bs r h c is = All-contains (IsRangeOf n) (ranges_between bs) r (ranges_fit n bs h c) is
 
@@ -125,7 +125,7 @@ better_one P s best contender result h b c = elim (cases_lt (range_balance s bes
   | inr more ↦ subst P (sym (h.kept more)) b
 ]
 
--- so it is a range of n places where both are
+-- the better of two ranges of n places is one of n places
 pub better_fits : (n : ℕ) (s : Scale) (best contender result : Range) → IsBetter s best contender result → IsRangeOf n best → IsRangeOf n contender → IsRangeOf n result
 better_fits n s best contender result = better_one (IsRangeOf n) s best contender result
 

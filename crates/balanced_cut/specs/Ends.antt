@@ -44,7 +44,7 @@ span_mass s r = mass_to s r.to - mass_to s r.from
 abbrev pub range_balance : Scale → Range → ℕ
 range_balance s r = min (span_mass s r) (s.total - span_mass s r)
 
--- it has less mass than all other places have
+-- a range has less mass than all other places have
 abbrev pub IsLesserPart : Scale → Range → Type 0
 IsLesserPart s r = span_mass s r < s.total - span_mass s r
 

@@ -1,4 +1,5 @@
-//! The scale of ranges: the masses of the first vertices of a list, by which each range of it is weighed at once.
+//! The scale of ranges: the masses of the first vertices of a list,
+//! by which each range of it is weighed at once.
 
 ghost use Rattle.std.specs.Prelude.{◌≡◌, ◌≤◌, ◌↔◌, IfOk, IsTrue, length};
 ghost use Rattle.std.specs.List.{All};

@@ -51,7 +51,8 @@ fn between(borders: &[Border], start: usize, end: usize) -> Span
     }
 }
 
-/// The first border from one on up to which a range has half of all mass or more; the last of the block where none has.
+/// The first border from one on up to which a range has half of all mass or more;
+/// the last of the block where none has.
 fn end_from(borders: &[Border], scale: &Scale, start: usize, from: usize) -> usize
     requires scale { IsScale (places_of scale.now) scale.now }
     requires borders { AreBorders (places_of scale.now) borders.now }
@@ -72,10 +73,12 @@ fn end_from(borders: &[Border], scale: &Scale, start: usize, from: usize) -> usi
     end
 }
 
-/// Weighs the ranges that begin at a border: the longest that has less mass than the others, and the next longer one.
+/// Weighs the ranges that begin at a border:
+/// the longest that has less mass than the others, and the next longer one.
 ///
-/// No other has a greater balance: the shorter ones have no more mass than the first, and the longer ones leave no more than
-/// the second. From the next border on a range is shorter, so the end does not go back.
+/// No other has a greater balance: the shorter ones have no more mass than the first, and the
+/// longer ones leave no more than the second. From the next border on a range is shorter, so
+/// the end does not go back.
 fn weigh_from(borders: &[Border], scale: &Scale, start: usize, search: Search) -> Search
     requires scale { IsScale (places_of scale.now) scale.now }
     requires borders { AreBorders (places_of scale.now) borders.now }
@@ -117,11 +120,11 @@ fn best_span(borders: &[Border], scale: &Scale) -> Span
     search.best
 }
 
-/// A side of a cut of the cactus whose balance by the masses of the vertices no other side of its cuts exceeds. Which of
-/// several such sides is free.
+/// A side of a cut of the cactus whose balance by the masses of the vertices no other side of its
+/// cuts exceeds. Which of several such sides is free.
 ///
-/// One step for each vertex and each node of the cactus, in loops. It takes memory in proportion to these, and is refused
-/// only where that is wanting.
+/// One step for each vertex and each node of the cactus, in loops. It takes memory in proportion
+/// to these, and is refused only where that is wanting.
 pub fn best(alloc: Global, cactus: &Cactus, weights: &VertexWeights) -> Result<Side, NoMemory>
     requires some { blocks cactus.now.root ≢ [] }
     requires weights { length weights.now ≡ cactus.now.vertices }

@@ -54,7 +54,7 @@ has_some l = not (length l == 0)
 abbrev pub held : Node → List (List ℕ)
 held x = filter has_some (entered x)
 
--- the same of the nodes of a block, without the node above
+-- the vertices of the nodes of a block that are not empty, in the order of entering, without the node above
 abbrev pub block_held : Block → List (List ℕ)
 block_held b = filter has_some (entered_block b)
 

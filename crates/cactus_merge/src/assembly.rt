@@ -33,7 +33,8 @@ fn bridge_to(alloc: Global, node: Node) -> Result<Block, NoMemory>
     Ok(Block::Bridge(child))
 }
 
-/// The node at the far end of a run: the one below a bridge, or else an empty one above the cycle of the next run.
+/// The node at the far end of a run: the one below a bridge,
+/// or else an empty one above the cycle of the next run.
 fn far_end(alloc: Global, hanging: Block) -> Result<Node, NoMemory>
     ensures part { IfOk result (λ x. IsFarEnd (block_part hanging) (part x)) }
     ensures held { IfOk result (λ x. held x ≡ block_held hanging) }
@@ -86,12 +87,14 @@ fn bridge_down(
     Ok(hanging)
 }
 
-/// Joins the nodes of a chain into a tree: neighbours by bridges, and each run by a cycle with its two outer neighbours.
+/// Joins the nodes of a chain into a tree: neighbours by bridges,
+/// and each run by a cycle with its two outer neighbours.
 ///
-/// The cuts of the answer are, as sets, those of the chain, the intervals inside the runs, and the cuts of the nodes. The
-/// tree is built from its far end, with one block that hangs below the nodes that are left; where two runs touch, an
-/// empty node stands between their cycles. It takes memory for each bridge, empty node and cycle, moves the nodes, and
-/// takes one step for each node and run. Where memory is wanting the nodes are dropped.
+/// The cuts of the answer are, as sets, those of the chain, the intervals inside the runs, and the
+/// cuts of the nodes. The tree is built from its far end, with one block that hangs below the
+/// nodes that are left; where two runs touch, an empty node stands between their cycles. It takes
+/// memory for each bridge, empty node and cycle, moves the nodes, and takes one step for each node
+/// and run. Where memory is wanting the nodes are dropped.
 pub fn join(alloc: Global, nodes: Children, runs: &[Run]) -> Result<Node, NoMemory>
     requires enough { 2 ≤ length (nodes_in nodes) }
     requires runs { IsRuns (length (nodes_in nodes)) runs.now }

@@ -68,7 +68,7 @@ stated_nodes number counts flat (vs ∷ nodes) more h c =
     ∙ stated_nodes (suc number) counts grown nodes more h.3 (omega (arith, c, next))
     ∙ ap (λ k. stated k counts (plus_nodes grown nodes) more) count
 
--- the same of bridges
+-- the lines of the bridges of a flat cactus state them
 bridge_plain : IsPlain (codes "bridge")
 bridge_plain = (differs 98 (lit< tt), (differs 114 (lit< tt), (differs 105 (lit< tt), (differs 100 (lit< tt), (differs 103 (lit< tt), (differs 101 (lit< tt), tt))))))
 
@@ -117,7 +117,7 @@ stated_bridges number counts flat (b ∷ bs) more h done c =
     ∙ stated_bridges (suc number) counts grown bs more h.3 done (omega (arith, c, next))
     ∙ ap (λ k. stated k counts (plus_bridges grown bs) more) count
 
--- the same of cycles
+-- the lines of the cycles of a flat cactus state them
 cycle_plain : IsPlain (codes "cycle")
 cycle_plain = (differs 99 (lit< tt), (differs 121 (lit< tt), (differs 99 (lit< tt), (differs 108 (lit< tt), (differs 101 (lit< tt), tt)))))
 

@@ -11,7 +11,7 @@ pub record JoinsNodes (flat : Flat) : Type 0 where
   pub cycles : All (All (λ i. i < length flat.nodes)) flat.cycles
   pub long : All (λ c. 1 ≤ length c) flat.cycles
 
--- it has seen the vertices that stand in a node, and no node has a later cycle than the last
+-- a reader has seen the vertices that are in a node, and no node has a later cycle than the last
 pub record IsReader (r : Reader) : Type 0 where
   pub seen : (v : ℕ) → slice_index_or r.seen v false ≡ is_placed r.flat v
   pub one_each : length r.last_cycles.items ≡ length r.flat.nodes

@@ -7,18 +7,20 @@ pub fn text_is_read()
     ensures { LawOfText }
 {}
 
-/// The text of a value and the flat cactus of any cactus, which is what `print` writes, is read back as just these.
+/// The text of a value and the flat cactus of any cactus, which is what `print` writes,
+/// is read back as just these.
 pub fn cactus_text_is_read()
     ensures { LawOfCactusText }
 {}
 
-/// What a text states is a well-formed flat cactus, with a value and a number of vertices within the bounds: so is what
-/// `read` answers.
+/// What a text states is a well-formed flat cactus, with a value and a number of vertices within
+/// the bounds: so is what `read` answers.
 pub fn stated_is_well_formed()
     ensures { LawOfStated }
 {}
 
-/// There is no other text that states a value and a flat cactus than the one that is printed of them.
+/// There is no other text that states a value and a flat cactus than the one
+/// that is printed of them.
 pub fn text_is_unique()
     ensures { LawOfUniqueText }
 {}

@@ -170,8 +170,8 @@ fn is_plain(text: &[u8], count: usize) -> bool
     }
 }
 
-/// The number that the digits at the front write, and how many these are; none where there is none, it has a leading
-/// zero, or it is 2^64 or more.
+/// The number that the digits at the front write, and how many these are; none where there is
+/// none, it has a leading zero, or it is 2^64 or more.
 fn leading_number(text: &[u8]) -> Option<(u64, usize)>
     ensures some { IfSome result (λ r. IsLeading text.now r.0 r.1) }
     ensures none { (number count : ℕ) → IsLeading text.now number count → IsSome result }
@@ -207,7 +207,8 @@ pub fn read_numbers(word: &[u8], line: &[u8], room: &mut [u64]) -> bool
     items.is_at_end()
 }
 
-/// Whether a line is a word and some numbers, which are put into the room in place of what was there.
+/// Whether a line is a word and some numbers, which are put into the room in
+/// place of what was there.
 pub fn read_line(word: &[u8], line: &[u8], room: &mut Vec<u64>) -> Result<bool, NoMemory>
     requires { IsWord word.now }
     ensures all { IfOk result (λ b. b ≡ true → numbers_of word.now line.now ≡ Some room.new.items) }

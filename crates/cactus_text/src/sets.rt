@@ -98,8 +98,9 @@ impl Seen {
 
 /// Which nodes are joined so far: each node names a node of its set that has no greater number.
 ///
-/// The sets are trees by those names: a join puts the one root below the other, and a search halves the way that it goes
-/// (Tarjan and van Leeuwen, Worst-case Analysis of Set Union Algorithms, 1984).
+/// It is union-find. The sets are trees by those names: a join puts the one root below the other,
+/// and a search halves the path that it goes (Tarjan and van Leeuwen, Worst-case Analysis of Set
+/// Union Algorithms, 1984).
 #[derive(Drop)]
 pub struct Joined {
     above: Vec<usize>,
@@ -107,7 +108,7 @@ pub struct Joined {
 }
 
 impl Joined {
-    /// So many nodes, of which no two are joined.
+    /// Sets of one node each, for so many nodes: no two are joined.
     pub fn new(alloc: Global, count: usize) -> Result<Joined, NoMemory>
         ensures count { IfOk result (λ j. length j.above.items ≡ count) }
         ensures labels { IfOk result (λ j. IsLabelled j.above.items (range_with_len 0 count)) }

@@ -11,7 +11,8 @@ use cut_definitions::NoMemory;
 use flat_cactus::FlatCactus;
 use std::alloc::Global;
 
-/// Whether the nodes are one more than the edges that a tree of them takes: the bridges, and the edges of each cycle but one.
+/// Whether the nodes are one more than the edges that a tree of them takes: the bridges, and the
+/// edges of each cycle but one.
 fn has_edges_of_tree(flat: &FlatCactus) -> bool
     requires { JoinsNodes flat.now }
     ensures { result ≡ (length flat.now.nodes == 1 + length flat.now.bridges + sum_by (λ c. length c - 1) flat.now.cycles) }
@@ -48,8 +49,8 @@ fn is_joined(alloc: Global, flat: &FlatCactus) -> Result<bool, NoMemory>
     Ok(joined.is_one())
 }
 
-/// Whether bridges and cycles join all nodes, and by no more edges than that takes. Time in proportion to the nodes and
-/// the edges, times the logarithm of the nodes at most.
+/// Whether bridges and cycles join all nodes, and by no more edges than that takes. Time in
+/// proportion to the nodes and the edges, times the logarithm of the nodes at most.
 pub fn is_tree(alloc: Global, flat: &FlatCactus) -> Result<bool, NoMemory>
     requires { JoinsNodes flat.now }
     ensures { IfOk result (λ b. b ≡ is_tree flat.now) }

@@ -53,7 +53,7 @@ along_chained places s (suc m) k to rest up hops within r =
       along_chained places s m next to rest up hops.1 within r,
     )
 
--- the same of a node that may be the first of no block
+-- the borders of the block that a node is the first of, if there is one, are chained
 at_chained : (places s : List ℕ) (m k to : ℕ) (rest : List Border) → Ascend places s → Hops s m k to → to ≤ length s → AreChained rest → AreChained (map (placed places) (borders_at s m k) ++ rest)
 at_chained places s zero k to rest up hops within r = r
 at_chained places s (suc m) k to rest up hops within r = along_chained places s (suc m) k to rest up hops within r
@@ -65,7 +65,7 @@ all_chained places s k es up (hops_more t l e rest at more) =
     subst AreChained (sym (map-append (placed places) (borders_at t e.head l) (all_borders t (l + 1) rest)))
     (at_chained places t e.head l at.end (map (placed places) (all_borders t (l + 1) rest)) up at.block at.within (all_chained places t (l + 1) rest up more))
 
--- so are those of a tree
+-- the borders of a tree are chained
 pub borders_chained : (x : Node) → AreChained (walk_borders x)
 borders_chained x =
     all_chained (places_from 0 (entered x)) (sizes x) 0 (outlined x) (λ i j h w. place_mono 0 (entered x) i j h (omega (arith, w, sizes_entered x))) (all_hop x)

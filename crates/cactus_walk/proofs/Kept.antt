@@ -47,7 +47,7 @@ abbrev pub along : (ℕ → Bool) → List ℕ → ℕ → ℕ → List Range
 along f s zero k = []
 along f s (suc m) k = all_to k (drop (passed_over (f k)) (ends s (suc m) k)) ++ along f s m (k + slice_index s k)
 
--- those of the blocks of all entries
+-- the ranges of the blocks of all entries, but of each marked node not the one of it alone
 abbrev pub of_nodes : (ℕ → Bool) → List ℕ → ℕ → List NodeOutline → List Range
 of_nodes f s k [] = []
 of_nodes f s k (e ∷ es) = along f s e.head k ++ of_nodes f s (k + 1) es

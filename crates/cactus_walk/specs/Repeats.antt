@@ -18,7 +18,7 @@ abbrev pub marks_along : (ℕ → Bool) → List ℕ → ℕ → ℕ → List Bo
 marks_along marked sizes zero from = false ∷ []
 marks_along marked sizes (suc count) from = marked from ∷ marks_along marked sizes count (from + slice_index sizes from)
 
--- the same of a block of so many nodes; a node that is the first of no block has none
+-- the marks of the borders of a block of so many nodes; a node that is the first of no block has none
 abbrev pub marks_at : (ℕ → Bool) → List ℕ → ℕ → ℕ → List Bool
 marks_at marked sizes zero first = []
 marks_at marked sizes (suc count) first = marks_along marked sizes (suc count) first
@@ -43,7 +43,7 @@ ranges_kept [] ms = []
 ranges_kept (b ∷ bs) [] = []
 ranges_kept (b ∷ bs) (m ∷ ms) = ranges_to b.place (drop (passed_over m) (take b.following bs)) ++ ranges_kept bs ms
 
--- the same, but of the first border only to those behind the first so many that follow it
+-- the ranges of `ranges_kept`, but from the first border only to those behind the first so many that follow it
 abbrev pub ranges_left : List Border → List Bool → ℕ → List Range
 ranges_left [] ms passed = []
 ranges_left (b ∷ bs) [] passed = []

@@ -28,14 +28,14 @@ pub place_fits : (k : Ranked) (start b : ℕ) → IsRanked k → start < b → b
 place_fits k start b ranked sb within =
     place_within (count_of k) k.places.borders.items b ranked.borders (behind_there (count_of k) k.places.borders.items start b ranked.borders sb within)
 
--- so is a range between two of them
+-- a range between two borders behind another is a range of the list
 pub range_fits : (k : Ranked) (start a b top : ℕ) → IsRanked k → start ≤ a → a ≤ b → b ≤ top → start < top → top ≤ last_of k start → IsRangeOf (count_of k) (range_between k.places.borders.items a b)
 range_fits k start a b top ranked sa ab bt st within =
     let fits = place_fits k start top ranked st within in
     let low = place_no_less k start b top ranked (omega (arith, sa, ab)) bt within in
     (place_no_less k start a b ranked sa ab (omega (arith, bt, within)), omega (arith, fits, low))
 
--- and they are there
+-- a border behind another, in its block, is in the list of borders
 pub border_in : (k : Ranked) (start b top : ℕ) → IsRanked k → b ≤ top → start < top → top ≤ last_of k start → b < length k.places.borders.items
 border_in k start b top ranked bt st within =
     omega (arith, bt, behind_there (count_of k) k.places.borders.items start top ranked.borders st within)
@@ -159,7 +159,7 @@ not_here k a b vertex least q span ranked is fits tells more up = elim (cases_lt
   ]
 ]
 
--- and one is in a range whose least one is not greater
+-- a vertex up to a number is in a range whose least one is not greater
 pub has_here : (k : Ranked) (a b vertex least : ℕ) (span : Span) → IsRanked k → range_of span ≡ range_between k.places.borders.items a b → place_at k b ≤ count_of k → IsLeast k.least span.from span.to least → least ≤ vertex → vertex < 4294967295 → HasUpTo k a b vertex
 has_here k a b vertex least span ranked is fits tells up bound = elim tells.there [
   | inl e ↦ absurd (omega (arith, e, up, bound))
@@ -246,7 +246,7 @@ joined_start k bounds inner s e a b c d =
     subst (λ i. IsNoLater (side_between k i (max e inner.end)) (side_between k s e)) (sym low)
     (subst (λ i. IsNoLater (side_between k s i) (side_between k s e)) (sym high) (no_later_itself (side_between k s e)))
 
--- and so with the one that takes in the least vertex around
+-- each range around, joined with the one that takes in the least vertex around, has a side that does not come later
 pub joined_next : (k : Ranked) (bounds inner old new : Ends) (vertex g : ℕ) → IsRanked k → IsWithin k bounds old → IsWithin k bounds new → old.start ≤ inner.start → inner.end ≤ old.end → IsTaken k old new vertex →
     ((p : ℕ) → IsBeyond (range_at k bounds) (range_at k old) p → vertex ≤ vertex_at k p) → place_at k old.start ≤ g → g < place_at k old.end → vertex < vertex_at k g → AreJoined k bounds inner old → AreJoined k bounds inner new
 joined_next k bounds inner old new vertex g ranked is will low high taken least from to greater joined s e a b c d = elim taken [
@@ -323,7 +323,7 @@ joined_end k bounds inner ends vertex ranked is least none joined s e a b c d =
     no_later_both (side_of k r) (side_of k other) (side_between k s e) first (joined s e a b c d)
 
 -- ---- the range with the least vertex of all
--- it comes before each range without that vertex
+-- the range with the least vertex of all comes before each range without that vertex
 pub least_first : (k : Ranked) (bounds : Ends) (at vertex s e : ℕ) → IsRanked k → NoneEmpty k → bounds.end ≤ last_of k bounds.start → bounds.start ≤ at → at < bounds.end →
     ((p : ℕ) → place_at k bounds.start ≤ p → p < place_at k bounds.end → vertex ≤ vertex_at k p) → HasUpTo k at (at + 1) vertex → bounds.start ≤ s → s < e → e ≤ bounds.end → (e ≤ at) ⊎ (at + 1 ≤ s) →
     IsNoLater (side_between k at (at + 1)) (side_between k s e)

@@ -42,7 +42,7 @@ arranged_cycle nodes = ap (fold-Block Arranged (List Arranged) (List Arranged) A
     ∙ fold-roll-Block Arranged (List Arranged) (List Arranged) Arranged arranged_block_step arranged_blocks_step arranged_children_step arranged_node_step (Open.Cycle nodes)
     ∙ ap cycle_arranged (fold_out-Children Arranged (List Arranged) (List Arranged) Arranged arranged_block_step arranged_blocks_step arranged_children_step arranged_node_step nodes)
 
--- ---- the same vertices as a set and as one list
+-- ---- the list of the vertices of a part has exactly those of its set
 several : {X : Type 0} (p : X → Part) (a : X → Arranged) (xs : List X) → AllByRecursion (λ x. has (a x).vertices ≡ (p x).below) xs → has (all_vertices (map a xs)) ≡ all_of (belows (map p xs))
 several p a [] h = refl
 several p a (x ∷ xs) h =

@@ -51,7 +51,7 @@ next_following (b ∷ bs) i zero h e some = absurd (omega (arith, e))
 next_following (b ∷ bs) zero (suc j) h e some = let z : 0 ≡ j = omega (arith, e) in subst (λ k. b.following ≡ (border_at bs k).following + 1) z (h.0 some).1
 next_following (b ∷ bs) (suc i) (suc j) h e some = next_following bs i j h.1 (omega (arith, e)) some
 
--- the same end serves the next border
+-- if the ranges from a border have less than a mass up to an end, so have those from the next border
 pub less_next : (k : Ranked) (mass start end : ℕ) → IsRanked k → AreLess k mass start end → AreLess k mass (start + 1) end
 less_next k mass start end ranked are =
     let bs = k.places.borders.items in

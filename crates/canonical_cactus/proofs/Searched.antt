@@ -141,7 +141,7 @@ known_some n masses sides k some known best high none =
 same_best : (a b : ℕ) → a ≤ b → b ≤ a → a ≡ b
 same_best a b h g = omega (arith, h, g)
 
--- and it is the first of the best
+-- the side that is found is the first of the best
 pub known_ends : (n : ℕ) (masses : List ℕ) (sides : List (List ℕ)) (k : Ranked) (some : List ℕ) (span : Span) → IsRankedOf n masses sides k → IsBest masses sides some → k.high ≡ balance masses some → IsFound k (Some span) →
     ((r : Range) → Contains (ranges_between k.places.borders.items) r → IsWanted k r → IsNotAfter k (Some span) r) → IsFirstBest masses sides (side_at n k.places.order.items (range_of span))
 known_ends n masses sides k some span known best high found first =

@@ -64,7 +64,7 @@ pub record IsRanked (k : Ranked) : Type 0 where
   pub wanting_size : k.wanting.size ≡ count_of k
   pub wanting_is : (p : ℕ) → p < count_of k → leaf_at k.wanting p + vertex_at k p ≡ 4294967295
 
--- the same of a cactus over n vertices with these masses and sides
+-- the cuts of a cactus over n vertices with these masses and sides, their scale and the trees of minima
 pub record IsRankedOf (n : ℕ) (masses : List ℕ) (sides : List (List ℕ)) (k : Ranked) : Type 0 where
   pub counted : length masses ≡ n
   pub long : length k.places.order.items ≡ n

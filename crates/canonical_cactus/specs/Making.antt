@@ -15,7 +15,7 @@ use Rattle.canonical_cactus.specs.declared.parts.Hung.{Hung}
 abbrev pub AreApart : List (List ℕ) → Type 0
 AreApart ls = (v : ℕ) → count_with v ls ≤ 1
 
--- the same as where a tree is trimmed, and all stands in order
+-- a node, a child of a cycle, or a block shows what it was read from, trimmed, and all in it is in order
 pub record ShowsNode (r : Read) (x : Node) : Type 0 where
   pub normal : Trims.ShowsNode r x
   pub in_order : (arranged x).in_order ≡ true
@@ -46,7 +46,7 @@ pub record IsBlockOf (r : Read) (h : Hung) : Type 0 where
   pub least : h.least ≡ least_in (arranged_block h.block).vertices
   pub shows : IsGood r.part.cuts r → ShowsBlock r h.block
 
--- the same of several, one by one
+-- several nodes, children of a cycle, or blocks show several parts, one by one
 abbrev pub AreNodesOf : List Read → List Placed → Type 0
 AreNodesOf = Each IsNodeOf
 

@@ -1,16 +1,19 @@
 //! The first of the sides of best balance.
 //!
-//! In the order of entering each side is a range between two borders of a block. Of two sides that one comes first which has
-//! the least vertex that only one of them has, if the other one has a greater vertex; else the other one is the beginning of
-//! it, and comes first. What one range has and another has not is two ranges, so a few least vertices of ranges decide.
+//! In the order of entering each side is a range between two borders of a block. Of two sides that
+//! one comes first which has the least vertex that only one of them has, if the other one has a
+//! greater vertex; else the other one is the beginning of it, and comes first. What one range has
+//! and another has not is two ranges, so a few least vertices of ranges decide.
 //!
-//! A side has the best balance where its mass is one of two. The ranges of a mass from one border on end at borders that
-//! stand side by side, and neither the first nor the last of these goes back from one border to the next. Ranges of one mass
-//! can be many where vertices have no mass, so they are not gone through. Borders without mass between them are a run. The
-//! ranges of a mass above 0 that begin in one run end in one run, each at each, so all of them have the shortest one within
-//! them (`first_around`). The ranges without mass are all those between two borders of a run, and those with the least vertex
-//! come first (`first_within`). From such a range on the borders at both ends are taken in one after another, at most once
-//! each, until all that is around comes behind all that is in it. So of each run one range is compared.
+//! A side has the best balance where its mass is one of two. The ranges of a mass from one border
+//! on end at borders that stand side by side, and neither the first nor the last of these goes
+//! back from one border to the next. Ranges of one mass can be many where vertices have no mass,
+//! so they are not gone through. Borders without mass between them are a run. The ranges of a mass
+//! above 0 that begin in one run end in one run, each at each, so all of them have the shortest
+//! one within them (`first_around`). The ranges without mass are all those between two borders of
+//! a run, and those with the least vertex come first (`first_within`). From such a range on the
+//! borders at both ends are taken in one after another, at most once each, until all that is
+//! around comes behind all that is in it. So of each run one range is compared.
 
 ghost use Rattle.std.specs.Prelude.{◌≡◌, ◌≢◌, ◌+◌, ◌<◌, ◌≤◌, ◌⊎◌, [], ℕ, IfOk, IsFalse, IsTrue, Some, length, slice_index};
 ghost use Rattle.std.specs.List.{All, Contains};
@@ -31,7 +34,8 @@ use rooted_cactus::Cactus;
 use std::alloc::Global;
 use vertex_set::Side;
 
-/// The cuts of a cactus, what they are weighed by, the balance that is wanted, and what their sides are compared by.
+/// The cuts of a cactus, what they are weighed by, the balance that is wanted,
+/// and what their sides are compared by.
 #[derive(Drop)]
 struct Ranked {
     places: CutPlaces,
@@ -39,7 +43,8 @@ struct Ranked {
     high: u128,
     /// The least vertices of ranges.
     least: Minima,
-    /// The least of what is wanting from each vertex to the greatest number of 32 bits, so by it the greatest vertices of ranges.
+    /// The least of what is wanting from each vertex to the greatest number of 32 bits, so by it
+    /// the greatest vertices of ranges.
     wanting: Minima,
 }
 
@@ -50,8 +55,8 @@ struct Ends {
     end: usize,
 }
 
-/// The first of the sides so far, the first border of a run without mass between its borders, and the first ends up to which
-/// the ranges from the last one have a mass, and more than it.
+/// The first of the sides so far, the first border of a run without mass between its borders, and
+/// the first ends up to which the ranges from the last one have a mass, and more than it.
 #[derive(Clone, Copy)]
 struct Search {
     found: Option<Span>,
@@ -61,7 +66,8 @@ struct Search {
 }
 
 impl Ranked {
-    /// The least vertex of a range that another one does not have; the greatest number of 32 bits where there is none.
+    /// The least vertex of a range that another one does not have;
+    /// the greatest number of 32 bits where there is none.
     fn least_beyond(&self, span: Span, other: Span) -> u32
         requires ranked { IsRanked self.now }
         requires span { IsRangeOf (count_of self.now) (range_of span) }
@@ -80,8 +86,8 @@ impl Ranked {
         self.least.least(before).min(self.least.least(behind))
     }
 
-    /// Whether a range has a vertex greater than a number. A vertex of it that is known to be greater saves the search; the
-    /// greatest number of 32 bits stands for none.
+    /// Whether a range has a vertex greater than a number. A vertex of it that is known to be
+    /// greater saves the search; the greatest number of 32 bits stands for none.
     fn has_greater(&self, span: Span, vertex: u32, known: u32) -> bool
         requires ranked { IsRanked self.now }
         requires span { IsRangeOf (count_of self.now) (range_of span) }
@@ -95,7 +101,8 @@ impl Ranked {
         self.wanting.least(span) < u32::MAX - vertex
     }
 
-    /// Whether the side at a range comes before the side at another in the order of lists; true where they are the same.
+    /// Whether the side at a range comes before the side at another in the order of lists; true
+    /// where they are the same.
     fn goes_before(&self, span: Span, other: Span) -> bool
         requires ranked { IsRanked self.now }
         requires span { IsRangeOf (count_of self.now) (range_of span) }
@@ -146,8 +153,8 @@ impl Ranked {
         self.scale.mass(self.between(start, end))
     }
 
-    /// The first border from one on up to which the range from another has a mass or more; the end of the block where none
-    /// has.
+    /// The first border from one on up to which the range from another has a mass or more; the end
+    /// of the block where none has.
     fn end_from(&self, mass: u128, start: usize, from: usize) -> usize
         requires ranked { IsRanked self.now }
         requires start { start < length self.now.places.borders.items }
@@ -194,7 +201,8 @@ impl Ranked {
         self.between(ends.start, ends.end)
     }
 
-    /// The first border from one on of which the range to the next one has a vertex up to a number.
+    /// The first border from one on of which the range to the next one has
+    /// a vertex up to a number.
     fn first_with(&self, from: usize, end: usize, vertex: u32) -> usize
         requires ranked { IsRanked self.now }
         requires within { end ≤ last_of self.now from }
@@ -252,10 +260,12 @@ impl Ranked {
         }
     }
 
-    /// The first of the sides at the ranges between two borders that have another range within them.
+    /// The first of the sides at the ranges between two borders that have
+    /// another range within them.
     ///
-    /// As long as the range has a greater vertex than the least one around it, that one belongs to the first side. After
-    /// that all that is around comes behind all that is in it, so each longer side begins with this one.
+    /// As long as the range has a greater vertex than the least one around it, that one belongs to
+    /// the first side. After that all that is around comes behind all that is in it, so each
+    /// longer side begins with this one.
     fn first_around(&self, bounds: Ends, inner: Ends) -> Ends
         requires ranked { IsRanked self.now }
         requires within { IsWithin self.now bounds inner }
@@ -274,7 +284,8 @@ impl Ranked {
         ends
     }
 
-    /// The first of the sides at the ranges between two borders: it has the least of all these vertices.
+    /// The first of the sides at the ranges between two borders:
+    /// it has the least of all these vertices.
     fn first_within(&self, bounds: Ends) -> Ends
         requires ranked { IsRanked self.now }
         requires some { bounds.start < bounds.end }
@@ -294,8 +305,9 @@ impl Ranked {
         )
     }
 
-    /// Of the ranges of a mass that begin in a run of borders without mass between them, the one whose side comes first. The
-    /// ranges from the last border of the run that have the mass end from one border on, and before another.
+    /// Of the ranges of a mass that begin in a run of borders without mass between them, the one
+    /// whose side comes first. The ranges from the last border of the run that have the mass end
+    /// from one border on, and before another.
     fn first_of_run(&self, mass: u128, run: Ends, ends: Ends) -> Option<Ends>
         requires ranked { IsRanked self.now }
         requires start { run.end < length self.now.places.borders.items }
@@ -356,8 +368,8 @@ impl Ranked {
         }
     }
 
-    /// The first of the sides at the ranges of a mass that begin at a border, and before it. A run of borders without mass
-    /// between them is gone over at its last one.
+    /// The first of the sides at the ranges of a mass that begin at a border, and before it. A run
+    /// of borders without mass between them is gone over at its last one.
     fn first_from(&self, mass: u128, start: usize, search: Search) -> Search
         requires ranked { IsRanked self.now }
         requires start { start < length self.now.places.borders.items }
@@ -431,8 +443,8 @@ impl Ranked {
         None
     }
 
-    /// The first of the sides at the ranges of either mass that gives the balance, where none is empty or the balance is
-    /// above 0.
+    /// The first of the sides at the ranges of either mass that gives the balance, where none is
+    /// empty or the balance is above 0.
     fn first_of_both(&self) -> Option<Span>
         requires ranked { IsRanked self.now }
         requires none_empty { self.now.high ≡ 0 → NoneEmpty self.now }
@@ -514,12 +526,13 @@ fn side_at_span(alloc: Global, n: u32, order: &[u32], span: Span) -> Result<Side
     Ok(side)
 }
 
-/// Of all sides of the cuts of the cactus that have the best balance by the masses of the vertices, the first in the order
-/// of lists, in which a list that another begins with comes first.
+/// Of all sides of the cuts of the cactus that have the best balance by the masses
+/// of the vertices, the first in the order of lists, in which a list that another
+/// begins with comes first.
 ///
-/// It takes O(n log n) steps for a cactus of n vertices whose nodes are at most in proportion to n, however many cuts have the
-/// best balance and whatever the masses are. It takes memory in proportion to the nodes and to n, and is refused only where
-/// that is wanting.
+/// It takes O(n log n) steps for a cactus of n vertices whose nodes are at most in proportion to
+/// n, however many cuts have the best balance and whatever the masses are. It takes memory in
+/// proportion to the nodes and to n, and is refused only where that is wanting.
 pub fn first_best(alloc: Global, cactus: &Cactus, weights: &VertexWeights) -> Result<Side, NoMemory>
     requires some { blocks cactus.now.root ≢ [] }
     requires weights { length weights.now ≡ cactus.now.vertices }

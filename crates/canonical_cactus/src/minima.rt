@@ -1,5 +1,5 @@
-//! The least numbers of ranges of a list, by a tree of minima in one vector: the nodes 2 i and 2 i + 1 stand below node i,
-//! and the numbers themselves are the second half, the leaves.
+//! The least numbers of ranges of a list, by a tree of minima in one vector: the nodes 2 i and 2
+//! i + 1 stand below node i, and the numbers themselves are the second half, the leaves.
 
 ghost use Rattle.std.specs.Prelude.{◌≡◌, ℕ, ◌+◌, ◌*◌, ◌<◌, ◌≤◌, IfOk, length, min, slice_index};
 ghost use Rattle.canonical_cactus.specs.Minima.{IsLeast, IsMinTree, leaf_at};
@@ -45,10 +45,12 @@ impl Minima {
         Ok(Minima { size, tree })
     }
 
-    /// The least of the numbers at the places of a range; the greatest number of 32 bits where it is empty.
+    /// The least of the numbers at the places of a range;
+    /// the greatest number of 32 bits where it is empty.
     ///
-    /// From level to level up the nodes at both ends are looked at, and the nodes above those between are left. So it
-    /// takes a number of steps in proportion to the logarithm of the length of the range.
+    /// From level to level up the nodes at both ends are looked at, and the nodes above
+    /// those between are left. So it takes a number of steps in proportion to the logarithm
+    /// of the length of the range.
     pub(crate) fn least(&self, span: Span) -> u32
         requires tree { IsMinTree self.now }
         requires from { span.from ≤ self.now.size }

@@ -8,7 +8,8 @@ ghost use Rattle.canonical_cactus.specs.Standing.{least_in, lesser_of, or_zero};
 
 use rooted_cactus::{Block, Blocks, Children, Node, VertexList};
 
-/// What is known of a part of a tree: its least vertex, if it has any, and whether all in it stands in order.
+/// What is known of a part of a tree: its least vertex, if it has any,
+/// and whether all in it stands in order.
 #[derive(Clone, Copy)]
 pub struct Standing {
     pub least: Option<u32>,
@@ -56,7 +57,8 @@ pub fn comes_after(place: usize, before: u32, vertex: u32) -> bool
     place == 0 || before < vertex
 }
 
-/// The vertex at place 0: the one that is given where this is the place, else the one that was found before.
+/// The vertex at place 0: the one that is given where this is the place,
+/// else the one that was found before.
 pub fn first_of(place: usize, first: u32, vertex: u32) -> u32
     ensures zero { place ≡ 0 → result ≡ vertex }
     ensures later { 0 < place → result ≡ first }
@@ -113,7 +115,8 @@ fn block_standing(block: &Block) -> Standing
     }
 }
 
-/// The nodes of a cycle, which are to be three or more, the first with a lesser vertex than the last.
+/// The nodes of a cycle, which are to be three or more,
+/// the first with a lesser vertex than the last.
 #[cycle(order)]
 fn cycle_standing(nodes: &Children) -> Standing
     ensures least { result.least ≡ least_in (all_vertices (map arranged (nodes_in nodes.now))) }

@@ -1,4 +1,5 @@
-//! Finished parts of a tree: nodes that may stand below a block, and blocks that may hang from a node.
+//! Finished parts of a tree: nodes that may stand below a block,
+//! and blocks that may hang from a node.
 
 ghost use Rattle.std.specs.Prelude.{IfOk};
 ghost use Rattle.rooted_cactus.specs.Entries.{Read, bridge_read};
@@ -22,7 +23,8 @@ pub struct Hung {
     pub least: Option<u32>,
 }
 
-/// A bridge to the node, by way of a box that there is, or the node's one block where it has no vertex and no other block.
+/// A bridge to the node, by way of a box that there is, or the node's one block where it has no
+/// vertex and no other block.
 pub fn hang_in(placed: Placed, place: Box<Node>) -> Hung
     ensures { (r : Read) → IsNodeOf r placed → IsBlockOf (bridge_read r) result }
 {

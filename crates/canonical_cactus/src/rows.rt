@@ -1,4 +1,5 @@
-//! The blocks of a node in the order of their least vertices, and cycles in the one of their two directions that is meant.
+//! The blocks of a node in the order of their least vertices, and cycles in the one of their two
+//! directions that is meant.
 
 ghost use Rattle.std.specs.Prelude.{◌≡◌, ◌≢◌, [], length, IfOk, OnOk, List};
 ghost use Rattle.std.specs.List.Sorted.{IsPermutation, IsNonDecreasingBy};
@@ -21,7 +22,8 @@ fn sort_down(row: &mut Vec<Hung>)
     row.reverse();
 }
 
-/// The node of some vertices, with the blocks of a row below it in the order of their least vertices. The row is empty then.
+/// The node of some vertices, with the blocks of a row below it in the order of their least
+/// vertices. The row is empty then.
 pub fn node_of(alloc: Global, vertices: VertexList, row: &mut Vec<Hung>) -> Result<Placed, NoMemory>
     ensures node { IfOk result (λ p. (rs : List Read) → AreBlocksOf rs row.old.items → IsNodeOf (node_read has vertices rs) p) }
     ensures empty { OnOk result (row.new.items ≡ []) }
@@ -39,8 +41,8 @@ pub fn node_of(alloc: Global, vertices: VertexList, row: &mut Vec<Hung>) -> Resu
     })
 }
 
-/// Whether the least vertex at or under the first node is less than that at or under the last. They are listed with the last
-/// first.
+/// Whether the least vertex at or under the first node is less than that at or under the last.
+/// They are listed with the last first.
 fn rises(nodes: &[Placed]) -> bool
     ensures { result ≡ ends_rise (top_first nodes.now) }
 {
@@ -50,7 +52,8 @@ fn rises(nodes: &[Placed]) -> bool
     vertex_or_zero(nodes[nodes.len() - 1].least) < vertex_or_zero(nodes[0].least)
 }
 
-/// Turns the nodes, of which the last is first, round where they are to be closed from the last to the first.
+/// Turns the nodes, of which the last is first, round where they are to be closed
+/// from the last to the first.
 fn face(nodes: &mut Vec<Placed>)
     ensures { top_first nodes.new.items ≡ faced (top_first nodes.old.items) }
 {
@@ -59,8 +62,8 @@ fn face(nodes: &mut Vec<Placed>)
     }
 }
 
-/// The cycle through three or more nodes, in the direction in which the least vertex at or under the first is less than
-/// that at or under the last. They are listed with the last first.
+/// The cycle through three or more nodes, in the direction in which the least vertex at or under
+/// the first is less than that at or under the last. They are listed with the last first.
 pub fn cycle_of(alloc: Global, nodes: Vec<Placed>) -> Result<Hung, NoMemory>
     requires { length nodes.items ≢ 2 }
     ensures { IfOk result (λ b. (rs : List Read) → AreNodesOf rs (top_first nodes.items) → IsBlockOf (cycle_read rs) b) }
@@ -79,8 +82,8 @@ pub fn cycle_of(alloc: Global, nodes: Vec<Placed>) -> Result<Hung, NoMemory>
     })
 }
 
-/// A bridge to an empty node with two bridges, which stands for a cycle through two nodes and the node above. They are listed
-/// with the last first.
+/// A bridge to an empty node with two bridges, which stands for a cycle through two nodes and the
+/// node above. They are listed with the last first.
 pub fn star_of(alloc: Global, nodes: Vec<Placed>) -> Result<Hung, NoMemory>
     requires { length nodes.items ≡ 2 }
     ensures { IfOk result (λ b. (rs : List Read) → AreNodesOf rs (top_first nodes.items) → IsBlockOf (cycle_read rs) b) }

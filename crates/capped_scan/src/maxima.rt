@@ -1,5 +1,6 @@
-//! A tree of maxima over numbers, in one slice: node 1 is the root, the nodes 2 i and 2 i + 1 stand below node i, and the
-//! numbers themselves are the second half, the leaves.
+//! A tree of maxima over numbers, in one slice: node 1 is the root, the nodes 2 i and 2 i + 1
+//! stand below node i, and the numbers themselves are the second half, the leaves. It is also
+//! called a tournament tree.
 
 ghost use Rattle.std.specs.Prelude.{◌≡◌, ℕ, ◌+◌, ◌*◌, ◌<◌, ◌≤◌, ◌^◌, length, slice_index};
 ghost use Rattle.capped_scan.specs.Maxima.{IsMaxTree, IsWritten};
@@ -17,7 +18,8 @@ fn build(tree: &mut [u64], size: usize)
     }
 }
 
-/// Writes the number 1 into the leaves 1 to n, and the inner nodes; the leaf 0 and those after n stay.
+/// Writes the number 1 into the leaves 1 to n, and the inner nodes;
+/// the leaf 0 and those after n stay.
 pub fn write_ones(tree: &mut [u64], size: usize, n: usize)
     requires long { length tree.old ≡ 2 * size }
     requires room { n < size }

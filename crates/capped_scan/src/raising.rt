@@ -25,8 +25,8 @@ fn raise(tree: &mut [u64], size: usize, leaf: usize, weight: u64, cap: u64)
     }
 }
 
-/// Adds the weights of a row's arcs to the links of their ends, up to the cap, where these wait. It answers the weight of
-/// the arcs to marked vertices, which do not wait.
+/// Adds the weights of a row's arcs to the links of their ends, up to the cap, where these wait.
+/// It answers the weight of the arcs to marked vertices, which do not wait.
 pub fn raise_along(row: &[Arc], cap: u64, scanned: &[bool], tree: &mut [u64], size: usize) -> u64
     requires tree { IsMaxTree size tree.old }
     requires marks { length scanned.now ≤ size }

@@ -35,7 +35,7 @@ pub record IsUnionTo (p : Parts) (k : ℕ) (s : List ℕ) : Type 0 where
   pub kept : (i u v : ℕ) → IsPart p i → has (part_at p i) u ≡ true → has (part_at p i) v ≡ true → has s u ≡ has s v
   pub inside : (i v : ℕ) → IsPart p i → has (part_at p i) v ≡ true → has s v ≡ true → (2 ≤ i) × (i ≤ k)
 
--- these unions, each once
+-- the nonempty unions of the parts 2 to k, each once
 pub record AreUnionsTo (p : Parts) (k : ℕ) (list : List (List ℕ)) : Type 0 where
   pub counted : length list + 1 ≡ 2 ^ (k - 1)
   pub different : AreDifferent list

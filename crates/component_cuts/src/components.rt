@@ -24,8 +24,8 @@ const MOST_COUNTED: u32 = 127;
 // the most bits of the table of sums
 const MOST_ENTRIES: u128 = 4_294_967_296;
 
-/// The components of a graph on the vertices 1 to n, numbered from 1 on in the order of their least vertices. Contracts
-/// see n and the components as ascending lists of vertices.
+/// The components of a graph on the vertices 1 to n, numbered from 1 on in the order of their
+/// least vertices. Contracts see n and the components as ascending lists of vertices.
 #[derive(Drop)]
 pub struct Components {
     n: u32,
@@ -51,8 +51,9 @@ impl Components {
         Components::of_list(alloc, graph.list())
     }
 
-    /// The components of a list of edges: the ends of one edge after another are made one (Galler and Fischer, 1964), in
-    /// O(m log(n) + n) steps. It takes 12 bytes a vertex, of which 4 are kept, and is refused only where memory is wanting.
+    /// The components of a list of edges: the ends of one edge after another are made one by
+    /// union-find (Galler and Fischer, 1964), in O(m log(n) + n) steps. It takes 12 bytes a
+    /// vertex, of which 4 are kept, and is refused only where memory is wanting.
     pub fn of_list(alloc: Global, list: &EdgeList) -> Result<Components, NoMemory>
         ensures { IfOk result (AreComponents list.now) }
     {
@@ -83,8 +84,8 @@ impl Components {
         self.part_of[v as usize]
     }
 
-    /// The number of the minimum cuts, 2^(c-1) - 1 with c components, of which there is at least one; none exactly where
-    /// c is above 127.
+    /// The number of the minimum cuts, 2^(c-1) - 1 with c components, of which there is at least
+    /// one; none exactly where c is above 127.
     pub fn count(&self) -> Option<u128>
         requires { 1 ≤ length self.now.parts }
         ensures { MatchOption result (127 < length self.now.parts) (IsNumberOfUnions self.now) }
@@ -109,11 +110,13 @@ impl Components {
         Ok(side)
     }
 
-    /// All minimum cuts of a graph of c components, as the sides without vertex 1, in the order of lists (a list that
-    /// another begins with first). There are at least two components, and (2^(c-1) - 1) * n is at most 2^30.
+    /// All minimum cuts of a graph of c components, as the sides without vertex 1, in the order of
+    /// lists (a list that another begins with first). There are at least two components, and
+    /// (2^(c-1) - 1) * n is at most 2^30.
     ///
-    /// The list doubles with each component after the first, and is sorted at the end. With k sides that takes n/64 steps
-    /// a side, and at most n/64 a comparison, of which there are O(k log k). It is refused only where memory is wanting.
+    /// The list doubles with each component after the first, and is sorted at the end. With k
+    /// sides that takes n/64 steps a side, and at most n/64 a comparison, of which there are
+    /// O(k log k). It is refused only where memory is wanting.
     pub fn sides(&self, alloc: Global) -> Result<Vec<Side>, NoMemory>
         requires two { 2 ≤ length self.now.parts }
         requires few { (2 ^ (length self.now.parts - 1) - 1) * self.now.vertices ≤ 2 ^ 30 }
@@ -129,12 +132,13 @@ impl Components {
         Ok(sides)
     }
 
-    /// A minimum cut of a graph of c components than which no other parts the weights more evenly: the lesser of the sums
-    /// of the weights of its two sides is greatest. There are at least two components, and n weights.
+    /// A minimum cut of a graph of c components than which no other parts the weights more evenly:
+    /// the lesser of the sums of the weights of its two sides is greatest. There are at least two
+    /// components, and n weights.
     ///
-    /// By a table of the sums that the first components can make (Bellman, 1957), and a walk back through it: O(n + c * T)
-    /// steps and c * T / 8 bytes for the sum T of all weights. It is refused where c * (T + 1) is above 2^32, or memory is
-    /// wanting.
+    /// By a table of the sums that the first components can make (Bellman, 1957), and a walk back
+    /// through it: O(n + c * T) steps and c * T / 8 bytes for the sum T of all weights. It is
+    /// refused where c * (T + 1) is above 2^32, or memory is wanting.
     pub fn best(&self, alloc: Global, weights: &VertexWeights) -> Result<Side, BestRefusal>
         requires two { 2 ≤ length self.now.parts }
         requires weights { length weights.now ≡ self.now.vertices }

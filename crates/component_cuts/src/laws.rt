@@ -2,7 +2,8 @@
 
 ghost use Rattle.component_cuts.specs.Laws.{LawOfComponents, LawOfMinimumCuts, LawOfNumber, LawOfOneNumber};
 
-/// In a graph of two or more components the minimum cuts are the unions of components without vertex 1.
+/// In a graph of two or more components the minimum cuts are the unions of
+/// components without vertex 1.
 pub fn minimum_cuts()
     ensures { LawOfMinimumCuts }
 {}
@@ -12,7 +13,8 @@ pub fn number()
     ensures { LawOfNumber }
 {}
 
-/// The components are as many as the vertices that are joined to no lesser vertex: the least vertex of each.
+/// The components are as many as the vertices that are joined to no lesser vertex:
+/// the least vertex of each.
 pub fn components()
     ensures { LawOfComponents }
 {}

@@ -1,7 +1,7 @@
 //! The sums that components can make, of which each is in or out.
 //!
-//! Row r has the sums of the components 2 to r + 1. Row 0 has the sum 0 alone, and the others stand one after another in a
-//! table of bits, each with a place for every number below the width.
+//! Row r has the sums of the components 2 to r + 1. Row 0 has the sum 0 alone, and the others
+//! stand one after another in a table of bits, each with a place for every number below the width.
 
 ghost use Rattle.std.specs.Prelude.{◌≡◌, ◌≢◌, ℕ, ◌+◌, ◌-◌, ◌*◌, ◌<◌, ◌≤◌, ◌^◌, true, false, IfOk, length, slice_index, slice_index_or};
 ghost use Rattle.cut_definitions.specs.Balance.{mass};
@@ -73,7 +73,8 @@ fn makes_next(table: &Side, width: u32, row: u32, weight: u64, sum: u32) -> bool
     makes(table, width, row, sum - weight as u32)
 }
 
-/// Fills the next row, which is empty: it has each sum of the row before it, with and without one weight more.
+/// Fills the next row, which is empty: it has each sum of the row before it,
+/// with and without one weight more.
 fn add_row(table: &mut Side, width: u32, row: u32, weight: u64)
     requires row { (row + 1) * width ≤ table.old.vertices }
     requires few { table.old.vertices < 2 ^ 32 }
@@ -89,7 +90,8 @@ fn add_row(table: &mut Side, width: u32, row: u32, weight: u64)
     }
 }
 
-/// The table of the rows for weights of the numbers 0 to c, of which those of 0 and 1 do not count.
+/// The table of the rows for weights of the numbers 0 to c,
+/// of which those of 0 and 1 do not count.
 pub(crate) fn fill_rows(alloc: Global, width: u32, weights: &[u64]) -> Result<Side, NoMemory>
     requires some { 3 ≤ length weights.now }
     requires width { 1 ≤ width }
@@ -106,7 +108,8 @@ pub(crate) fn fill_rows(alloc: Global, width: u32, weights: &[u64]) -> Result<Si
     Ok(table)
 }
 
-/// A sum of a row that is as near to one half of the greatest, which is one less than the width, as any.
+/// A sum of a row that is as near to one half of the greatest,
+/// which is one less than the width, as any.
 pub(crate) fn best_sum(table: &Side, width: u32, row: u32) -> u32
     requires width { 1 ≤ width }
     requires row { row * width ≤ table.now.vertices }
@@ -131,8 +134,8 @@ fn none_chosen(alloc: Global, numbers: usize) -> Result<Vec<bool>, NoMemory>
     vec![in alloc; false; numbers]
 }
 
-/// Numbers whose weights make a sum of the last row, from the last one back: a number is chosen where the row before it
-/// lacks what is left of the sum.
+/// Numbers whose weights make a sum of the last row, from the last one back: a number is chosen
+/// where the row before it lacks what is left of the sum.
 pub(crate) fn choose(
     alloc: Global,
     table: &Side,

@@ -10,7 +10,8 @@ use cut_definitions::NoMemory;
 use std::alloc::Global;
 use vertex_set::Side;
 
-/// Puts the union of each side and one more set over the same n at the end of the list, and then that set.
+/// Puts the union of each side and one more set over the same n at the end of the
+/// list, and then that set.
 pub(crate) fn double(alloc: Global, sides: &mut Vec<Side>, part: Side) -> Result<(), NoMemory>
     requires { All (λ (s : VertexList). s.vertices ≡ part.vertices) sides.old.items }
     ensures { IfOk result (λ _. sides.new.items ≡ doubled part sides.old.items) }

@@ -139,7 +139,7 @@ parts_one_of a b false h k = inl h
 pub parts_itself : (a : Bool) → (if a then not a else a) ≡ false
 parts_itself a = grind arith
 
--- the same tests put together the same way
+-- equal tests, put together alike, are equal
 pub minus_same : (a b c d : Bool) → a ≡ c → b ≡ d → (a && not b) ≡ (c && not d)
 minus_same a b c d e f = grind arith
 

@@ -17,8 +17,9 @@ pub struct Edge {
 
 /// A graph on the vertices 1 to n, as the ascending list of its edges.
 ///
-/// Each edge has `1 <= u < v <= n` and `w >= 1`, the edges ascend by (u, v), and no pair stands twice. There are
-/// at most 4,194,304 vertices and 16,777,216 edges, and the weights add up to at most 2^61.
+/// Each edge has `1 <= u < v <= n` and `w >= 1`, the edges ascend by (u, v), and no pair
+/// stands twice. There are at most 4,194,304 vertices and 16,777,216 edges, and the
+/// weights add up to at most 2^61.
 #[derive(Drop)]
 pub struct EdgeList {
     n: u32,
@@ -55,7 +56,8 @@ impl EdgeList {
         EdgeList { n, edges }
     }
 
-    /// Appends an edge, which comes after all others. Where memory is wanting the list stays as it was.
+    /// Appends an edge, which comes after all others.
+    /// Where memory is wanting the list stays as it was.
     pub fn push(&mut self, edge: Edge) -> Result<(), NoMemory>
         requires { IsEdgeList (with_edge self.old edge) }
         ensures ok { OnOk result (self.new ≡ with_edge self.old edge) }

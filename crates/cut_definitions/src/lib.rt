@@ -1,7 +1,9 @@
-//! Graphs, cuts and their weights: the definitions that the contracts of the repository speak of, and their laws.
+//! Graphs, cuts and their weights: the definitions that the contracts of the repository
+//! speak of, and their laws.
 //!
-//! Contracts see an edge list as a `Graph`: its number of vertices and its ascending list of edges. A set of vertices
-//! is a test, its weight a sum over that one list, and a side a list of vertices seen as such a test.
+//! Contracts see an edge list as a `Graph`: its number of vertices and its ascending list of
+//! edges. A set of vertices is a test, its weight a sum over that one list, and a side a list of
+//! vertices seen as such a test.
 #![tactic(auto)]
 
 mod edge_list;

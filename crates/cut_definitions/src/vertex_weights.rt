@@ -5,8 +5,9 @@ ghost use Rattle.cut_definitions.specs.Balance.{AreMasses, mass_of};
 
 use std::marker::Model;
 
-/// A mass of 0 or more for each of the vertices 1 to n, of which there are at most 4,194,304. Contracts see the list of
-/// the masses in the order of the vertices. The last ones that are 1 need no memory.
+/// A mass of 0 or more for each of the vertices 1 to n, of which there are at most
+/// 4,194,304. Contracts see the list of the masses in the order of the vertices. The last
+/// ones that are 1 need no memory.
 #[derive(Drop)]
 pub struct VertexWeights {
     masses: Vec<u64>,
@@ -34,7 +35,8 @@ impl VertexWeights {
         VertexWeights::with_ones(list, 0)
     }
 
-    /// The weights of a list, which is taken over, and behind them so many that are 1. It takes no memory.
+    /// The weights of a list, which is taken over, and behind them so many that are 1.
+    /// It takes no memory.
     pub fn with_ones(list: Vec<u64>, ones: u32) -> VertexWeights
         requires { length list.items + ones ≤ 4194304 }
         ensures { result ≡ list.items ++ replicate ones 1 }

@@ -146,13 +146,13 @@ balanced_given c masses order before bs ms least w =
     filter_same (is_balanced masses least) (is_heavy before least) (side_at c.vertices order) (IsRangeOf (length order)) (ranges_kept bs ms) (kept_fit (length order) bs ms w.borders w.chained)
     (same_answer c masses order before bs ms least w)
 
--- they are different
+-- the sides at the heavy ranges are different
 pub balanced_differ : (c : Rooted) (masses order before : List ℕ) (bs : List Border) (ms : List Bool) (least : ℕ) → AreWeighed c masses order before bs ms →
     AreDifferent (map (side_at c.vertices order) (filter (is_heavy before least) (ranges_kept bs ms)))
 balanced_differ c masses order before bs ms least w =
     subst AreDifferent (balanced_given c masses order before bs ms least w) (asked_differ (is_balanced masses least) (map (side_at c.vertices order) (ranges_kept bs ms)) w.different)
 
--- and all
+-- the sides at the heavy ranges are all balanced sides
 pub balanced_all : (c : Rooted) (masses order before : List ℕ) (bs : List Border) (ms : List Bool) (least : ℕ) → AreWeighed c masses order before bs ms →
     different (map (side_at c.vertices order) (filter (is_heavy before least) (ranges_kept bs ms))) ≡ different (filter (is_balanced masses least) (sides_of c))
 balanced_all c masses order before bs ms least w =
@@ -165,7 +165,7 @@ balanced_number c masses order before bs ms least w =
     sym (length-map heavy (side_at c.vertices order)) ∙ sym (all_different (map (side_at c.vertices order) heavy) (balanced_differ c masses order before bs ms least w))
     ∙ ap length (balanced_all c masses order before bs ms least w)
 
--- the same of lists that were lent: their number
+-- how many balanced sides are different, counted by lists that were lent
 pub counted_lent : (c : Rooted) (masses order before : List ℕ) (bs : List Border) (ms : List Bool) (least : ℕ) → AreWeighed c masses order before bs ms →
     (lent_before : List ℕ) (lent_bs : List Border) (lent_ms : List Bool) (cuts : ℕ) → lent_before ≡ before → lent_bs ≡ bs → lent_ms ≡ ms →
     cuts ≡ length (filter (is_heavy lent_before least) (ranges_kept lent_bs lent_ms)) → cuts ≡ length (different (filter (is_balanced masses least) (sides_of c)))
@@ -175,7 +175,7 @@ counted_lent c masses order before bs ms least w lent_before lent_bs lent_ms cut
     ∙ ap (λ l. length (filter (is_heavy l least) (ranges_kept bs ms))) same_before
     ∙ balanced_number c masses order before bs ms least w
 
--- and that they are different, and all
+-- the sides that are gathered by lists that were lent are different, and all that are balanced
 pub gathered_lent : (c : Rooted) (masses order before : List ℕ) (bs : List Border) (ms : List Bool) (least : ℕ) → AreWeighed c masses order before bs ms →
     (n : ℕ) (lent_order lent_before : List ℕ) (lent_bs : List Border) (lent_ms : List Bool) (sides : List (List ℕ)) → n ≡ c.vertices → lent_order ≡ order → lent_before ≡ before → lent_bs ≡ bs → lent_ms ≡ ms →
     sides ≡ map (side_at n lent_order) (filter (is_heavy lent_before least) (ranges_kept lent_bs lent_ms)) →

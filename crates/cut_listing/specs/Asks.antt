@@ -44,7 +44,7 @@ TakesSides takes n = (side : Bor VertexList) → IsOver n side.now → takes sid
 abbrev pub AnswersAsk : (Bor VertexList → Bool → Type 0) → ℕ → Ask → Type 0
 AnswersAsk gives n ask = (side : Bor VertexList) (answer : Bool) → IsOver n side.now → gives side answer → answer ≡ lets ask side.now.members
 
--- they are there or not: it is one fact
+-- that an ask has the masses that it needs is one fact, which no two proofs tell apart
 pub has_masses-prop : (n : ℕ) (ask : Ask) → IsProp (HasMasses n ask)
 has_masses-prop n All = Unit-prop
 has_masses-prop n (Parting u v) = Unit-prop

@@ -25,7 +25,7 @@ LawOfMinimumCuts = (g : Graph) (cactus : Rooted) (ask : Ask) (listing : List (Li
     ((side : List ℕ) → Contains (sides_of cactus) side ↔ Contains (mincuts g) side) →
     IsListing (asked_sides ask cactus) listing → listing ≡ filter (lets ask) (mincuts g)
 
--- and the number of the different sides is that of these minimum cuts
+-- where the sides of a cactus are the minimum cuts of a graph, as many different sides are asked for as minimum cuts
 abbrev pub LawOfCount : Type 0
 LawOfCount = (g : Graph) (cactus : Rooted) (ask : Ask) (count : ℕ) →
     ((side : List ℕ) → Contains (sides_of cactus) side ↔ Contains (mincuts g) side) →

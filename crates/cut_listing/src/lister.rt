@@ -21,8 +21,8 @@ use rooted_cactus::Cactus;
 use std::alloc::Global;
 use vertex_set::Side;
 
-/// A test of sides, as a closure in a box. A struct can keep a fact about such a test, and none yet about a closure
-/// whose type is a parameter.
+/// A test of sides, as a closure in a box. A struct can keep a fact about such a test, and none
+/// yet about a closure whose type is a parameter.
 pub type SideTest = Box<dyn Fn(&Side) -> bool>;
 
 /// A test of the sides over n, which says yes exactly where a side is asked for.
@@ -37,7 +37,8 @@ pub struct Lister<'a> {
 }
 
 impl<'a> Lister<'a> {
-    /// A lister that keeps a test of the sides over n; where a least balance is asked for, there are n weights.
+    /// A lister that keeps a test of the sides over n;
+    /// where a least balance is asked for, there are n weights.
     pub fn new(n: u32, ask: Ask<'a>, keep: SideTest) -> Lister<'a>
         requires callable { TakesSides (SideTest.pre keep) n }
         requires answers { AnswersAsk (SideTest.post keep) n ask }
@@ -78,7 +79,7 @@ impl<'a> Lister<'a> {
         Side::empty(alloc, self.n)
     }
 
-    /// Those of the sides that a walk gives that are asked for, in their order.
+    /// The sides that a walk gives and that are asked for, in their order.
     fn asked_of(&self, alloc: Global, walk: &mut Walk) -> Result<Vec<Side>, NoMemory>
         requires walk { walk.old.vertices ≡ self.now.n }
         requires ascending { All (IsAscendingWithin 1 self.now.n) walk.old.to_come }
@@ -124,15 +125,17 @@ impl<'a> Lister<'a> {
         Ok(sides)
     }
 
-    /// The different sides of the cuts of a cactus that are asked for, in the order of lists, a side that another begins
-    /// with first.
+    /// The different sides of the cuts of a cactus that are asked for, in the order of lists, a
+    /// side that another begins with first.
     ///
-    /// The cactus is normal and has at most 4,194,304 vertices. The listing is refused as too large exactly where the
-    /// number of these sides times n is above 2^30, with the two factors, and for want of memory. The number is found
-    /// first, from the tree, with one step for each node and vertex; so where it is too large no side is gathered. Where all
-    /// are asked for a walk over the cactus gathers them, by the test; else they are listed as `list_parting` and
-    /// `list_balanced` list them, which ask no test. Then O(c log c) comparisons of n/64 steps, for c sides. Memory: in
-    /// proportion to the nodes and vertices, and n/8 bytes and a constant for each of these sides.
+    /// The cactus is normal and has at most 4,194,304 vertices. The listing is refused as too
+    /// large exactly where the number of these sides times n is above 2^30, with the two factors,
+    /// and for want of memory. The number is found first, from the tree, with one step for each
+    /// node and vertex; so where it is too large no side is gathered. Where all are asked for a
+    /// walk over the cactus gathers them, by the test; else they are listed as `list_parting` and
+    /// `list_balanced` list them, which ask no test. Then O(c log c) comparisons of n/64 steps,
+    /// for c sides. Memory: in proportion to the nodes and vertices, and n/8 bytes and a constant
+    /// for each of these sides.
     pub fn list(&self, alloc: Global, cactus: &Cactus) -> Result<Vec<Side>, ListRefusal>
         requires n { cactus.now.vertices ≡ self.now.n }
         requires normal { is_normal cactus.now.root ≡ true }
@@ -147,7 +150,7 @@ impl<'a> Lister<'a> {
         }
     }
 
-    /// Those of some sides over n that are asked for, in their order.
+    /// Of some sides over n, the ones that are asked for, in their order.
     ///
     /// One call of the test for each side, and one step. It takes no memory.
     pub fn select(&self, mut sides: Vec<Side>) -> Vec<Side>

@@ -1,5 +1,5 @@
-//! The sides of a cactus that part two vertices, by masses: where the two alone have the mass 1, these are the sides of a
-//! balance of at least 1.
+//! The sides of a cactus that part two vertices, by masses: where the two alone have the mass 1,
+//! these are the sides of a balance of at least 1.
 
 ghost use Rattle.std.specs.Prelude.{◌≡◌, ◌≤◌, ◌^◌, true, IfErr, IfOk};
 ghost use Rattle.rooted_cactus.specs.Normal.{is_normal};
@@ -50,10 +50,11 @@ fn parting_weights(
     pair_weights(alloc, n, vertex_or_one(n, first), vertex_or_one(n, second))
 }
 
-/// The different sides of the cuts of a cactus that have exactly one of two vertices, in the order of lists; a number that is
-/// no vertex is in no side.
+/// The different sides of the cuts of a cactus that have exactly one of two vertices, in the order
+/// of lists; a number that is no vertex is in no side.
 ///
-/// As `list_balanced`, by masses of 1 for the two, which take 8 bytes for each vertex.
+/// It is `list_balanced` with masses of 1 for the two vertices and 0 for all others, which take 8
+/// bytes for each vertex.
 pub fn list_parting(
     alloc: Global,
     cactus: &Cactus,

@@ -1,9 +1,10 @@
-//! The sides of a cactus whose balance by masses is at least a number, by two ends that move along the borders of its
-//! blocks.
+//! The sides of a cactus whose balance by masses is at least a number, by two ends that move along
+//! the borders of its blocks.
 //!
-//! In the list of the vertices in the order of entering each side is a range, from one border of a block to a later one.
-//! As its end goes on its mass does not fall, so the ranges from one border on that are asked for end at borders that stand
-//! side by side: a band. From the next border on a range has no more mass, so neither end of the band goes back.
+//! In the list of the vertices in the order of entering each side is a range, from one border of a
+//! block to a later one. As its end goes on its mass does not fall, so the ranges from one border
+//! on that are asked for end at borders that stand side by side: a band. From the next border on a
+//! range has no more mass, so neither end of the band goes back.
 
 ghost use Rattle.std.specs.Prelude.{◌≡◌, ◌+◌, ◌-◌, ◌<◌, ◌≤◌, ◌^◌, ◌++◌, true, IfErr, IfOk, OnOk, length, map, max};
 ghost use Rattle.std.specs.List.{All, filter};
@@ -43,7 +44,8 @@ impl Band {
     }
 }
 
-/// Where the sides of a cactus lie: the number of the vertices, these in the order of entering, and the borders of the blocks.
+/// Where the sides of a cactus lie: the number of the vertices, these in the order of entering,
+/// and the borders of the blocks.
 #[derive(Clone, Copy)]
 struct Layout<'a> {
     n: u32,
@@ -51,8 +53,8 @@ struct Layout<'a> {
     borders: &'a [Border],
 }
 
-/// The first border from one on up to which the ranges from another have a mass or more; the end of the block where none
-/// has.
+/// The first border from one on up to which the ranges from another have a mass or more; the end
+/// of the block where none has.
 fn end_from(borders: &[Border], before: &[u128], mass: u128, start: usize, from: usize) -> usize
     requires borders { AreBorders (length before.now - 1) borders.now }
     requires before { AreRising before.now }
@@ -195,14 +197,15 @@ fn gather_bands(
     Ok(found)
 }
 
-/// The different sides of the cuts of a cactus whose balance is at least a number, in the order of lists, a side that another
-/// begins with first.
+/// The different sides of the cuts of a cactus whose balance is at least a number, in the order of
+/// lists, a side that another begins with first.
 ///
-/// The cactus is normal. The listing is refused as too large exactly where the number of these sides times n is above 2^30,
-/// with the two factors, and for want of memory. The number is found first, with one step for each node and vertex; so where
-/// it is too large, or there is none, no side is gathered. Else time: one step more for each node and vertex, n/64 steps for
-/// each of the c sides and one for each of its vertices, and O(c log c) comparisons of n/64 steps. Memory: in proportion to the
-/// nodes and vertices, and n/8 bytes and a constant for each of these sides.
+/// The cactus is normal. The listing is refused as too large exactly where the number of these
+/// sides times n is above 2^30, with the two factors, and for want of memory. The number is found
+/// first, with one step for each node and vertex; so where it is too large, or there is none, no
+/// side is gathered. Else time: one step more for each node and vertex, n/64 steps for each of the
+/// c sides and one for each of its vertices, and O(c log c) comparisons of n/64 steps. Memory: in
+/// proportion to the nodes and vertices, and n/8 bytes and a constant for each of these sides.
 pub fn list_balanced(
     alloc: Global,
     cactus: &Cactus,

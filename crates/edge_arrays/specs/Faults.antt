@@ -8,7 +8,7 @@ use Rattle.edge_arrays.specs.Given.{AreVertices, HasEnds, edge_of, free_weight, 
 abbrev pub HaveOneLength : List ℕ → List ℕ → List ℕ → Type 0
 HaveOneLength us vs ws = (length vs ≡ length us) × (length ws ≡ length us)
 
--- and within the limits
+-- the arrays are of one length and within the limits
 pub record AreWithinLimits (n : ℕ) (us vs ws : List ℕ) : Type 0 where
   pub one_length : HaveOneLength us vs ws
   pub few_vertices : n ≤ 4194304
@@ -44,14 +44,14 @@ Explains TooManyEdges n us vs ws = HaveOneLength us vs ws × (n ≤ 4194304) × 
 Explains BadVertex n us vs ws = AreWithinLimits n us vs ws × HasBadVertex n us vs ws
 Explains WeightSum n us vs ws = AreWithinLimits n us vs ws × IsTooHeavy n us vs ws
 
--- the same where lengths and limits were tested before
+-- when each fault is told after lengths and limits were tested
 abbrev pub ExplainsEntry : ArrayFault → ℕ → List ℕ → List ℕ → List ℕ → Type 0
 ExplainsEntry OutOfMemory n us vs ws = ⊤
 ExplainsEntry BadVertex n us vs ws = HasBadVertex n us vs ws
 ExplainsEntry WeightSum n us vs ws = IsTooHeavy n us vs ws
 ExplainsEntry _ n us vs ws = ⊥
 
--- and of one edge after others that weigh so much together
+-- when each fault of one edge is told, after others that weigh so much together
 abbrev pub ExplainsEdge : ArrayFault → ℕ → ℕ → ℕ → ℕ → ℕ → Type 0
 ExplainsEdge BadVertex total n u v w = ¬ AreVertices n u v
 ExplainsEdge WeightSum total n u v w = AreVertices n u v × (2 ^ 61 < total + free_weight (edge_of u v w))

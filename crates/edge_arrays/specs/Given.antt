@@ -34,11 +34,11 @@ weight_before us vs ws place = sum_by free_weight (map (entry us vs ws) (range_w
 abbrev pub total_weight : List ℕ → List ℕ → List ℕ → ℕ
 total_weight us vs ws = weight_before us vs ws (length us)
 
--- both are vertices, counted from 0
+-- u and v are vertices, counted from 0
 abbrev pub AreVertices : ℕ → ℕ → ℕ → Type 0
 AreVertices n u v = (u < n) × (v < n)
 
--- so are both ends at a place
+-- both ends at a place are vertices
 abbrev pub HasEnds : ℕ → List ℕ → List ℕ → ℕ → Type 0
 HasEnds n us vs i = AreVertices n (slice_index us i) (slice_index vs i)
 

@@ -40,8 +40,9 @@ fn edge_between(u: u32, v: u32, w: u64) -> Edge
     }
 }
 
-/// The edges of the arrays but for loops and those of weight 0, each with its lesser end first. The places are gone through in
-/// turn, and the first that gives no edge is the one that a refusal is about.
+/// The edges of the arrays but for loops and those of weight 0, each with its lesser end
+/// first. The places are gone through in turn, and the first that gives no edge is the one
+/// that a refusal is about.
 pub(crate) fn collect(
     alloc: Global,
     n: u32,

@@ -24,7 +24,7 @@ pub record IsCutSet (n : ℕ) (root : Node) (set : List ℕ) : Type 0 where
 abbrev pub IsSublist : List ℕ → List ℕ → Type 0
 IsSublist xs ys = (v : ℕ) → has xs v ≡ true → has ys v ≡ true
 
--- such a set that has no other within it
+-- a list of a side of a cactus, or of its complement, that has no other such list within it
 pub record IsMinimalSet (n : ℕ) (root : Node) (set : List ℕ) : Type 0 where
   pub is_set : IsCutSet n root set
   pub none_within : (other : List ℕ) → IsCutSet n root other → IsSublist other set → other ≡ set
@@ -37,7 +37,7 @@ AreDisjoint xs ys = (v : ℕ) → has xs v ≡ true → has ys v ≡ true → �
 abbrev pub LawOfEndSets : Type 0
 LawOfEndSets = (n : ℕ) (root : Node) → IsCactus n root → is_normal root ≡ true → (set : List ℕ) → Contains (end_sets root) set ↔ IsMinimalSet n root set
 
--- and no two of them share a vertex
+-- no two sets of end nodes share a vertex
 abbrev pub LawOfDisjointSets : Type 0
 LawOfDisjointSets = (n : ℕ) (root : Node) → IsCactus n root → AllPairs AreDisjoint (end_sets root)
 

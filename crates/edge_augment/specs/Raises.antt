@@ -12,7 +12,7 @@ pub record IsCutSet (g : Graph) (set : List ℕ) : Type 0 where
   pub ascending : IsAscendingWithin 1 g.vertices set
   pub is_cut : Contains (mincuts g) (side_of g.vertices (has set))
 
--- such a set that has no other within it
+-- a side of a minimum cut that has no other such side within it
 pub record IsMinimalCutSet (g : Graph) (set : List ℕ) : Type 0 where
   pub is_set : IsCutSet g set
   pub none_within : (other : List ℕ) → IsCutSet g other → IsSublist other set → other ≡ set

@@ -26,8 +26,9 @@ fn push_end(
 
 /// The vertices of each end node of a cactus, in the order of entering.
 ///
-/// A node below a block is one where no block is below it, and the root where exactly one is. One step for each node, block
-/// and vertex, in a loop with a stack, so that a deep tree does not run out of stack.
+/// A node below a block is one where no block is below it, and the root where exactly one
+/// is. One step for each node, block and vertex, in a loop with a stack, so that a deep tree
+/// does not run out of stack.
 pub fn list_ends(alloc: Global, root: &Node) -> Result<Vec<VertexList>, NoMemory>
     ensures { IfOk result (λ v. v.items ≡ end_sets root.now) }
 {
@@ -42,7 +43,8 @@ pub fn list_ends(alloc: Global, root: &Node) -> Result<Vec<VertexList>, NoMemory
     Ok(ends)
 }
 
-/// The first vertex of a list, which is the least one of an ascending list, and 0 where there is none.
+/// The first vertex of a list, which is the least one of an ascending list,
+/// and 0 where there is none.
 pub fn first_vertex(list: &VertexList) -> u32
     ensures { result ≡ slice_index list.now 0 }
 {

@@ -43,7 +43,8 @@ pub fn different()
     ensures { LawOfDifferent }
 {}
 
-/// The edges of a plan raise the value of a graph whose minimum cuts are the sides of the cactus, and no fewer do.
+/// The edges of a plan raise the value of a graph whose minimum cuts are the sides of the
+/// cactus, and no fewer do.
 pub fn augmentation()
     ensures { LawOfAugmentation }
 {}

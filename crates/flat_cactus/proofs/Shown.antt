@@ -10,7 +10,7 @@ use Rattle.flat_cactus.specs.FlatLaws.{LawOfFlatForm, LawOfFlatSides}
 use Rattle.flat_cactus.specs.Flattened.{flat_of}
 use Rattle.flat_cactus.specs.Shown.{ShowsCuts}
 
--- the same sides, by another list of them
+-- a flat cactus with the sides of a list has those of each list with the same members
 same_sides : (flat : Flat) (k l : List (List ℕ)) → HasSides flat k → SameMembers k l → HasSides flat l
 same_sides flat k l sides same = λ side. (λ cut. (same side).0 ((sides side).0 cut), λ member. (sides side).1 ((same side).1 member))
 

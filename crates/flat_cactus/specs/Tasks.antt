@@ -52,7 +52,7 @@ abbrev pub block_next : ℕ → Block-F Block Blocks Children Node → List Pend
 block_next number (Bridge child) = map (block number) (blocks child.value)
 block_next number (Cycle nodes) = map node (nodes_in nodes)
 
--- the same of a task
+-- the flat cactus once a task is done, and what has then to be entered next
 abbrev pub gained : Flat → Pending → Flat
 gained f (node x) = with_node f x
 gained f (block up b) = block_gained f up (out-Block b)

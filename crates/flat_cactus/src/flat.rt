@@ -7,11 +7,12 @@ use cut_definitions::NoMemory;
 use std::alloc::Global;
 use std::marker::Model;
 
-/// A cactus whose nodes are numbered from 0: the vertices of each node, the bridges as pairs of node numbers, and the
-/// cycles as lists of node numbers.
+/// A cactus whose nodes are numbered from 0: the vertices of each node, the bridges as pairs of
+/// node numbers, and the cycles as lists of node numbers.
 ///
-/// It may be any such lists: what is built from a tree or read from a text is a cactus. The vertices of all nodes stand
-/// in one vector and the members of all cycles in another, each with a vector of the places where the lists begin.
+/// It may be any such lists: what is built from a tree or read from a text is a cactus. The
+/// vertices of all nodes stand in one vector and the members of all cycles in another, each with a
+/// vector of the places where the lists begin.
 #[derive(Drop)]
 pub struct FlatCactus {
     n: u32,
@@ -51,7 +52,8 @@ fn list_at<'a, T>(items: &'a [T], starts: &[usize], i: usize) -> &'a [T]
 }
 
 impl FlatCactus {
-    /// The flat cactus without nodes, bridges and cycles, for vertices of 1 to n. It takes no memory.
+    /// The flat cactus without nodes, bridges and cycles, for vertices of 1 to n.
+    /// It takes no memory.
     pub fn new(alloc: Global, n: u32) -> FlatCactus
         ensures { result ≡ record { vertices = n; nodes = []; bridges = []; cycles = [] } }
     {
@@ -65,8 +67,8 @@ impl FlatCactus {
         }
     }
 
-    /// The flat cactus without nodes, bridges and cycles, for vertices of 1 to n, with room for all vertices, for so many nodes, and
-    /// for as many bridges and members of cycles.
+    /// The flat cactus without nodes, bridges and cycles, for vertices of 1 to n, with room for
+    /// all vertices, for so many nodes, and for as many bridges and members of cycles.
     pub fn with_capacity(alloc: Global, n: u32, nodes: usize) -> Result<FlatCactus, NoMemory>
         ensures { IfOk result (λ f. f ≡ record { vertices = n; nodes = []; bridges = []; cycles = [] }) }
     {
@@ -103,7 +105,8 @@ impl FlatCactus {
         Ok(())
     }
 
-    /// Appends a bridge between the nodes of these numbers. Where memory is wanting the cactus stays as it was.
+    /// Appends a bridge between the nodes of these numbers.
+    /// Where memory is wanting the cactus stays as it was.
     pub fn push_bridge(&mut self, i: u64, j: u64) -> Result<(), NoMemory>
         ensures ok { OnOk result (self.new ≡ record self.old { bridges = self.old.bridges ++ (i, j) ∷ [] }) }
         ensures err { OnErr result (self.new ≡ self.old) }
@@ -121,7 +124,8 @@ impl FlatCactus {
         Ok(())
     }
 
-    /// Appends the node of this number to the last cycle. Where memory is wanting the cactus stays as it was.
+    /// Appends the node of this number to the last cycle.
+    /// Where memory is wanting the cactus stays as it was.
     pub fn push_member(&mut self, node: u64) -> Result<(), NoMemory>
         requires { 0 < length self.old.cycles }
         ensures ok { OnOk result (self.new ≡ record self.old { cycles = appended_to_last self.old.cycles node }) }
@@ -153,7 +157,8 @@ impl FlatCactus {
         list_at(&self.vertices, &self.node_starts, i)
     }
 
-    /// Where the vertices of each node begin in one list of them all, and that list, lent without a copy.
+    /// Where the vertices of each node begin in one list of them all,
+    /// and that list, lent without a copy.
     pub fn node_lists(&self) -> (&[usize], &[u32])
         ensures cut { cut_at result.0.now result.1.now ≡ self.now.nodes }
         ensures total { length result.1.now ≡ items_in self.now.nodes }
@@ -161,7 +166,8 @@ impl FlatCactus {
         (&self.node_starts, &self.vertices)
     }
 
-    /// Where the members of each cycle begin in one list of them all, and that list, lent without a copy.
+    /// Where the members of each cycle begin in one list of them all,
+    /// and that list, lent without a copy.
     pub fn cycle_lists(&self) -> (&[usize], &[u64])
         ensures cut { cut_at result.0.now result.1.now ≡ self.now.cycles }
         ensures total { length result.1.now ≡ items_in self.now.cycles }

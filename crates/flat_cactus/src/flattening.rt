@@ -1,4 +1,5 @@
-//! Flattening: the nodes of a cactus numbered in the order of entering, and its bridges and cycles by these numbers.
+//! Flattening: the nodes of a cactus numbered in the order of entering,
+//! and its bridges and cycles by these numbers.
 
 ghost use Rattle.std.specs.Prelude.{◌≡◌, ℕ, List, ◌++◌, map, length, drop, OnOk, IfOk};
 ghost use Rattle.std.specs.List.{flat_map};
@@ -54,7 +55,8 @@ fn add_node(flat: &mut FlatCactus, item: &Node) -> Result<(), NoMemory>
     Ok(())
 }
 
-/// Appends the cycle through the node `up` and the roots of the trees, whose nodes have the next numbers.
+/// Appends the cycle through the node `up` and the roots of the trees,
+/// whose nodes have the next numbers.
 fn add_cycle(
     flat: &mut FlatCactus,
     up: u64,
@@ -139,12 +141,13 @@ fn enter<'a>(
     }
 }
 
-/// The flat cactus of a cactus: its nodes numbered from 0 in the order in which the tree is entered, a node before its
-/// children and children in order; its bridges ascending by the lower node, and its cycles ascending by the first child,
-/// each with the node above first.
+/// The flat cactus of a cactus: its nodes numbered from 0 in the order in which the tree is
+/// entered, a node before its children and children in order; its bridges ascending by the lower
+/// node, and its cycles ascending by the first child, each with the node above first.
 ///
-/// One step for each node, block and vertex, in loops with a stack, so that a deep tree does not run out of stack. It
-/// takes memory in proportion to the nodes and to n, and is refused only where that is wanting.
+/// One step for each node, block and vertex, in loops with a stack, so that a deep tree does
+/// not run out of stack. It takes memory in proportion to the nodes and to n, and is refused
+/// only where that is wanting.
 pub fn flatten(alloc: Global, cactus: &Cactus) -> Result<FlatCactus, NoMemory>
     ensures { IfOk result (λ f. f ≡ flat_of cactus.now) }
 {

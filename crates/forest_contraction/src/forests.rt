@@ -9,7 +9,8 @@ use cut_definitions::{Edge, NoMemory};
 use std::alloc::Global;
 use vertex_classes::Classes;
 
-/// How many levels from the first on join two vertices, by bisection: what a level joins, those below it join too.
+/// How many levels from the first on join two vertices, by bisection:
+/// what a level joins, those below it join too.
 fn count_joined(levels: &mut [Classes], u: u32, v: u32) -> usize
     requires first { (l : ℕ) → l < length levels.old → u < length (level levels.old l) }
     requires second { (l : ℕ) → l < length levels.old → v < length (level levels.old l) }
@@ -45,7 +46,8 @@ fn join_levels(levels: &mut [Classes], first: usize, end: usize, u: u32, v: u32)
     }
 }
 
-/// Puts an edge into the levels after those that join its ends, one for each step of its weight, as far as there are levels.
+/// Puts an edge into the levels after those that join its ends, one for each step of its weight,
+/// as far as there are levels.
 fn put_edge(levels: &mut [Classes], joined: usize, edge: Edge, step: u64)
     requires positive { 1 ≤ step }
     requires within { joined ≤ length levels.old }
@@ -64,8 +66,8 @@ fn put_edge(levels: &mut [Classes], joined: usize, edge: Edge, step: u64)
     join_levels(levels, joined, joined + count, edge.u, edge.v);
 }
 
-/// Puts an edge into the levels, and tells how heavily its ends are joined: by the steps of the levels that joined them before,
-/// and by its own weight.
+/// Puts an edge into the levels, and tells how heavily its ends are joined: by the steps of the
+/// levels that joined them before, and by its own weight.
 fn put_and_reach(levels: &mut [Classes], edge: Edge, step: u64) -> u64
     requires positive { 1 ≤ step }
     requires light { edge.w ≤ 2 ^ 61 }
@@ -95,8 +97,9 @@ fn join_reached(classes: &mut Classes, edge: Edge, reach: u64, bound: u64)
     }
 }
 
-/// Puts an edge into the levels, and makes its ends one in the classes that are tied for a bound, where the levels and its own
-/// weight reach that. An edge within a class is passed over: it could make no other vertices one.
+/// Puts an edge into the levels, and makes its ends one in the classes that are tied for a bound,
+/// where the levels and its own weight reach that. An edge within a class is passed over: it could
+/// make no other vertices one.
 pub(crate) fn tie_edge(
     levels: &mut [Classes],
     tied: &mut Classes,
@@ -123,8 +126,9 @@ pub(crate) fn tie_edge(
     join_reached(tied, edge, reach, bound);
 }
 
-/// Puts an edge into the levels, and makes its ends one in the classes that are tied for a bound, and in those that are tied for
-/// one more, where the levels and its own weight reach that. An edge within one of the latter is passed over.
+/// Puts an edge into the levels, and makes its ends one in the classes that are tied for a bound,
+/// and in those that are tied for one more, where the levels and its own weight reach that. An
+/// edge within one of the latter is passed over.
 pub(crate) fn tie_edge_twice(
     levels: &mut [Classes],
     tied: &mut Classes,

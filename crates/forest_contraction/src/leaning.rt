@@ -1,9 +1,10 @@
 //! Classes of vertices that lean on one another, by local tests on the list of edges alone.
 //!
-//! An edge with more than half of the weight at one of its ends is in no minimum cut but that of this end alone, since any
-//! other would be lighter with the end moved over. So it is with an edge that has more than half of the weight at both ends
-//! together with the edges from these to a common neighbour (Padberg and Rinaldi, 1990). The only neighbour that is tried is
-//! the one of greatest degree, where it is the same for both ends.
+//! An edge with more than half of the weight at one of its ends is in no minimum cut but that of
+//! this end alone, since any other would be lighter with the end moved over. So it is with an edge
+//! that has more than half of the weight at both ends together with the edges from these to a
+//! common neighbour (Padberg and Rinaldi, 1990). The only neighbour that is tried is the one of
+//! greatest degree, where it is the same for both ends.
 
 ghost use Rattle.std.specs.Prelude.{◌≡◌, ◌+◌, ◌≤◌, ◌^◌, ◌⊎◌, IfOk, IsTrue, length};
 ghost use Rattle.cut_definitions.specs.Graph.{Graph};
@@ -19,8 +20,8 @@ use std::alloc::Global;
 use vertex_classes::Classes;
 use weighted_graph::Labels;
 
-/// The degree of each vertex, its neighbour of greatest degree, or 0 where none was seen yet, and what the edge to that
-/// weighs.
+/// The degree of each vertex, its neighbour of greatest degree, or 0 where none was seen yet, and
+/// what the edge to that weighs.
 #[derive(Drop)]
 pub(crate) struct Hubs {
     degrees: Vec<u64>,
@@ -45,7 +46,8 @@ impl Hubs {
         })
     }
 
-    /// Takes a neighbour as the hub of a vertex, where its degree is greater than that of the one so far.
+    /// Takes a neighbour as the hub of a vertex, where its degree is greater
+    /// than that of the one so far.
     fn see(&mut self, v: u32, neighbour: u32, weight: u64)
         requires hubs { (g : Graph) × AreHubs g self.old × (v ≤ g.vertices) × (neighbour ≤ g.vertices) }
         ensures { (g : Graph) → AreHubs g self.old → v ≤ g.vertices → neighbour ≤ g.vertices → 1 ≤ weight → weight ≤ 2 ^ 61 → weight ≤ edge_weight g v neighbour → AreHubs g self.new }
@@ -69,8 +71,9 @@ impl Hubs {
         Ok(hubs)
     }
 
-    /// Whether the ends of an edge lean on one another: both have a degree of the bound or more, and the edge is more than half
-    /// of one of these, or together with those to a common hub more than half of both.
+    /// Whether the ends of an edge lean on one another: both have a degree of the bound or
+    /// more, and the edge is more than half of one of these, or together with those to a common
+    /// hub more than half of both.
     fn lean(&self, edge: Edge, bound: u64) -> bool
         requires hubs { (g : Graph) × AreHubs g self.now × (edge.u ≤ g.vertices) × (edge.v ≤ g.vertices) }
         requires light { edge.w ≤ 2 ^ 61 }
@@ -112,8 +115,9 @@ fn join_leaning(hubs: &Hubs, classes: &mut Classes, list: &EdgeList, bound: u64)
 
 /// Classes of the vertices that no minimum cut parts which weighs less than a bound.
 ///
-/// Which vertices are made one is free: the ends of the edges that lean on one another. It goes twice over the list of edges,
-/// in O(m log(n) + n) steps, and takes 28 bytes of memory for each vertex. It is refused only where memory is wanting.
+/// Which vertices are made one is free: the ends of the edges that lean on one another. It goes
+/// twice over the list of edges, in O(m log(n) + n) steps, and takes 28 bytes of memory for each
+/// vertex. It is refused only where memory is wanting.
 pub(crate) fn leaning_classes(
     alloc: Global,
     list: &EdgeList,

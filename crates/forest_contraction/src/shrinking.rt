@@ -13,8 +13,8 @@ use least_cut::least_degree;
 use std::alloc::Global;
 use weighted_graph::{Labels, relabel_list};
 
-/// A graph of at most so many edges is small: forests leave it as it is, and rounds, whose certificates look at each edge, are for
-/// such graphs alone.
+/// A graph of at most so many edges is small: forests leave it as it is, and rounds, whose
+/// certificates look at each edge, are for such graphs alone.
 pub const FEW_EDGES: usize = 1024;
 
 /// Below this bound no lighter cut is looked for: flows find one as soon.
@@ -42,8 +42,9 @@ fn common_weight(list: &EdgeList) -> Option<u64> {
     Some(weight)
 }
 
-/// Whether forests of less than the bound together can hold all edges, a forest being one edge for each vertex but one, and all
-/// weigh the same: then mostly next to nothing is tied. No answer rests on it.
+/// Whether forests of less than the bound together can hold all edges, a forest being one
+/// edge for each vertex but one, and all weigh the same: then mostly next to nothing is
+/// tied. No answer rests on it.
 fn are_held(list: &EdgeList, bound: u64) -> bool {
     let Some(weight) = common_weight(list) else {
         return list.is_empty();
@@ -53,9 +54,9 @@ fn are_held(list: &EdgeList, bound: u64) -> bool {
     list.len() as u64 <= most
 }
 
-/// Whether a graph whose edges weigh the same has few more of them than vertices, and two or more at each: it is made of long
-/// chains. A forest leaves out fewer edges than would take away a tenth of the vertices, and few edges are in triangles. No answer
-/// rests on it.
+/// Whether a graph whose edges weigh the same has few more of them than vertices, and two or more
+/// at each: it is made of long chains. A forest leaves out fewer edges than would take away a
+/// tenth of the vertices, and few edges are in triangles. No answer rests on it.
 fn is_thin(list: &EdgeList, bound: u64) -> bool {
     if list.len() > list.n() as usize + list.n() as usize / 16 {
         return false;
@@ -66,9 +67,9 @@ fn is_thin(list: &EdgeList, bound: u64) -> bool {
     }
 }
 
-/// Whether no edge weighs more than a quarter of the bound. Where all degrees are the bound or more, no vertices lean on one
-/// another then: an edge would have to be more than half of a degree, alone or with one to a common neighbour. No answer rests on
-/// it.
+/// Whether no edge weighs more than a quarter of the bound. Where all degrees are the bound or
+/// more, no vertices lean on one another then: an edge would have to be more than half of a
+/// degree, alone or with one to a common neighbour. No answer rests on it.
 fn are_light(list: &EdgeList, bound: u64) -> bool {
     let most = bound / 4;
     for edge in list.edges() {
@@ -99,7 +100,8 @@ fn between_classes(
     Ok(Some(small))
 }
 
-/// The list with the classes that are tied for a bound made one, where these are a tenth fewer than the vertices.
+/// The list with the classes that are tied for a bound made one,
+/// where these are a tenth fewer than the vertices.
 fn shrunk(alloc: Global, list: &EdgeList, bound: u64) -> Result<Option<EdgeList>, NoMemory>
     requires enough { 2 ≤ list.now.vertices }
     requires fits { bound ≤ 2 ^ 61 }
@@ -121,8 +123,8 @@ pub struct Ties {
     pub labels: Labels,
 }
 
-/// The list with the classes that are tied for a bound made one, where these are a tenth fewer than the vertices, and the
-/// classes that are tied for one more.
+/// The list with the classes that are tied for a bound made one, where these are a tenth fewer
+/// than the vertices, and the classes that are tied for one more.
 fn shrunk_with_ties(
     alloc: Global,
     list: &EdgeList,
@@ -148,7 +150,8 @@ fn shrunk_with_ties(
     Ok(Some((small, ties)))
 }
 
-/// The list with the classes of vertices that lean on one another made one, where these are a tenth fewer than the vertices.
+/// The list with the classes of vertices that lean on one another made one, where these are a
+/// tenth fewer than the vertices.
 fn leaned(alloc: Global, list: &EdgeList, bound: u64) -> Result<Option<EdgeList>, NoMemory>
     requires { 2 ≤ list.now.vertices }
     ensures { IfOk result (λ found. IfSome found (IsLesser (min bound (value list.now)) bound)) }
@@ -157,7 +160,8 @@ fn leaned(alloc: Global, list: &EdgeList, bound: u64) -> Result<Option<EdgeList>
     between_classes(alloc, list, &labels)
 }
 
-/// The lesser of a bound and the least degree, which is the weight of a cut where there are two or more vertices.
+/// The lesser of a bound and the least degree, which is the weight of a cut where there
+/// are two or more vertices.
 fn lowered(alloc: Global, list: &EdgeList, bound: u64) -> Result<u64, NoMemory>
     ensures { IfOk result (IsLowered list.now bound) }
 {
@@ -196,16 +200,18 @@ fn contract_at(alloc: Global, list: EdgeList, bound: u64) -> Result<Left, NoMemo
     })
 }
 
-/// What contraction leaves of a graph: a bound, and the edges between the classes, or none where it left the list as it is.
+/// What contraction leaves of a graph: a bound, and the edges between the classes, or none where
+/// it left the list as it is.
 #[derive(Drop)]
 pub struct Contracted {
     pub bound: u64,
     pub list: Option<EdgeList>,
 }
 
-/// A bound that is lighter, if contraction for half of it comes upon a cut that is, and else the bound. The vertices of a
-/// cluster are joined more heavily than that, so the clusters are made one before what parts them, and their degrees are the
-/// weights of cuts. Where the cut weighs at most the half, what is left is good for it too.
+/// A bound that is lighter, if contraction for half of it comes upon a cut that is, and else the
+/// bound. The vertices of a cluster are joined more heavily than that, so the clusters are made
+/// one before what parts them, and their degrees are the weights of cuts. Where the cut weighs at
+/// most the half, what is left is good for it too.
 fn lighter(alloc: Global, list: &EdgeList, bound: u64) -> Result<Contracted, NoMemory>
     requires enough { 2 ≤ list.now.vertices }
     requires fits { bound ≤ 2 ^ 61 }
@@ -276,8 +282,8 @@ fn pass_below(alloc: Global, list: &EdgeList, bound: u64) -> Result<Contracted, 
     Ok(again)
 }
 
-/// What is tried where a pass by forests at the bound came to nothing: one at a lower bound, and vertices that lean on one
-/// another.
+/// What is tried where a pass by forests at the bound came to nothing: one at a lower bound, and
+/// vertices that lean on one another.
 fn other_pass(alloc: Global, list: &EdgeList, bound: u64) -> Result<Contracted, NoMemory>
     requires enough { 2 ≤ list.now.vertices }
     requires fits { bound ≤ 2 ^ 61 }
@@ -334,16 +340,18 @@ fn contract_rest(alloc: Global, first: Contracted) -> Result<Contracted, NoMemor
     })
 }
 
-/// A bound, and perhaps a smaller graph, from which the value of a graph of two or more vertices can be told: it is the lesser
-/// of the bound and the value of the smaller graph, or the bound where that has one vertex. Where there is no smaller graph
-/// the value is at most the bound. How small it is is free.
+/// A bound, and perhaps a smaller graph, from which the value of a graph of two or more vertices
+/// can be told: it is the lesser of the bound and the value of the smaller graph, or the bound
+/// where that has one vertex. Where there is no smaller graph the value is at most the bound.
+/// How small it is is free.
 ///
-/// The bound begins at the least degree. Classes that no cut parts which weighs less are contracted, again and again while
-/// that takes away a tenth of the vertices, and where it no longer does, contraction for half the bound is tried for a cut
-/// that is lighter. Where forests show no such classes, local tests of the edges are tried for vertices that no minimum cut
-/// parts. A list of at most 1,024 edges is left as it is. A pass takes O(m log n) steps; each is over at most nine
-/// tenths of the vertices of the one before, or for a lower bound. It takes memory for the classes and the edges between
-/// them, and is refused only where memory is wanting.
+/// The bound begins at the least degree. Classes that no cut parts which weighs less are
+/// contracted, again and again while that takes away a tenth of the vertices, and where it no
+/// longer does, contraction for half the bound is tried for a cut that is lighter. Where forests
+/// show no such classes, local tests of the edges are tried for vertices that no minimum cut
+/// parts. A list of at most 1,024 edges is left as it is. A pass takes O(m log n) steps; each is
+/// over at most nine tenths of the vertices of the one before, or for a lower bound. It takes
+/// memory for the classes and the edges between them, and is refused only where memory is wanting.
 pub fn contract_list(alloc: Global, list: &EdgeList) -> Result<Contracted, NoMemory>
     requires { 2 ≤ list.now.vertices }
     ensures { IfOk result (λ c. MatchOption c.list (value list.now ≤ c.bound)
@@ -370,19 +378,21 @@ pub fn contract_list(alloc: Global, list: &EdgeList) -> Result<Contracted, NoMem
     contract_rest(alloc, made)
 }
 
-/// What contraction leaves of a graph, and classes that no minimum cut parts, if the first pass came upon such.
+/// What contraction leaves of a graph, and classes that no minimum cut parts,
+/// if the first pass came upon such.
 #[derive(Drop)]
 pub struct WithTies {
     pub contracted: Contracted,
     pub ties: Option<Ties>,
 }
 
-/// What `contract_list` answers, and with it classes that no minimum cut parts, where a pass by forests at the least degree
-/// shortens the list: no cut parts one of these that weighs less than one more than the least degree. Which vertices are
-/// made one, and whether there are such classes, is free.
+/// What `contract_list` answers, and with it classes that no minimum cut parts, where a pass
+/// by forests at the least degree shortens the list: no cut parts one of these that weighs
+/// less than one more than the least degree. Which vertices are made one, and whether there
+/// are such classes, is free.
 ///
-/// One pass of forests makes both kinds of classes, in about the time of one. It takes 8 bytes more for each vertex than
-/// `contract_list`, and is refused only where memory is wanting.
+/// One pass of forests makes both kinds of classes, in about the time of one. It takes 8 bytes
+/// more for each vertex than `contract_list`, and is refused only where memory is wanting.
 pub fn contract_with_ties(alloc: Global, list: &EdgeList) -> Result<WithTies, NoMemory>
     requires { 2 ≤ list.now.vertices }
     ensures left { IfOk result (λ c. MatchOption c.contracted.list (value list.now ≤ c.contracted.bound)

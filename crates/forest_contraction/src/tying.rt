@@ -16,7 +16,8 @@ use std::alloc::Global;
 use vertex_classes::Classes;
 use weighted_graph::Labels;
 
-/// At most so many forests are made, and at most three for each edge at a vertex: a forest takes 4 bytes for each vertex.
+/// At most so many forests are made, and at most three for each edge at a vertex: a forest takes
+/// 4 bytes for each vertex.
 const MOST_LEVELS: u64 = 16;
 
 /// The least and the greatest weight of an edge, or 2^64 - 1 and 0 where there is none.
@@ -37,9 +38,10 @@ struct Measure {
     step: u64,
 }
 
-/// The levels for a bound: with what an edge weighs at least they reach it, where there may be so many; and none where no edge
-/// weighs a step. As far as there may be so many they fill a weight of their own. The answer rests on none of this; with a
-/// step above what an edge weighs some edges are not seen to reach the bound.
+/// The levels for a bound: with what an edge weighs at least they reach it, where there may be so
+/// many; and none where no edge weighs a step. As far as there may be so many they fill a weight
+/// of their own. The answer rests on none of this; with a step above what an edge weighs some
+/// edges are not seen to reach the bound.
 fn measure_for(list: &EdgeList, bound: u64, filled: u64) -> Measure
     requires { filled ≤ 2 ^ 62 }
     ensures positive { 1 ≤ result.step }
@@ -92,7 +94,8 @@ fn tie_edges(levels: &mut [Classes], tied: &mut Classes, edges: &[Edge], bound: 
     }
 }
 
-/// Puts all edges into the levels, and makes one what is tied for a bound, and in other classes what is tied for one more.
+/// Puts all edges into the levels, and makes one what is tied for a bound, and in other classes
+/// what is tied for one more.
 fn tie_edges_twice(
     levels: &mut [Classes],
     tied: &mut Classes,
@@ -130,8 +133,8 @@ pub(crate) struct TwoKinds {
     pub(crate) tied_above: Labels,
 }
 
-/// Classes of the vertices that no cut parts which weighs less than a bound, and such for one more, by one pass over the
-/// edges. Which vertices are made one is as free as for `tied_classes`.
+/// Classes of the vertices that no cut parts which weighs less than a bound, and such for one
+/// more, by one pass over the edges. Which vertices are made one is as free as for `tied_classes`.
 pub(crate) fn two_kinds(alloc: Global, list: &EdgeList, bound: u64) -> Result<TwoKinds, NoMemory>
     requires { bound ≤ 2 ^ 61 }
     ensures tied { IfOk result (λ kinds. AreLabelsTied list.now bound kinds.tied) }
@@ -157,12 +160,13 @@ pub(crate) fn two_kinds(alloc: Global, list: &EdgeList, bound: u64) -> Result<Tw
     })
 }
 
-/// Classes of the vertices that no cut parts which weighs less than a bound of at most 2^62. The ends of each edge that weighs
-/// the bound or more are in one.
+/// Classes of the vertices that no cut parts which weighs less than a bound of at most 2^62. The
+/// ends of each edge that weighs the bound or more are in one.
 ///
-/// Which vertices are made one is free beyond that: the ends of each edge that the forests of the edges before it, in the
-/// order of the list, and its own weight show to be joined as heavily as the bound. It takes O(m log(n) + n) steps, and
-/// memory for at most 16 numbers of 4 bytes for each vertex, and 8 bytes more. It is refused only where memory is wanting.
+/// Which vertices are made one is free beyond that: the ends of each edge that the forests of the
+/// edges before it, in the order of the list, and its own weight show to be joined as heavily as
+/// the bound. It takes O(m log(n) + n) steps, and memory for at most 16 numbers of 4 bytes for
+/// each vertex, and 8 bytes more. It is refused only where memory is wanting.
 pub fn tied_classes(alloc: Global, list: &EdgeList, bound: u64) -> Result<Labels, NoMemory>
     requires { bound ≤ 2 ^ 62 }
     ensures long { IfOk result (λ labels. length labels ≡ list.now.vertices) }

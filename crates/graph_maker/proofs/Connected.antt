@@ -27,7 +27,7 @@ same_ends g s u v none member =
     unparted false true e = absurd (omega (arith, e))
     unparted false false e = refl
 
--- so it has both ends of each of the five edges of a ring or none
+-- a set of weight 0 has both ends of each of the five edges of a ring or none
 ring_ends : (number : ℕ) → 12 ≤ number → number ≤ 100000 → (s : VertexSet) → weight (made_graph number) s ≡ 0 → (ring u v : ℕ) → ring < number / 4 →
     Contains (five_edges (number / 4) ring) (double u v) → s u ≡ s v
 ring_ends number low high s none ring u v less h =
@@ -37,7 +37,7 @@ ring_ends number low high s none ring u v less h =
 link_of_five : (rings ring : ℕ) → ring + 1 < rings → Contains (five_edges rings ring) (double (4 * ring + 3) (4 * ring + 5))
 link_of_five rings ring less = subst (λ e. Contains (five_edges rings ring) e) (link_on rings ring less) (fifth_of_five rings ring)
 
--- it has vertex 1 and the first vertex of each ring or none of them
+-- a set of weight 0 has vertex 1 and the first vertex of each ring or none of them
 same_first : (number : ℕ) → 12 ≤ number → number ≤ 100000 → (s : VertexSet) → weight (made_graph number) s ≡ 0 → (ring : ℕ) → ring < number / 4 → s 1 ≡ s (4 * ring + 1)
 same_first number low high s none zero less = refl
 same_first number low high s none (suc ring) less =
@@ -50,7 +50,7 @@ same_first number low high s none (suc ring) less =
     ∙ ring_ends number low high s none ring (4 * ring + 3) (4 * ring + 5) here (link_of_five rings ring (omega (arith, less)))
     ∙ ap s next
 
--- and so of all vertices of a ring
+-- a set of weight 0 has vertex 1 and all vertices of a ring or none of them
 same_ring : (number : ℕ) → 12 ≤ number → number ≤ 100000 → (s : VertexSet) → weight (made_graph number) s ≡ 0 → (ring v : ℕ) → ring < number / 4 →
     4 * ring + 1 ≤ v → v ≤ 4 * ring + 4 → s 1 ≡ s v
 same_ring number low high s none ring v less from to =
@@ -69,7 +69,7 @@ same_ring number low high s none ring v less from to =
     (cases_eq (4 * ring + 2) v))
     (cases_eq (4 * ring + 1) v)
 
--- so of all vertices of the graph
+-- a set of weight 0 has all vertices of the graph or none
 same_all : (number : ℕ) → 12 ≤ number → number ≤ 100000 → (s : VertexSet) → weight (made_graph number) s ≡ 0 → (v : ℕ) → 1 ≤ v → v ≤ (made_graph number).vertices → s 1 ≡ s v
 unfolding made_graph
 same_all number low high s none v from to = same_ring number low high s none ((v - 1) / 4) v (omega arith) (omega arith) (omega arith)

@@ -43,10 +43,11 @@ fn push_others(edges: &mut Vec<Edge>, rings: u32, ring: u32) -> Result<(), NoMem
     Ok(())
 }
 
-/// The graph for a number from 12 to 100,000: the number rounded down to a multiple of 4 is its number of vertices.
+/// The graph for a number from 12 to 100,000:
+/// the number rounded down to a multiple of 4 is its number of vertices.
 ///
-/// It takes 16 bytes of memory for each edge, of which it has five fourths as many as vertices, and is refused only
-/// where these are wanting. One step for each edge.
+/// It takes 16 bytes of memory for each edge, of which it has five fourths as many as vertices,
+/// and is refused only where these are wanting. One step for each edge.
 pub fn make(alloc: Global, number: u32) -> Result<EdgeList, NoMemory>
     requires from { 12 ≤ number }
     requires to { number ≤ 100000 }

@@ -14,8 +14,8 @@ ghost use Rattle.least_cut.specs.Sweep.{AreLight};
 use cut_definitions::{Edge, EdgeList, NoMemory};
 use std::alloc::Global;
 
-/// Whether the number of vertices times the weight of each edge is at most twice a weight. It looks no further than the
-/// first edge that is heavier.
+/// Whether the number of vertices times the weight of each edge is at most twice a weight. It
+/// looks no further than the first edge that is heavier.
 pub(crate) fn are_light(n: u32, edges: &[Edge], weight: u64) -> bool
     requires some { 1 ≤ n }
     requires fits { weight ≤ 2 ^ 61 }
@@ -30,8 +30,8 @@ pub(crate) fn are_light(n: u32, edges: &[Edge], weight: u64) -> bool
     true
 }
 
-/// Whether there are edges, but too few for a dense graph: each edge lies at two vertices, so in a dense graph four times the
-/// number of edges is at least the square of the number of vertices.
+/// Whether there are edges, but too few for a dense graph: each edge lies at two vertices, so in a
+/// dense graph four times the number of edges is at least the square of the number of vertices.
 fn has_few_edges(list: &EdgeList) -> bool
     ensures exact { IsTrue result ↔ ((1 ≤ length list.now.edges) × (4 * length list.now.edges < list.now.vertices * list.now.vertices)) }
     ensures sparse { IsTrue result → ¬ IsDense list.now }
@@ -67,8 +67,9 @@ fn least_after_first(numbers: &[u64]) -> u64
     least
 }
 
-/// The degrees of all vertices, each in the place of its number, from one pass over the edges; 0 in the place 0. It takes 8
-/// bytes of memory for each vertex and 8 more; want of memory is its only refusal.
+/// The degrees of all vertices, each in the place of its number, from one pass over the
+/// edges; 0 in the place 0. It takes 8 bytes of memory for each vertex and 8 more; want of
+/// memory is its only refusal.
 pub fn degrees_of(alloc: Global, list: &EdgeList) -> Result<Vec<u64>, NoMemory>
     ensures long { IfOk result (λ degrees. length degrees.items ≡ list.now.vertices + 1) }
     ensures each { IfOk result (λ degrees. (v : ℕ) → slice_index degrees.items v ≡ weight list.now (single v)) }
@@ -80,8 +81,8 @@ pub fn degrees_of(alloc: Global, list: &EdgeList) -> Result<Vec<u64>, NoMemory>
 
 /// The least degree of a vertex, which is the weight of a cut.
 ///
-/// It goes once over the list of edges and takes 8 bytes of memory for each vertex and 8 more; want of memory is its only
-/// refusal.
+/// It goes once over the list of edges and takes 8 bytes of memory for each vertex and 8 more;
+/// want of memory is its only refusal.
 pub fn least_degree(alloc: Global, list: &EdgeList) -> Result<u64, NoMemory>
     requires { 2 ≤ list.now.vertices }
     ensures { IfOk result (IsLeastDegree list.now) }
@@ -90,12 +91,13 @@ pub fn least_degree(alloc: Global, list: &EdgeList) -> Result<u64, NoMemory>
     Ok(least_after_first(&degrees))
 }
 
-/// The value of a graph of two or more vertices, where it is dense: the number of vertices times the heaviest edge is at most
-/// twice the least degree. Then the least degree is the value (after Chartrand, 1966). None where the graph is not dense.
+/// The value of a graph of two or more vertices, where it is dense: the number of vertices times
+/// the heaviest edge is at most twice the least degree. Then the least degree is the value (after
+/// Chartrand, 1966). None where the graph is not dense.
 ///
-/// It goes once or twice over the list of edges and takes 8 bytes of memory for each vertex and 8 more; want of memory is its
-/// only refusal. Where there are edges, but fewer than a quarter of the square of the number of vertices, it answers none at
-/// once, without memory.
+/// It goes once or twice over the list of edges and takes 8 bytes of memory for each vertex and 8
+/// more; want of memory is its only refusal. Where there are edges, but fewer than a quarter of
+/// the square of the number of vertices, it answers none at once, without memory.
 pub fn value_of_dense(alloc: Global, list: &EdgeList) -> Result<Option<u64>, NoMemory>
     requires { 2 ≤ list.now.vertices }
     ensures some { IfOk result (λ found. IfSome found (λ weight. weight ≡ value list.now)) }

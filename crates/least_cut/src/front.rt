@@ -9,16 +9,18 @@ use std::alloc::Global;
 use std::marker::Model;
 use weighted_graph::Graph;
 
-/// Vertices that are joined to the source, and how far all vertices were looked through. Busy ones, with rows more than
-/// four times as long as on the average, come first, since a search that comes to one has a long row to go along; among
-/// the others, and among the busy ones, the latest comes first; of those that were put at once, those with heavy edges.
+/// Vertices that are joined to the source, and how far all vertices were looked through. Busy
+/// ones, with rows more than four times as long as on the average, come first, since a search that
+/// comes to one has a long row to go along; among the others, and among the busy ones, the latest
+/// comes first; of those that were put at once, those with heavy edges.
 ///
 /// No answer rests on which vertices it has: where it has none that is outside, it looks for one.
 #[derive(Drop)]
 pub struct Front {
     n: u32,
 
-    // the first `count` are a stack of vertices, and the last `busy` one of busy vertices, with its top foremost
+    // the first `count` are a stack of vertices, and the last `busy` one of busy
+    // vertices, with its top foremost
     stack: Vec<u32>,
     count: u32,
     busy: u32,
@@ -80,8 +82,9 @@ impl Front {
         }
     }
 
-    /// Puts the neighbours of a vertex to which an edge of at most this weight leads on top of their stacks, unless they were put
-    /// before. Answers whether no edge of the vertex weighs more.
+    /// Puts the neighbours of a vertex to which an edge of at most this weight leads
+    /// on top of their stacks, unless they were put before. Answers whether no edge
+    /// of the vertex weighs more.
     fn put_light(&mut self, graph: &Graph, v: u32, most: u64) -> bool
         requires vertices { self.old.vertices ≡ graph.now.vertices }
         requires to_n { v ≤ graph.now.vertices }
@@ -98,8 +101,8 @@ impl Front {
         all
     }
 
-    /// Puts the neighbours of a vertex to which an edge of more than this weight leads on top of their stacks, unless they were put
-    /// before.
+    /// Puts the neighbours of a vertex to which an edge of more than this weight leads on top of
+    /// their stacks, unless they were put before.
     fn put_heavy(&mut self, graph: &Graph, v: u32, most: u64)
         requires vertices { self.old.vertices ≡ graph.now.vertices }
         requires to_n { v ≤ graph.now.vertices }
@@ -112,8 +115,9 @@ impl Front {
         }
     }
 
-    /// Puts the neighbours of a vertex on top of their stacks, unless they were put before. Those to which an edge leads that is
-    /// heavier than its edges on the average come last, and so on top: once the vertex has entered, they need least from afar.
+    /// Puts the neighbours of a vertex on top of their stacks, unless they were put before. Those
+    /// to which an edge leads that is heavier than its edges on the average come last, and so on
+    /// top: once the vertex has entered, they need least from afar.
     pub fn put_neighbours(&mut self, graph: &Graph, v: u32)
         requires vertices { self.old.vertices ≡ graph.now.vertices }
         requires to_n { v ≤ graph.now.vertices }
@@ -129,7 +133,8 @@ impl Front {
         }
     }
 
-    /// Takes busy vertices from the top of their stack until one is outside the source; 0 where there is none.
+    /// Takes busy vertices from the top of their stack until one is outside the
+    /// source; 0 where there is none.
     fn pop_busy(&mut self, flow: &RegionFlow) -> u32
         requires { length flow.now.labels ≡ self.old.vertices + 1 }
         ensures same { self.new ≡ self.old }
@@ -145,7 +150,8 @@ impl Front {
         0
     }
 
-    /// Takes vertices that are not busy from the top of their stack until one is outside the source; 0 where there is none.
+    /// Takes vertices that are not busy from the top of their stack until one is outside the
+    /// source; 0 where there is none.
     fn pop(&mut self, flow: &RegionFlow) -> u32
         requires { length flow.now.labels ≡ self.old.vertices + 1 }
         ensures same { self.new ≡ self.old }

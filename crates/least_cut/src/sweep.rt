@@ -49,9 +49,10 @@ fn least_if_connected(graph: &Graph) -> u64
     if has_even_degrees(graph) { 2 } else { 1 }
 }
 
-/// Whether the edges are so light against a weight that no degree undercuts that no cut undercuts it either: the side of a
-/// cut with k vertices, at most half of all, weighs no less than k degrees less what k (k - 1) of the heaviest edges weigh
-/// (after Chartrand, 1966). It looks no further than the first edge that is too heavy.
+/// Whether the edges are so light against a weight that no degree undercuts that no cut undercuts
+/// it either: the side of a cut with k vertices, at most half of all, weighs no less than k
+/// degrees less what k (k - 1) of the heaviest edges weigh (after Chartrand, 1966). It looks no
+/// further than the first edge that is too heavy.
 fn is_dense(graph: &Graph, weight: u64) -> bool
     requires enough { 2 ≤ graph.now.vertices }
     requires degrees { HasDegrees graph.now weight }
@@ -60,8 +61,8 @@ fn is_dense(graph: &Graph, weight: u64) -> bool
     are_light(graph.n(), graph.edge_list(), weight)
 }
 
-/// Whether no cut undercuts a weight, as far as the degrees and the components tell. It is refused only where memory is
-/// wanting.
+/// Whether no cut undercuts a weight, as far as the degrees and the components tell. It is refused
+/// only where memory is wanting.
 fn is_settled(alloc: Global, graph: &Graph, weight: u64) -> Result<bool, NoMemory>
     requires { 2 ≤ graph.now.vertices }
     ensures { IfOk result (λ settled. IsTrue settled → weight ≤ value graph.now) }
@@ -80,8 +81,8 @@ fn is_settled(alloc: Global, graph: &Graph, weight: u64) -> Result<bool, NoMemor
     Ok(components == 1)
 }
 
-/// Lets a vertex enter the source, and answers the least weight of a cut that is known then. None where the flows went along
-/// too many arcs; the vertex has not entered then.
+/// Lets a vertex enter the source, and answers the least weight of a cut that is known then. None
+/// where the flows went along too many arcs; the vertex has not entered then.
 fn take_in(
     graph: &Graph,
     flow: &mut RegionFlow,
@@ -121,14 +122,15 @@ pub enum Swept {
     Part(u64),
 }
 
-/// The lesser of a bound and the value of a graph of two or more vertices, if the flows go along rows of no more than about
-/// so many arcs.
+/// The lesser of a bound and the value of a graph of two or more vertices, if the flows go along
+/// rows of no more than about so many arcs.
 ///
-/// `Part` comes only where there is a limit, a number below 2^64 - 1; what it tells lies between the lesser of the two and
-/// the bound. It takes memory O(n + m), and want of memory is its only refusal. It is one sweep with n flows, each of which
-/// looks only at what it reaches until the least weight that is known is reached. It ends early where that is 0 or, in a
-/// connected graph, 1, or 2 where all degrees are even; and it makes no flow where the vertices times the heaviest edge are
-/// at most twice the least degree, since that is the value then.
+/// `Part` comes only where there is a limit, a number below 2^64 - 1; what it tells lies between
+/// the lesser of the two and the bound. It takes memory O(n + m), and want of memory is its only
+/// refusal. It is one sweep with n flows, each of which looks only at what it reaches until the
+/// least weight that is known is reached. It ends early where that is 0 or, in a connected graph,
+/// 1, or 2 where all degrees are even; and it makes no flow where the vertices times the heaviest
+/// edge are at most twice the least degree, since that is the value then.
 pub fn least_weight_within(
     alloc: Global,
     graph: &Graph,
@@ -162,8 +164,8 @@ pub fn least_weight_within(
     Ok(Swept::Whole(best))
 }
 
-/// The lesser of a bound and the value of a graph of two or more vertices. The cost is that of `least_weight_within` without
-/// a limit.
+/// The lesser of a bound and the value of a graph of two or more vertices. The cost is that of
+/// `least_weight_within` without a limit.
 pub fn least_weight_below(alloc: Global, graph: &Graph, bound: u64) -> Result<u64, NoMemory>
     requires { 2 ≤ graph.now.vertices }
     ensures { IfOk result (λ weight. weight ≡ min bound (value graph.now)) }
@@ -175,8 +177,8 @@ pub fn least_weight_below(alloc: Global, graph: &Graph, bound: u64) -> Result<u6
     }
 }
 
-/// The value of the graph: the least weight of a cut, which is 0 where the graph is not connected, and where it has fewer
-/// than two vertices. The cost is that of `least_weight_below`.
+/// The value of the graph: the least weight of a cut, which is 0 where the graph is not connected,
+/// and where it has fewer than two vertices. The cost is that of `least_weight_below`.
 pub fn least_weight(alloc: Global, graph: &Graph) -> Result<u64, NoMemory>
     ensures { IfOk result (λ weight. weight ≡ value graph.now) }
 {

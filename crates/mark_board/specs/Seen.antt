@@ -27,6 +27,6 @@ fresh_seat b seen = record { board = b; seen = seen; own = []; won = []; known =
 abbrev pub seat_view : TableId → View → SeatView
 seat_view t v = record { board = record { table = t; graph = v.graph; slack = v.slack; opening = v.opening }; seen = v.seen; own = v.own; won = v.won; known = v.known }
 
--- as the table keeps it
+-- the view of a seat as the table keeps it
 abbrev pub view_of : SeatView → View
 view_of s = record { live = true; graph = s.board.graph; slack = s.board.slack; opening = s.board.opening; seen = s.seen; own = s.own; won = s.won; known = s.known }

@@ -1,12 +1,13 @@
-//! The rule over the words and the seats of a board, and what each atomic step tells. All of it is for proofs.
+//! The rule over the words and the seats of a board, and what each atomic step tells.
+//! All of it is for proofs.
 
 use atomic_table::{Join, Play, Split, TableRule};
 use std::collections::LinkedList;
 use std::snapshot::Snapshot;
 use weighted_graph::Graph;
 
-/// What a seat knows: its board's graph, slack and opening bound, the bound that it saw last, and its edges and vertices.
-/// No value of it is made.
+/// What a seat knows: its board's graph, slack and opening bound, the bound that it saw last, and
+/// its edges and vertices. No value of it is made.
 pub struct View {
     pub live: bool,
     pub graph: Graph,

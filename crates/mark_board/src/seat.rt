@@ -4,10 +4,11 @@ use crate::rule::View;
 use atomic_table::Seat;
 use std::marker::Model;
 
-/// The token with which a worker makes its steps on a board. It takes no bytes and may be sent to another thread.
+/// The token with which a worker makes its steps on a board.
+/// It takes no bytes and may be sent to another thread.
 ///
-/// Contracts see its board, the bound that it saw last, the edges that it marked, the vertices that it won and those that
-/// it knows to be taken. What it saw is the weight of a cut.
+/// Contracts see its board, the bound that it saw last, the edges that it marked, the vertices
+/// that it won and those that it knows to be taken. What it saw is the weight of a cut.
 #[derive(Drop)]
 pub struct BoardSeat {
     pub(crate) seat: Seat<(), View>,

@@ -39,7 +39,7 @@ closed_from_shut g toward row rows side h v one to_n in' k d l p =
     let same = get_or_default (row_of g v) k (record { to = 0; edge = 0; weight = 0 }) d l in
     subst (λ (a : Arc). IsTrue (side a.to)) same (h v one to_n in' k l (rw (row_at g toward row rows v k d to_n l) p))
 
--- and the other way round
+-- no arc of the rows leaves a closed set
 pub shut_from_closed : (g : Graph) (toward : List ℕ) (row : ℕ → List ℕ) → AreRows g toward row → (side : VertexSet) → IsClosed g toward side → IsShut g row side
 shut_from_closed g toward row rows side h v one to_n in' k l p =
     h v one to_n in' k (record { to = 0; edge = 0; weight = 0 }) l (rw (row_at g toward row rows v k (record { to = 0; edge = 0; weight = 0 }) to_n l) at p)
@@ -110,7 +110,7 @@ sizes_of g n toward starts residuals marks steps source best h e l a = record {
   source = omega (arith, h.source_vertices);
 }
 
--- and the other way round
+-- memory that is laid out, and has the sizes of a graph, is laid out by the rows of the graph
 pub AreStarts-from_sizes : (g : Graph) (n : ℕ) (toward starts residuals marks : List ℕ) (steps : List Step) (source : VertexList) (best : Option BestRun) → IsLaidOut n starts residuals marks steps source →
     HasSizesOf (record { vertices = n; toward = toward; rows = rows_within n residuals starts; source = source; best = best }) g → AreStarts g starts
 AreStarts-from_sizes g n toward starts residuals marks steps source best h s = record {
@@ -118,7 +118,7 @@ AreStarts-from_sizes g n toward starts residuals marks steps source best h s = r
   next = λ v b. (let to_n : v ≤ n = omega (arith, s.vertices) in let a = length-row_within n starts residuals marks steps source h v to_n in let r = s.rows v b in let up = h.ascending v to_n in omega arith);
 }
 
--- the same where other memory of the same sizes is laid out
+-- memory stays laid out with other residuals, marks, steps and source of the same sizes, if no vertex is marked
 pub laid_out-same : (n : ℕ) (starts residuals residuals' marks marks' : List ℕ) (steps steps' : List Step) (source source' : VertexList) → IsLaidOut n starts residuals marks steps source →
     length residuals' ≡ length residuals → length marks' ≡ length marks → length steps' ≡ length steps → source'.vertices ≡ n → IsAllUnmarked marks' → IsLaidOut n starts residuals' marks' steps' source'
 laid_out-same n starts residuals residuals' marks marks' steps steps' source source' h l m st so u = record {

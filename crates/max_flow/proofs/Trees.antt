@@ -105,7 +105,7 @@ along_leaves : (a b : Bool) (x w bottleneck : ℕ) → (if a then (if b then 0 e
     1 ≤ bottleneck → bottleneck ≤ x → a ≡ true → b ≡ true
 along_leaves a b x w bottleneck z p l h = grind arith
 
--- and its greater end its lesser
+-- where an edge lets out nothing but can carry something, its greater end brings in its lesser
 along_leaves_back : (a b : Bool) (x w bottleneck : ℕ) → (if a then (if b then 0 else x) else (if b then 2 * w - x else 0)) ≡ 0 →
     1 ≤ bottleneck → bottleneck ≤ 2 * w - x → b ≡ true → a ≡ true
 along_leaves_back a b x w bottleneck z p l h = grind arith

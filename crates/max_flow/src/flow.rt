@@ -24,8 +24,8 @@ use weighted_graph::Graph;
 
 /// A flow between two vertices of a graph, and the memory to look for one.
 ///
-/// It keeps no copy of its graph. It stands for a graph where it has that graph's sizes and where what it keeps of the
-/// last run, if that answered `Best`, is true of that graph.
+/// It keeps no copy of its graph. It stands for a graph where it has that graph's sizes and where
+/// what it keeps of the last run, if that answered `Best`, is true of that graph.
 #[derive(Drop)]
 pub struct Flow {
     n: u32,
@@ -66,8 +66,8 @@ impl Flow {
 
     /// A flow that stands for the graph, before any run.
     ///
-    /// It takes time and memory O(n + m), and all the memory that the flow ever takes. Want of memory is its only
-    /// refusal.
+    /// It takes time and memory O(n + m), and all the memory that the flow ever takes. Want of
+    /// memory is its only refusal.
     pub fn new(alloc: Global, graph: &Graph) -> Result<Flow, NoMemory>
         ensures stands { IfOk result (λ f. StandsFor f graph.now) }
         ensures no_run { IfOk result (λ f. f.best ≡ None) }
@@ -101,12 +101,13 @@ impl Flow {
 
     /// The least weight of a cut between `s` and `t`, if it is below the stop.
     ///
-    /// The two are different vertices from 1 to n, and the stop is at least 1. `AtLeast` comes just where every cut
-    /// between them weighs at least the stop. After `Best` the source side and the rows show all cuts of least weight.
-    /// Earlier runs are forgotten.
+    /// The two are different vertices from 1 to n, and the stop is at least 1. `AtLeast` comes
+    /// just where every cut between them weighs at least the stop. After `Best` the source side
+    /// and the rows show all cuts of least weight. Earlier runs are forgotten.
     ///
-    /// Each turn augments the flow by the bottleneck of a path of fewest arcs (Edmonds and Karp, 1972). So there are at
-    /// most O(n m) turns, and at most as many as the stop, each of one search in O(n + m). It takes no memory.
+    /// Each turn augments the flow by the bottleneck of a path of fewest arcs (Edmonds and Karp,
+    /// 1972). So there are at most O(n m) turns, and at most as many as the stop, each of one
+    /// search in O(n + m). It takes no memory.
     pub fn run(&mut self, graph: &Graph, s: u32, t: u32, stop: u64) -> Outcome
         requires stands { StandsFor self.old graph.now }
         requires s_from_one { 1 ≤ s }
@@ -134,10 +135,11 @@ impl Flow {
         Outcome::AtLeast
     }
 
-    /// The vertices that arcs with something left reach from `s` of the last run, which answered `Best`; lent without a
-    /// copy.
+    /// The vertices that arcs with something left reach from `s` of the last run, which answered
+    /// `Best`; lent without a copy.
     ///
-    /// It is the least of the sets with `s` and without `t` whose weight is least. It may have vertex 1 or not.
+    /// It is the least of the sets with `s` and without `t` whose weight is least.
+    /// It may have vertex 1 or not.
     pub fn source_side(&self) -> &Side
         requires { IsSome self.now.best }
         ensures { result.now ≡ self.now.source }
@@ -145,11 +147,12 @@ impl Flow {
         &self.source
     }
 
-    /// What each arc of the row of a vertex from 1 to n can still carry after the last run, which answered `Best`; lent
-    /// without a copy, in the order of the graph's row.
+    /// What each arc of the row of a vertex from 1 to n can still carry after the last run, which
+    /// answered `Best`; lent without a copy, in the order of the graph's row.
     ///
-    /// On the two arcs of an edge these numbers add up to twice its weight. A set with `s` and without `t` that no arc
-    /// with a number above 0 leaves is just a cut of least weight between them.
+    /// On the two arcs of an edge these numbers add up to twice its weight. A set with
+    /// `s` and without `t` that no arc with a number above 0 leaves is just a cut of
+    /// least weight between them.
     pub fn residual_row(&self, v: u32) -> &[u64]
         requires to_n { v ≤ self.now.vertices }
         requires best { IsSome self.now.best }
@@ -172,8 +175,8 @@ impl Flow {
         self.best = None;
     }
 
-    /// Augments the flow along one path from `s` to `t`, by its bottleneck, which is answered; 0 where there is no path,
-    /// and the source side is then what can be reached from `s`.
+    /// Augments the flow along one path from `s` to `t`, by its bottleneck, which is answered; 0
+    /// where there is no path, and the source side is then what can be reached from `s`.
     fn augment(&mut self, graph: &Graph, ends: Ends) -> u64
         requires edge_list { IsEdgeList graph.now }
         requires sizes { HasSizesOf self.old graph.now }

@@ -1,7 +1,7 @@
 //! Searches along the arcs that can still carry something.
 //!
-//! A search goes by breadth, so the path that it finds to a vertex has as few arcs as any. It touches only what it
-//! reaches: the marks that it leaves are taken away along its own steps.
+//! A search goes by breadth, so the path that it finds to a vertex has as few arcs as any. It
+//! touches only what it reaches: the marks that it leaves are taken away along its own steps.
 
 ghost use Rattle.std.specs.Prelude.{◌≡◌, ◌*◌, ◌<◌, ◌≤◌, ◌^◌, length, min, slice_index};
 ghost use Rattle.cut_definitions.specs.Graph.{IsEdgeList};
@@ -20,7 +20,8 @@ pub struct Ends {
     pub t: u32,
 }
 
-/// A vertex that a search reached: from which place of the order, along which edge, and the bottleneck of the whole path.
+/// A vertex that a search reached: from which place of the order, along which edge, and the
+/// bottleneck of the whole path.
 #[derive(Clone, Copy, Debug)]
 pub struct Step {
     pub vertex: u32,
@@ -29,7 +30,8 @@ pub struct Step {
     pub bottleneck: u64,
 }
 
-/// The bottleneck of a path that goes on along an arc to a vertex that was not reached before; 0 where it was.
+/// The bottleneck of a path that goes on along an arc to a vertex that was not
+/// reached before; 0 where it was.
 fn bottleneck_along(arc: &Arc, from: Step, toward: &[u64], marks: &[u32]) -> u64
     requires edge { arc.now.edge < length toward.now }
     requires bounded { slice_index toward.now arc.now.edge ≤ 2 * arc.now.weight }

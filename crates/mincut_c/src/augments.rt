@@ -94,14 +94,18 @@ fn lacks_ends(n: u32, raise: &Raise, from: usize, to: usize, set_of: usize) -> b
     from < raise.edges || to < raise.edges || set_of < n as usize
 }
 
-/// The fewest edges of weight 1 that raise the value of the connected graph with `n` vertices, counted from 0, whose edges the
-/// arrays give: edge k joins `from[k]` and `to[k]`, the lesser first, and the edges ascend. `set_of` gets a number for each vertex: that of its set, from
-/// 1, or 0. No two of the sets share a vertex, and each is a side of a minimum cut, within which no other such set lies; so
-/// whatever edges raise the value, some end in each of them, and there are half as many edges as sets, rounded up.
+/// The fewest edges of weight 1 that raise the value of the connected graph with `n` vertices,
+/// counted from 0, whose edges the arrays give: edge k joins `from[k]` and `to[k]`, the lesser
+/// first, and the edges ascend. `set_of` gets a number for each vertex: that of its set, from 1,
+/// or 0. No two of the sets share a vertex, and each is a side of a minimum cut, within which no
+/// other such set lies; so whatever edges raise the value, some end in each of them, and there are
+/// half as many edges as sets, rounded up.
 ///
-/// The status is 0 where there is an answer. It is 9 where `from` or `to` has fewer entries than there are edges, or `set_of` fewer
-/// than n: never where all have n entries; the numbers are told all the same. Else it is as that of `mincut_raw_count`. With another status than 0 the arrays are
-/// left as they were, and with another than 0 and 9 the numbers too. Time and memory are those of the cactus.
+/// The status is 0 where there is an answer. It is 9 where `from` or `to` has fewer entries than
+/// there are edges, or `set_of` fewer than n: never where all have n entries; the numbers are
+/// told all the same. Else it is as that of `mincut_raw_count`. With another status than 0 the
+/// arrays are left as they were, and with another than 0 and 9 the numbers too. Time and memory
+/// are those of the cactus.
 #[unsafe(no_mangle)]
 pub extern "C" fn mincut_raw_augment(
     alloc: Global,

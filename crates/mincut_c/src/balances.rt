@@ -23,7 +23,8 @@ pub struct Balanced {
     pub balance: u64,
 }
 
-/// Tells a side by a byte for each vertex, where there is room for n of them, and else writes nothing.
+/// Tells a side by a byte for each vertex, where there is room for n of them,
+/// and else writes nothing.
 fn put_side(side: &Side, inside: &mut [u8]) -> bool
     ensures told { IsTrue result → TellsSide side.now.vertices side.now.members inside.new }
     ensures short { IsFalse result → length inside.old < side.now.vertices }
@@ -70,13 +71,15 @@ fn balanced_of_arrays(
     ))
 }
 
-/// A minimum cut of the connected graph with `n` vertices, counted from 0, whose edges the arrays give, than which none has a
-/// greater balance: the lesser of the masses of its two sides. `masses` has n entries, or none, for a mass of 1 each. Which of
-/// several such cuts is free. `inside` gets a byte for each vertex: 0 for vertex 0 and all on its side, 1 for the others.
+/// A minimum cut of the connected graph with `n` vertices, counted from 0, whose edges the arrays
+/// give, than which none has a greater balance: the lesser of the masses of its two sides.
+/// `masses` has n entries, or none, for a mass of 1 each. Which of several such cuts is free.
+/// `inside` gets a byte for each vertex: 0 for vertex 0 and all on its side, 1 for the others.
 ///
-/// The status is 0 where there is an answer. The masses are looked at first: it is 3 where they are not as many as the vertices,
-/// and 10 where they add up to 2^64 or more. It is 9 where `inside` has fewer than n entries, and else as that of
-/// `mincut_raw_count`. With another status than 0 the outputs are left as they were. Time and memory are those of the cactus.
+/// The status is 0 where there is an answer. The masses are looked at first: it is 3 where they
+/// are not as many as the vertices, and 10 where they add up to 2^64 or more. It is 9 where
+/// `inside` has fewer than n entries, and else as that of `mincut_raw_count`. With another status
+/// than 0 the outputs are left as they were. Time and memory are those of the cactus.
 #[unsafe(no_mangle)]
 pub extern "C" fn mincut_raw_balanced(
     alloc: Global,

@@ -9,8 +9,9 @@ use crate::status::{OK, status_of};
 use crate::values::lesser_of_arrays;
 use std::alloc::Global;
 
-/// The lesser of a bound and the least weight of a cut of the graph with `n` vertices, counted from 0, whose edges the arrays
-/// give. The sweep ends each flow at the bound, so a low bound that the value reaches is told sooner than the value.
+/// The lesser of a bound and the least weight of a cut of the graph with `n` vertices, counted
+/// from 0, whose edges the arrays give. The sweep ends each flow at the bound, so a low bound that
+/// the value reaches is told sooner than the value.
 ///
 /// The statuses are those of `mincut_raw_value`.
 #[unsafe(no_mangle)]

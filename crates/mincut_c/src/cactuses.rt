@@ -10,14 +10,16 @@ use crate::solving::flat_of_arrays;
 use crate::status::{NO_ROOM, OK, status_of};
 use std::alloc::Global;
 
-/// A cactus of all minimum cuts of the connected graph with `n` vertices, counted from 0, whose edges the arrays give, in its
-/// normal form. The sizes tell the value, and how many entries of each array the cactus takes.
+/// A cactus of all minimum cuts of the connected graph with `n` vertices, counted from 0, whose
+/// edges the arrays give, in its normal form. The sizes tell the value, and how many entries of
+/// each array the cactus takes.
 ///
-/// The status is 0 where there is an answer. It is 9 where an array is shorter than its size tells, which is told all the same:
-/// never where the arrays have 2n, n, 2n, n and 3n entries;
-/// 8 where the graph is not connected; and else as that of `mincut_raw_value`. With another status than 0 the arrays are left as
-/// they were, and with another than 0 and 9 the sizes too. Time O(m log m), that of one sweep of flows for the value, and that of
-/// one over regions for the cactus.
+/// The status is 0 where there is an answer. It is 9 where an array is shorter than its size
+/// tells, which is told all the same: never where the arrays have 2n, n, 2n, n and 3n
+/// entries; 8 where the graph is not connected; and else as that of `mincut_raw_value`. With
+/// another status than 0 the arrays are left as they were, and with another than 0 and 9 the
+/// sizes too. Time O(m log m), that of one sweep of flows for the value, and that of one
+/// over regions for the cactus.
 #[unsafe(no_mangle)]
 pub extern "C" fn mincut_raw_cactus(
     alloc: Global,

@@ -14,7 +14,8 @@ use edge_arrays::{ArrayFault, classes_of_arrays};
 use std::alloc::Global;
 use weighted_graph::Labels;
 
-/// The components of the graph of the arrays, as labels of its vertices, in the order of their least vertices.
+/// The components of the graph of the arrays, as labels of its vertices,
+/// in the order of their least vertices.
 fn components_of_arrays(
     alloc: Global,
     n: u32,
@@ -32,14 +33,15 @@ fn components_of_arrays(
     Ok(labels)
 }
 
-/// The components of the graph with `n` vertices, counted from 0, whose edges the arrays give: two vertices are in one where a
-/// way of edges leads from one to the other, of which none is a loop or weighs 0. They are numbered from 0 in the order of their
-/// least vertices. `component_of` gets a number for each vertex, and what stands behind these is left. A graph without a vertex has
-/// none.
+/// The components of the graph with `n` vertices, counted from 0, whose edges the arrays give:
+/// two vertices are in one where a way of edges leads from one to the other, of which none is a
+/// loop or weighs 0. They are numbered from 0 in the order of their least vertices.
+/// `component_of` gets a number for each vertex, and what stands behind these is left. A graph
+/// without a vertex has none.
 ///
-/// The status is 0 where there is an answer. It is 9 where `component_of` has fewer than n entries, and else one of 2 to 7, as that
-/// of `mincut_raw_value`. With another status than 0 the outputs are left as they were. Time O(m log n), and 8 bytes for each
-/// vertex; no edge is copied.
+/// The status is 0 where there is an answer. It is 9 where `component_of` has fewer than n
+/// entries, and else one of 2 to 7, as that of `mincut_raw_value`. With another status than 0 the
+/// outputs are left as they were. Time O(m log n), and 8 bytes for each vertex; no edge is copied.
 #[unsafe(no_mangle)]
 pub extern "C" fn mincut_raw_components(
     alloc: Global,

@@ -23,11 +23,12 @@ fn count_of_arrays(alloc: Global, n: u32, us: &[u32], vs: &[u32], ws: &[u64]) ->
     Ok(count)
 }
 
-/// The number of all minimum cuts of the connected graph with `n` vertices, counted from 0, whose edges the arrays give. None
-/// of them is listed for it.
+/// The number of all minimum cuts of the connected graph with `n` vertices, counted from 0, whose
+/// edges the arrays give. None of them is listed for it.
 ///
-/// The status is 0 where there is an answer. It is 8 where the graph is not connected, and else as that of `mincut_raw_value`;
-/// the count is then left as it was. Time and memory are those of the cactus.
+/// The status is 0 where there is an answer. It is 8 where the graph is not connected, and
+/// else as that of `mincut_raw_value`; the count is then left as it was. Time and memory
+/// are those of the cactus.
 #[unsafe(no_mangle)]
 pub extern "C" fn mincut_raw_count(
     alloc: Global,

@@ -1,6 +1,7 @@
 //! The minimum cuts of a graph for callers in C: each export takes and fills plain arrays.
 //!
-//! Nothing is asked of the arrays but that they are there: what is no graph is answered by a status.
+//! Nothing is asked of the arrays but that they are there:
+//! what is no graph is answered by a status.
 #![tactic(auto)]
 
 mod augments;

@@ -18,8 +18,8 @@ pub struct Listing {
     pub sides: u64,
 }
 
-/// Puts the sides of a list over n into bytes where there is room for all of them, and else none. It tells how many they are,
-/// but where memory was wanting.
+/// Puts the sides of a list over n into bytes where there is room for all of them, and else none.
+/// It tells how many they are, but where memory was wanting.
 pub(crate) fn put_listing(
     listed: Result<Vec<Side>, ListRefusal>,
     n: u32,

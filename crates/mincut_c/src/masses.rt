@@ -22,7 +22,8 @@ fn is_small(masses: &[u64]) -> bool
     true
 }
 
-/// Tests the masses of n vertices: there are n of them, or none, and they add up to less than 2^64.
+/// Tests the masses of n vertices: there are n of them, or none,
+/// and they add up to less than 2^64.
 pub(crate) fn check_masses(n: u32, masses: &[u64]) -> Result<(), Fault>
     ensures masses { OnOk result (AreMasses n masses.now) }
     ensures reason { IfErr result (λ fault. IsMassReason fault n masses.now) }
@@ -40,7 +41,8 @@ pub(crate) fn check_masses(n: u32, masses: &[u64]) -> Result<(), Fault>
     Ok(())
 }
 
-/// The masses of n vertices: those of the array, or 1 for each where it has no entry. 8 bytes for each vertex.
+/// The masses of n vertices: those of the array, or 1 for each where it has no entry.
+/// 8 bytes for each vertex.
 pub(crate) fn masses_of(alloc: Global, n: u32, masses: &[u64]) -> Result<VertexWeights, NoMemory>
     requires few { n ≤ 4194304 }
     requires many { length (masses_for n masses.now) ≡ n }

@@ -1,5 +1,5 @@
-//! What is put into arrays of a caller: sides of cuts as bytes, a row for each side and in it a byte for each vertex, and numbers
-//! that are counted from 0 there.
+//! What is put into arrays of a caller: sides of cuts as bytes, a row for each side and in it a
+//! byte for each vertex, and numbers that are counted from 0 there.
 
 ghost use Rattle.std.specs.Prelude.{ℕ, ◌≡◌, ◌+◌, ◌*◌, ◌<◌, ◌≤◌, length, slice_index};
 ghost use Rattle.std.specs.List.{All};

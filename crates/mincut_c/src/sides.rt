@@ -55,16 +55,18 @@ fn separating_sides(
     list_parting(alloc, &solved.cactus, a + 1, b + 1)
 }
 
-/// The minimum cuts of the connected graph with `n` vertices, counted from 0, whose edges the arrays give, whose balance is at
-/// least a number: the lesser of the masses of the two sides. Where that number is 0 they are all. `masses` has n entries, or
-/// none, for a mass of 1 each. The sides stand in the order of lists, each by a row of n bytes in `inside`: 0 for vertex 0 and
-/// all on its side, 1 for the others. What stands behind the rows is left.
+/// The minimum cuts of the connected graph with `n` vertices, counted from 0, whose edges the
+/// arrays give, whose balance is at least a number: the lesser of the masses of the two sides.
+/// Where that number is 0 they are all. `masses` has n entries, or none, for a mass of 1 each. The
+/// sides stand in the order of lists, each by a row of n bytes in `inside`: 0 for vertex 0 and all
+/// on its side, 1 for the others. What stands behind the rows is left.
 ///
-/// The status is 0 where there is an answer. It is 9 where `inside` has fewer than n bytes for each of these sides, and 11
-/// where their number times n is above 2^30; their number is told all the same. Else it is as that of `mincut_raw_balanced`.
-/// With another status than 0 the bytes are left as they were, and with another than 0, 9 and 11 the numbers too. Time: that
-/// of the cactus, and for c sides O(c log c) comparisons of n/64 steps, and n steps for each row. Memory: that of the cactus,
-/// and n/8 bytes for each side.
+/// The status is 0 where there is an answer. It is 9 where `inside` has fewer than n bytes for
+/// each of these sides, and 11 where their number times n is above 2^30; their number is told all
+/// the same. Else it is as that of `mincut_raw_balanced`. With another status than 0 the bytes are
+/// left as they were, and with another than 0, 9 and 11 the numbers too. Time: that of the cactus,
+/// and for c sides O(c log c) comparisons of n/64 steps, and n steps for each row. Memory: that of
+/// the cactus, and n/8 bytes for each side.
 #[unsafe(no_mangle)]
 pub extern "C" fn mincut_raw_sides(
     alloc: Global,
@@ -111,8 +113,8 @@ fn check_pair(n: u32, a: u32, b: u32) -> Result<(), Fault>
     Ok(())
 }
 
-/// The value of the graph of the arrays and a cactus of its minimum cuts, and that two numbers are vertices, which is looked at
-/// first.
+/// The value of the graph of the arrays and a cactus of its minimum cuts, and that two numbers are
+/// vertices, which is looked at first.
 fn solved_with_pair(
     alloc: Global,
     n: u32,
@@ -133,11 +135,13 @@ fn solved_with_pair(
     Ok(solved)
 }
 
-/// The minimum cuts of the connected graph with `n` vertices, counted from 0, whose edges the arrays give, that have exactly
-/// one of two vertices in their side, as rows of bytes in the order of lists. Where the two are one vertex, there are none.
+/// The minimum cuts of the connected graph with `n` vertices, counted from 0, whose edges the
+/// arrays give, that have exactly one of two vertices in their side, as rows of bytes in the order
+/// of lists. Where the two are one vertex, there are none.
 ///
-/// The status is 0 where there is an answer. The two vertices are looked at first: it is 6 where one is n or more. Else the
-/// statuses, what is told and what is left, and the cost are those of `mincut_raw_sides` without masses.
+/// The status is 0 where there is an answer. The two vertices are looked at first: it is 6 where
+/// one is n or more. Else the statuses, what is told and what is left, and the cost are those of
+/// `mincut_raw_sides` without masses.
 #[unsafe(no_mangle)]
 pub extern "C" fn mincut_raw_sides_between(
     alloc: Global,

@@ -24,7 +24,8 @@ use std::alloc::Global;
 use weighted_graph::Graph;
 use worker_team::Alone;
 
-/// The value of a connected graph, and a cactus of its minimum cuts, by sweeps over the graph itself.
+/// The value of a connected graph, and a cactus of its minimum cuts,
+/// by sweeps over the graph itself.
 fn solved_by_sweeps(alloc: Global, list: EdgeList) -> Result<Solved, Fault>
     requires { 2 ≤ list.vertices }
     ensures solved { IfOk result (IsSolved list) }
@@ -42,8 +43,8 @@ fn solved_by_sweeps(alloc: Global, list: EdgeList) -> Result<Solved, Fault>
     Ok(solved)
 }
 
-/// The value of a connected graph, and a cactus of its minimum cuts. A small graph is swept over as it is; a large one is contracted
-/// before, as in the program.
+/// The value of a connected graph, and a cactus of its minimum cuts. A small graph is swept over
+/// as it is; a large one is contracted before, as in the program.
 fn solved_of_list(alloc: Global, list: EdgeList) -> Result<Solved, Fault>
     requires { 2 ≤ list.vertices }
     ensures solved { IfOk result (IsSolved list) }

@@ -14,8 +14,8 @@ use std::alloc::Global;
 use weighted_graph::Graph;
 use worker_team::Alone;
 
-/// Whether forests are tried before a sweep: where there are few edges, in all or for each vertex, the sweep costs less. Either
-/// answer is right.
+/// Whether forests are tried before a sweep: where there are few edges, in all or for each vertex,
+/// the sweep costs less. Either answer is right.
 fn suits_forests(list: &EdgeList) -> bool {
     let n = list.n() as usize;
     list.len() > FEW_EDGES && list.len() >= n + n / 2
@@ -57,12 +57,13 @@ pub(crate) fn lesser_of_arrays(
     Ok(weight)
 }
 
-/// The least weight of a cut of the graph with `n` vertices, counted from 0, whose edges the arrays give: 0 where it is not
-/// connected.
+/// The least weight of a cut of the graph with `n` vertices, counted from 0, whose edges the
+/// arrays give: 0 where it is not connected.
 ///
-/// The status is 0 where there is an answer. It is 1 where n is 0 or 1, 2 where memory is wanting, 3 where the arrays differ in
-/// length, 4 and 5 where there are too many vertices or edges, 6 where an end of an edge is n or more, 7 where the edges but for
-/// loops weigh more than 2^61; the value is then left as it was. Time O(m log m) and that of one sweep of flows.
+/// The status is 0 where there is an answer. It is 1 where n is 0 or 1, 2 where memory is wanting,
+/// 3 where the arrays differ in length, 4 and 5 where there are too many vertices or edges, 6
+/// where an end of an edge is n or more, 7 where the edges but for loops weigh more than 2^61; the
+/// value is then left as it was. Time O(m log m) and that of one sweep of flows.
 #[unsafe(no_mangle)]
 pub extern "C" fn mincut_raw_value(
     alloc: Global,

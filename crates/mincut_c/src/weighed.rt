@@ -13,8 +13,8 @@ use cut_definitions::VertexWeights;
 use rooted_cactus::Solved;
 use std::alloc::Global;
 
-/// The value of the graph of the arrays and a cactus of its minimum cuts, and the masses of its vertices, which are looked at
-/// first.
+/// The value of the graph of the arrays and a cactus of its minimum cuts, and the masses of its
+/// vertices, which are looked at first.
 pub(crate) fn weighed_of_arrays(
     alloc: Global,
     n: u32,

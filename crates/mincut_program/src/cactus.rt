@@ -18,7 +18,8 @@ use std::alloc::Global;
 use stop_lines::Stop;
 use tree_flattening::canonical_flat;
 
-/// The canonical cactus of the minimum cuts, made flat by the arrays of their tree, where that has just the nodes of the cactus.
+/// The canonical cactus of the minimum cuts, made flat by the arrays of their tree, where that has
+/// just the nodes of the cactus.
 fn flat_by_arrays(
     alloc: Global,
     list: &EdgeList,

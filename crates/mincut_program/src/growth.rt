@@ -1,7 +1,8 @@
 //! The job `grow`: insertions of edges, one after another, and the minimum cuts after each.
 //!
-//! The cactus of all minimum cuts is kept from step to step: an insertion leaves just the cuts that do not part its two
-//! vertices, as long as there is one, and then the value stays. Where none is left the graph is solved anew.
+//! The cactus of all minimum cuts is kept from step to step: an insertion leaves just the cuts
+//! that do not part its two vertices, as long as there is one, and then the value stays. Where
+//! none is left the graph is solved anew.
 
 ghost use Rattle.std.specs.Prelude.{◌≡◌, ◌≤◌, IfOk, IfErr};
 ghost use Rattle.std.specs.List.{All};
@@ -120,7 +121,8 @@ fn growth_reply<R: Threads + Sync, G: Gate>(
     grown_reply(crew.threads.alloc, growing, steps)
 }
 
-/// What the job `grow` answers for a graph, or the first insertion after which the graph would be too large.
+/// What the job `grow` answers for a graph, or the first insertion after which the
+/// graph would be too large.
 pub fn grow_reply<R: Threads + Sync, G: Gate>(
     crew: &Crew<R, G>,
     insertions: &Insertions,

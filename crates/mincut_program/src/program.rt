@@ -102,13 +102,15 @@ fn reply<R: Threads + Sync, S: Source, G: Gate>(
     }
 }
 
-/// All that the program does, over whatever source and sinks: it reads the words, reads the source to its end, writes
-/// the text of the reply to `out` or the line that tells why there is none to `err`, and answers how it ended. The job
-/// `trial` makes its graph and reads nothing. The runtime starts the threads of the workers.
+/// All that the program does, over whatever source and sinks: it reads the words, reads the source
+/// to its end, writes the text of the reply to `out` or the line that tells why there is none to
+/// `err`, and answers how it ended. The job `trial` makes its graph and reads nothing. The runtime
+/// starts the threads of the workers.
 ///
-/// Memory is in proportion to the graph and to what is printed; where workers share large regions each has a graph of its own,
-/// and `balanced` on a graph of several components takes a table of at most 2^32 bits. The value takes a sweep of flows, each of
-/// which is local on most graphs; the jobs on all minimum cuts take a further sweep, which lists all but one of the parts of
+/// Memory is in proportion to the graph and to what is printed; where workers share large regions
+/// each has a graph of its own, and `balanced` on a graph of several components takes a table of
+/// at most 2^32 bits. The value takes a sweep of flows, each of which is local on most graphs;
+/// the jobs on all minimum cuts take a further sweep, which lists all but one of the parts of
 /// each region that it splits.
 pub fn run<R: Threads + Sync, S: Source, K: Sink, E: Sink, G: Gate>(
     rt: &R,
@@ -119,11 +121,12 @@ pub fn run<R: Threads + Sync, S: Source, K: Sink, E: Sink, G: Gate>(
     err: &mut E,
     gate: &G,
 ) -> Status
-    // A run that writes no reply tells why: the status and the line are those of a stop that has its cause. Words that are no
-    // command and ask for no notice are bad; a fault is the first one of the bytes, and no read follows the one with which
-    // they fix it; a failed read is told where no fault was fixed before it; a vertex that is not there and a limit that is
-    // not kept are named after all was read; memory is wanting before anything is read, at a read that ends at most 65,536 bytes
-    // behind the end of the header, or once all was read, and nowhere else.
+    // A run that writes no reply tells why: the status and the line are those of a stop that has
+    // its cause. Words that are no command and ask for no notice are bad; a fault is the first one
+    // of the bytes, and no read follows the one with which they fix it; a failed read is told
+    // where no fault was fixed before it; a vertex that is not there and a limit that is not kept
+    // are named after all was read; memory is wanting before anything is read, at a read that ends
+    // at most 65,536 bytes behind the end of the header, or once all was read, and nowhere else.
     ensures told { result ≢ Status.Ok → result ≢ Status.WriteFault → Told (texts words.now) (S.left source.old) (S.left source.new)
         (S.faults source.old) (S.faults source.new) (E.taken err.old) (E.taken err.new) result }
     ensures asks_nothing { AsksNothing (texts words.now) →
@@ -143,8 +146,8 @@ pub fn run<R: Threads + Sync, S: Source, K: Sink, E: Sink, G: Gate>(
     ensures out_changed { K.faults out.new ≢ K.faults out.old → result ≡ Status.WriteFault }
     ensures err_changed { E.faults err.new ≢ E.faults err.old → result ≡ Status.WriteFault }
 
-    // At `Ok` the source was read to its end for a job that reads a graph, no count changed, the whole reply was taken,
-    // and nothing was told.
+    // At `Ok` the source was read to its end for a job that reads a graph, no count changed, the
+    // whole reply was taken, and nothing was told.
     ensures ok_end { result ≡ Status.Ok → ReadsGraph (texts words.now) → IsAtEnd (S.left source.new) }
     ensures ok_source { result ≡ Status.Ok → S.faults source.new ≡ S.faults source.old }
     ensures ok_out { result ≡ Status.Ok → K.faults out.new ≡ K.faults out.old }
@@ -154,8 +157,8 @@ pub fn run<R: Threads + Sync, S: Source, K: Sink, E: Sink, G: Gate>(
     // With another status nothing was replied, unless a write failed.
     ensures out_kept { result ≢ Status.Ok → result ≢ Status.WriteFault → out.new ≡ out.old }
 
-    // Where memory suffices and no count rose, a graph is answered, a vertex that is not there and a limit that is not
-    // kept are told, and a fault is refused.
+    // Where memory suffices and no count rose, a graph is answered, a vertex that is not there and
+    // a limit that is not kept are told, and a fault is refused.
     ensures accepted { (bytes : List ℕ) (graph : Graph) (command : Command) → command_of (texts words.now) ≡ Some command
         → S.left source.old ≡ Some bytes → graph_of bytes ≡ Ok graph
         → IsInRange command.job graph.vertices → (2 ≤ graph.vertices → IsWithin command (masses_of bytes) graph) → ¬ Rose (S.faults source.old) (S.faults source.new)

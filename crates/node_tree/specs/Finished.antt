@@ -16,7 +16,7 @@ pub record IsTreeOfAll (g : Graph) (a : NodeArrays) : Type 0 where
 abbrev pub arrays_of : HomedTree → NodeArrays
 arrays_of t = record { homes = λ v. slice_index t.homes.items v; links = t.tree }
 
--- and there is a node for each vertex
+-- a finished tree: its sides are just the minimum cuts without vertex 1, and each vertex has a node
 pub record IsFinished (g : Graph) (t : HomedTree) : Type 0 where
   pub long : length t.homes.items ≡ g.vertices + 1
   pub all : IsTreeOfAll g (arrays_of t)

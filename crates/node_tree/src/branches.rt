@@ -1,4 +1,5 @@
-//! A graph that is a tree, all of whose edges weigh the value: each edge is a minimum cut, and there is no other.
+//! A graph that is a tree, all of whose edges weigh the value:
+//! each edge is a minimum cut, and there is no other.
 
 ghost use Rattle.std.specs.Prelude.{◌≡◌, ◌↔◌, ◌+◌, ◌<◌, ◌≤◌, ℕ, IfOk, IfSome, IsTrue, OnOk, length};
 ghost use Rattle.cut_definitions.specs.Components.{IsConnected};
@@ -14,7 +15,8 @@ use weighted_graph::{Arc, Graph};
 /// The vertex in the root.
 const ROOT: u32 = 1;
 
-/// A tree of nodes with one vertex each, and the vertices in the order of the nodes, in which they were found.
+/// A tree of nodes with one vertex each, and the vertices in the order of the nodes,
+/// in which they were found.
 #[derive(Drop)]
 pub struct Branches {
     pub order: Vec<u32>,
@@ -49,7 +51,8 @@ impl Branches {
         node > 0 && self.order[self.made.tree.upper(node)] == v
     }
 
-    /// Puts a vertex into a new node that hangs from another. Where memory is wanting, part of that was done.
+    /// Puts a vertex into a new node that hangs from another.
+    /// Where memory is wanting, part of that was done.
     fn put(&mut self, v: u32, upper: usize) -> Result<(), NoMemory>
         requires { v < length self.old.made.homes.items }
         ensures { OnOk result (AddsBranch self.old self.new v upper) }
@@ -60,8 +63,9 @@ impl Branches {
         Ok(())
     }
 
-    /// Puts the vertex that an arc of a node leads to into a new node that hangs from it, unless it is above. Answers false
-    /// where the arc has another weight, or leads to a vertex that was found elsewhere.
+    /// Puts the vertex that an arc of a node leads to into a new node that hangs from it,
+    /// unless it is above. Answers false where the arc has another weight, or leads to a vertex
+    /// that was found elsewhere.
     fn put_arc(&mut self, arc: Arc, node: usize, weight: u64) -> Result<bool, NoMemory>
         requires search { (n : ℕ) × IsSearch n self.old × (1 ≤ arc.to) × (arc.to ≤ n) }
         requires within { node < found self.old }
@@ -80,8 +84,9 @@ impl Branches {
         Ok(true)
     }
 
-    /// Puts the vertices beside that of a node, but the one above, into new nodes that hang from it. Answers false where an
-    /// edge has another weight, or leads to a vertex that was found elsewhere.
+    /// Puts the vertices beside that of a node, but the one above, into new nodes that
+    /// hang from it. Answers false where an edge has another weight, or leads to a vertex
+    /// that was found elsewhere.
     fn put_row(&mut self, graph: &Graph, node: usize, weight: u64) -> Result<bool, NoMemory>
         requires within { node < found self.old }
         requires branching { IsBranching graph.now weight self.old node }
@@ -97,9 +102,9 @@ impl Branches {
     }
 }
 
-/// The tree of the minimum cuts of a connected graph that is a tree itself, all of whose edges have the value: each vertex is
-/// in a node of its own. None where the graph is no such tree; no answer rests on that, since a sweep finds the tree of any
-/// graph.
+/// The tree of the minimum cuts of a connected graph that is a tree itself, all of whose edges
+/// have the value: each vertex is in a node of its own. None where the graph is no such tree; no
+/// answer rests on that, since a sweep finds the tree of any graph.
 ///
 /// Breadth-first search (Moore, 1959), in O(n). It is refused only where memory is wanting.
 pub fn tree_of_branches(

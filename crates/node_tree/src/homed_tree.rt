@@ -25,8 +25,8 @@ impl HomedTree {
         Ok(HomedTree { tree, homes })
     }
 
-    /// The tree with the vertices of each class in place of the class: the list has the class of each vertex from 1 on. It
-    /// takes eight bytes for each vertex.
+    /// The tree with the vertices of each class in place of the class: the list has the class of
+    /// each vertex from 1 on. It takes eight bytes for each vertex.
     pub fn spread(self, alloc: Global, classes: &[u32]) -> Result<HomedTree, NoMemory>
         requires { All (λ class. class < length self.homes.items) classes.now }
         ensures tree { IfOk result (λ t. t.tree ≡ self.tree) }

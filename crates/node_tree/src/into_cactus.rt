@@ -71,7 +71,8 @@ fn empty_nodes(alloc: Global, vertices: &[u32], blocks: &[u32]) -> Result<Vec<No
     Ok(nodes)
 }
 
-/// The nodes of a tree without vertices and blocks, with just the room that they need. (The root has one place too many.)
+/// The nodes of a tree without vertices and blocks, with just the room that they need. (The root
+/// has one place too many.)
 fn bare_nodes(alloc: Global, tree: &FlatTree, homes: &[usize]) -> Result<Vec<Node>, NoMemory>
     requires within { All (λ home. home < length tree.now.uppers) homes.now }
     requires upper { (i : ℕ) → 1 ≤ i → i < length tree.now.uppers → slice_index tree.now.uppers i < i }
@@ -113,7 +114,8 @@ fn filled_nodes(
     Ok(nodes)
 }
 
-/// Takes the nodes from one on for a cycle, the last first: read backwards it has the same intervals.
+/// Takes the nodes from one on for a cycle, the last first:
+/// read backwards it has the same intervals.
 fn take_cycle(alloc: Global, nodes: &mut Vec<Node>, first: usize) -> Result<Children, NoMemory>
     requires { first ≤ length nodes.old.items }
     ensures rest { OnOk result (nodes.new.items ≡ take first nodes.old.items) }
@@ -190,10 +192,11 @@ pub struct MadeCactus {
 
 /// The cactus of a finished tree over the vertices 1 to n, whose sides are those of the tree.
 ///
-/// Nodes that follow each other are in one cycle, and a node alone hangs by a bridge; the node of vertex 1 is the root. So
-/// each cycle has three nodes or more, and where no node is empty the cactus is normal. Each list has just the room that it
-/// needs. It takes memory in proportion to the nodes and vertices, and is refused only where that is wanting. One step for
-/// each node and vertex, in loops, so that a deep tree does not run out of stack.
+/// Nodes that follow each other are in one cycle, and a node alone hangs by a bridge; the node of
+/// vertex 1 is the root. So each cycle has three nodes or more, and where no node is empty the
+/// cactus is normal. Each list has just the room that it needs. It takes memory in proportion to
+/// the nodes and vertices, and is refused only where that is wanting. One step for each node and
+/// vertex, in loops, so that a deep tree does not run out of stack.
 pub fn cactus_of_tree(alloc: Global, tree: HomedTree, n: u32) -> Result<MadeCactus, NoMemory>
     requires some { 1 ≤ n }
     requires homes { length tree.homes.items ≡ n + 1 }
@@ -219,10 +222,11 @@ pub fn cactus_of_tree(alloc: Global, tree: HomedTree, n: u32) -> Result<MadeCact
     Ok(MadeCactus { cactus, is_filled })
 }
 
-/// The normal form of a cactus that was made of a tree: where each node has a vertex, and else where it is normal, the cactus as
-/// it is.
+/// The normal form of a cactus that was made of a tree: where each node has a vertex, and else
+/// where it is normal, the cactus as it is.
 ///
-/// It costs one step for each node and block where a node has no vertex, and memory in proportion to the nodes.
+/// It costs one step for each node and block where a node has no vertex,
+/// and memory in proportion to the nodes.
 pub fn normal_form(alloc: Global, made: MadeCactus) -> Result<Cactus, NoMemory>
     requires filled { IsTrue made.is_filled → is_normal made.cactus.root ≡ true }
     requires sides { HasNoEmptySide made.cactus }

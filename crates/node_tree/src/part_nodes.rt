@@ -24,12 +24,12 @@ fn hanging_after(i: u32, count: u32, later: &[u64], next: &[u64], value: u64) ->
     hanging(2 * later[i as usize], inner, after, next[i as usize], value)
 }
 
-/// Hangs a node for each part from the second on, the second below the node of the region, which is that of the first part,
-/// and writes the node of each of them.
+/// Hangs a node for each part from the second on, the second below the node of the region, which
+/// is that of the first part, and writes the node of each of them.
 ///
-/// `nodes[1]` is the node of the region; those of the other parts are written behind it, and no other place changes.
-/// `later` and `next` are what `weigh_parts` wrote of a chain. Each part takes one step. Want of memory is its only refusal,
-/// and then nodes may have been hung.
+/// `nodes[1]` is the node of the region; those of the other parts are written behind it, and no
+/// other place changes. `later` and `next` are what `weigh_parts` wrote of a chain. Each part
+/// takes one step. Want of memory is its only refusal, and then nodes may have been hung.
 pub fn hang_parts(
     tree: &mut FlatTree,
     count: u32,

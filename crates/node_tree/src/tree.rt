@@ -13,14 +13,15 @@ use std::marker::Model;
 pub enum Hanging {
     /// The part is no minimum cut, and the next hangs from its node.
     Bridged,
-    /// The next part follows it in a cycle.
+    /// The next part follows the part in a cycle.
     Followed,
-    /// It is the last of its cycle but for a node without vertices, from which the next part hangs.
+    /// The part is the last of its cycle but for a node without vertices,
+    /// from which the next hangs.
     Touching,
 }
 
-/// Nodes from 0 (the root) on: each but the root hangs below one with a lesser number, or follows the node before it in a
-/// cycle below the same node.
+/// Nodes from 0 (the root) on: each but the root hangs below one with a lesser number, or follows
+/// the node before it in a cycle below the same node.
 #[derive(Drop)]
 pub struct FlatTree {
     uppers: Vec<usize>,
@@ -101,8 +102,9 @@ impl FlatTree {
         Ok(node)
     }
 
-    /// Puts the nodes of another tree but its root behind those of this one. What hangs from that root then hangs from a node
-    /// of this tree. One step for each node; where memory is wanting, some were put.
+    /// Puts the nodes of another tree but its root behind those of this one. What hangs from
+    /// that root then hangs from a node of this tree. One step for each node; where memory
+    /// is wanting, some were put.
     pub fn graft(&mut self, node: usize, other: &FlatTree) -> Result<(), NoMemory>
         requires old { 1 ≤ length self.old.uppers }
         requires some { 1 ≤ length other.now.uppers }

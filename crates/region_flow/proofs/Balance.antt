@@ -21,7 +21,7 @@ leaves_of a b w x = if a then (if b then 0 else x) else (if b then 2 * w - x els
 start_edge : (a b : Bool) (w : ℕ) → leaves_of a b w w ≡ cut_of a b w
 start_edge a b w = grind arith
 
--- and so do all edges
+-- at the start all edges let out of a set just what it weighs
 pub out-start : (es : List Edge) (s : VertexSet) → out es (map (λ (e : Edge). e.w) es) s ≡ sum_by (cut_term s) es
 out-start [] s = refl
 out-start (e ∷ es) s = omega (arith, sum_by-cons (cut_term s) e es, start_edge (s e.u) (s e.v) e.w, out-start es s)
@@ -36,12 +36,12 @@ out-set (e ∷ es) [] i y s l n = absurd (omega (arith, n))
 out-set (e ∷ es) (x ∷ xs) zero y s l n = omega arith
 out-set (e ∷ es) (x ∷ xs) (suc i) y s l n = omega (arith, out-set es xs i y s (omega (arith, l)) (omega (arith, n)))
 
--- pushing along an edge from its lesser end to its greater, and back
+-- a push along an edge, from its lesser end to its greater, moves the amount
 push_up : (a b : Bool) (w x d o p : ℕ) → d ≤ x → x ≤ 2 * w → p + leaves_of a b w x ≡ o + leaves_of a b w (x - d) →
     p + (if a then d else 0) ≡ o + (if b then d else 0)
 push_up a b w x d o p h k e = grind arith
 
--- the same for a push back
+-- a push along an edge, from its greater end to its lesser, moves the amount
 push_down : (a b : Bool) (w x d o p : ℕ) → d ≤ 2 * w - x → x ≤ 2 * w → p + leaves_of a b w x ≡ o + leaves_of a b w (x + d) →
     p + (if b then d else 0) ≡ o + (if a then d else 0)
 push_down a b w x d o p h k e = grind arith
@@ -53,7 +53,7 @@ pub out-push_up : (es : List Edge) (xs : List ℕ) (i d : ℕ) (s : VertexSet) �
 out-push_up es xs i d s l n h k =
     push_up (s (edge_of es i).u) (s (edge_of es i).v) (edge_of es i).w (get_or xs i 0) d (out es xs s) _ h k (out-set es xs i (get_or xs i 0 - d) s l n)
 
--- and so does a push to the lesser end
+-- a push to the lesser end of an edge moves the amount from the one end to the other
 pub out-push_down : (es : List Edge) (xs : List ℕ) (i d : ℕ) (s : VertexSet) → i < length es → length xs ≡ length es →
     d ≤ 2 * (edge_of es i).w - get_or xs i 0 → get_or xs i 0 ≤ 2 * (edge_of es i).w →
     out es (set xs i (get_or xs i 0 + d)) s + counted s (edge_of es i).v d ≡ out es xs s + counted s (edge_of es i).u d
@@ -70,7 +70,7 @@ leaving-none (e ∷ es) [] s n z i l = absurd (omega (arith, n))
 leaving-none (e ∷ es) (x ∷ xs) s n z zero l = omega (arith, z)
 leaving-none (e ∷ es) (x ∷ xs) s n z (suc i) l = leaving-none es xs s (omega (arith, n)) (omega (arith, z)) i (omega (arith, l))
 
--- and the other way round
+-- where no edge lets out anything of a set, nor does the set
 pub out-none : (es : List Edge) (xs : List ℕ) (s : VertexSet) → length xs ≡ length es →
     ((i : ℕ) → i < length es → leaving s (edge_of es i) (get_or xs i 0) ≡ 0) → out es xs s ≡ 0
 out-none [] xs s n h = refl

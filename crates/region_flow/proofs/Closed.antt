@@ -49,7 +49,7 @@ arc_from g ok toward v a h =
     record { edge = h.within; from_one = omega (arith, p.1, r.0); to_n = omega (arith, p.1, r.1, r.2); weight = w; along = inr (p.1, p.0, omega arith) })
     h.ends
 
--- and so do all of the row
+-- all arcs of a row say what a search wants to know
 pub All-row : (g : Graph) → IsGraph g → (toward : List ℕ) (v : ℕ) → All (IsArcFrom g toward v) (row_of g v)
 All-row g ok toward v = All-weaker (IsArcAt g v) (IsArcFrom g toward v) (arc_from g ok toward v) (row_of g v) (row_arcs g v)
 
@@ -86,11 +86,11 @@ out_none-from_closed g ok toward n side h =
     (λ b p. All-contains (λ (a : Arc). 0 < residual_on e.v toward a → IsTrue (side a.to)) (row_of g e.v) (record { to = e.u; edge = i; weight = e.w })
     (h e.v (omega (arith, r.0, r.1)) r.2 b) rows.of_greater (omega arith)))
 
--- an edge that lets out nothing has no arc that leaves the set
+-- an edge that lets out nothing has no arc from its lesser end that leaves the set
 open_term : (a b : Bool) (x w : ℕ) → (if a then (if b then 0 else x) else (if b then 2 * w - x else 0)) ≡ 0 → a ≡ true → 0 < x → b ≡ true
 open_term a b x w h k l = grind arith
 
--- the same for the arc from the greater end
+-- an edge that lets out nothing has no arc from its greater end that leaves the set
 open_term_back : (a b : Bool) (x w : ℕ) → (if a then (if b then 0 else x) else (if b then 2 * w - x else 0)) ≡ 0 → b ≡ true → 0 < 2 * w - x → a ≡ true
 open_term_back a b x w h k l = grind arith
 

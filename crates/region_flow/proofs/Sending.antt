@@ -74,7 +74,7 @@ held-one s xs j h l =
     let c = counted_in (s j) 0 h in
     omega arith
 
--- and at least what two of its vertices hold
+-- a set holds at least what two of its vertices hold
 pub held-two : (s : VertexSet) (xs : List ℕ) (i j : ℕ) → s i ≡ true → s j ≡ true → i ≢ j → i < length xs → j < length xs → get_or xs i 0 + get_or xs j 0 ≤ held s xs
 held-two s xs i j h k apart l m =
     let a = held-set s xs 0 i i 0 (omega arith) l in

@@ -9,7 +9,8 @@ pub enum Outcome {
     Best(u64),
 }
 
-/// A run that answered `Best`: from where, to where, and the least weight of a cut between these two vertices.
+/// A run that answered `Best`: from where, to where, and the least weight of a cut
+/// between these two vertices.
 #[derive(Clone, Copy, Debug, PartialEq, Eq)]
 pub struct BestRun {
     pub s: u32,

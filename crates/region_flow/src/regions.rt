@@ -18,7 +18,8 @@ use std::alloc::Global;
 use std::marker::Model;
 use weighted_graph::Graph;
 
-/// A flow from a source that grows, with the vertices outside in regions, and the memory for searches.
+/// A flow from a source that grows, with the vertices outside in regions,
+/// and the memory for searches.
 ///
 /// It keeps no copy of its graph.
 #[derive(Drop)]
@@ -52,9 +53,11 @@ impl Model for RegionFlow {
 }
 
 impl RegionFlow {
-    /// A flow in a graph in which no vertex has entered the source, and all are in region 1 and not fed.
+    /// A flow in a graph in which no vertex has entered the source,
+    /// and all are in region 1 and not fed.
     ///
-    /// It takes time and memory O(n + m), and all the memory that the flow ever takes. Want of memory is its only refusal.
+    /// It takes time and memory O(n + m), and all the memory that the flow ever takes. Want of
+    /// memory is its only refusal.
     pub fn new(alloc: Global, graph: &Graph) -> Result<RegionFlow, NoMemory>
         ensures flow { IfOk result (IsRegionFlow graph.now) }
         ensures one { IfOk result (λ f. (v : ℕ) → 1 ≤ v → v ≤ graph.now.vertices → slice_index f.labels v ≡ 1) }
@@ -76,7 +79,8 @@ impl RegionFlow {
         })
     }
 
-    /// The label of a vertex of 1 to n: 0 where it has entered the source, else that of its region.
+    /// The label of a vertex of 1 to n: 0 where it has entered the source,
+    /// else that of its region.
     pub fn label(&self, v: u32) -> u32
         requires { v < length self.now.labels }
         ensures { result ≡ slice_index self.now.labels v }
@@ -91,7 +95,7 @@ impl RegionFlow {
         self.labels.as_slice()
     }
 
-    /// What a vertex of 1 to n is fed.
+    /// What a vertex of 1 to n is fed: its excess.
     pub fn feed(&self, v: u32) -> u64
         requires { v < length self.now.feed }
         ensures { result ≡ slice_index self.now.feed v }
@@ -99,8 +103,8 @@ impl RegionFlow {
         self.feed[v as usize]
     }
 
-    /// What is left toward the greater end of the edge at a place of the graph's list; toward the lesser end it is the rest
-    /// of twice the edge's weight.
+    /// What is left toward the greater end of the edge at a place of the graph's list; toward the
+    /// lesser end it is the rest of twice the edge's weight.
     pub fn toward(&self, edge: usize) -> u64
         requires { edge < length self.now.toward }
         ensures { result ≡ slice_index self.now.toward edge }
@@ -115,8 +119,9 @@ impl RegionFlow {
         self.tree.order.as_slice()
     }
 
-    /// Lets a vertex outside the source enter it: its neighbours in its region are fed what it can send them, and no other
-    /// vertex outside the source is fed anything else than before. It takes one step for each arc, and no memory.
+    /// Lets a vertex outside the source enter it: its neighbours in its region are fed what it can
+    /// send them, and no other vertex outside the source is fed anything else than before. It
+    /// takes one step for each arc, and no memory.
     pub fn enter(&mut self, graph: &Graph, t: u32)
         requires flow { IsRegionFlow graph.now self.old }
         requires to_n { t ≤ graph.now.vertices }
@@ -131,9 +136,10 @@ impl RegionFlow {
         self.cut_off(graph, &[t], region, 0);
     }
 
-    /// Cuts different vertices off from their region, and gives them a label that no vertex has; or lets them enter the
-    /// source, by the label 0. Outside the source the feed changes only at vertices that an edge joins to another region or
-    /// to the source. It takes one step for each of their arcs, and no memory.
+    /// Cuts different vertices off from their region, and gives them a label that no vertex has;
+    /// or lets them enter the source, by the label 0. Outside the source the feed changes only at
+    /// vertices that an edge joins to another region or to the source. It takes one step for each
+    /// of their arcs, and no memory.
     pub fn cut_off(&mut self, graph: &Graph, moved: &[u32], region: u32, fresh: u32)
         requires flow { IsRegionFlow graph.now self.old }
         requires may { MayBeCutOff self.old.labels moved.now region fresh }
@@ -152,7 +158,8 @@ impl RegionFlow {
         cut_off(residual, labels, feed, moved, region, fresh);
     }
 
-    /// One search from `t`: it brings `t` something, or finds the least set around `t` whose weight is least.
+    /// One search from `t`: it brings `t` something, or finds the least set around
+    /// `t` whose weight is least.
     fn pass(&mut self, graph: &Graph, t: u32, stop: u64)
         requires flow { IsRegionFlow graph.now self.old }
         requires to_n { t ≤ graph.now.vertices }
@@ -178,8 +185,9 @@ impl RegionFlow {
         self.looked = self.looked.saturating_add(looked);
     }
 
-    /// Feeds `t` as `flow` does, but answers None where all searches of this flow so far went along rows of more arcs than
-    /// `most`, which comes only where that is below 2^64 - 1. What the searches moved stays moved.
+    /// Feeds `t` as `flow` does, but answers None where all searches of this flow so far went
+    /// along rows of more arcs than `most`, which comes only where that is below 2^64 - 1. What
+    /// the searches moved stays moved.
     pub fn flow_within(&mut self, graph: &Graph, t: u32, stop: u64, most: usize) -> Option<Outcome>
         requires flow { IsRegionFlow graph.now self.old }
         requires to_n { t ≤ graph.now.vertices }
@@ -207,10 +215,11 @@ impl RegionFlow {
 
     /// The least weight of a set inside the region of `t` with `t`, if it is below the stop.
     ///
-    /// `AtLeast` comes just where each such set weighs at least the stop. After `Best` the vertices that were found are the
-    /// least such set whose weight is least, and `t` is fed just that weight. After `AtLeast` it is fed the stop or more. No
-    /// other vertex is fed more than before. It moves feed inside the region alone, and takes no memory. Each search goes
-    /// at most once along the rows of the vertices that it finds.
+    /// `AtLeast` comes just where each such set weighs at least the stop. After `Best` the
+    /// vertices that were found are the least such set whose weight is least, and `t` is fed just
+    /// that weight. After `AtLeast` it is fed the stop or more. No other vertex is fed more than
+    /// before. It moves feed inside the region alone, and takes no memory. Each search goes at
+    /// most once along the rows of the vertices that it finds.
     pub fn flow(&mut self, graph: &Graph, t: u32, stop: u64) -> Outcome
         requires flow { IsRegionFlow graph.now self.old }
         requires to_n { t ≤ graph.now.vertices }
@@ -229,10 +238,12 @@ impl RegionFlow {
         }
     }
 
-    /// Brings a vertex outside the source what others of its region are fed, as far as its stop, by one search that never
-    /// comes to `t`. It ends where it went along rows of more arcs than `most`.
+    /// Brings a vertex outside the source what others of its region are fed, as far as
+    /// its stop, by one search that never comes to `t`. It ends where it went along rows
+    /// of more arcs than `most`.
     ///
-    /// No other vertex is fed more than before, and `t` is fed the same. It moves feed inside the region alone, and takes no memory.
+    /// No other vertex is fed more than before, and `t` is fed the same. It moves feed inside the
+    /// region alone, and takes no memory.
     pub fn feed_past(&mut self, graph: &Graph, v: u32, t: u32, stop: u64, most: usize)
         requires flow { IsRegionFlow graph.now self.old }
         requires to_n { v ≤ graph.now.vertices }

@@ -1,7 +1,7 @@
 //! What each edge can still carry.
 //!
-//! There is one number for each edge: what can still go from its lesser end to its greater. The two directions always
-//! add up to twice the weight of the edge, so the number tells both.
+//! There is one number for each edge: what can still go from its lesser end to its greater. The
+//! two directions always add up to twice the weight of the edge, so the number tells both.
 
 ghost use Rattle.std.specs.Prelude.{◌≡◌, ◌+◌, ◌-◌, ◌*◌, ◌<◌, ◌≤◌, ◌^◌, if◌then◌else◌, IsTrue, IsFalse, length, map, slice_index, slice_set};
 ghost use Rattle.cut_definitions.specs.Graph.{IsEdgeList};

@@ -12,8 +12,9 @@ use crate::task::{Detour, Task};
 use crate::tree::{Link, Places, SearchTree, leads_on};
 use weighted_graph::Arc;
 
-/// Follows one arc of the row of the vertex at a place: puts its other end into the tree where that can send something,
-/// and pulls what it is fed. Where the answer is false nothing was pulled.
+/// Follows one arc of the row of the vertex at a place: puts its other end into the
+/// tree where that can send something, and pulls what it is fed. Where the answer is
+/// false nothing was pulled.
 fn visit(
     task: Task<'_>,
     feed: &mut [u64],
@@ -75,8 +76,8 @@ fn is_done(task: Task<'_>, feed: &[u64], toward: &[u64], places: Places<'_>, pla
     feed[places.order[0] as usize] >= task.stop || is_used_up(task, toward, places, place)
 }
 
-/// Follows the arcs of the row of the vertex at a place, until the root has what it wants or the vertex can send it
-/// nothing more.
+/// Follows the arcs of the row of the vertex at a place, until the root has what it wants or the
+/// vertex can send it nothing more.
 fn expand(task: Task<'_>, feed: &mut [u64], toward: &mut [u64], tree: &mut SearchTree, place: u32)
     requires flow { IsFlowIn task.graph.now task.labels.now feed.old toward.old }
     requires outside { 1 ≤ slice_index task.labels.now (slice_index tree.old.order.items 0) }
@@ -107,19 +108,20 @@ fn expand(task: Task<'_>, feed: &mut [u64], toward: &mut [u64], tree: &mut Searc
     }
 }
 
-/// Whether the root wants more, and either has got nothing in this search or this did not look at too many arcs since it
-/// did.
+/// Whether the root wants more, and either has got nothing in this search or this did not look at
+/// too many arcs since it did.
 fn is_wanting(fed: u64, before: u64, stop: u64, work: usize, limit: usize) -> bool
     ensures { IsTrue result ↔ ((fed < stop) × ((fed ≡ before) ⊎ (work ≤ limit))) }
 {
     fed < stop && (fed == before || work <= limit)
 }
 
-/// Searches from `t` against the arcs inside its region, the vertices of fewest arcs first, and pulls to `t` what each
-/// vertex that is found is fed, until `t` is fed the stop. Gives the lengths of all rows that it went along, added up.
+/// Searches from `t` against the arcs inside its region, the vertices of fewest arcs first, and
+/// pulls to `t` what each vertex that is found is fed, until `t` is fed the stop. Gives the
+/// lengths of all rows that it went along, added up.
 ///
-/// The tree does not grow anew after it brought something, so it may still have arcs that are used up. A search that
-/// brought something ends when it has gone four times as far as it had then.
+/// The tree does not grow anew after it brought something, so it may still have arcs that are used
+/// up. A search that brought something ends when it has gone four times as far as it had then.
 pub fn search(
     task: Task<'_>,
     feed: &mut [u64],
@@ -190,7 +192,8 @@ fn visit_past(
     visit(detour.task, feed, toward, tree, place, arc)
 }
 
-/// Follows the arcs of the row of a vertex as `expand` does, but those to the vertex that is passed.
+/// Follows the arcs of the row of a vertex as `expand` does,
+/// but those to the vertex that is passed.
 fn expand_past(
     detour: Detour<'_>,
     feed: &mut [u64],
@@ -223,8 +226,9 @@ fn expand_past(
     }
 }
 
-/// Searches from a vertex, inside its region, as `search` does, but never comes to the one that is passed, so that what this is
-/// fed stays. It ends once the vertex is fed the stop, or where the rows that it went along are longer than `most`.
+/// Searches from a vertex, inside its region, as `search` does, but never comes to the one that is
+/// passed, so that what this is fed stays. It ends once the vertex is fed the stop, or where the
+/// rows that it went along are longer than `most`.
 pub fn search_past(
     detour: Detour<'_>,
     feed: &mut [u64],

@@ -2,7 +2,8 @@
 
 use weighted_graph::Graph;
 
-/// What a search is to do: in which graph, inside which regions, and how much its root is to be fed.
+/// What a search is to do: in which graph, inside which regions,
+/// and how much its root is to be fed.
 #[derive(Clone, Copy)]
 pub struct Task<'a> {
     pub graph: &'a Graph,
@@ -10,8 +11,8 @@ pub struct Task<'a> {
     pub stop: u64,
 }
 
-/// What a search is to do that never comes to one vertex: the task, that vertex, and how many arcs the rows may have, added
-/// up, before it ends.
+/// What a search is to do that never comes to one vertex: the task, that vertex, and how many arcs
+/// the rows may have, added up, before it ends.
 #[derive(Clone, Copy)]
 pub struct Detour<'a> {
     pub task: Task<'a>,

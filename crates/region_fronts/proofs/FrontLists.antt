@@ -232,7 +232,7 @@ unset_laid_out n lists standing stack region place v h l is =
     omega (arith, zero, one) in
     (get_or-set_other standing v u 0 0 ne, λ _ e. ne (e ∙ sym is)))
 
--- it stands in another one by now
+-- the entry that was taken out has its place in another list by now
 pub kept_laid_out : (n : ℕ) (lists : List (List ℕ)) (standing stack : List ℕ) (region place v : ℕ) → IsLaidOut n lists standing stack → place < length (list_at lists region) →
     v ≡ get_or (list_at lists region) place 0 → get_or standing v 0 ≢ region → IsLaidOut n (shrunk lists region place) standing stack
 kept_laid_out n lists standing stack region place v h l is ne =
@@ -245,7 +245,7 @@ pub stale_kept : (labels : List ℕ) (f : FrontsState) (region place : ℕ) → 
 stale_kept labels f region place l ne u h =
     shrunk_keeps f.lists region place l (get_or labels u 0) u h (λ at e. ne (ap (λ (k : ℕ). get_or labels k 0) (sym e) ∙ at))
 
--- so may one that is not open
+-- an entry that is not open may be taken out
 pub shut_covered : (g : Graph) → IsGraph g → (labels : List ℕ) (f : FrontsState) (region place : ℕ) → place < length (list_at f.lists region) → IsCovered g labels f →
     (get_or labels (get_or (list_at f.lists region) place 0) 0 ≡ region → IsShutAt g labels (get_or (list_at f.lists region) place 0)) → IsCovered g labels (taken_out f region place)
 shut_covered g ok labels f region place l covered shut u h =

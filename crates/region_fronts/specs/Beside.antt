@@ -15,11 +15,11 @@ pub record IsOpenIn (g : Graph) (labels : List ℕ) (region v : ℕ) : Type 0 wh
 abbrev pub end_at : Graph → ℕ → ℕ → ℕ
 end_at g v place = (slice_index_or (row_of g v) place no_arc).to
 
--- none of the first arcs of a row leads to such a vertex of its own region
+-- none of the first arcs of a row leads to an open vertex of its own region with a row of at most 32 arcs
 abbrev pub LeadsToNoneBefore : Graph → List ℕ → ℕ → ℕ → Type 0
 LeadsToNoneBefore g labels v count = (k : ℕ) → k < count → ¬ IsOpenIn g labels (slice_index labels v) (end_at g v k)
 
--- the first arc of a row of at most 32 that does
+-- the first arc of a row of at most 32 arcs that leads to an open vertex of its own region with such a row
 pub record IsFirstToOpen (g : Graph) (labels : List ℕ) (v : ℕ) (a : Arc) : Type 0 where
   pub short : length (row_of g v) ≤ 32
   pub place : ℕ

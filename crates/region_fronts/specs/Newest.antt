@@ -3,7 +3,7 @@ use Rattle.std.specs.Prelude.{ℕ, ◌≡◌, ◌≢◌, ◌+◌, ◌<◌, ◌�
 use Rattle.cut_definitions.specs.Graph.{Graph}
 use Rattle.cut_definitions.specs.Regions.{IsOpenAt}
 
--- another open vertex of the region of t
+-- an open vertex of the region of t, other than t
 pub record IsAnother (g : Graph) (labels : List ℕ) (t v : ℕ) : Type 0 where
   pub other : v ≢ t
   pub region : slice_index labels v ≡ slice_index labels t

@@ -17,7 +17,8 @@ use std::alloc::Global;
 use std::marker::Model;
 use weighted_graph::{Arc, Graph};
 
-/// For each label the vertices that were found open under it. A vertex whose label has changed since may stand there still.
+/// For each label the vertices that were found open under it. A vertex whose label has changed
+/// since may stand there still.
 ///
 /// It takes 28 bytes for each vertex at first, and memory for entries as vertices are put.
 #[derive(Drop)]
@@ -25,13 +26,15 @@ pub struct Fronts {
     n: u32,
     lists: Vec<Vec<u32>>,
 
-    // for each vertex the label under whose list it was put last, and 0 where it stands there no more
+    // for each vertex the label under whose list it was put last,
+    // and 0 where it stands there no more
     standing: Vec<u32>,
 
     // each label whose list is not empty, the list that was filled last on top
     stack: Vec<u32>,
 
-    // which entry of a list is looked at next; of the oldest first, all before this place are of a later turn
+    // which entry of a list is looked at next;
+    // of the oldest first, all before this place are of a later turn
     order: Order,
     turn: usize,
 }
@@ -92,10 +95,11 @@ fn leads_to_open(graph: &Graph, labels: &[u32], region: u32, to: u32) -> bool
     is_open(graph, labels, to)
 }
 
-/// The first arc of a vertex to an open vertex of its region, where that has a row of at most 32 arcs and the vertex has one
-/// itself; none exactly where there is none.
+/// The first arc of a vertex to an open vertex of its region, where that has a row of at most 32
+/// arcs and the vertex has one itself; none exactly where there is none.
 ///
-/// It takes a step for each arc of the row, and for each arc of a row beside it, so some thousand at most.
+/// It takes a step for each arc of the row, and for each arc of a row beside it,
+/// so some thousand at most.
 pub fn open_beside(graph: &Graph, labels: &[u32], v: u32) -> Option<Arc>
     requires to_n { v ≤ graph.now.vertices }
     requires labels { length labels.now ≡ graph.now.vertices + 1 }
@@ -186,7 +190,8 @@ fn first_filled(stack: &mut Vec<u32>, lists: &[Vec<u32>]) -> Option<u32>
 }
 
 impl Fronts {
-    /// Empty lists, for vertices 1 to n and labels 0 to n + 1. Of a list the next entry is that which this order tells.
+    /// Empty lists, for vertices 1 to n and labels 0 to n + 1.
+    /// Of a list the next entry is that which this order tells.
     ///
     /// Want of memory is its only refusal.
     pub fn new(alloc: Global, n: u32, order: Order) -> Result<Fronts, NoMemory>
@@ -257,8 +262,8 @@ impl Fronts {
         }
     }
 
-    /// Takes out the entry at a place of the list of a region, and goes on behind the place: what stands there now is newer than
-    /// all entries from there on.
+    /// Takes out the entry at a place of the list of a region, and goes on behind the place: what
+    /// stands there now is newer than all entries from there on.
     fn pass_over(&mut self, region: u32, place: usize)
         requires { place < length (list_at self.old.lists region) }
         ensures { self.new ≡ taken_out self.old region place }
@@ -318,8 +323,9 @@ impl Fronts {
         self.put_labelled(labels, to)
     }
 
-    /// Puts a vertex of a region that an edge joins to another label into the list of its label, and so each vertex of a
-    /// region that an edge joins to it from another label. What stands there already is not put again.
+    /// Puts a vertex of a region that an edge joins to another label into the list of its label,
+    /// and so each vertex of a region that an edge joins to it from another label. What stands
+    /// there already is not put again.
     ///
     /// It goes once along the row of the vertex. Where memory is wanting, what was put stays.
     pub fn put_ends(&mut self, graph: &Graph, labels: &[u32], v: u32) -> Result<(), NoMemory>
@@ -359,10 +365,12 @@ impl Fronts {
         Ok(())
     }
 
-    /// The vertex at a place of the list of a region, counted from 0; none where the list is no longer than the place.
+    /// The vertex at a place of the list of a region, counted from 0;
+    /// none where the list is no longer than the place.
     ///
-    /// Entries that come to stand at the place and have another label by now are taken out first, the last entry taking the
-    /// place of each. So the list never grows, and what stands before the place does not change.
+    /// Entries that come to stand at the place and have another label by now are taken out first,
+    /// the last entry taking the place of each. So the list never grows, and what stands before
+    /// the place does not change.
     pub fn read(&mut self, labels: &[u32], region: u32, place: usize) -> Option<u32>
         requires { length labels.now ≡ self.old.vertices + 1 }
         ensures vertices { self.new.vertices ≡ self.old.vertices }
@@ -386,11 +394,13 @@ impl Fronts {
         None
     }
 
-    /// An open vertex in the list of the label on top; none where all vertices have entered. Which one is free: it is the last of the
-    /// list, or, where the oldest enter first, one of those that were put earliest.
+    /// An open vertex in the list of the label on top; none where all vertices have entered.
+    /// Which one is free: it is the last of the list, or, where the oldest enter first, one of
+    /// those that were put earliest.
     ///
-    /// Entries that have another label by now, or are open no more, are taken out first. The vertex itself stays in its
-    /// list. Each entry is taken out once, and a look at a vertex goes along its row up to the first arc to another label.
+    /// Entries that have another label by now, or are open no more, are taken out first. The
+    /// vertex itself stays in its list. Each entry is taken out once, and a look at a vertex goes
+    /// along its row up to the first arc to another label.
     pub fn next(&mut self, graph: &Graph, labels: &[u32]) -> Option<u32>
         requires connected { IsConnected graph.now }
         requires labels { length labels.now ≡ graph.now.vertices + 1 }
@@ -414,8 +424,8 @@ impl Fronts {
         None
     }
 
-    /// The last entry in the list of the region of `t` that is another open vertex of that region, if it is one of the last four;
-    /// none exactly where none of these is.
+    /// The last entry in the list of the region of `t` that is another open vertex of that region,
+    /// if it is one of the last four; none exactly where none of these is.
     ///
     /// A look at an entry goes along its row up to the first arc to another label.
     pub fn newest_but(&self, graph: &Graph, labels: &[u32], t: u32) -> Option<u32>

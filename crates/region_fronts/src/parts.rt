@@ -170,7 +170,8 @@ impl Parts {
         self.unlisted = 0;
     }
 
-    /// Puts a vertex into a part, by the number of that, from 1 on. Nothing changes where there is no memory.
+    /// Puts a vertex into a part, by the number of that, from 1 on.
+    /// Nothing changes where there is no memory.
     pub fn put(&mut self, v: u32, number: u32) -> Result<(), NoMemory>
         requires from_one { 1 ≤ number }
         requires within { v < length self.old.numbers }
@@ -185,8 +186,9 @@ impl Parts {
 
     /// Makes the lists of the parts 1 to `count` from the vertices that were put.
     ///
-    /// With m vertices it takes m log m + `count` steps, m + `count` where they were put in the order of their numbers, and memory
-    /// only where it had not so much before. Where there is none, the numbers are kept, and no part has a list.
+    /// With m vertices it takes m log m + `count` steps, m + `count` where they were put in the
+    /// order of their numbers, and memory only where it had not so much before. Where there is
+    /// none, the numbers are kept, and no part has a list.
     pub fn finish(&mut self, count: u32, unlisted: u32) -> Result<(), NoMemory>
         requires from_one { 1 ≤ count }
         requires to_count { (v : ℕ) → slice_index self.old.numbers v ≤ count }

@@ -42,7 +42,8 @@ fn fill_rest(part_of: &mut [u32], number: u32)
     }
 }
 
-/// Marks what leads to `t` through vertices without a mark. The memory that it takes is given back at its end.
+/// Marks what leads to `t` through vertices without a mark.
+/// The memory that it takes is given back at its end.
 fn mark_last(
     alloc: Global,
     graph: &Graph,
@@ -69,9 +70,9 @@ fn mark_last(
 
 /// Finds the parts after the first, and says how many there are in all.
 ///
-/// The last part is what leads to `t`. No open arc leads to it from the other vertices without a part, and these are
-/// divided by path-based searches. It takes O(n + m), and memory for five numbers a vertex, which it gives back; want of it
-/// is the only refusal.
+/// The last part is what leads to `t`. No open arc leads to it from the other vertices without a
+/// part, and these are divided by path-based searches. It takes O(n + m), and memory for five
+/// numbers a vertex, which it gives back; want of it is the only refusal.
 pub fn find_parts(
     alloc: Global,
     graph: &Graph,

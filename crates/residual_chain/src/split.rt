@@ -11,9 +11,9 @@ use arc_search::{PathMemory, walk};
 
 /// Divides the vertices without a mark into parts, and answers the number of the last part.
 ///
-/// A set is closed where no open arc leaves it. The vertices that have a part are closed, and so are they with those
-/// without a mark. Each new part with all before it is closed, and a closed set that has a vertex of a new part has all
-/// of the part. It takes O(n + m).
+/// A set is closed where no open arc leaves it. The vertices that have a part are closed, and so
+/// are they with those without a mark. Each new part with all before it is closed, and a closed
+/// set that has a vertex of a new part has all of the part. It takes O(n + m).
 pub fn split(
     arcs: OpenArcs<'_>,
     parts: u32,

@@ -79,7 +79,7 @@ taken_fine left before after x b a h =
     ap all_fine b ∙ list_all-append is_fine left (x ∷ []) ∙ ap (λ k. all_fine left && k) (and-true (is_fine x) ∙ fine_step x ∙ ap (λ k. k && all_fine (flat_map nodes_of (blocks x))) h)
     ∙ sym (ap all_fine a ∙ list_all-append is_fine left (filter is_inner (flat_map nodes_of (blocks x))) ∙ ap (λ k. all_fine left && k) (inner_fine (flat_map nodes_of (blocks x))))
 
--- and one whose blocks are not shows that all is not
+-- a node whose blocks are not as they must be shows that not all is
 pub not_fine : (left before : List Node) (x : Node) → before ≡ left ++ x ∷ [] → list_all is_placed (blocks x) ≡ false → all_fine before ≡ false
 not_fine left before x b h =
     ap all_fine b ∙ list_all-append is_fine left (x ∷ []) ∙ ap (λ k. all_fine left && k) (and-true (is_fine x) ∙ fine_step x ∙ ap (λ k. k && all_fine (flat_map nodes_of (blocks x))) h) ∙ and-false (all_fine left)

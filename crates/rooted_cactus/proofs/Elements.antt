@@ -188,7 +188,7 @@ changed n xs a b c d s0 s1 s2 s3 s4 once n0 n1 n2 n3 h0 h1 h2 h3 h4 =
     h4 i3 g3 ∙ ap (λ k. listed k (steps xs a b c d)) whole
     ∙ listed-same s0.vertices (steps xs a b c d) (has (elements_at xs (range c d))) (λ u l m. steps_same n xs a b c d once u l (omega (arith, m, n0)))
 
--- the same, where the bounds of the ranges were computed before
+-- a side from which the vertices of two ranges are taken, and to which those of two ranges are added, by bounds that were computed before
 pub changed_to : (n : ℕ) (xs : List ℕ) (a b c d m1 m2 m3 m4 : ℕ) (s0 s1 s2 s3 s4 : VertexList) → m1 ≡ min b c → m2 ≡ max a d → m3 ≡ min d a → m4 ≡ max c b → AreOnce n xs → s0.vertices ≡ n → s1.vertices ≡ s0.vertices → s2.vertices ≡ s1.vertices → s3.vertices ≡ s2.vertices →
     s0 ≡ listed s0.vertices (has (elements_at xs (range a b))) →
     ((s : VertexSet) → s0 ≡ listed s0.vertices s → s1 ≡ listed s0.vertices (minus s (has (elements_at xs (range a m1))))) →

@@ -28,7 +28,7 @@ pub record IsOutlined (o : Outline) (q : Layout) (s : Numbers) : Type 0 where
   pub inner : (a b : Numbers) → AllHop (among a s b) (length a + 1) o.inner
   pub ranges : (a b : Numbers) (rest : List Border) → ranges_between (all_borders (among a s b) (length a + 1) o.inner ++ rest) ≡ q.ranges (length a) ++ ranges_between rest
 
--- the same of several nodes, their entries being given: as those of a block, or of all blocks below a node
+-- the entries of several nodes, such as those of a block or of all blocks below a node, outline a layout
 pub record AreEntries (nodes : ℕ) (es : List NodeOutline) (q : Layout) (s : Numbers) : Type 0 where
   pub size : q.size ≡ length s
   pub count : length es ≡ length s

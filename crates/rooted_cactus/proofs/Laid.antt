@@ -25,7 +25,7 @@ pub record IsLaid (p : Part) (q : Layout) (l : Lists) : Type 0 where
   pub cuts : (before behind : Lists) → p.cuts ≡ map (set_at (before ++ (l ++ behind))) (q.ranges (length before))
   pub within : (k : ℕ) → All (IsRangeWithin k (k + q.size)) (q.ranges k)
 
--- the same of several, one after another
+-- several parts are laid out, one after another
 pub data AreLaid : List Part → List Layout → List Lists → Type 0 where
   none : AreLaid [] [] []
   more : (p : Part) (ps : List Part) (q : Layout) (qs : List Layout) (l : Lists) (ls : List Lists) → IsLaid p q l → AreLaid ps qs ls → AreLaid (p ∷ ps) (q ∷ qs) (l ∷ ls)

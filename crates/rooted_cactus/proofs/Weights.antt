@@ -75,7 +75,7 @@ pub bridge_step : (r : Bool) (before left moved : List Block) (block : Block) (c
 bridge_step r before left moved block child node popped is inner m =
     omega (arith, ap blocks_weight popped, blocks_weight_append left (block ∷ []), ap block_weight is, block_weight_bridge child, ap node_weight inner, node_weight_out node, moved_weight r moved left (blocks node) m)
 
--- the same for one node of a cycle
+-- a node of a cycle is taken off, and what is below it put into the list
 pub node_step_less : (r : Bool) (before moved : List Block) (nodes left : List Node) (node : Node) → nodes ≡ left ++ node ∷ [] → moved ≡ (if r then before ++ blocks node else before) → blocks_weight moved + nodes_weight left ≤ blocks_weight before + nodes_weight nodes
 node_step_less r before moved nodes left node popped m =
     omega (arith, ap nodes_weight popped, nodes_weight_append left (node ∷ []), node_weight_out node, moved_weight r moved before (blocks node) m)

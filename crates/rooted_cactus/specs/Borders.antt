@@ -45,7 +45,7 @@ pub record HopsAt (sizes : List ℕ) (k : ℕ) (e : NodeOutline) : Type 0 where
   pub within : end ≤ length sizes
   pub block : Hops sizes e.head k end
 
--- the same of each entry, of which the first has the number k
+-- the subtrees of each entry, of which the first has the number k, lie within the sizes
 pub data AllHop : List ℕ → ℕ → List NodeOutline → Type 0 where
   hops_end : (sizes : List ℕ) (k : ℕ) → AllHop sizes k []
   hops_more : (sizes : List ℕ) (k : ℕ) (e : NodeOutline) (es : List NodeOutline) → HopsAt sizes k e → AllHop sizes (k + 1) es → AllHop sizes k (e ∷ es)

@@ -27,7 +27,7 @@ entered_node_step x = x.vertices ∷ x.blocks
 unfoldable pub entered : Node → List (List ℕ)
 entered = fold-Node (List (List ℕ)) (List (List ℕ)) (List (List ℕ)) (List (List ℕ)) entered_block_step entered_blocks_step entered_children_step entered_node_step
 
--- the same of the nodes of a block, without the node above
+-- the vertices of each node in or below a block, in the order of entering, without the node above
 unfoldable pub entered_block : Block → List (List ℕ)
 entered_block = fold-Block (List (List ℕ)) (List (List ℕ)) (List (List ℕ)) (List (List ℕ)) entered_block_step entered_blocks_step entered_children_step entered_node_step
 

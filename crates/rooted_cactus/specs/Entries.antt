@@ -107,7 +107,7 @@ pub record IsShed (leaves_stay : Bool) (b : Block) (j : Joint) (xs : List Node) 
   pub fewer : length (flat_map entered xs) ≤ length (entered_block b)
   pub reads : (names : List ℕ → List ℕ) → MayName leaves_stay names → (sets : List ℕ → VertexSet) (rs : List Read) → drawn sets j (map (read_node sets names) xs ++ rs) ≡ read_block sets names b
 
--- the same of several blocks
+-- several blocks are taken apart into joints and nodes: what is read off these is what is read off the blocks
 pub record AreShed (leaves_stay : Bool) (bs : List Block) (js : List Joint) (xs : List Node) : Type 0 where
   pub wants : wanted js ≡ length xs
   pub fewer : length (flat_map entered xs) ≤ length (flat_map entered_block bs)
@@ -121,7 +121,7 @@ joints_of e = top_first e.joints.items
 abbrev pub read_entry : (List ℕ → VertexSet) → ShedNode → List Read → List Read
 read_entry sets e rs = node_read sets e.vertices (all_drawn sets (joints_of e) rs) ∷ drop (wanted (joints_of e)) rs
 
--- the same of several entries, the last first
+-- what is read off several entries, the last first, each of which takes its nodes from the front of what is left
 abbrev pub read_entries : (List ℕ → VertexSet) → List ShedNode → List Read → List Read
 read_entries sets [] rs = rs
 read_entries sets (e ∷ es) rs = read_entry sets e (read_entries sets es rs)

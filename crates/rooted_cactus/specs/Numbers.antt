@@ -66,7 +66,7 @@ tally = fold-Block Tally (List Tally) (List ℕ) ℕ tally_block_step tally_bloc
 abbrev pub seen : List (Bor Node) → List Node
 seen = map (λ (x : Bor Node). x.now)
 
--- the same, the last first
+-- the nodes on a stack, the last first
 abbrev pub waiting : List (Bor Node) → List Node
 waiting xs = top_first (seen xs)
 

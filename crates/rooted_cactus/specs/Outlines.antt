@@ -66,7 +66,7 @@ sizes_node_step x = (length x.blocks + 1) ∷ x.blocks
 unfoldable pub sizes : Node → List ℕ
 sizes = fold-Node (List ℕ) (List ℕ) (List ℕ) (List ℕ) sizes_block_step sizes_blocks_step sizes_children_step sizes_node_step
 
--- the same of the nodes of a block
+-- for each node in or below a block, in the order of entering, the number of the nodes from it down
 unfoldable pub block_sizes : Block → List ℕ
 block_sizes = fold-Block (List ℕ) (List ℕ) (List ℕ) (List ℕ) sizes_block_step sizes_blocks_step sizes_children_step sizes_node_step
 

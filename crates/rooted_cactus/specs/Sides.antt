@@ -82,7 +82,7 @@ below x = (part x).below
 abbrev pub cuts : Node → List VertexSet
 cuts x = (part x).cuts
 
--- the same, where another test stands for the vertices of a node
+-- the part of a node, where another test stands for the vertices of a node
 abbrev pub node_step_by : (List ℕ → VertexSet) → Node-F Part Part (List Part) Part → Part
 node_step_by sets x = record { below = either (sets x.vertices) x.blocks.below; cuts = x.blocks.cuts }
 

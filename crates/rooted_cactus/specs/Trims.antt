@@ -63,14 +63,14 @@ pub record IsGood (sets : List VertexSet) (counts : List ℕ) : Type 0 where
   pub cuts : NoneEmpty sets
   pub wide : All (λ k. 2 ≤ k) counts
 
--- the same of what is good
+-- a node or a block shows what it was read from, if that is good
 abbrev pub IsNodeOf : Read → Node → Type 0
 IsNodeOf r x = IsGood (r.part.below ∷ r.part.cuts) r.counts → ShowsNode r x
 
 abbrev pub IsBlockOf : Read → Block → Type 0
 IsBlockOf r b = IsGood r.part.cuts r.counts → ShowsBlock r b
 
--- the same of several, one by one
+-- a relation holds between the members of two lists of one length, one by one
 abbrev pub Each : {X Y : Type 0} → (X → Y → Type 0) → List X → List Y → Type 0
 Each P [] [] = ⊤
 Each P (x ∷ xs) (y ∷ ys) = P x y × Each P xs ys
@@ -81,7 +81,7 @@ Each P (x ∷ xs) [] = ⊥
 abbrev pub is_spare : List ℕ → List Block → Bool
 is_spare vs bs = (length vs == 0) && (length bs == 1)
 
--- that block is a bridge
+-- a node has no vertex, and one block alone, which is a bridge
 abbrev pub is_above_bridge : List ℕ → List Block → Bool
 is_above_bridge vs bs = is_spare vs bs && list_all (λ b. not (block_shape b).is_cycle) bs
 

@@ -27,6 +27,6 @@ widths_node_step x = x.blocks
 unfoldable pub widths : Node → List ℕ
 widths = fold-Node (List ℕ) (List ℕ) (List (List ℕ)) (List ℕ) widths_block_step widths_blocks_step widths_children_step widths_node_step
 
--- the same of a block
+-- the number of children of each cycle in a block: the block itself, if it is one, and those below it
 unfoldable pub block_widths : Block → List ℕ
 block_widths = fold-Block (List ℕ) (List ℕ) (List (List ℕ)) (List ℕ) widths_block_step widths_blocks_step widths_children_step widths_node_step

@@ -125,7 +125,8 @@ impl Blocks {
         Blocks { items }
     }
 
-    /// Appends a block. Where memory is wanting the list stays as it was, and the block is dropped.
+    /// Appends a block. Where memory is wanting the list stays as it was,
+    /// and the block is dropped.
     pub fn push(&mut self, item: Block) -> Result<(), NoMemory>
         ensures ok { OnOk result (blocks_in self.new ≡ blocks_in self.old ++ item ∷ []) }
         ensures err { OnErr result (blocks_in self.new ≡ blocks_in self.old) }
@@ -142,8 +143,8 @@ impl Blocks {
         self.items.pop()
     }
 
-    /// Takes the blocks from the place `at` on out of the list, in order, and gives them as a list of their own. It takes
-    /// memory for that list; where it is wanting the list stays as it was.
+    /// Takes the blocks from the place `at` on out of the list, in order, and gives them as a list
+    /// of their own. It takes memory for that list; where it is wanting the list stays as it was.
     pub fn split_off(&mut self, at: usize) -> Result<Blocks, NoMemory>
         requires { at ≤ length (blocks_in self.old) }
         ensures front { OnOk result (blocks_in self.new ≡ take at (blocks_in self.old)) }
@@ -204,8 +205,8 @@ impl Children {
         Ok(())
     }
 
-    /// Appends the nodes of another list, in order. Where memory is wanting the list stays as it was, and the others are
-    /// dropped.
+    /// Appends the nodes of another list, in order. Where memory is wanting the list stays as it
+    /// was, and the others are dropped.
     pub fn append(&mut self, more: Children) -> Result<(), NoMemory>
         ensures ok { OnOk result (nodes_in self.new ≡ nodes_in self.old ++ nodes_in more) }
         ensures err { OnErr result (nodes_in self.new ≡ nodes_in self.old) }
@@ -223,8 +224,8 @@ impl Children {
         self.items.pop()
     }
 
-    /// Takes the nodes from the place `at` on out of the list, in order, and gives them as a list of their own. It takes
-    /// memory for that list; where it is wanting the list stays as it was.
+    /// Takes the nodes from the place `at` on out of the list, in order, and gives them as a list
+    /// of their own. It takes memory for that list; where it is wanting the list stays as it was.
     pub fn split_off(&mut self, at: usize) -> Result<Children, NoMemory>
         requires { at ≤ length (nodes_in self.old) }
         ensures front { OnOk result (nodes_in self.new ≡ take at (nodes_in self.old)) }

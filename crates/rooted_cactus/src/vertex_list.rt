@@ -8,7 +8,8 @@ use std::alloc::Global;
 use std::marker::Model;
 use std::slice;
 
-/// How the vertices of a list are held. Most nodes of a large cactus have one vertex, which needs no memory of its own.
+/// How the vertices of a list are held. Most nodes of a large cactus have one vertex,
+/// which needs no memory of its own.
 #[derive(Drop)]
 enum Held {
     /// One vertex, and where memory comes from once there are more.
@@ -75,7 +76,8 @@ impl VertexList {
         }
     }
 
-    /// Appends a vertex. Where memory is wanting the list stays as it was. The first vertex of a list takes no memory.
+    /// Appends a vertex. Where memory is wanting the list stays as it was.
+    /// The first vertex of a list takes no memory.
     pub fn push(&mut self, item: u32) -> Result<(), NoMemory>
         ensures ok { OnOk result (self.new ≡ self.old ++ item ∷ []) }
         ensures err { OnErr result (self.new ≡ self.old) }
@@ -140,7 +142,8 @@ impl VertexList {
         self.as_slice()[i]
     }
 
-    /// Puts in place of each number the entry of the table at that place, counted from 0; a number past its end stays.
+    /// Puts in place of each number the entry of the table at that place, counted from 0;
+    /// a number past its end stays.
     pub fn rename(&mut self, names: &[u32])
         ensures { self.new ≡ renamed names.now self.old }
     {

@@ -15,7 +15,7 @@ pub record IsFirst (labels : List ℕ) (c from x : ℕ) : Type 0 where
   pub is_in : label labels x ≡ c
   pub before : (v : ℕ) → from ≤ v → v < x → label labels v ≢ c
 
--- it is 0, since no vertex from there on is in the class
+-- a number is 0, and no vertex from a vertex on is in the class
 pub record IsNone (labels : List ℕ) (c from x : ℕ) : Type 0 where
   pub zero : x ≡ 0
   pub none : (v : ℕ) → from ≤ v → v ≤ length labels → label labels v ≢ c
@@ -44,7 +44,7 @@ abbrev pub class_row : Graph → List ℕ → ℕ → List Edge
 class_row g labels c =
     filter (λ (e : Edge). nat_lt 0 e.w) (map (λ b. record { u = c; v = b; w = between g (class labels c) (class labels b) }) (range_with_len (c + 1) (classes labels - c)))
 
--- and from so many classes after one, in their order
+-- the edges of the contracted graph from each of so many classes after one to greater ones, in the order of the classes
 abbrev pub run_rows : Graph → List ℕ → ℕ → ℕ → List Edge
 run_rows g labels from count = flat_map (class_row g labels) (range_with_len (from + 1) count)
 

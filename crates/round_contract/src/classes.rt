@@ -32,9 +32,10 @@ fn join_marked(graph: &Graph, marks: &Marks, classes: &mut Classes)
     }
 }
 
-/// The labels of a graph's vertices by the classes that marked edges join, in one step or several; classes are numbered by
-/// their least vertex. The marks are over this graph's edges. It takes O(m log(n) + n) steps and 8 bytes of memory for each
-/// vertex, and is refused only where that is wanting.
+/// The labels of a graph's vertices by the classes that marked edges join, in one step or
+/// several; classes are numbered by their least vertex. The marks are over this graph's
+/// edges. It takes O(m log(n) + n) steps and 8 bytes of memory for each vertex, and is
+/// refused only where that is wanting.
 pub fn classes_of_marks(alloc: Global, graph: &Graph, marks: &Marks) -> Result<Labels, NoMemory>
     requires { marks.now.edges ≡ length graph.now.edges }
     ensures vertices { IfOk result (λ l. length l ≡ graph.now.vertices) }

@@ -1,4 +1,5 @@
-//! Contraction of a list of edges in several threads: mapped to classes and sorted by rayon's calls, and merged.
+//! Contraction of a list of edges in several threads:
+//! mapped to classes and sorted by rayon's calls, and merged.
 
 ghost use Rattle.std.specs.Prelude.{◌≡◌, All, IfOk, length};
 ghost use Rattle.std.specs.List.{flat_map};
@@ -31,7 +32,8 @@ fn class_edge(edge: &Edge, labels: &Labels) -> Option<Edge>
     })
 }
 
-/// The edges between the classes of their ends, but for those within a class, in the order of the list.
+/// The edges between the classes of their ends, but for those within a class,
+/// in the order of the list.
 fn class_edges<R: Threads + Sync>(
     rt: &R,
     alloc: Global,
@@ -61,7 +63,8 @@ fn sort_by_ends<R: Threads + Sync>(rt: &R, edges: &mut [Edge])
     par_sort_unstable_by_key(rt, edges, |edge: &Edge| (edge.u, edge.v));
 }
 
-/// The edges of the graph on the classes of labels, as `relabel_list` makes them, in as many threads as there are processors.
+/// The edges of the graph on the classes of labels, as `relabel_list` makes them, in as many
+/// threads as there are processors.
 pub(crate) fn relabel_in_threads<R: Threads + Sync>(
     rt: &R,
     alloc: Global,

@@ -10,8 +10,8 @@ use capped_scan::Scan;
 use mark_board::Marks;
 use weighted_graph::Graph;
 
-/// Marks the edges from the vertex scanned last to those whose link reaches the bound and the slack, and answers whether
-/// there is one. It goes along the vertex's row.
+/// Marks the edges from the vertex scanned last to those whose link reaches the bound and the
+/// slack, and answers whether there is one. It goes along the vertex's row.
 pub fn mark_links(
     graph: &Graph,
     scan: &Scan,

@@ -30,8 +30,8 @@ fn mark_if_certified(
     }
 }
 
-/// Tests the edges of a share, which begin at its number and are as far apart as there are shares, and marks those that are
-/// certified by the bound that the seat saw last.
+/// Tests the edges of a share, which begin at its number and are as far apart as there are shares,
+/// and marks those that are certified by the bound that the seat saw last.
 pub(crate) fn mark_share(
     board: &Board,
     seat: &mut BoardSeat,

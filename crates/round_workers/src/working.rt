@@ -15,15 +15,17 @@ use std::thread;
 use std::thread::Threads;
 use weighted_graph::Graph;
 
-/// A worker: its seat of the board, and once it has run its scan of the graph, or that memory was wanting for it.
+/// A worker: its seat of the board, and once it has run its scan of the graph,
+/// or that memory was wanting for it.
 #[derive(Drop)]
 pub(crate) struct Worker {
     pub(crate) seat: BoardSeat,
     pub(crate) scan: Option<Result<Scan, NoMemory>>,
 }
 
-/// What the workers of a round do: into how many shares the edges are divided, one for each worker, the slack of all marks,
-/// whether each worker tests the edges of its share by certificates before it scans, and whence it takes its memory.
+/// What the workers of a round do: into how many shares the edges are divided, one for each
+/// worker, the slack of all marks, whether each worker tests the edges of its share by
+/// certificates before it scans, and whence it takes its memory.
 #[derive(Clone, Copy)]
 pub(crate) struct Task {
     pub(crate) alloc: Global,
@@ -32,7 +34,8 @@ pub(crate) struct Task {
     pub(crate) certifies: bool,
 }
 
-/// A worker for each share, with a seat that is split off. It has no scan yet, and makes it in its own thread.
+/// A worker for each share, with a seat that is split off.
+/// It has no scan yet, and makes it in its own thread.
 pub(crate) fn workers_for(
     alloc: Global,
     graph: &Graph,
@@ -75,7 +78,8 @@ fn certify(board: &Board, seat: &mut BoardSeat, graph: &Graph, share: usize, tas
     }
 }
 
-/// Where a worker begins to scan: at the first vertex of its run, if the vertices are divided into as many runs as there are shares.
+/// Where a worker begins to scan: at the first vertex of its run, if the vertices are divided into
+/// as many runs as there are shares.
 fn root_of(graph: &Graph, share: usize, shares: usize) -> u32
     requires enough { 1 ≤ graph.now.vertices }
     requires share { share < shares }
@@ -87,8 +91,8 @@ fn root_of(graph: &Graph, share: usize, shares: usize) -> u32
     before as u32 + 1
 }
 
-/// Makes a scan of the graph for a worker, and scans what no other worker takes from a root of its own. Memory O(n) is all that it
-/// takes, and want of it is its only refusal.
+/// Makes a scan of the graph for a worker, and scans what no other worker takes from a root of its
+/// own. Memory O(n) is all that it takes, and want of it is its only refusal.
 fn scan_own(
     board: &Board,
     seat: &mut BoardSeat,
@@ -116,8 +120,8 @@ fn scan_own(
     Ok(scan)
 }
 
-/// The work of one worker: it passes the gate, looks at the bound, tests the edges of its share, where that is asked for, and
-/// scans the graph from a vertex of its own.
+/// The work of one worker: it passes the gate, looks at the bound, tests the edges of its share,
+/// where that is asked for, and scans the graph from a vertex of its own.
 fn work<G: Gate>(
     board: &Board,
     graph: &Graph,
@@ -167,8 +171,8 @@ pub(crate) fn race<R: Threads + Sync, G: Gate>(
     );
 }
 
-/// Joins the seats of all workers to one, which then has all of their marks. It is refused where memory was wanting for the scan
-/// of one of them.
+/// Joins the seats of all workers to one, which then has all of their marks. It is refused where
+/// memory was wanting for the scan of one of them.
 pub(crate) fn join_workers(
     board: &Board,
     graph: &Graph,

@@ -15,7 +15,8 @@ use weighted_graph::{Arc, Graph, RowIndex};
 /// The least number of edges for which threads pay: below it they cost more than they save.
 const EDGES_FOR_THREADS: usize = 1_048_576;
 
-/// With fewer edges for each vertex the lists that the workers make for their vertices cost what they save.
+/// With fewer edges for each vertex the lists that the workers make for their
+/// vertices cost what they save.
 const EDGES_FOR_EACH_VERTEX: usize = 8;
 
 /// The writes into the rows of so many vertices stay in the nearer caches.
@@ -60,12 +61,13 @@ fn rows_by_ranges<R: Threads + Sync>(
     })
 }
 
-/// The graph of a list of edges, which is taken over, as `Graph::from_list` makes it. Where there are two workers or more, 1,048,576
-/// edges or more, eight or more for each vertex, and most of these lead to a near vertex, its rows are filled side by side, each
-/// worker's for a range of vertices. More than 64 workers count as 64. Want of a thread alone costs no more than time.
+/// The graph of a list of edges, which is taken over, as `Graph::from_list` makes it. Where there
+/// are two workers or more, 1,048,576 edges or more, eight or more for each vertex, and most of
+/// these lead to a near vertex, its rows are filled side by side, each worker's for a range of
+/// vertices. More than 64 workers count as 64. Want of a thread alone costs no more than time.
 ///
-/// It takes O(n + m) steps for each worker, and memory in proportion to n + m. It is refused only where that is wanting; the list
-/// is gone then.
+/// It takes O(n + m) steps for each worker, and memory in proportion to n + m. It is refused only
+/// where that is wanting; the list is gone then.
 pub fn graph_of_list<R: Threads + Sync>(
     rt: &R,
     alloc: Global,

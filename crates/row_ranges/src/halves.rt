@@ -11,7 +11,8 @@ use std::alloc::Global;
 use std::thread::{Threads, join_mut};
 use weighted_graph::Arc;
 
-/// Fills the rows of two ranges, which stand one after another, side by side. It answers the degrees of both.
+/// Fills the rows of two ranges, which stand one after another, side by side.
+/// It answers the degrees of both.
 #[cycle(ranges)]
 fn fill_halves<R: Threads + Sync>(
     rt: &R,
@@ -40,7 +41,8 @@ fn fill_halves<R: Threads + Sync>(
     Ok(degrees)
 }
 
-/// Fills the rows of a range, its halves side by side where there are two workers or more for it. It answers the degrees.
+/// Fills the rows of a range, its halves side by side where there are two workers or more for it.
+/// It answers the degrees.
 #[cycle(ranges)]
 pub(crate) fn fill_ranges<R: Threads + Sync>(
     rt: &R,

@@ -4,8 +4,9 @@ ghost use Rattle.std.specs.Prelude.{◌+◌, ◌<◌, ◌≤◌, length};
 
 use cut_definitions::Edge;
 
-/// A run of vertices from `first` on: all edges of the graph, where the row of each vertex of the run begins among those of all
-/// vertices and where the last one ends, and how many workers there are for the run.
+/// A run of vertices from `first` on: all edges of the graph, where the row of each vertex of
+/// the run begins among those of all vertices and where the last one ends, and how many
+/// workers there are for the run.
 #[derive(Clone, Copy)]
 pub struct Range<'a> {
     pub edges: &'a [Edge],

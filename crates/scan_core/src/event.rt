@@ -2,7 +2,8 @@
 
 use vertex_set::Side;
 
-/// A step of the machine, by the seat of this number. Edges are counted from 0, vertices and seats from 1.
+/// A step of the machine, by the seat of this number.
+/// Edges are counted from 0, vertices and seats from 1.
 #[derive(Drop)]
 pub enum Event {
     /// The seat sees the bound.

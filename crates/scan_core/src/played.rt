@@ -24,8 +24,9 @@ pub struct CoreSeat {
 
 /// The machine of a board: a bound that falls, marked edges, taken vertices and up to 1,000 seats.
 ///
-/// A core stands for a machine: this is a relation over what it keeps. Opened, it stands for the opening state; an event that
-/// was allowed turns a core that stands for a state into one that stands for the state after it.
+/// A core stands for a machine: this is a relation over what it keeps. Opened, it stands for the
+/// opening state; an event that was allowed turns a core that stands for a state into one that
+/// stands for the state after it.
 #[derive(Drop)]
 pub struct Core {
     graph: Graph,
@@ -68,8 +69,9 @@ fn is_cut(side: &Side) -> bool
 }
 
 impl Core {
-    /// The opening state: no marks, no taken vertices, and seat 1, which has seen the bound. The bound is the weight of some
-    /// cut, the value that of the graph, and parted are the edges that some minimum cut parts.
+    /// The opening state: no marks, no taken vertices, and seat 1, which has seen the bound. The
+    /// bound is the weight of some cut, the value that of the graph, and parted are the edges
+    /// that some minimum cut parts.
     pub fn open(
         alloc: Global,
         graph: &Graph,
@@ -105,9 +107,10 @@ impl Core {
         })
     }
 
-    /// Makes the step of an event where it is allowed, and answers whether it was. It is refused exactly where a seat is not
-    /// live, the side is no cut of the graph, the edge or the vertex is not in range, the edge of a mark is not safe for the
-    /// bound that the seat saw last, a seat is to be joined into itself, or 1,000 seats were made; then nothing changes.
+    /// Makes the step of an event where it is allowed, and answers whether it was. It is refused
+    /// exactly where a seat is not live, the side is no cut of the graph, the edge or the vertex
+    /// is not in range, the edge of a mark is not safe for the bound that the seat saw last, a
+    /// seat is to be joined into itself, or 1,000 seats were made; then nothing changes.
     pub fn step(&mut self, event: &Event) -> Result<bool, NoMemory>
         ensures answer { IfOk result (λ answer. IsAnswer self.old self.new event.now answer) }
         ensures refused { OnErr result (self.new ≡ self.old) }
@@ -123,8 +126,8 @@ impl Core {
         }
     }
 
-    /// Makes the steps of events, each in turn where it is allowed, and answers how many were. Where memory is wanting, the
-    /// state is that after some first part of the events.
+    /// Makes the steps of events, each in turn where it is allowed, and answers how many were.
+    /// Where memory is wanting, the state is that after some first part of the events.
     pub fn replay(&mut self, events: &[Event]) -> Result<u64, NoMemory>
         ensures ok { IfOk result (λ count. (m : Machine) → Shows self.old m → HasGone m events.now count self.new) }
         ensures refused { OnErr result ((m : Machine) → Shows self.old m → (k : ℕ) × (count : ℕ) × HasGone m (take k events.now) count self.new) }
@@ -182,8 +185,8 @@ impl Core {
         self.seats[place - 1].live
     }
 
-    /// Whether an edge in range is safe for the bound that a live seat saw last: no minimum cut below it and the slack parts
-    /// the edge.
+    /// Whether an edge in range is safe for the bound that a live seat saw last: no minimum cut
+    /// below it and the slack parts the edge.
     fn is_safe(&self, seat: u32, edge: u32) -> bool
         requires live { IsShownLive self.now seat }
         requires edge { edge < length self.now.graph.edges }

@@ -1,4 +1,5 @@
-//! Why a run of the program `mincut` has no answer: the line that it tells then, and the status with which it ends.
+//! Why a run of the program `mincut` has no answer:
+//! the line that it tells then, and the status with which it ends.
 //!
 //! A line has room for the longest, and takes no memory.
 #![tactic(auto)]

@@ -36,7 +36,8 @@ pub enum Stop {
     CountTooLarge { components: u32 },
     /// The number of components times the sum of all masses and 1 is above 2^32.
     BalanceTooLarge { components: u32, total: u128 },
-    /// The graph is too large after the insertion of this number, counted from 1, and after none before.
+    /// The graph is too large after the insertion of this number,
+    /// counted from 1, and after none before.
     GrowTooLarge { number: usize },
 }
 

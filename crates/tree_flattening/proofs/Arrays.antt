@@ -14,7 +14,7 @@ use Rattle.tree_flattening.specs.Arranged.{last_or, faced, run_list}
 use Rattle.tree_flattening.proofs.Following.{rest_from, rest_none, rest_some, run_next}
 use Rattle.tree_flattening.proofs.HeadLists.{run_range}
 
--- those of the numbers from 1 on that pass a test, with one number more
+-- the numbers from 1 on that pass a test, with one number more
 pub passed_next : (p : ℕ → Bool) (k : ℕ) → 1 ≤ k → filter p (range_with_len 1 (k + 1 - 1)) ≡ filter p (range_with_len 1 (k - 1)) ++ cond (p k) (k ∷ []) []
 passed_next p k low =
     let more : k + 1 - 1 ≡ suc (k - 1) = omega (arith, low) in

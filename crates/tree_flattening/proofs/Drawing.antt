@@ -98,7 +98,7 @@ module _ (p : Plan) (is : IsPlan p) where
   abbrev block_at : ℕ → ℕ → Block
   block_at f h = make_block (map (node_at p f) (p.run h))
 
-  -- the same with each fuel that is enough
+  -- a node is drawn alike with each fuel that is enough
   same_node : (f g i : ℕ) → p.count ≤ f + i → p.count ≤ g + i → i < p.count → node_at p f i ≡ node_at p g i
   unfolding node_at
   same_node zero g i a b l = absurd (omega (arith, a, l))

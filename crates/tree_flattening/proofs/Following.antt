@@ -3,7 +3,7 @@ use Rattle.std.proofs.Common.{◌≡◌, ℕ, zero, suc, ◌+◌, ◌-◌, ◌<�
 use Rattle.node_tree.specs.Flat.{TreeLinks, is_follower}
 use Rattle.tree_flattening.specs.Plans.{run_from, run_of}
 
--- those from a node on, if it follows the one before it
+-- the nodes of a cycle from a node on, if it follows the one before it; else none
 abbrev pub rest_from : TreeLinks → ℕ → List ℕ
 rest_from t k = cond (is_follower t.follows k) (run_of t k) []
 

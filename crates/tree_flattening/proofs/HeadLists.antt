@@ -65,7 +65,7 @@ elsewhere_no_head t i h ne = ap (λ b. not (is_follower t.follows h) && b) (ne_e
 pub lead_is_head : (t : TreeLinks) (i h : ℕ) → is_follower t.follows h ≡ false → get_or t.uppers h 0 ≡ i → is_head t i h ≡ true
 lead_is_head t i h e u = ap (λ b. not b && eqb (get_or t.uppers h 0) i) e ∙ eq-eqb (get_or t.uppers h 0) i u
 
--- those from a number on
+-- the first nodes of the blocks below a node, from a number on
 abbrev pub late : TreeLinks → ℕ → ℕ → List ℕ
 late t k i = filter (is_head t i) (range_with_len k (length t.uppers - k))
 

@@ -53,7 +53,7 @@ nodes_step members heads count k a nodes blocks blocks1 below many after is h i 
       ∙ ap (λ l. least (slice_index_or members k [] ++ l)) (sym (map_there (k + 1) blocks blocks1 hung after (λ p c. omega (arith, (below k p (omega (arith, same, lt)) c).0)))))
 ]
 
--- and so are all blocks
+-- one more block is written: all blocks from it on are known
 pub blocks_step : (t : TreeLinks) (k a : ℕ) (nodes blocks blocks1 : List ℕ) → ((h : ℕ) → k + 1 ≤ h → slice_index blocks1 h ≡ slice_index blocks h) →
     IsLeastOfBlock t (set nodes k a) blocks1 k →
     ((h : ℕ) → k + 1 ≤ h → h < length t.uppers → IsLeastOfBlock t nodes blocks h) → (h : ℕ) → k ≤ h → h < length t.uppers → IsLeastOfBlock t (set nodes k a) blocks1 h

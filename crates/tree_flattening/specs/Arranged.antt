@@ -69,7 +69,7 @@ AreBelow count heads = (i h : ℕ) → i < count → Contains (slice_index_or he
 abbrev pub IsLeastOfNode : List (List ℕ) → List (List ℕ) → List ℕ → List ℕ → ℕ → Type 0
 IsLeastOfNode members heads nodes blocks i = slice_index nodes i ≡ least (slice_index_or members i [] ++ map (slice_index blocks) (slice_index_or heads i []))
 
--- and the least below a block is that of its nodes
+-- the least vertex below a block is the least of those of its nodes
 abbrev pub IsLeastOfBlock : TreeLinks → List ℕ → List ℕ → ℕ → Type 0
 IsLeastOfBlock t nodes blocks h = is_follower t.follows h ≡ false → slice_index blocks h ≡ least (map (slice_index nodes) (run_of t h))
 
@@ -88,7 +88,7 @@ pub record IsOrdered (n : ℕ) (a : NodeArrays) (x : Arranged) : Type 0 where
 abbrev pub IsUnfit : ℕ → NodeArrays → Type 0
 IsUnfit n a = (n < length a.links.uppers) ⊎ (¬ (AreFilled n a) ⊎ ¬ (HasNoTriangle a.links))
 
--- the same where the vertices of the nodes are given lists
+-- a tree is sorted, where the vertices of the nodes are given lists: the blocks below each node ascend by their least vertex
 pub record IsSorted (t : TreeLinks) (members : List (List ℕ)) (x : Arranged) : Type 0 where
   pub blocks : List ℕ
   pub all : HasAll x

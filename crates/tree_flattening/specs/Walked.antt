@@ -49,7 +49,7 @@ run_gained p sizes f up run = if length run == 1 then with_own (with_next f up) 
 abbrev pub run_next : Plan → ℕ → List ℕ → List Task
 run_next p number run = if length run == 1 then map (hang number) (p.heads (slice_index run 0)) else map Enter run
 
--- the same of a task
+-- the flat cactus once a task is done, and what is then to be entered next
 abbrev pub task_gained : Plan → List ℕ → Flat → Task → Flat
 task_gained p sizes f (Enter i) = with_own f (p.own i)
 task_gained p sizes f (Hang h up) = run_gained p sizes f up (p.run h)

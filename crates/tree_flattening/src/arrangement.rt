@@ -8,7 +8,8 @@ ghost use Rattle.tree_flattening.specs.Plans.{run_of};
 use crate::groups::Groups;
 use node_tree::FlatTree;
 
-/// Nodes of a block, from one number up to another, which is not among them; from the last to the first where they are turned.
+/// Nodes of a block, from one number up to another, which is not among them; from the last to the
+/// first where they are turned.
 #[derive(Clone, Copy)]
 pub struct Run {
     first: usize,
@@ -38,8 +39,8 @@ impl Run {
     }
 }
 
-/// A tree, the vertices of each node, the first nodes of the blocks below it by their least vertices, and the least vertex at
-/// or under each node.
+/// A tree, the vertices of each node, the first nodes of the blocks below it by their least
+/// vertices, and the least vertex at or under each node.
 #[derive(Drop)]
 pub struct Arranged<'a> {
     tree: &'a FlatTree,

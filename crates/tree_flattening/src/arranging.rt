@@ -63,7 +63,8 @@ fn are_filled(groups: &Groups) -> bool
     true
 }
 
-/// Whether two nodes and no more follow each other somewhere, which make a cycle of three nodes with the one above.
+/// Whether two nodes and no more follow each other somewhere,
+/// which make a cycle of three nodes with the one above.
 fn has_triangle(tree: &FlatTree) -> bool
     ensures yes { IsTrue result → ¬ (HasNoTriangle tree.now) }
     ensures no { IsFalse result → HasNoTriangle tree.now }
@@ -109,8 +110,9 @@ fn arrange_filled<'a>(
     Ok(Arranged::new(tree, members, heads, nodes))
 }
 
-/// A tree over the vertices 1 to n whose blocks stand in the order of their least vertices; none where there are more nodes than
-/// vertices, a node has no vertex, or a cycle has three nodes with the one above.
+/// A tree over the vertices 1 to n whose blocks stand in the order of their least vertices;
+/// none where there are more nodes than vertices, a node has no vertex, or a cycle has three
+/// nodes with the one above.
 pub fn arrange<'a>(
     alloc: Global,
     tree: &'a HomedTree,

@@ -11,7 +11,8 @@ use cut_definitions::NoMemory;
 use node_tree::FlatTree;
 use std::alloc::Global;
 
-/// The least vertex at or below each node, and at the first node of each block the least below that.
+/// The least vertex at or below each node, and at the first node of each
+/// block the least below that.
 #[derive(Drop)]
 pub struct Leasts {
     pub nodes: Vec<u32>,
@@ -96,7 +97,7 @@ fn find_leasts(
     }
 }
 
-/// Those of all nodes and blocks of a tree. One step for each node and vertex.
+/// The least vertices of all nodes and blocks of a tree. One step for each node and vertex.
 pub fn leasts_of(
     alloc: Global,
     tree: &FlatTree,

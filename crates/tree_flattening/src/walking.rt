@@ -16,7 +16,8 @@ use cut_definitions::NoMemory;
 use flat_cactus::FlatCactus;
 use std::alloc::{AllocError, Global};
 
-/// What is still to be entered: a node, or the block that begins with a node, below the node of a number.
+/// What is still to be entered: a node, or the block that begins with a node,
+/// below the node of a number.
 #[derive(Clone, Copy)]
 enum Task {
     Enter(usize),
@@ -59,7 +60,8 @@ fn add_node(flat: &mut FlatCactus, own: &[u32]) -> Result<(), NoMemory>
     Ok(())
 }
 
-/// Appends the cycle through the node `up` and the roots of the trees of a run, whose nodes have the next numbers.
+/// Appends the cycle through the node `up` and the roots of the trees of a run,
+/// whose nodes have the next numbers.
 fn add_cycle(flat: &mut FlatCactus, up: u64, run: Run, sizes: &[usize]) -> Result<(), NoMemory>
     requires ordered { run.first ≤ run.end }
     requires known { All (λ j. j < length sizes.now) (run_list run) }
@@ -151,8 +153,8 @@ fn size_of_run(sizes: &[usize], run: Run, before: usize) -> Result<usize, NoMemo
     Ok(size)
 }
 
-/// How many nodes there are at and below a node, where those below its blocks are known. (So many as do not fit a word are not
-/// in memory.)
+/// How many nodes there are at and below a node, where those below its blocks are known. (So many
+/// as do not fit a word are not in memory.)
 fn size_of_node(plan: &Arranged, sizes: &[usize], node: usize) -> Result<usize, NoMemory>
     requires plan { IsPlan (plan_of plan.now) }
     requires all { HasAll plan.now }
@@ -183,11 +185,12 @@ fn sizes_of(alloc: Global, plan: &Arranged) -> Result<Vec<usize>, NoMemory>
     Ok(sizes)
 }
 
-/// The flat cactus of an arranged tree over the vertices 1 to n: its nodes numbered from 0 in the order in which the tree is
-/// entered, a node before its children and children in order.
+/// The flat cactus of an arranged tree over the vertices 1 to n: its nodes numbered from 0 in the
+/// order in which the tree is entered, a node before its children and children in order.
 ///
-/// One step for each node, block and vertex, in loops with a stack, so that a deep tree does not run out of stack. It takes
-/// memory in proportion to the nodes and to n, and is refused only where that is wanting.
+/// One step for each node, block and vertex, in loops with a stack, so that a deep tree does
+/// not run out of stack. It takes memory in proportion to the nodes and to n, and is refused
+/// only where that is wanting.
 pub fn flatten_arranged(alloc: Global, plan: &Arranged, n: u32) -> Result<FlatCactus, NoMemory>
     requires plan { IsPlan (plan_of plan.now) }
     requires all { HasAll plan.now }

@@ -16,7 +16,7 @@ Respects parents s = (v : ℕ) → v < length parents → s (slice_index parents
 abbrev pub AreJoined : List ℕ → ℕ → ℕ → Type 0
 AreJoined parents u v = (s : VertexSet) → Respects parents s → s u ≡ s v
 
--- the same classes, perhaps by other parents
+-- the classes of new parents are those of old ones
 pub record HasSameClasses (old new : List ℕ) : Type 0 where
   pub long : length new ≡ length old
   pub respected : (s : VertexSet) → Respects new s ↔ Respects old s

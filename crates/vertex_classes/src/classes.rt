@@ -9,8 +9,8 @@ use cut_definitions::NoMemory;
 use std::alloc::Global;
 use std::marker::Model;
 
-/// The first vertex of a class. On the way to it each second vertex gets the parent of its parent, so that the next search
-/// is shorter.
+/// The first vertex of a class. On the way to it each second vertex gets the parent of its parent,
+/// so that the next search is shorter.
 fn first_of(parents: &mut [u32], v: u32) -> u32
     requires parents { AreParents parents.old }
     requires within { v < length parents.old }
@@ -43,8 +43,9 @@ fn own_parents(alloc: Global, count: u32) -> Result<Vec<u32>, NoMemory>
     Ok(parents)
 }
 
-/// Classes of the numbers 0 to n, of which 0 stands for no vertex. Contracts see the parents. The classes are the trees of
-/// Galler and Fischer (1964), with ways that are halved (Tarjan and van Leeuwen, 1984).
+/// Classes of the numbers 0 to n, of which 0 stands for no vertex. Contracts see the
+/// parents. It is union-find by the trees of Galler and Fischer (1964), with path halving
+/// (Tarjan and van Leeuwen, 1984).
 #[derive(Drop)]
 pub struct Classes {
     parents: Vec<u32>,
@@ -62,7 +63,8 @@ impl Model for Classes {
 }
 
 impl Classes {
-    /// Each number in a class of its own. It takes 4 bytes of memory for each, and is refused only where that is wanting.
+    /// Each number in a class of its own. It takes 4 bytes of memory for each,
+    /// and is refused only where that is wanting.
     pub fn new(alloc: Global, n: u32) -> Result<Classes, NoMemory>
         requires { n ≤ 4194304 }
         ensures long { IfOk result (λ c. length c ≡ n + 1) }
@@ -99,8 +101,9 @@ impl Classes {
         parents[last as usize] = first.min(second);
     }
 
-    /// The numbers of the classes of the vertices 1 to n, in their order: a class comes before another where its least
-    /// vertex does. 0 is alone. It takes 4 bytes of memory for each vertex, and is refused only where that is wanting.
+    /// The numbers of the classes of the vertices 1 to n, in their order: a class comes before
+    /// another where its least vertex does. 0 is alone. It takes 4 bytes of memory for each
+    /// vertex, and is refused only where that is wanting.
     pub fn numbers(&self, alloc: Global) -> Result<Vec<u32>, NoMemory>
         requires { Respects self.now no_vertex }
         ensures numbers { IfOk result (λ l. AreNumbersOf self.now l.items) }
@@ -109,7 +112,8 @@ impl Classes {
         class_numbers(alloc, &self.parents)
     }
 
-    /// The number of the classes of the vertices 1 to n, where 0 is alone. It takes O(n) steps and no memory.
+    /// The number of the classes of the vertices 1 to n, where 0 is alone.
+    /// It takes O(n) steps and no memory.
     pub fn count(&self) -> u32
         requires { Respects self.now no_vertex }
         ensures { HasClasses self.now result }

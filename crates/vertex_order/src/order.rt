@@ -15,9 +15,10 @@ const FAR: u32 = 4_096;
 /// Where so large a part of the vertices waits at once, their order says little of who is near.
 const PART_WAITING: usize = 12;
 
-/// Labels by which neighbours are nearer to each other: the vertices in the order of a breadth-first search from vertex 1. None
-/// where most edges lead to a near vertex already, where there are fewer edges than vertices, where the search does not find all
-/// vertices, or where too many wait at once.
+/// Labels by which neighbours are nearer to each other: the vertices in the order of a
+/// breadth-first search from vertex 1. None where most edges lead to a near vertex already,
+/// where there are fewer edges than vertices, where the search does not find all vertices, or
+/// where too many wait at once.
 pub(crate) fn nearer_order(alloc: Global, graph: &Graph) -> Result<Option<Labels>, NoMemory>
     ensures { IfOk result (λ found. IfSome found (IsNumbering graph.now.vertices)) }
 {

@@ -51,7 +51,7 @@ same_vertices n words old view = ap (λ (x : VertexList). x.vertices) view
 
 -- ---- what changes keep
 
--- as many words, and no more bits
+-- as many words with no more bits are words of the set
 pub words-fewer : (n : ℕ) (words new : List ℕ) → AreWords n words → length new ≡ length words → ((v : ℕ) → has_bit new v ≡ true → has_bit words v ≡ true) → AreWords n new
 words-fewer n words new kept long fewer = record { few = kept.few; long = long ∙ kept.long; within = λ v is. kept.within v (fewer v is) }
 

@@ -36,7 +36,8 @@ impl Model for Side {
 }
 
 impl Side {
-    /// The empty set of vertices of 1 to n. It takes n/8 bytes of memory, and is refused only where these are wanting.
+    /// The empty set of vertices of 1 to n. It takes n/8 bytes of memory, and is refused only
+    /// where these are wanting.
     pub fn empty(alloc: Global, n: u32) -> Result<Side, NoMemory>
         ensures { IfOk result (λ s. s ≡ record { vertices = n; members = [] }) }
     {
@@ -95,7 +96,8 @@ impl Side {
         clear_words(&mut self.words, &other.words);
     }
 
-    /// Puts in what is out, and takes out what is in: the complement in 1 to n. 64 vertices a step.
+    /// Puts in what is out, and takes out what is in: the complement in 1 to n.
+    /// 64 vertices a step.
     pub fn flip(&mut self)
         ensures { self.new ≡ listed self.old.vertices (complement (has self.old.members)) }
     {
@@ -117,8 +119,8 @@ impl Side {
         self.next_from(0).is_none()
     }
 
-    /// The least member that is v or greater, for any v; none exactly where there is none. Words without members are
-    /// skipped, 64 vertices a step.
+    /// The least member that is v or greater, for any v; none exactly where there is none. Words
+    /// without members are skipped, 64 vertices a step.
     pub fn next_from(&self, v: u32) -> Option<u32>
         ensures { MatchOption result ((u : ℕ) → v ≤ u → has self.now.members u ≡ false) (IsNextFrom self.now v) }
     {
@@ -131,8 +133,8 @@ impl Side {
         }
     }
 
-    /// The order of the ascending lists of the members, a list that another begins with first; where these are equal,
-    /// the order of n. Equal words are skipped, 64 vertices a step.
+    /// The order of the ascending lists of the members, a list that another begins with first;
+    /// where these are equal, the order of n. Equal words are skipped, 64 vertices a step.
     pub fn compare(&self, other: &Side) -> Ordering
         ensures { result ≡ ordering_then (slice_cmp nat_cmp self.now.members other.now.members) (nat_cmp self.now.vertices other.now.vertices) }
     {

@@ -120,8 +120,8 @@ pub(crate) fn first_difference(words: &[u64], others: &[u64]) -> Option<usize>
     None
 }
 
-/// How a list that goes on with a place stands to the list of the set places, which agrees with it before the place
-/// and lacks it: before it, where some set place is left, and else after it.
+/// How a list that goes on with a place stands to the list of the set places, which agrees with it
+/// before the place and lacks it: before it, where some set place is left, and else after it.
 pub(crate) fn order_at(words: &[u64], place: usize) -> Ordering
     requires within { place / 64 < length words.now }
     requires few { length words.now ≤ 2 ^ 32 }

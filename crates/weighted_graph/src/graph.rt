@@ -1,6 +1,7 @@
 //! A graph with the edges at each vertex in one row.
 //!
-//! The vertices are 1 to n, edges are counted from 0 in the order of the list, and weights add up to at most 2^61.
+//! The vertices are 1 to n, edges are counted from 0 in the order of the list,
+//! and weights add up to at most 2^61.
 
 ghost use Rattle.std.specs.Prelude.{◌≡◌, ◌↔◌, ◌+◌, ◌<◌, ◌≤◌, IfOk, length, slice_get, slice_index_or};
 ghost use Rattle.std.specs.List.{AllPairs};
@@ -34,7 +35,8 @@ pub struct Arc {
     pub weight: u64,
 }
 
-/// The weight of the arc to a vertex in an ascending row, or 0 where the row has none, by binary search.
+/// The weight of the arc to a vertex in an ascending row,
+/// or 0 where the row has none, by binary search.
 pub fn weight_to(row: &[Arc], v: u32) -> u64
     requires { AllPairs (λ (a b : Arc). a.to < b.to) row.now }
     ensures { result ≡ weight_in row.now v }
@@ -45,7 +47,8 @@ pub fn weight_to(row: &[Arc], v: u32) -> u64
     }
 }
 
-/// A graph: its edges, and the edges at each vertex in one row. Contracts see the number of vertices and the list.
+/// A graph: its edges, and the edges at each vertex in one row.
+/// Contracts see the number of vertices and the list.
 ///
 /// An edge takes 48 bytes of memory, a vertex 16.
 #[derive(Drop)]
@@ -66,8 +69,9 @@ impl Model for Graph {
 }
 
 impl Graph {
-    /// The graph of a list of edges, in O(n + m). It is refused only where memory is wanting. While it is built it takes
-    /// 8 bytes more a vertex, and 1.5 an edge where a large graph's edges lead far apart, before the edges are copied.
+    /// The graph of a list of edges, in O(n + m). It is refused only where memory is wanting.
+    /// While it is built it takes 8 bytes more a vertex, and 1.5 an edge where a large graph's
+    /// edges lead far apart, before the edges are copied.
     pub fn build(alloc: Global, list: &EdgeList) -> Result<Graph, NoMemory>
         ensures { IfOk result (λ g. g ≡ list.now) }
     {
@@ -77,8 +81,8 @@ impl Graph {
         Ok(Graph { list, rows })
     }
 
-    /// The graph of a list of edges, as `build` makes it, but that the list is taken over in place of a copy, which
-    /// saves 16 bytes an edge. Where it is refused the list is gone.
+    /// The graph of a list of edges, as `build` makes it, but that the list is taken over in place
+    /// of a copy, which saves 16 bytes an edge. Where it is refused the list is gone.
     pub fn from_list(alloc: Global, list: EdgeList) -> Result<Graph, NoMemory>
         ensures { IfOk result (λ g. g ≡ list) }
     {
@@ -86,7 +90,8 @@ impl Graph {
         Ok(Graph::from_rows(list, rows))
     }
 
-    /// The graph of a list of edges and of its rows, which whoever calls has made. Both are taken over.
+    /// The graph of a list of edges and of its rows, which whoever calls has made.
+    /// Both are taken over.
     pub fn from_rows(list: EdgeList, rows: RowIndex) -> Graph
         requires { IsIndexed list rows.starts.items rows.arcs.items rows.degrees.items }
         ensures { result ≡ list }
@@ -133,14 +138,16 @@ impl Graph {
         &self.list
     }
 
-    /// The list of edges of which the graph was made, given back. The rows are dropped. It takes no memory.
+    /// The list of edges of which the graph was made, given back. The rows are dropped.
+    /// It takes no memory.
     pub fn into_list(self) -> EdgeList
         ensures { result ≡ self }
     {
         self.list
     }
 
-    /// The edges at a vertex, ascending by the other end, lent without a copy. The row of 0 is empty.
+    /// The edges at a vertex, ascending by the other end, lent without a copy.
+    /// The row of 0 is empty.
     pub fn row(&self, v: u32) -> &[Arc]
         requires { v ≤ self.now.vertices }
         ensures value { result.now ≡ row_of self.now v }
@@ -173,8 +180,8 @@ impl Graph {
         least
     }
 
-    /// The weight of the edge between two vertices, or 0 where there is none. It is searched for in the shorter row,
-    /// in the logarithm of its length.
+    /// The weight of the edge between two vertices, or 0 where there is none. It is searched for
+    /// in the shorter row, in the logarithm of its length.
     pub fn weight(&self, u: u32, v: u32) -> u64
         requires { u ≤ self.now.vertices }
         ensures { result ≡ between self.now (single u) (single v) }
@@ -189,8 +196,8 @@ impl Graph {
         weight_to(row, v)
     }
 
-    /// The weight of a set of vertices of the same n: the sum of the weights of the edges with exactly one end in it.
-    /// It goes over all edges.
+    /// The weight of a set of vertices of the same n: the sum of the weights of the edges with
+    /// exactly one end in it. It goes over all edges.
     pub fn weight_of(&self, side: &Side) -> u64
         requires { side.now.vertices ≡ self.now.vertices }
         ensures { result ≡ weight self.now (has side.now.members) }
@@ -206,9 +213,10 @@ impl Graph {
         total
     }
 
-    /// The components as classes of the vertices: the ends of one edge after another are made one (Galler and Fischer,
-    /// 1964), in O(m log(n) + n) steps. The sets that have all or none of each class are just those of weight 0. It takes
-    /// 4 bytes a vertex, and is refused only where memory is wanting.
+    /// The components as classes of the vertices: the ends of one edge after another are made one
+    /// by union-find (Galler and Fischer, 1964), in O(m log(n) + n) steps. The sets that have all
+    /// or none of each class are just those of weight 0. It takes 4 bytes a vertex, and is refused
+    /// only where memory is wanting.
     pub fn component_classes(&self, alloc: Global) -> Result<Classes, NoMemory>
         ensures long { IfOk result (λ c. length c ≡ self.now.vertices + 1) }
         ensures joined { IfOk result (λ c. (s : VertexSet) → Respects c s ↔ (weight self.now s ≡ 0)) }
@@ -219,8 +227,8 @@ impl Graph {
         Ok(classes)
     }
 
-    /// The number of components; 0 exactly where there is no vertex. It goes by the classes of `component_classes`, and is
-    /// refused only where memory is wanting.
+    /// The number of components; 0 exactly where there is no vertex. It goes by the classes of
+    /// `component_classes`, and is refused only where memory is wanting.
     pub fn components(&self, alloc: Global) -> Result<u32, NoMemory>
         ensures counted { IfOk result (λ count. HasComponents self.now count) }
         ensures none { IfOk result (λ count. (count ≡ 0) ↔ (self.now.vertices ≡ 0)) }
@@ -229,9 +237,9 @@ impl Graph {
         Ok(classes.count())
     }
 
-    /// The graph on the classes of labels, one for each vertex: the weight between two classes is the sum over the
-    /// edges between their vertices, and edges inside a class are gone. The edges between classes are sorted once, in
-    /// O(m log m). It is refused only where memory is wanting.
+    /// The graph on the classes of labels, one for each vertex: the weight between two classes is
+    /// the sum over the edges between their vertices, and edges inside a class are gone. The edges
+    /// between classes are sorted once, in O(m log m). It is refused only where memory is wanting.
     pub fn relabel(&self, alloc: Global, labels: &Labels) -> Result<Graph, NoMemory>
         requires { length labels.now ≡ self.now.vertices }
         ensures { IfOk result (λ g. g ≡ relabel self.now labels.now) }

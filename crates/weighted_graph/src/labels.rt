@@ -11,8 +11,9 @@ use std::marker::Model;
 use vertex_classes::Classes;
 use vertex_set::Side;
 
-/// A class of 1 to k for each of the vertices 1 to n, each class used, with vertex 1 in class 1. There are at most
-/// 4,194,304 vertices. Contracts see the list of the classes in the order of the vertices.
+/// A class of 1 to k for each of the vertices 1 to n, each class used, with vertex 1 in
+/// class 1. There are at most 4,194,304 vertices. Contracts see the list of the classes in
+/// the order of the vertices.
 #[derive(Drop)]
 pub struct Labels {
     class_of: Vec<u32>,
@@ -31,7 +32,8 @@ impl Model for Labels {
 }
 
 impl Labels {
-    /// The labels of a list, which has one for each vertex and is taken over. It takes no memory, and O(n) steps.
+    /// The labels of a list, which has one for each vertex and is taken over.
+    /// It takes no memory, and O(n) steps.
     pub fn from_list(list: Vec<u32>) -> Labels
         requires labels { IsLabels list.items }
         requires few { length list.items ≤ 4194304 }
@@ -47,8 +49,8 @@ impl Labels {
         }
     }
 
-    /// The labels that number classes of vertices in the order of their least vertices. 0 is in a class alone. It takes 4
-    /// bytes a vertex, and is refused only where memory is wanting.
+    /// The labels that number classes of vertices in the order of their least vertices. 0 is in a
+    /// class alone. It takes 4 bytes a vertex, and is refused only where memory is wanting.
     pub fn of_classes(alloc: Global, classes: &Classes) -> Result<Labels, NoMemory>
         requires { Respects classes.now no_vertex }
         ensures { IfOk result (AreNumbersOf classes.now) }
@@ -92,13 +94,14 @@ impl Labels {
         &self.class_of
     }
 
-    /// First these labels, then `next` on their classes, of which it labels each, in O(n). It is refused only where
-    /// memory is wanting.
+    /// First these labels, then `next` on their classes, of which it labels each, in O(n). It is
+    /// refused only where memory is wanting.
     pub fn compose(&self, alloc: Global, next: &Labels) -> Result<Labels, NoMemory>
         requires { length next.now ≡ classes self.now }
         ensures { IfOk result (λ l. l ≡ map (label next.now) self.now) }
     {
-        // known by this call: the labels of `next` are labels, which makes the composed ones labels
+        // known by this call: the labels of `next` are labels,
+        // which makes the composed ones labels
         let _next = next.classes();
         let mut composed = Vec::new(alloc);
         for class in &self.class_of {
@@ -107,7 +110,8 @@ impl Labels {
         Ok(Labels::from_list(composed))
     }
 
-    /// All vertices whose class is in a set of classes, in O(n). It is refused only where memory is wanting.
+    /// All vertices whose class is in a set of classes, in O(n).
+    /// It is refused only where memory is wanting.
     pub fn lift(&self, alloc: Global, side: &Side) -> Result<Side, NoMemory>
         requires { side.now.vertices ≡ classes self.now }
         ensures { IfOk result (λ s. s ≡ record { vertices = length self.now; members = lift self.now side.now.members }) }

@@ -24,7 +24,8 @@ fn have_same_ends(d: Edge, e: Edge) -> bool
     d.u == e.u && d.v == e.v
 }
 
-/// Makes sorted edges with the same ends one, and answers how many there are then: they come first.
+/// Makes sorted edges with the same ends one, and answers how many there
+/// are then: they come first.
 fn merge(edges: &mut [Edge]) -> usize
     requires ascending { AscendByEnds edges.old }
     requires few { length edges.old ≤ 16777216 }
@@ -53,8 +54,9 @@ fn merge(edges: &mut [Edge]) -> usize
     kept + 1
 }
 
-/// The graph of sorted edges on the vertices 1 to n, where edges with the same ends become one with the sum of their weights.
-/// The list is taken over and shortened, in O(m); the room that is left over is given back.
+/// The graph of sorted edges on the vertices 1 to n, where edges with the same ends become one
+/// with the sum of their weights. The list is taken over and shortened, in O(m); the room that is
+/// left over is given back.
 pub fn merged_list(n: u32, sorted: Vec<Edge>) -> EdgeList
     requires { AreMergeable n sorted.items }
     ensures vertices { result.vertices ≡ n }

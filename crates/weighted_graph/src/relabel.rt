@@ -31,9 +31,10 @@ fn class_edges(alloc: Global, edges: &[Edge], labels: &Labels) -> Result<Vec<Edg
     Ok(between)
 }
 
-/// The edges of the graph on the classes of labels, one for each vertex: the weight between two classes is the sum over the
-/// edges between their vertices, and edges inside a class are gone. The edges between classes are copied and sorted once, in
-/// O(m log m). It is refused only where memory is wanting.
+/// The edges of the graph on the classes of labels, one for each vertex: the weight between two
+/// classes is the sum over the edges between their vertices, and edges inside a class are gone.
+/// The edges between classes are copied and sorted once, in O(m log m). It is refused only
+/// where memory is wanting.
 pub fn relabel_list(alloc: Global, list: &EdgeList, labels: &Labels) -> Result<EdgeList, NoMemory>
     requires { length labels.now ≡ list.now.vertices }
     ensures { IfOk result (λ l. l ≡ relabel list.now labels.now) }

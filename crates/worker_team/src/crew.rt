@@ -13,7 +13,7 @@ pub struct Crew<'a, R, G> {
 }
 
 impl<'a, R, G> Crew<'a, R, G> {
-    /// So many threads, and their gate.
+    /// A crew of so many threads of a runtime, with the gate that each passes.
     pub fn new(rt: &'a R, alloc: Global, workers: u32, gate: &'a G) -> Crew<'a, R, G>
         ensures runtime { result.threads.rt.now ≡ rt.now }
         ensures workers { result.threads.workers ≡ workers }

@@ -12,8 +12,8 @@ use round_workers::Threshold;
 use std::alloc::Global;
 use weighted_graph::{Graph, Labels};
 
-/// Workers, and where they take their memory. What a call answers does not depend on who does it, but for what its contract
-/// leaves free. Each is refused only where memory is wanting.
+/// Workers, and where they take their memory. What a call answers does not depend on who does it,
+/// but for what its contract leaves free. Each is refused only where memory is wanting.
 pub trait Team {
     /// What the workers need: that threads may share the runtime.
     ghost ready: { Self → Type 0 };
@@ -30,15 +30,17 @@ pub trait Team {
         requires { ready self.now }
         ensures { IfOk result (λ g. g ≡ list) };
 
-    /// The list of edges of the graph on the classes of labels, one for each vertex: `round_contract::contracted_list`.
+    /// The list of edges of the graph on the classes of labels, one for each vertex:
+    /// `round_contract::contracted_list`.
     fn contracted_list(&self, graph: &Graph, labels: &Labels) -> Result<EdgeList, NoMemory>
         requires ready { ready self.now }
         requires labels { length labels.now ≡ graph.now.vertices }
         ensures { IfOk result (λ l. l ≡ relabel graph.now labels.now) };
 
-    /// Marks of so many of the workers, who scan side by side, opened with a weight of a cut: `round_workers::scan_round`, with a
-    /// gate that holds nobody. A number below 1 counts as 1, and one above 64 as 64. The calling thread alone marks nothing here:
-    /// what one worker scans wants no board.
+    /// Marks of so many of the workers, who scan side by side, opened with a weight of a cut:
+    /// `round_workers::scan_round`, with a gate that holds nobody. A number below 1 counts as
+    /// 1, and one above 64 as 64. The calling thread alone marks nothing here: what one
+    /// worker scans wants no board.
     fn scan_round(
         &self,
         graph: &Graph,

@@ -1,4 +1,5 @@
-//! The borders of the blocks of a tree: the places at which the nodes of a block begin, and the one at which the last ends.
+//! The borders of the blocks of a tree: the places at which the nodes of a block begin, and the
+//! one at which the last ends.
 
 ghost use Rattle.std.specs.Prelude.{◌≡◌, ℕ, ◌++◌, ◌<◌, ◌≤◌, length, drop, map, OnOk, IfOk};
 ghost use Rattle.rooted_cactus.specs.Outlines.{Hops};
@@ -39,7 +40,8 @@ fn add_block(
 
 /// The borders of all blocks of a tree, in the order of the tree.
 ///
-/// One step for each node and block. It takes memory in proportion to these, and is refused only where that is wanting.
+/// One step for each node and block. It takes memory in proportion to these,
+/// and is refused only where that is wanting.
 pub fn borders_of(
     alloc: Global,
     entries: &[NodeOutline],
@@ -61,8 +63,8 @@ pub fn borders_of(
     Ok(borders)
 }
 
-/// The first border from a place of the list on, counted from 0, which others of its block follow; the number of borders
-/// where there is none. One step for each border that is passed.
+/// The first border from a place of the list on, counted from 0, which others of its block follow;
+/// the number of borders where there is none. One step for each border that is passed.
 pub fn next_start(borders: &[Border], from: usize) -> usize
     requires { from ≤ length borders.now }
     ensures within { result ≤ length borders.now }

@@ -10,7 +10,8 @@ use std::alloc::Global;
 
 /// For each place of a list of vertices, and last for its end, the mass of the vertices before it.
 ///
-/// One step for each vertex. It takes 16 bytes for each, and is refused only where that is wanting.
+/// One step for each vertex. It takes 16 bytes for each,
+/// and is refused only where that is wanting.
 pub fn masses_before(
     alloc: Global,
     order: &[u32],

@@ -1,4 +1,5 @@
-//! The cuts of a cactus as ranges of one list: the vertices in the order of entering, and the borders of the blocks.
+//! The cuts of a cactus as ranges of one list:
+//! the vertices in the order of entering, and the borders of the blocks.
 
 ghost use Rattle.std.specs.Prelude.{◌≡◌, ◌↔◌, ◌≤◌, List, ℕ, IfOk, length, map, true};
 ghost use Rattle.std.specs.List.{All, Contains, concat};
@@ -19,8 +20,8 @@ use cut_definitions::NoMemory;
 use rooted_cactus::{Border, Cactus, InOrder, NodeOutline, in_order, outline_of, sizes_along};
 use std::alloc::Global;
 
-/// The vertices of a cactus in an order in which the side of each cut is one range, and the places at which these ranges
-/// begin and end.
+/// The vertices of a cactus in an order in which the side of each cut is one range, and the places
+/// at which these ranges begin and end.
 #[derive(Drop)]
 pub struct CutPlaces {
     /// All vertices, in the order in which the tree is entered.
@@ -29,19 +30,21 @@ pub struct CutPlaces {
     pub borders: Vec<Border>,
 }
 
-/// The vertices of a cactus in the order in which the tree is entered, the borders of the ranges that are sides, and which of
-/// the cuts a walk leaves out.
+/// The vertices of a cactus in the order in which the tree is entered, the borders of the ranges
+/// that are sides, and which of the cuts a walk leaves out.
 #[derive(Drop)]
 pub struct KeptPlaces {
     /// All vertices, in the order in which the tree is entered.
     pub order: Vec<u32>,
     /// The borders of all blocks, in the order of the tree, as places of `order`, counted from 0.
     pub borders: Vec<Border>,
-    /// For each border, whether the cut from it to the next one is left out, since another cut has its side.
+    /// For each border, whether the cut from it to the next one is left out,
+    /// since another cut has its side.
     pub repeats: Vec<bool>,
 }
 
-/// A tree laid out in the order of entering: its vertices, its nodes, and the sizes of its subtrees.
+/// A tree laid out in the order of entering:
+/// its vertices, its nodes, and the sizes of its subtrees.
 #[derive(Drop)]
 struct Laid {
     listing: InOrder,
@@ -70,13 +73,13 @@ fn lay_out(alloc: Global, cactus: &Cactus) -> Result<Laid, NoMemory>
 
 /// The places of all cuts of a cactus.
 ///
-/// Each vertex of 1 to n stands in the list once. The borders of a block stand one after another and their places do not
-/// descend; the sides of the cactus, in the order of the tree, are those at the ranges from each border to each later one
-/// of its block. So a side has as many vertices as its range has places. A range may be empty, where nodes have no
-/// vertices.
+/// Each vertex of 1 to n stands in the list once. The borders of a block stand one after another
+/// and their places do not descend; the sides of the cactus, in the order of the tree, are those
+/// at the ranges from each border to each later one of its block. So a side has as many vertices
+/// as its range has places. A range may be empty, where nodes have no vertices.
 ///
-/// One step for each node and vertex, in loops, so that a deep tree does not run out of stack. It takes memory in
-/// proportion to the nodes and to n, and is refused only where that is wanting.
+/// One step for each node and vertex, in loops, so that a deep tree does not run out of stack. It
+/// takes memory in proportion to the nodes and to n, and is refused only where that is wanting.
 pub fn cut_places(alloc: Global, cactus: &Cactus) -> Result<CutPlaces, NoMemory>
     ensures order { IfOk result (λ p. p.order.items ≡ concat (entered cactus.now.root)) }
     ensures long { IfOk result (λ p. length p.order.items ≡ cactus.now.vertices) }
@@ -94,9 +97,11 @@ pub fn cut_places(alloc: Global, cactus: &Cactus) -> Result<CutPlaces, NoMemory>
     })
 }
 
-/// The places of the cuts that a walk gives: each side of the cactus, and where it is normal each once.
+/// The places of the cuts that a walk gives:
+/// each side of the cactus, and where it is normal each once.
 ///
-/// As `cut_places`, with one step and one byte more for each border.
+/// It takes the steps and the memory of `cut_places`,
+/// and one step and one byte more for each border.
 pub fn kept_places(alloc: Global, cactus: &Cactus) -> Result<KeptPlaces, NoMemory>
     ensures order { IfOk result (λ p. p.order.items ≡ concat (entered cactus.now.root)) }
     ensures long { IfOk result (λ p. length p.order.items ≡ cactus.now.vertices) }

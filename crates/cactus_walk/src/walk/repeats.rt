@@ -1,7 +1,8 @@
 //! The cuts that a walk leaves out, since another cut has the same side.
 //!
-//! An empty node with one block below it, a cycle, is cut off alone by the block above it, and has the same vertices below
-//! it as all the nodes of that cycle. Of these two cuts the walk leaves out the first.
+//! An empty node with one block below it, a cycle, is cut off alone by the block above it,
+//! and has the same vertices below it as all the nodes of that cycle. Of these two cuts the
+//! walk leaves out the first.
 
 ghost use Rattle.std.specs.Prelude.{◌≡◌, ℕ, ◌+◌, ◌++◌, ◌<◌, ◌≤◌, length, drop, OnOk, IfOk};
 ghost use Rattle.rooted_cactus.specs.Outlines.{Hops};
@@ -50,9 +51,11 @@ fn add_marks(
     Ok(())
 }
 
-/// For each border of the blocks of a tree, in the order of the tree, whether the cut from it to the next one is left out.
+/// For each border of the blocks of a tree, in the order of the tree, whether the cut from it to
+/// the next one is left out.
 ///
-/// One step for each node and block. It takes a byte for each border, and is refused only where these are wanting.
+/// One step for each node and block. It takes a byte for each border,
+/// and is refused only where these are wanting.
 pub fn repeats_of(
     alloc: Global,
     entries: &[NodeOutline],
@@ -74,7 +77,8 @@ pub fn repeats_of(
     Ok(repeats)
 }
 
-/// How many of the borders behind one are passed over: 1 where the cut to the next one is left out, and 0 elsewhere.
+/// How many of the borders behind one are passed over:
+/// 1 where the cut to the next one is left out, and 0 elsewhere.
 pub fn passed_over(repeats: &[bool], at: usize) -> usize
     ensures { result ≡ passed_over (mark_at repeats.now at) }
 {
@@ -85,8 +89,8 @@ pub fn passed_over(repeats: &[bool], at: usize) -> usize
     }
 }
 
-/// The first border from a place of the list on, counted from 0, at which a cut begins that is not left out; the number of
-/// borders where there is none. One step for each border that is passed.
+/// The first border from a place of the list on, counted from 0, at which a cut begins that is not
+/// left out; the number of borders where there is none. One step for each border that is passed.
 pub fn next_kept(borders: &[Border], repeats: &[bool], from: usize) -> usize
     requires from { from ≤ length borders.now }
     requires repeats { length repeats.now ≡ length borders.now }

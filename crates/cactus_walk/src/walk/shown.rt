@@ -1,4 +1,5 @@
-//! A side that has the vertices at the places of a range of a list, and its change to another range.
+//! A side that has the vertices at the places of a range of a list,
+//! and its change to another range.
 
 ghost use Rattle.std.specs.Prelude.{◌≡◌, ◌≤◌, length};
 ghost use Rattle.std.specs.List.{All};
@@ -34,7 +35,8 @@ fn take_range(side: &mut Side, order: &[u32], from: usize, to: usize)
     }
 }
 
-/// Puts the vertices at the places from `from` on that are before `to` into the side; what was there stays.
+/// Puts the vertices at the places from `from` on that are before `to` into the
+/// side; what was there stays.
 ///
 /// One step for each of them. It takes no memory.
 pub fn put_range(side: &mut Side, order: &[u32], from: usize, to: usize)
@@ -50,8 +52,8 @@ pub fn put_range(side: &mut Side, order: &[u32], from: usize, to: usize)
     }
 }
 
-/// Changes a side from the vertices of one range to those of another: one step for each vertex that is in one of them
-/// and not in the other.
+/// Changes a side from the vertices of one range to those of another: one step for each vertex
+/// that is in one of them and not in the other.
 pub fn change_side(side: &mut Side, order: &[u32], old: Span, new: Span)
     requires once { AreOnce side.old.vertices order.now }
     requires vertices { All (IsVertex side.old.vertices) order.now }

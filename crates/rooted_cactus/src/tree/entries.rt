@@ -57,8 +57,8 @@ fn stays(node: &Node, leaves_stay: bool) -> bool
     leaves_stay && node.blocks.len() == 0
 }
 
-/// Moves the nodes of a block onto the stack, the first on top, but for a leaf below a bridge where leaves stay. The box of
-/// another bridge stays, with a bare node in it.
+/// Moves the nodes of a block onto the stack, the first on top, but for a leaf below a bridge
+/// where leaves stay. The box of another bridge stays, with a bare node in it.
 fn shed_block(
     alloc: Global,
     stack: &mut Vec<Node>,
@@ -84,8 +84,8 @@ fn shed_block(
     }
 }
 
-/// Moves the nodes of some blocks onto the stack, the first on top, but for leaves below bridges where these stay, and lists
-/// the blocks, the last first.
+/// Moves the nodes of some blocks onto the stack, the first on top, but for leaves below bridges
+/// where these stay, and lists the blocks, the last first.
 pub fn shed_blocks(
     alloc: Global,
     stack: &mut Vec<Node>,
@@ -103,9 +103,9 @@ pub fn shed_blocks(
     Ok(joints)
 }
 
-/// The entries of a tree, in the order in which it is entered, but for leaves below bridges, which stay in their boxes. Room
-/// for so many nodes as are expected is reserved at once, since a long list that grows is copied again and again; there may
-/// be more of them, or fewer.
+/// The entries of a tree, in the order in which it is entered, but for leaves below bridges, which
+/// stay in their boxes. Room for so many nodes as are expected is reserved at once, since a long
+/// list that grows is copied again and again; there may be more of them, or fewer.
 pub fn entries_of(alloc: Global, root: Node, expected: usize) -> Result<Vec<ShedNode>, NoMemory>
     ensures { IfOk result (λ e. Shows kept root e.items []) }
 {

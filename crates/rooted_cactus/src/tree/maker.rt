@@ -11,8 +11,9 @@ use crate::vertex_list::VertexList;
 use cut_definitions::NoMemory;
 use std::alloc::Global;
 
-/// How nodes and blocks are finished, each when all below it is. A finished one stands for what was read off the node or block of
-/// the tree that was taken apart; in which way it does is the maker's to say. Each call is refused only where memory is wanting.
+/// How nodes and blocks are finished, each when all below it is. A finished one stands for what
+/// was read off the node or block of the tree that was taken apart; in which way it does is the
+/// maker's to say. Each call is refused only where memory is wanting.
 pub trait Maker {
     /// A finished node.
     type Node: Drop;
@@ -37,7 +38,8 @@ pub trait Maker {
     fn leaf(alloc: Global, place: Box<Node>) -> Self::Block
         ensures { (sets : List ℕ → VertexSet) → may_read sets → block_is sets (bridge_read (node_read sets (vertices place.value) [])) result };
 
-    /// The block that stands for a cycle through the nodes and the one above. They are listed with the last first.
+    /// The block that stands for a cycle through the nodes and the one above.
+    /// They are listed with the last first.
     fn cycle(alloc: Global, nodes: Vec<Self::Node>) -> Result<Self::Block, NoMemory>
         ensures { IfOk result (λ b. (sets : List ℕ → VertexSet) (rs : List Read) → Each (node_is sets) rs (top_first nodes.items) → block_is sets (cycle_read rs) b) };
 

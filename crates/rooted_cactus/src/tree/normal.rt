@@ -35,7 +35,8 @@ pub fn is_cycle(block: &Block) -> bool
     }
 }
 
-/// Whether the nodes of a block below its upper node are well placed, and enough of them where it is a cycle.
+/// Whether the nodes of a block below its upper node are well placed,
+/// and enough of them where it is a cycle.
 fn block_is_placed(block: &Block) -> bool
     ensures { result ≡ is_placed block.now }
 {

@@ -73,11 +73,11 @@ fn stack_nodes<'a>(stack: &mut Vec<&'a Node>, nodes: &'a [Node]) -> Result<(), N
     Ok(())
 }
 
-/// Puts the nodes of some blocks on the stack, in order, but for those with no block below them, so that a long cycle of such
-/// nodes takes no memory.
+/// Puts the nodes of some blocks on the stack, in order, but for those with no block below them,
+/// so that a long cycle of such nodes takes no memory.
 ///
-/// One step for each node of these blocks. It takes memory only where the stack has no room, and is refused only where that is
-/// wanting.
+/// One step for each node of these blocks. It takes memory only where the stack has no room, and
+/// is refused only where that is wanting.
 pub fn stack_inner<'a>(stack: &mut Vec<&'a Node>, blocks: &'a Blocks) -> Result<(), NoMemory>
     ensures { OnOk result (seen stack.new.items ≡ seen stack.old.items ++ filter is_inner (flat_map nodes_of (blocks_in blocks.now))) }
 {
@@ -102,7 +102,8 @@ pub fn count_cuts(alloc: Global, root: &Node) -> Result<u64, NoMemory>
     Ok(count)
 }
 
-/// The number of the cuts of a tree, as by `count_cuts`, without memory: a call for each level of the tree.
+/// The number of the cuts of a tree, as by `count_cuts`, without memory:
+/// a call for each level of the tree.
 #[cycle(number)]
 pub fn number_of(node: &Node) -> u64
     requires { number node.now < 2 ^ 62 }

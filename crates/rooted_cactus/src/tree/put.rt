@@ -56,8 +56,8 @@ fn draw_block<M: Maker>(
     }
 }
 
-/// Takes the nodes of several blocks from the top of the stack, and makes a row of the blocks. They are listed with the last
-/// first.
+/// Takes the nodes of several blocks from the top of the stack, and makes a row of the blocks.
+/// They are listed with the last first.
 fn draw_blocks<M: Maker>(
     alloc: Global,
     stack: &mut Vec<M::Node>,
@@ -80,9 +80,10 @@ fn draw_blocks<M: Maker>(
 
 /// What a maker makes of the entries of a tree.
 ///
-/// From the last entry to the first: the nodes below an entry are finished when it is its turn. So a deep tree does not run out of
-/// stack. All share one row of blocks. It takes memory for the nodes and for the blocks of one node, beside what the maker takes;
-/// where it is wanting, all is dropped.
+/// From the last entry to the first: the nodes below an entry are finished when it is its
+/// turn. So a deep tree does not run out of stack. All share one row of blocks. It takes
+/// memory for the nodes and for the blocks of one node, beside what the maker takes; where it
+/// is wanting, all is dropped.
 pub fn put_together<M: Maker>(alloc: Global, entries: Vec<ShedNode>) -> Result<M::Node, NoMemory>
     requires ready { IsReady entries.items 0 }
     requires one { left entries.items 0 ≡ 1 }

@@ -62,7 +62,8 @@ pub fn leaf_bridge(alloc: Global, place: Box<Node>) -> Block
     Block::Bridge(leaf)
 }
 
-/// A bridge to the node, by way of a box that there is, or the node's one block where it has no vertex and no other block.
+/// A bridge to the node, by way of a box that there is, or the node's one block where it has no
+/// vertex and no other block.
 pub fn hung(node: Node, place: Box<Node>) -> Block
     ensures spare { is_spare (vertices node) (blocks node) ≡ true → blocks node ≡ result ∷ [] }
     ensures bridge { is_spare (vertices node) (blocks node) ≡ false → IsBridgeTo result node }
@@ -73,7 +74,8 @@ pub fn hung(node: Node, place: Box<Node>) -> Block
     bridge_to(node, place)
 }
 
-/// The node as it may stand in a cycle: what is below its bridge, where it has no vertex and nothing but that bridge.
+/// The node as it may stand in a cycle: what is below its bridge, where it has no vertex and
+/// nothing but that bridge.
 pub fn trimmed(node: Node) -> Node
     ensures { result ≡ trimmed_node node }
 {

@@ -114,7 +114,8 @@ fn spread_entries(alloc: Global, root: Node, groups: &[Vec<u32>]) -> Result<Vec<
     Ok(entries)
 }
 
-/// The tree with the vertices of each class, ascending, in place of the class. The classes are 1 to `last`.
+/// The tree with the vertices of each class, ascending, in place of the class.
+/// The classes are 1 to `last`.
 pub fn spread_node(alloc: Global, node: Node, classes: &[u32], last: u32) -> Result<Node, NoMemory>
     requires few { length classes.now < 2 ^ 32 }
     requires in_range { All (λ c. c ≤ last) classes.now }

@@ -15,7 +15,7 @@ bounds_fit k bounds inner ranked is = range_fits k bounds.start bounds.start bou
 inner_fits : (k : Ranked) (bounds inner : Ends) → IsRanked k → IsWithin k bounds inner → IsRangeOf (count_of k) (range_at k inner)
 inner_fits k bounds inner ranked is = range_fits k bounds.start inner.start inner.end bounds.end ranked is.start (omega (arith, is.some)) is.end (omega (arith, is.start, is.some, is.end)) is.block
 
--- and their borders are there
+-- the borders of both ranges are in the list of borders
 end_in : (k : Ranked) (bounds inner : Ends) → IsRanked k → IsWithin k bounds inner → bounds.end < length k.places.borders.items
 end_in k bounds inner ranked is = border_in k bounds.start bounds.end bounds.end ranked (omega arith) (omega (arith, is.start, is.some, is.end)) is.block
 
