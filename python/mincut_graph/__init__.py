@@ -3,8 +3,8 @@
     from mincut_graph import MinimumCuts
     cuts = MinimumCuts([('a', 'b'), ('b', 'c'), ('c', 'd'), ('d', 'a', 1)])
     cuts.value()                        # 2
-    cuts.sides()                        # of each minimum cut the side without the first vertex
-    cuts.sides(parting=('b', 'd'))      # of those that part two vertices
+    cuts.sides()                        # for each minimum cut the side without the first vertex
+    cuts.sides(parting=('b', 'd'))      # of those that separate two vertices
     cuts.cactus().cycles                # [[0, 1, 2, 3]]
 
 `MinimumCuts` takes graphs of networkx and igraph, sparse arrays of scipy and lists of edges; `read_graph` reads files. Vertices keep

@@ -12,7 +12,7 @@ Block = tuple[str, int]
 
 @dataclass
 class Cactus:
-    """All minimum cuts at once: one bridge, or two edges of one cycle, taken away leave a minimum cut, and each is one of these.
+    """All minimum cuts: remove one bridge, or two edges of one cycle, and two sides of a minimum cut are left; each is one of these.
 
     `value` is the weight of a minimum cut. `nodes` has a list of vertices for each node, perhaps empty; node 0 has the first vertex.
     `bridges` are pairs of nodes, `cycles` lists of three or more nodes, whose last is joined with its first."""
@@ -29,7 +29,7 @@ class Cactus:
         return found
 
     def node_of(self) -> dict[Any, int]:
-        """The node of each vertex. No minimum cut parts two vertices of one node."""
+        """The node of each vertex. No minimum cut separates two vertices of one node."""
         return {vertex: i for i, node in enumerate(self.nodes) for vertex in node}
 
     def count(self) -> int:
@@ -53,7 +53,7 @@ class Cactus:
         return Cactus(self.value, [[names[v] for v in node] for node in self.nodes], list(self.bridges), [list(cycle) for cycle in self.cycles])
 
     def to_networkx(self) -> Any:
-        """The cactus as a graph of networkx; nodes have `vertices`, edges have `block`. Wants networkx."""
+        """The cactus as a graph of networkx; nodes have `vertices`, edges have `block`. Needs networkx."""
         import networkx
         graph = networkx.Graph()
         graph.add_nodes_from((i, {'vertices': node}) for i, node in enumerate(self.nodes))

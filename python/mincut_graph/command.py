@@ -19,17 +19,17 @@ from .words import MOST_WORKERS
 INTERRUPTED, WRITE_FAILED = 130, 4
 JOBS = {'value': 'the least weight of a cut', 'count': 'the number of all minimum cuts',
         'cactus': 'all minimum cuts at once, as nodes, bridges and cycles', 'cuts': 'each minimum cut: the side without the first vertex',
-        'part': 'the minimum cuts that part two vertices', 'balanced': 'a minimum cut whose lesser side is as heavy as any',
-        'levels': 'what minimum cuts leave whole, cut by its own minimum cuts again, and so on',
+        'part': 'the minimum cuts that separate two vertices', 'balanced': 'a minimum cut of greatest balance',
+        'levels': 'the parts that minimum cuts leave whole, each cut again, and so on',
         'sites': 'a table of the vertices: degree, capacity, in how many weakest places, level',
-        'links': 'a table of the links: in how many weakest places each is cut',
+        'links': 'a table of the links: in how many weakest places each is',
         'failures': 'value and count after each single link fails, the worst first',
-        'what-if': 'value, count and a most balanced cut before and after links are added or taken away',
+        'what-if': 'value, count and a most balanced cut before and after links are added or removed',
         'augment': 'the fewest new links that raise the value, or a good set of candidates',
         'grow': 'value and count after each of some inserted edges',
         'report': 'one page with the graph, its cactus and its weakest places, for a browser'}
-EPILOG = """statuses: 0 answered; 1 the file is no graph that can be used; 2 wrong words; 4 the answer could not be written; 5 out of memory;
-6, 8, 9, 10 an answer above a limit; 7 a column or a vertex that is not there; 11 no program; 12 no answer: one vertex, or several
+EPILOG = """statuses: 0 answered; 1 the file is not a usable graph; 2 wrong words; 4 the answer could not be written; 5 out of memory;
+6, 8, 9, 10 an answer above a limit; 7 a column or a vertex that does not exist; 11 no program; 12 no answer: one vertex, or several
 components; 13 time limit; 130 interrupted"""
 
 
@@ -61,31 +61,31 @@ def add_own(one: argparse.ArgumentParser, job: str) -> None:
         one.add_argument('--up-to', type=positive, metavar='K', help='do not cut parts of value K or more; then also list these')
         one.add_argument('--without-stubs', action='store_true', help='first take off what hangs on one link, again and again')
     if job == 'sites':
-        one.add_argument('--no-levels', action='store_true', help='without the levels, which need a solution for each part')
+        one.add_argument('--no-levels', action='store_true', help='leave out the levels, which need a solution for each part')
     if job == 'failures':
-        one.add_argument('--processes', type=positive, metavar='N', help='so many runs of the program at once; as many as processors if not named')
+        one.add_argument('--processes', type=positive, metavar='N', help='number of runs of the program at once; default: one for each processor')
     if job == 'augment':
-        one.add_argument('--capacity', type=positive, metavar='C', help='of each new link; the least weight in the file if not named')
+        one.add_argument('--capacity', type=positive, metavar='C', help='of each new link; default: the least weight in the file')
         one.add_argument('--candidates', metavar='FILE', help='a table of links that may be built: from, to, and perhaps capacity and cost')
-        one.add_argument('--target', dest='goal', type=positive, metavar='T', help='the value that the candidates are to reach; one more if not named')
+        one.add_argument('--target', dest='goal', type=positive, metavar='T', help='the value that the candidates must reach; default: one more')
     if job == 'what-if':
-        one.add_argument('--add', action='append', default=[], metavar='U,V,W', help='a new link: two names and a whole weight; as often as wanted')
-        one.add_argument('--remove', action='append', default=[], metavar='U,V', help='a link that is taken away whole; as often as wanted')
+        one.add_argument('--add', action='append', default=[], metavar='U,V,W', help='a new link: two names and a whole weight; may be repeated')
+        one.add_argument('--remove', action='append', default=[], metavar='U,V', help='a link to remove; may be repeated')
 
 
 def add_input(group: Any) -> None:
-    group.add_argument('--read', metavar='FORMAT', choices=sorted(FORMATS), help=f'one of {", ".join(FORMATS)}; by the suffix if not named')
+    group.add_argument('--read', metavar='FORMAT', choices=sorted(FORMATS), help=f'one of {", ".join(FORMATS)}; default: by the suffix')
     group.add_argument('--from', dest='source', metavar='COLUMN', help='column of the first end of an edge, by name or number')
     group.add_argument('--to', dest='target', metavar='COLUMN', help='column of the second end')
     group.add_argument('--weight', metavar='COLUMN',
-                       help='column, or attribute of the edges, with the weights; else one with a usual name, as capacity, or 1 each')
+                       help='column, or attribute of the edges, with the weights; default: one with a usual name, such as capacity, or 1 each')
     group.add_argument('--unweighted', action='store_true', help='each edge weighs 1, whatever the file has')
     group.add_argument('--vertices', metavar='FILE', help='a table of the vertices beside an edge list')
     group.add_argument('--mass', metavar='COLUMN', help='column of that table, or attribute of the vertices, by which cuts are balanced')
     group.add_argument('--name', metavar='COLUMN', help='column of that table, or attribute of the vertices, that names them')
     group.add_argument('--delimiter', metavar='SIGN', help='the sign between columns: one sign, tab or space')
     group.add_argument('--header', action=argparse.BooleanOptionalAction, help='whether a table begins with the names of its columns')
-    group.add_argument('--encoding', default='utf-8-sig', help='of the file; UTF-8 if not named, and UTF-16 by its mark')
+    group.add_argument('--encoding', default='utf-8-sig', help='of the file; default: UTF-8, or UTF-16 by its mark')
     group.add_argument('--scale', type=positive, default=1, metavar='N', help='multiply all weights, and so the value, by N')
     group.add_argument('--undirected', action='store_true', help='take each arrow of a directed graph as an edge')
     group.add_argument('--largest', action='store_true', help='take the largest component alone')
@@ -93,20 +93,20 @@ def add_input(group: Any) -> None:
 
 def add_run(group: Any) -> None:
     group.add_argument('--time-limit', type=seconds, metavar='SECONDS', help='give up after so long')
-    group.add_argument('--workers', type=workers, metavar='N', help=f'1 to {MOST_WORKERS} workers of the program')
-    group.add_argument('--program', metavar='PATH', help='the program; else that of the variable MINCUT, of the repository, or on the path')
-    group.add_argument('--library', metavar='PATH', help='the shared library; else that of the variable MINCUT_LIBRARY or of the repository')
-    group.add_argument('--no-library', action='store_true', help='go by the program alone')
+    group.add_argument('--workers', type=workers, metavar='N', help=f'threads of the program, 1 to {MOST_WORKERS}; default: 4')
+    group.add_argument('--program', metavar='PATH', help='the program; default: that of the variable MINCUT, of the repository, or on the path')
+    group.add_argument('--library', metavar='PATH', help='the shared library; default: that of the variable MINCUT_LIBRARY or of the repository')
+    group.add_argument('--no-library', action='store_true', help='use the program alone')
 
 
 def add_output(group: Any, job: str) -> None:
     if job == 'report':
-        group.add_argument('-o', '--output', metavar='PAGE', default='report.html', help='the page to write; report.html if not named')
+        group.add_argument('-o', '--output', metavar='PAGE', default='report.html', help='the page to write; default: report.html')
         from .report.options import add_options
         add_options(group)
     else:
-        group.add_argument('-o', '--output', metavar='FILE', help='where to write; standard output if not named')
-        group.add_argument('--as', dest='style', choices=answers.STYLES, default='text', help='the form of the answer; text if not named')
+        group.add_argument('-o', '--output', metavar='FILE', help='where to write; default: standard output')
+        group.add_argument('--as', dest='style', choices=answers.STYLES, default='text', help='the form of the answer; default: text')
     group.add_argument('-q', '--quiet', action='store_true', help='no notes on standard error')
 
 

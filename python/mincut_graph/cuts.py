@@ -31,14 +31,14 @@ Answer = TypeVar('Answer')
 
 
 class MinimumCuts:
-    """The minimum cuts of a graph, as it stands now: later changes to it are not seen.
+    """The minimum cuts of a graph; later changes to the graph are not seen.
 
-    The graph is solved once: `value` alone asks for the value, and the first call that wants more asks for all minimum cuts at once, as
+    The graph is solved once: `value` asks for the value alone, and the first call that needs more asks for all minimum cuts at once, as
     their cactus, from which the others read their answers. `augment`, `grow`, `what_if`, `levels` and `failures` say what they ask for.
 
     `graph`: a graph of networkx or igraph, a symmetric sparse array of scipy, a list of pairs or triples (u, v, weight), a `RawGraph`
     of `read_graph`, or a finished `Graph`. Weights are whole numbers of 0 or more, 1 where there are none; parallel edges add up, and
-    loops and edges of weight 0 are left out, since no cut feels them; `notes` says how many.
+    loops and edges of weight 0 are left out, since they are in no cut; `notes` says how many.
 
     `weight`: the name of the edges' attribute. `mass`: the masses by which cuts are balanced, as the name of an attribute, a table or a
     function of a vertex; each is 1 without it. `names`: those of the rows of a matrix. `scale`: all weights are multiplied by it.
@@ -47,8 +47,8 @@ class MinimumCuts:
     `program`, `workers` (1 to 64): the program that answers. `library`: the shared library that answers `value`, `cactus` and `augment`;
     None looks for one, False goes by the program alone. `time_limit`: seconds for each call that names no other, None for no limit.
 
-    Raises BadInput for what is no graph, UnknownName for a mass that is missing. Calls raise NoCut below two vertices, Disconnected
-    where they want a connected graph, TimedOut, NoProgram, and Failed with the status of the program for all else. A call that is
+    Raises BadInput for what is not a graph, UnknownName for a mass that is missing. Calls raise NoCut below two vertices, Disconnected
+    if they need a connected graph, TimedOut, NoProgram, and otherwise Failed with the status of the program. A call that is
     interrupted leaves no process behind.
 
     >>> MinimumCuts([('a', 'b'), ('b', 'c'), ('c', 'd'), ('d', 'a'), ('d', 'far', 2)])
@@ -73,21 +73,21 @@ class MinimumCuts:
 
     @property
     def notes(self) -> list[str]:
-        """What was noticed on the way to the graph: loops, parallel edges and the like, one sentence each.
+        """Sentences on loops, parallel edges and the like, which are left out or added up.
 
         >>> MinimumCuts([('a', 'b'), ('a', 'a')]).notes
         ['1 loop left out: no cut has one']"""
         return list(self.graph.notes)
 
     def components(self) -> list[list[Any]]:
-        """The components, each as the list of its vertices, in the order of their first. Asks the program nothing.
+        """The components, each as the list of its vertices, in the order of their first vertices. Asks the program nothing.
 
         >>> MinimumCuts([('a', 'b'), ('x', 'y'), ('b', 'c')]).components()
         [['a', 'b', 'c'], ['x', 'y']]"""
         return [self.named(places) for places in self.graph.components()]
 
     def largest(self) -> MinimumCuts:
-        """The same for the component with most vertices.
+        """The minimum cuts of the component with most vertices.
 
         >>> MinimumCuts([('a', 'b'), ('x', 'y'), ('b', 'c')]).largest().names
         ['a', 'b', 'c']"""
@@ -102,7 +102,7 @@ class MinimumCuts:
     # All minimum cuts
 
     def value(self, *, time_limit: Optional[float] = None) -> int:
-        """The least weight of a cut; 0 where the graph is not connected. Costs one solution, the quickest; none where all cuts are known.
+        """The least weight of a cut; 0 if the graph is not connected. Costs one solution, the quickest; none if all cuts are known.
 
         >>> MinimumCuts([('a', 'b', 3), ('b', 'c', 2)]).value()
         2"""
@@ -121,7 +121,7 @@ class MinimumCuts:
         return self._once('count', found)
 
     def cactus(self, *, time_limit: Optional[float] = None) -> Cactus:
-        """All minimum cuts at once. Raises Disconnected. Costs the one solution from which `count`, `sides`, `balanced`, `sites` and
+        """All minimum cuts as a `Cactus`. Raises Disconnected. Costs the one solution from which `count`, `sides`, `balanced`, `sites` and
         `cut_links` read their answers.
 
         >>> MinimumCuts([('a', 'b'), ('b', 'c'), ('c', 'd'), ('d', 'a')]).cactus().cycles
@@ -130,11 +130,11 @@ class MinimumCuts:
 
     def sides(self, least: Optional[int] = None, parting: Optional[tuple[Hashable, Hashable]] = None,
               *, time_limit: Optional[float] = None) -> list[list[Any]]:
-        """All minimum cuts, each as the list of the vertices of its side without the first vertex; or those whose balance, the lesser of
-        the masses of both sides, is `least` or more; or those that have the two vertices of `parting` on two sides.
+        """All minimum cuts, or those of balance `least` or more, or those that separate the two vertices of `parting`. Each is the list of
+        the vertices of its side without the first vertex.
 
-        Raises UnknownName for a vertex that is not there, BadInput where both are given, TooLarge where the cuts times the vertices are
-        above 2^30. Costs what is in the list.
+        Raises UnknownName for a vertex that the graph does not have, BadInput if both are given, TooLarge if the cuts times the vertices
+        are above 2^30. The cost is in proportion to the list.
 
         >>> MinimumCuts([('a', 'b'), ('b', 'c'), ('c', 'd'), ('d', 'a')]).sides(parting=('b', 'd'))
         [['b'], ['b', 'c'], ['c', 'd'], ['d']]"""
@@ -159,7 +159,7 @@ class MinimumCuts:
         return [self.named(side) for side in sorted(map(ranges.side, found))]
 
     def balanced(self, *, time_limit: Optional[float] = None) -> Balanced:
-        """(balance, side) of a minimum cut that is as balanced as any. The library or the program may name another of several.
+        """A minimum cut of greatest balance. The library and the program may name different ones of several.
 
         >>> MinimumCuts([('a', 'b'), ('b', 'c'), ('c', 'd'), ('d', 'a')]).balanced()
         Balanced(balance=2, side=['b', 'c'])"""
@@ -172,8 +172,8 @@ class MinimumCuts:
         return Balanced(ranges.balance(best), self.named(ranges.side(best)))
 
     def links(self, side: Iterable[Hashable]) -> list[Link]:
-        """The links between the vertices of a side, or of any other set, and all others, each with its end in the set first; in the order
-        of their ends. Their weights add up to that of the cut. Raises UnknownName. Costs the links at the lesser of both sides.
+        """The links between a side, or any other set of vertices, and all other vertices. Each has its end in the set first; they are in the
+        order of their ends. Their weights add up to that of the cut. Raises UnknownName. Costs the links at the smaller of both sides.
 
         >>> MinimumCuts([('Paris', 'Lyon', 10), ('Lyon', 'Nice', 20), ('Nice', 'Paris', 10)]).links(['Lyon', 'Nice'])
         [Link(source='Lyon', target='Paris', weight=10), Link(source='Nice', target='Paris', weight=10)]"""
@@ -186,9 +186,8 @@ class MinimumCuts:
         return [Link(self.names[i], self.names[j], w) for i, j, w in found]
 
     def sites(self, levels: bool = True, *, time_limit: Optional[float] = None) -> list[Site]:
-        """A `Site` for each vertex, in the order of the names: its degree, the weight of its links, in how many minimum cuts it is on the
-        lighter side (of two equal ones, on that without the first vertex), and its level. Raises Disconnected. `levels=False` leaves the
-        levels out, which cost a solution for each part of the graph.
+        """A `Site` for each vertex, in the order of the names. Of two sides of the same mass, the one without the first vertex counts as the
+        lighter one. Raises Disconnected. `levels=False` leaves the levels out, which cost a solution for each part of the graph.
 
         >>> MinimumCuts([('a', 'b'), ('b', 'c'), ('c', 'a'), ('c', 'd')]).sites()[3]
         Site(name='d', degree=1, capacity=1, places=1, level=1)"""
@@ -199,7 +198,7 @@ class MinimumCuts:
                     for i, (name, near) in enumerate(zip(self.names, self._near()))]
 
     def cut_links(self, *, time_limit: Optional[float] = None) -> list[CutLink]:
-        """A `CutLink` for each link, those that most minimum cuts cut first. Raises Disconnected.
+        """A `CutLink` for each link, those in most minimum cuts first. Raises Disconnected.
 
         >>> MinimumCuts([('a', 'b'), ('b', 'c'), ('c', 'a'), ('c', 'd')]).cut_links()[0]
         CutLink(source='c', target='d', weight=1, places=1)"""
@@ -210,9 +209,9 @@ class MinimumCuts:
     # What lies below
 
     def levels(self, up_to: Optional[int] = None, without_stubs: bool = False, *, time_limit: Optional[float] = None) -> Levels:
-        """What the minimum cuts part, each part by its own subgraph again, and so on until nothing is parted or a part has the value
-        `up_to`: a tree, whose `at(k)` are the maximal sets whose subgraphs have value k or more. With unit weights these are the
-        k-edge-connected subgraphs. `without_stubs` first takes off what hangs on one link, again and again.
+        """The parts that minimum cuts leave whole, each cut again by the minimum cuts of its own subgraph. It ends when nothing is left to
+        cut, or at parts of value `up_to`. The `at(k)` of this tree are the maximal sets whose subgraphs have value k or more, which with
+        unit weights are the k-edge-connected subgraphs. `without_stubs` first takes off what hangs on one link, again and again.
 
         Costs one solution for each part of three vertices or more.
 
@@ -230,8 +229,8 @@ class MinimumCuts:
     # New links, and links that fail
 
     def augment(self, *, time_limit: Optional[float] = None) -> Augmentation:
-        """(edges, sets): as few edges of weight 1 as raise the value, and the sets each of which needs an end of one of them. Raises
-        Disconnected. Costs a solution of its own.
+        """The fewest edges of weight 1 that raise the value, and the sets that each need an end of one. Raises Disconnected. Costs a
+        solution of its own.
 
         >>> MinimumCuts([('a', 'b'), ('b', 'c'), ('c', 'd'), ('d', 'a')]).augment().edges
         [('a', 'c'), ('b', 'd')]"""
@@ -239,8 +238,8 @@ class MinimumCuts:
         return Augmentation([(self.names[i], self.names[j]) for i, j in edges], [self.named(found) for found in sets])
 
     def new_links(self, capacity: Optional[int] = None, *, time_limit: Optional[float] = None) -> NewLinks:
-        """The edges of `augment`, each with this capacity, the least weight in the graph if it is not named, and the value that they reach.
-        Raises Disconnected, and BadInput for a capacity that is no whole number of 1 or more. Costs `augment` and the value of the new graph.
+        """The edges of `augment` with this capacity, and the value that they reach. Without `capacity` it is the least weight in the graph.
+        Raises Disconnected, and BadInput for a capacity that is not a whole number of 1 or more. Costs `augment` and the value of the new graph.
 
         >>> found = MinimumCuts([('Paris', 'Lyon', 10), ('Lyon', 'Nice', 20), ('Nice', 'Paris', 10)]).new_links()
         >>> found.links, found.before, found.after
@@ -253,12 +252,12 @@ class MinimumCuts:
 
     def candidates(self, links: Iterable[Sequence[Any]], target: Optional[int] = None, costs: Optional[Sequence[Any]] = None,
                    *, time_limit: Optional[float] = None) -> Choice:
-        """A good set of links that may be built, pairs or triples of two vertices and a weight, the least in the graph where it is not
-        named, that raises the value to `target`, one above the value if it is not named. `costs` has one number for each link, else each
-        costs 1. The set is found link by link, those first that part most minimum cuts for their cost, and none of it can be left out;
+        """A good set of these links that raises the value to `target`. Links are pairs or triples of two vertices and a weight, which is the
+        least in the graph if not given; `target` is one above the value if not given. `costs` has one number for each link, else each
+        costs 1. The set is found link by link, those first that are in most minimum cuts for their cost, and none of it can be left out;
         a cheaper one may exist.
 
-        Raises BadInput where all of them together do not reach the target, and says which value they reach. Costs at most two solutions
+        Raises BadInput if all of them together do not reach the target, and says which value they reach. Costs at most two solutions
         for each link that is taken, and two more.
 
         >>> ring = [('a', 'b'), ('b', 'c'), ('c', 'd'), ('d', 'a')]
@@ -278,9 +277,9 @@ class MinimumCuts:
             return Choice([self._link(*edges[k]) for k in chosen.taken], chosen.cost, chosen.before, chosen.after, chosen.target)
 
     def grow(self, insertions: Iterable[Sequence[Any]], *, time_limit: Optional[float] = None) -> Growth:
-        """(steps, cactus): the value and the number of minimum cuts after each of 1 to 1,000 insertions, pairs or triples of two vertices
-        and a weight of 1 or more, and the cactus after the last. The graph here stays as it is. Raises UnknownName, BadWords for an
-        insertion that joins a vertex with itself, Disconnected. Costs a run of the program.
+        """The value and the number of minimum cuts after each insertion, and the cactus after the last. There are 1 to 1,000 insertions, pairs
+        or triples of two vertices and a weight of 1 or more. The graph itself stays as it is. Raises UnknownName, BadWords for an
+        insertion that joins a vertex to itself, Disconnected. Costs a run of the program.
 
         >>> MinimumCuts([('a', 'b'), ('b', 'c'), ('c', 'd'), ('d', 'a')]).grow([('a', 'c'), ('b', 'd')]).steps
         [Step(value=2, count=2), Step(value=3, count=4)]"""
@@ -292,8 +291,8 @@ class MinimumCuts:
 
     def what_if(self, add: Iterable[Sequence[Any]] = (), remove: Iterable[Sequence[Hashable]] = (),
                 *, time_limit: Optional[float] = None) -> Comparison:
-        """The graph in short, before and after links are added, pairs or triples of two vertices and a weight, and others, pairs of two
-        vertices, taken away whole. Raises UnknownName for a vertex or a link that is not there. Costs two solutions.
+        """The `State` before and after links are added and removed. Added links are pairs or triples of two vertices and a weight; removed
+        links are pairs. Raises UnknownName for a vertex or a link that the graph does not have. Costs two solutions.
 
         >>> ring = MinimumCuts([('a', 'b'), ('b', 'c'), ('c', 'd'), ('d', 'a')])
         >>> after = ring.what_if(remove=[('a', 'b')]).after
@@ -305,7 +304,7 @@ class MinimumCuts:
             return Comparison(self.state(time_limit=deadline.left()), other.state(time_limit=deadline.left()))
 
     def state(self, *, time_limit: Optional[float] = None) -> State:
-        """The graph in short: value, number of minimum cuts, and a most balanced one with its links.
+        """The value, the number of minimum cuts, and a most balanced one with its links.
 
         >>> MinimumCuts([('a', 'b', 2), ('b', 'c', 2), ('c', 'a', 3)]).state()
         State(value=4, count=1, balance=1, side=['b'], links=[Link(source='b', target='a', weight=2), Link(source='b', target='c', weight=2)])"""
@@ -316,9 +315,8 @@ class MinimumCuts:
 
     def failures(self, processes: Optional[int] = None, progress: Optional[Progress] = None,
                  *, time_limit: Optional[float] = None) -> list[Failure]:
-        """A `Failure` for each link: the value and the number of minimum cuts of the graph without it; those that lower the value most
-        come first, of those alike the ones with more cuts. Costs a run of the program for each link, `processes` at a time, as many as
-        processors if it is not named. `progress(done, all)` is called after each.
+        """A `Failure` for each link, the worst first: a lower value, and for the same value more minimum cuts. Costs a run of the program for
+        each link, `processes` at a time, as many as there are processors if not given. `progress(done, all)` is called after each.
 
         >>> MinimumCuts([('a', 'b'), ('b', 'c'), ('c', 'a'), ('c', 'd')]).failures()[0]
         Failure(source='c', target='d', weight=1, value=0, count=1)"""
@@ -328,8 +326,8 @@ class MinimumCuts:
         return [Failure(*self._link(i, j, w), value, count) for i, j, w, value, count in found]
 
     def run(self, *words: object, time_limit: Optional[float] = None) -> list[list[str]]:
-        """The lines that the program prints for these words and the graph, each as a list of words; vertices are numbered from 1. Raises
-        BadWords, with what is wrong, for words that the program does not take.
+        """The lines that the program prints for these words, each as a list of words. Vertices are numbered from 1. Raises BadWords, with
+        what is wrong, for words that the program does not accept.
 
         >>> MinimumCuts([('a', 'b'), ('b', 'c')]).run('count')
         [['value', '1'], ['count', '2']]"""
@@ -344,7 +342,7 @@ class MinimumCuts:
         return self._once('place', lambda: {name: i for i, name in enumerate(self.names, 1)})
 
     def number_of(self, vertex: Hashable) -> int:
-        """The number of a vertex, from 1; raises UnknownName, a KeyError.
+        """The number of a vertex, from 1. Raises UnknownName, a KeyError.
 
         >>> MinimumCuts([('a', 'b')]).number_of('b')
         2"""

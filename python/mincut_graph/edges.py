@@ -2,9 +2,10 @@
 from __future__ import annotations
 
 from array import array
+from bisect import bisect_left
 from collections.abc import Iterable, Iterator, Sequence
-from itertools import accumulate, chain, islice
-from operator import eq
+from itertools import chain, islice
+from operator import le
 from typing import Any, NamedTuple, Optional, Union, overload
 
 from .numpy_or_not import numpy_for
@@ -12,6 +13,7 @@ from .numpy_or_not import numpy_for
 Triple = tuple[int, int, Any]
 ROW_END = -1                           # ends the row of a vertex among its numbers, which are 0 or more
 NUMBERS_AT_ONCE = 1 << 18
+KEY_BITS, PART_BITS = 30, 8
 
 
 class Columns(NamedTuple):
@@ -86,46 +88,47 @@ def merged(count: int, heads: array[int], tails: array[int], weights: array[int]
 
 
 def merged_by_hand(count: int, heads: array[int], tails: array[int], weights: array[int]) -> Merged:
-    low = array('I', [i if i < j else j for i, j in zip(heads, tails)])
-    high = array('I', [j if i < j else i for i, j in zip(heads, tails)])
-    loops = sum(map(eq, low, high))
-    order: Sequence[int] = range(len(low))
-    if loops or weights.count(0):
-        order = [k for k, w in enumerate(weights) if w and low[k] != high[k]]
-    kept = len(order)
-    order = by_place(low, by_place(high, order, count), count)
-    low, high = array('I', map(low.__getitem__, order)), array('I', map(high.__getitem__, order))
-    weights = array('Q', map(weights.__getitem__, order))
-    if any(i == k and j == h for i, k, j, h in zip(low, islice(low, 1, None), high, islice(high, 1, None))):
-        low, high, weights = added_up(low, high, weights)
-    return Merged(Edges(low, high, weights), loops, kept - len(low), len(heads) - kept - loops)
-
-
-def by_place(column: array[int], order: Sequence[int], count: int) -> array[int]:
-    """The numbers in `order`, sorted by the places 0 to count - 1 that the column has for them; those with the same place stay in order."""
-    start = [0] * (count + 1)
-    for k in order:
-        start[column[k] + 1] += 1
-    start = list(accumulate(start))
-    found = array('I', bytes(4 * len(order)))
-    for k in order:
-        place = column[k]
-        found[start[place]] = k
-        start[place] += 1
-    return found
-
-
-def added_up(low: array[int], high: array[int], weights: array[int]) -> tuple[array[int], array[int], array[int]]:
-    """The columns, which are sorted, with one entry for each pair."""
-    heads, tails, sums = array('I'), array('I'), array('Q')
-    for i, j, w in zip(low, high, weights):
-        if heads and heads[-1] == i and tails[-1] == j:
-            sums[-1] += w
+    """Goes by parts of the vertices, as what is done with all edges at once seldom finds in the processor's cache what it needs."""
+    bits, within = key_bits(count)
+    base, all_ones = (1 << within) - 1, (1 << bits) - 1
+    parts = [(array('I'), array('Q')) for _ in range(0, count, base + 1)]
+    loops = empty = 0
+    for i, j, w in zip(heads, tails, weights):
+        if i > j:
+            i, j = j, i
+        if i == j:
+            loops += 1
+        elif w == 0:
+            empty += 1
         else:
-            heads.append(i)
-            tails.append(j)
-            sums.append(w)
-    return heads, tails, sums
+            keys, its = parts[i >> within]
+            keys.append((i & base) << bits | j)
+            its.append(w)
+    low, high, sums = array('I'), array('I'), array('Q')
+    for first, part in zip(range(0, count, base + 1), parts):
+        found = added_up(*part)
+        ascending = sorted(found)
+        low.extend([first + (key >> bits) for key in ascending])
+        high.extend([key & all_ones for key in ascending])
+        sums.extend(map(found.__getitem__, ascending))
+    return Merged(Edges(low, high, sums), loops, len(heads) - loops - empty - len(low), empty)
+
+
+def key_bits(count: int) -> tuple[int, int]:
+    """(bits, within): a key has the last `within` bits of one vertex, which it has among those of its part, before the `bits` bits of
+    another. Keys are below 2^30, which Python compares fastest, and there are some hundred parts at least, if there are as many vertices."""
+    bits = count.bit_length()
+    return bits, max(0, min(bits - PART_BITS, KEY_BITS - bits))
+
+
+def added_up(keys: array[int], weights: array[int]) -> dict[int, int]:
+    """The weight of each key, of one that stands several times the sum."""
+    found = dict(zip(keys, weights))
+    if len(found) < len(keys):
+        found = dict.fromkeys(found, 0)
+        for key, w in zip(keys, weights):
+            found[key] += w
+    return found
 
 
 def merged_by_numpy(numpy: Any, count: int, heads: array[int], tails: array[int], weights: array[int]) -> Merged:
@@ -159,33 +162,51 @@ def metis_bytes(count: int, edges: Columns, masses: Optional[Sequence[int]]) -> 
     weighted = weights.count(1) != len(weights)
     form = f' 0{int(masses is not None)}{int(weighted)}' if weighted or masses is not None else ''
     numpy = numpy_for(len(heads))
-    rows = rows_by_numpy(numpy, count, edges, weighted) if numpy else rows_by_hand(count, edges, weighted)
+    rows = pieces_of(rows_by_numpy(numpy, count, edges, weighted)) if numpy else rows_by_hand(count, edges, weighted)
     pieces = [f'{count} {len(heads)}{form}\n'.encode()]
     if masses is None:
-        pieces += map(text_of, pieces_of(rows))
+        pieces += map(text_of, rows)
     else:
-        lines = chain.from_iterable(text_of(piece).split(b'\n')[:-1] for piece in pieces_of(rows))
+        lines = chain.from_iterable(text_of(piece).split(b'\n')[:-1] for piece in rows)
         pieces.append(b''.join(b'%d %s\n' % (mass, line) for mass, line in zip(masses, lines)))
     return b''.join(pieces)
 
 
-def rows_by_hand(count: int, edges: Columns, weighted: bool) -> array[int]:
-    """The numbers of each vertex' line, ending with ROW_END: its neighbours ascending, each with its weight if they are `weighted`."""
-    heads, tails, weights = edges
-    width = 2 if weighted else 1
-    room = [1] * count
-    for i in chain(heads, tails):
-        room[i] += width
-    place = list(accumulate(room, initial=0))
-    rows = array('q', [ROW_END]) * place.pop()
-    for at, to in ((tails, heads), (heads, tails)):
-        for v, u, w in zip(at, to, weights):
-            k = place[v]
-            rows[k] = u + 1
-            if weighted:
-                rows[k + 1] = w
-            place[v] = k + width
-    return rows
+def rows_by_hand(count: int, edges: Columns, weighted: bool) -> Iterator[list[int]]:
+    """The numbers of each vertex' line, ending with ROW_END: its neighbours ascending, each with its weight if they are `weighted`; those
+    of some vertices at a time, by parts as in `merged_by_hand`."""
+    if not all(map(le, edges.heads, islice(edges.heads, 1, None))):
+        edges = edges_of(sorted(zip(*edges)), whole=True).columns
+    within = key_bits(count)[1]
+    above = [(array('I'), array('I'), array('Q')) for _ in range(0, count, 1 << within)]
+    for i, j, w in zip(*edges):
+        at, to, its = above[j >> within]
+        at.append(j)
+        to.append(i)
+        its.append(w)
+    start = 0
+    for first, part in zip(range(0, count, 1 << within), above):
+        last = min(first + (1 << within), count)
+        end = bisect_left(edges.heads, last, start)
+        rows: list[list[int]] = [[] for _ in range(first, last)]
+        enter(rows, first, Columns(*part), weighted)
+        enter(rows, first, Columns(edges.heads[start:end], edges.tails[start:end], edges.weights[start:end]), weighted)
+        for row in rows:
+            row.append(ROW_END)
+        yield list(chain.from_iterable(rows))
+        start = end
+
+
+def enter(rows: list[list[int]], first: int, edges: Columns, weighted: bool) -> None:
+    """Adds the tail of each edge, and its weight if they are `weighted`, to the row of its head; the rows are those of `first` and on."""
+    if weighted:
+        for at, to, w in zip(*edges):
+            row = rows[at - first]
+            row.append(to + 1)
+            row.append(w)
+    else:
+        for at, to in zip(edges.heads, edges.tails):
+            rows[at - first].append(to + 1)
 
 
 def rows_by_numpy(numpy: Any, count: int, edges: Columns, weighted: bool) -> Any:

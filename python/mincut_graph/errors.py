@@ -1,6 +1,6 @@
-"""What is raised where there is no answer. The text of each is one line that says what is wrong and, where it can, what to do.
+"""What is raised if there is no answer. The text of each is one line that says what is wrong and, if possible, what to do.
 
-`status` is the status with which the command `mincut-graph` ends: those of the program where it has one, and 12 and above else.
+`status` is the status with which the command `mincut-graph` ends: that of the program if it has one, and otherwise 12 or above.
 """
 from __future__ import annotations
 
@@ -8,17 +8,17 @@ from typing import Optional
 
 
 class MincutError(Exception):
-    """There is no answer."""
+    """The base of all errors: there is no answer."""
     status = 1
 
 
 class BadInput(MincutError, ValueError):
-    """What was given is no graph: an unreadable file, a weight that is no whole number, a directed graph and the like."""
+    """The input is not a graph: an unreadable file, a weight of 2.5, a directed graph and the like."""
     status = 1
 
 
 class UnknownName(MincutError, KeyError):
-    """A column, an attribute or a vertex has a name that the graph does not have."""
+    """The graph has no column, attribute or vertex of this name."""
     status = 7
 
     def __str__(self) -> str:
@@ -31,7 +31,7 @@ class NoCut(MincutError):
 
 
 class Disconnected(MincutError):
-    """The graph has several components, and the job wants one; `components` says how many."""
+    """The job needs a connected graph; `components` says how many components there are."""
     status = 12
 
     def __init__(self, components: int):
@@ -43,7 +43,7 @@ class Disconnected(MincutError):
 
 
 class TimedOut(MincutError, TimeoutError):
-    """The call took longer than its time limit, and was ended; `seconds` has the limit."""
+    """The call took longer than its time limit, `seconds`, and was ended."""
     status = 13
 
     def __init__(self, seconds: float):
@@ -55,12 +55,12 @@ class TimedOut(MincutError, TimeoutError):
 
 
 class NoProgram(MincutError):
-    """The program `mincut` was not found, or is no program that can be run."""
+    """The program `mincut` was not found, or cannot be run."""
     status = 11
 
 
 class Failed(MincutError):
-    """The program, or the library, ended with another status than 0: `status` has it, and `line` what it said."""
+    """The program or the library ended with this `status`; `line` is what it said."""
     status = 11
 
     def __init__(self, status: int, line: str):
@@ -72,11 +72,11 @@ class Failed(MincutError):
 
 
 class Refused(Failed):
-    """The graph is above a limit, or the text that was made of it has a fault. Status 1."""
+    """The graph is above a limit, or its text has a fault. Status 1."""
 
 
 class BadWords(Failed):
-    """The words are no command, as where an insertion joins a vertex with itself. Status 2."""
+    """The words are not a command. Status 2."""
 
 
 class StreamFailed(Failed):
@@ -84,15 +84,15 @@ class StreamFailed(Failed):
 
 
 class OutOfMemory(Failed):
-    """Not enough memory. Status 5."""
+    """There is not enough memory. Status 5."""
 
 
 class TooLarge(Failed):
-    """A list, a count, a best balance or a grown graph is above its limit. Status 6, 8, 9 or 10."""
+    """An answer or a grown graph is above its limit. Status 6, 8, 9 or 10."""
 
 
 class BadVertex(Failed):
-    """A named vertex is not in the graph. Status 7."""
+    """A vertex is not in the graph. Status 7."""
 
 
 BY_STATUS: dict[int, type[Failed]] = {1: Refused, 2: BadWords, 3: StreamFailed, 4: StreamFailed, 5: OutOfMemory, 6: TooLarge, 7: BadVertex,

@@ -3,7 +3,6 @@ from __future__ import annotations
 
 import os
 from collections.abc import Callable
-from concurrent.futures import ThreadPoolExecutor, as_completed, wait
 from typing import Optional
 
 from .deadline import Deadline
@@ -37,6 +36,7 @@ class Texts:
 def failures_of(graph: Graph, program: Program, processes: Optional[int], progress: Optional[Progress], deadline: Deadline) -> list[Found]:
     """(i, j, weight, value, count) for each link: value and count of the graph without it, the lowest value first, of several the
     greatest count. Threads wait for as many runs of the program as there are to be at once; an interrupt, or a fault of one, ends them."""
+    from concurrent.futures import ThreadPoolExecutor, as_completed, wait      # takes long, and no other job needs it
     texts, edges = Texts(graph), list(graph.edges)
 
     def after(number: int) -> Found:

@@ -1,4 +1,4 @@
-"""What the program says of a text that is no graph, as sentences; docs/INPUT.md says exactly when it says what."""
+"""What the program says of a text that is no graph, as sentences; docs/REFERENCE.md lists them."""
 from __future__ import annotations
 
 import re

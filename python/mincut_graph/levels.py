@@ -22,7 +22,7 @@ Solver = Callable[[Graph], Cactus]
 
 @dataclass(frozen=True)
 class Part:
-    """Vertices that stay together until the minimum cuts of their own subgraph part them.
+    """Vertices that stay together until the minimum cuts of their own subgraph separate them.
 
     `number`: its place in `Levels.parts`; `above`: that of the part it comes from, None for the first. `vertices`: two or more, but for a
     graph whose core is one vertex. `value`: that of its subgraph, 0 where it is not connected, None for one vertex. `links`: those
@@ -39,7 +39,7 @@ class Part:
 
 @dataclass(frozen=True)
 class Levels:
-    """The parts of a graph as a tree: `parts[0]` is the whole, and each part stands behind the one it comes from.
+    """The parts of a graph as a tree. `parts[0]` is the whole graph, and each part stands behind the one it comes from.
 
     `up_to`: parts of this value or more were not cut further; None where all were. `stubs`: links to what was taken off before, each with
     the vertex that went as its source, in the order in which they went."""
@@ -52,8 +52,8 @@ class Levels:
         return f'Levels({len(top.vertices)} vertices of value {top.value}, {len(self.parts)} parts, {len(self.stubs)} stubs)'
 
     def at(self, value: int) -> list[list[Any]]:
-        """The maximal sets of vertices whose own subgraph has this value or more, and each other vertex by itself; in the order of their
-        first vertices, without stubs. Raises BadInput above `up_to`. In a few steps for each part and vertex.
+        """The maximal sets whose own subgraph has this value or more, and each other vertex by itself. They are in the order of their first
+        vertices, without stubs. Raises BadInput above `up_to`. Takes a few steps for each part and vertex.
 
         >>> from mincut_graph import MinimumCuts
         >>> MinimumCuts([('a', 'b'), ('b', 'c'), ('c', 'a'), ('c', 'd')]).levels().at(2)

@@ -4,7 +4,6 @@ from __future__ import annotations
 import os
 import signal
 import subprocess
-import tempfile
 from collections.abc import Sequence
 from typing import IO, Optional, Union
 
@@ -149,7 +148,11 @@ class Program:
 def input_of(text: bytes) -> IO[bytes]:
     """A file without a name that has this text, in memory where the system has such files: a program reads it as fast as it can, and a
     pipe would be filled in small pieces."""
-    given: IO[bytes] = os.fdopen(os.memfd_create('graph'), 'w+b') if hasattr(os, 'memfd_create') else tempfile.TemporaryFile()
+    if hasattr(os, 'memfd_create'):
+        given: IO[bytes] = os.fdopen(os.memfd_create('graph'), 'w+b')
+    else:
+        from tempfile import TemporaryFile
+        given = TemporaryFile()
     given.write(text)
     given.seek(0)
     return given

@@ -1,5 +1,4 @@
-"""What is answered: tuples whose parts have names, so that they can be taken apart as before. Where a part is called `count` it hides
-the method of tuples of that name."""
+"""The answers: tuples whose parts have names. A part called `count` hides the method of tuples of that name."""
 from __future__ import annotations
 
 from typing import Any, NamedTuple, Optional
@@ -18,13 +17,13 @@ class Link(NamedTuple):
 
 
 class Balanced(NamedTuple):
-    """A most balanced minimum cut: the mass of its lighter side, and its side without the first vertex."""
+    """A minimum cut: the mass of its lighter side, and its side without the first vertex."""
     balance: int
     side: list[Any]
 
 
 class Augmentation(NamedTuple):
-    """The fewest new edges of weight 1 that raise the value, and the sets each of which needs an end of one of them."""
+    """The fewest edges of weight 1 that raise the value, and the sets that each need an end of one."""
     edges: list[tuple[Any, Any]]
     sets: list[list[Any]]
 
@@ -42,8 +41,8 @@ class Growth(NamedTuple):
 
 
 class NewLinks(NamedTuple):
-    """New links, each with its capacity in `weight`, and the value before and after. `sets`: each needs an end of a new link, so no
-    fewer links raise the value. `before` and `after` are values."""
+    """New links, and the value before and after. Each link has its capacity in `weight`. `sets`: each needs an end of a new link, so no
+    fewer links raise the value."""
     links: list[Link]
     before: int
     after: int
@@ -51,8 +50,8 @@ class NewLinks(NamedTuple):
 
 
 class Choice(NamedTuple):
-    """A good set of candidates, in the order in which they were found to be wanted, and what they cost together: it raises the value from
-    `before` to `after`, at least `target`, and none of it can be left out. A cheaper set may exist."""
+    """A set of candidates that raises the value to `target` or more. The links are in the order in which they were found; `cost` is what
+    they cost together, and `before` and `after` are values. None of the links can be left out. A cheaper set may exist."""
     links: list[Link]
     cost: float
     before: int
@@ -61,7 +60,7 @@ class Choice(NamedTuple):
 
 
 class State(NamedTuple):
-    """A graph in short: its value, the number of minimum cuts, and a most balanced one of them with the links that it cuts."""
+    """The value, the number of minimum cuts, and a most balanced one with its links."""
     value: int
     count: int  # type: ignore[assignment]
     balance: int
@@ -76,8 +75,9 @@ class Comparison(NamedTuple):
 
 
 class Site(NamedTuple):
-    """A vertex: the number of its neighbours, the weight of its links, in how many minimum cuts it is on the lighter side, and its level,
-    the greatest value of a part of `levels` that has it and another vertex. `level` is None where it was not asked for."""
+    """A vertex: its neighbours, the weight of its links, the minimum cuts that have it on the lighter side, and its level. `degree` and
+    `places` are numbers of neighbours and of cuts. `level` is the greatest value of a part of `levels` that has the vertex and another
+    one; None if it was not asked for."""
     name: Any
     degree: int
     capacity: int
@@ -86,7 +86,7 @@ class Site(NamedTuple):
 
 
 class CutLink(NamedTuple):
-    """A link, and how many minimum cuts cut it."""
+    """A link, and the number of minimum cuts that it is in."""
     source: Any
     target: Any
     weight: int

@@ -1,4 +1,4 @@
-"""What README and the docstrings say is run: the commands with their texts, the lines of Python with their comments, and the doctests."""
+"""What the documents and the docstrings say is run: the commands with their texts, the lines of Python with their comments, and the doctests."""
 import doctest
 import importlib
 import inspect
@@ -12,13 +12,14 @@ from mincut_graph import MinimumCuts
 from mincut_graph.command import JOBS, main
 
 README = Path(__file__).resolve().parent.parent / 'README.md'
+PAGE = README.parent.parent / 'docs' / 'PYTHON.md'
 MODULES = ['cuts', 'levels', 'results']
 
 
-def blocks():
-    """The blocks of indented lines of README, without their indents."""
+def blocks(page=README):
+    """The blocks of indented lines of a page, without their indents."""
     found, block = [], []
-    for line in [*README.read_text('utf-8').splitlines(), 'end']:
+    for line in [*page.read_text('utf-8').splitlines(), 'end']:
         if line.startswith('    ') or (not line and block):
             block.append(line[4:])
         elif block:
@@ -48,8 +49,9 @@ def test_commands(in_folder, capsys):
     assert '<html' in (in_folder / 'report.html').read_text('utf-8')
 
 
-def test_lines_of_python(in_folder):
-    code = next(block for block in blocks() if block.startswith('from mincut_graph import'))
+@pytest.mark.parametrize('page, comments', [(README, 3), (PAGE, 7)])
+def test_lines_of_python(in_folder, page, comments):
+    code = next(block for block in blocks(page) if block.startswith('from mincut_graph import'))
     room = {}
     for line in code.splitlines():
         statement, mark, comment = line.partition('  # ')
@@ -57,13 +59,12 @@ def test_lines_of_python(in_folder):
             assert repr(eval(statement, room)) == comment.strip(), line
         else:
             exec(line, room)
-    assert len(re.findall('  # ', code)) == 8
+    assert len(re.findall('  # ', code)) == comments
 
 
 def test_jobs_are_listed():
-    text = README.read_text('utf-8')
-    assert all(f'| `{job}' in text for job in JOBS)
-    assert len([word for word in text.split() if any(sign.isalnum() for sign in word)]) <= 1750
+    text = PAGE.read_text('utf-8').partition('## Jobs')[2].partition('\n## ')[0]
+    assert all(re.search(rf'^- .*`{job}\b', text, re.M) for job in JOBS)
 
 
 @pytest.mark.parametrize('name', MODULES)

@@ -2,14 +2,16 @@
 numpy and without."""
 import random
 from array import array
+from itertools import chain
 
 import pytest
 from checks import metis
 
-from mincut_graph import BadInput, MinimumCuts, UnknownName, edges, read_graph
+from mincut_graph import BadInput, MincutError, MinimumCuts, UnknownName, edges, read_graph
 from mincut_graph.graph import Graph, RawGraph, finished
 from mincut_graph.readers import lines
 from mincut_graph.readers.metis import Fault, columns_of, header_of, masses_of
+from mincut_graph.readers.names import Names
 
 
 def triples(cuts):
@@ -228,8 +230,37 @@ def test_both_ways_to_each_pair_once_and_to_metis_text():
         assert by_hand.edges == [(*pair, w) for pair, w in sorted(table.items())]
         assert by_hand.loops + by_hand.parallel + by_hand.empty + len(by_hand.edges) == m
         for weighted in (True, False):
-            rows = edges.rows_by_hand(n, by_hand.edges.columns, weighted)
-            assert rows.tolist() == edges.rows_by_numpy(numpy, n, by_hand.edges.columns, weighted).tolist()
+            rows = [*chain.from_iterable(edges.rows_by_hand(n, by_hand.edges.columns, weighted))]
+            assert rows == edges.rows_by_numpy(numpy, n, by_hand.edges.columns, weighted).tolist()
+
+
+@pytest.mark.parametrize('count', [1, 2, 7, 255, 256, 600, 1023, 1024, 5000, 1 << 22])
+def test_each_pair_once_and_rows_by_hand(count):
+    rng = random.Random(count)
+    for m in (0, 1, 30, 2000):
+        most = rng.choice([min(count, 9), count])
+        columns = [array('I', [rng.randrange(most) for _ in range(m)]) for _ in range(2)] + [array('Q', [rng.choice([0, 1, 5, 1 << 45]) for _ in range(m)])]
+        found, table = edges.merged_by_hand(count, *columns), {}
+        for i, j, w in zip(*columns):
+            if i != j and w:
+                table[min(i, j), max(i, j)] = table.get((min(i, j), max(i, j)), 0) + w
+        assert found.edges == [(*pair, w) for pair, w in sorted(table.items())]
+        assert found.loops == sum(i == j for i, j in zip(*columns[:2]))
+        assert found.loops + found.parallel + found.empty + len(found.edges) == m
+        if count > 5000:
+            continue                   # the rows of so many vertices take long
+        near = {}
+        for (i, j), w in sorted(table.items()):
+            near.setdefault(j, []).extend((i + 1, w))
+        for (i, j), w in sorted(table.items()):
+            near.setdefault(i, []).extend((j + 1, w))
+        given = found.edges.columns
+        shuffled = edges.edges_of(rng.sample(list(found.edges), len(found.edges)), whole=True).columns
+        for columns_in_some_order in (given, shuffled):
+            rows = [*chain.from_iterable(edges.rows_by_hand(count, columns_in_some_order, True))]
+            assert rows == [number for i in range(count) for number in (*near.get(i, ()), edges.ROW_END)]
+        rows = [*chain.from_iterable(edges.rows_by_hand(count, given, False))]
+        assert rows == [number for i in range(count) for number in (*near.get(i, ())[::2], edges.ROW_END)]
 
 
 @pytest.mark.parametrize('at_once', [1, 7, 1 << 18])
@@ -259,6 +290,46 @@ def test_tables_by_pieces(monkeypatch, write, piece):
     for cells, line in (('v1;;1', 'line 150: an end or a weight is missing'), ('v1;v2;1;x', 'line 150: has 4 cells, and there are the 3 names')):
         with pytest.raises(BadInput, match=line):
             read_graph(write('d.csv', '\n'.join(rows[:149] + [cells] + rows[150:])))
+
+
+def test_names_that_are_numbers_and_others():
+    """The places of names by an array are those of a dictionary, also from the first name on that is no short number."""
+    rng = random.Random(74)
+    kinds = [lambda: str(rng.randrange(30)), lambda: str(rng.randrange(10 ** 8)), lambda: '0' + str(rng.randrange(3)), lambda: f'v{rng.randrange(9)}',
+             lambda: rng.choice(['1 2', '1_0', '-1', '+1', '\u0661', '00', '0', '1.0', 'v', 'vv1', 'v01', 'v1v1', 'w1', 'v\u0661'])]
+    for _ in range(2000):
+        names, known = Names(), {}
+        for _ in range(rng.randint(0, 5)):
+            some = rng.choice([kinds[:1], kinds[:2], kinds[3:4], kinds[3:4], kinds])
+            piece = [rng.choice(some)() for _ in range(rng.randint(0, 12))]
+            wanted = [known.setdefault(name, len(known)) for name in piece]
+            whole = all(name.isascii() and name.isdigit() and name == str(int(name)) for name in piece)
+            given = list(map(int, piece)) if whole and rng.random() < 0.5 else piece
+            assert list(names.places(given)) == wanted and names.all() == list(known)
+
+
+@pytest.mark.parametrize('piece', [1, 40, 1 << 16])
+@pytest.mark.parametrize('sign', [',', ';', '\t', '|', '-', '7'])
+def test_tables_of_numbers(monkeypatch, write, piece, sign):
+    """Lines with numbers alone give what they give with a cell in quotes in each line, which go line by line: a graph or a fault."""
+    monkeypatch.setattr(lines, 'PIECE', piece)
+    rng = random.Random(75)
+    for _ in range(60):
+        odd = rng.choice(['1', '0', '00', '05', '', '99999999999999999999999', '9' * 50, '12345678', '4' + sign + '1', '1.5', '-2', 'x', '1e3', '2 ', '[1]', 'true'])
+        rows = [[str(rng.choice([0, 1, 2, 3, 41, 10 ** 6 + k])) for k in range(3)] for _ in range(rng.randint(1, 20))]
+        if rng.random() < 0.7:
+            rng.choice(rows)[rng.randrange(3)] = odd
+        found = []
+        for mark in ('', '"'):
+            text = ''.join(f'{sign.join((*row[:2], mark + row[2] + mark))}\n' for row in rows)
+            try:
+                raw = read_graph(write('t.csv', f'from{sign}to{sign}weight\n{text}'), delimiter=sign)
+                graph = finished(raw)
+                found.append((graph.names, list(graph.edges), list(raw.lines)))
+            except MincutError as fault:
+                found.append(str(fault))
+        if sign not in odd:
+            assert found[0] == found[1]
 
 
 def test_a_part_of_a_graph_and_its_components():

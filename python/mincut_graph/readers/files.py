@@ -46,16 +46,16 @@ def read_graph(path: Union[str, Path], *, format: Optional[str] = None, source: 
                vertices: Optional[str] = None, delimiter: Optional[str] = None, header: Optional[bool] = None, encoding: str = UTF_8) -> RawGraph:
     """The graph in a file; '-' is standard input. Files in gzip are unpacked.
 
-    `format`: one of metis, csv, edges, graphml, gml, pajek, mtx; by the suffix, or by how the text begins, if it is not named. A sparse
-    array that scipy saved (.npz) wants scipy. `source`, `target`: the columns of the ends in a table, by name or by number from 1; those
-    with usual names if they are not named. `weight`: the column, or the attribute of edges, with the weights. Without it that is one with
-    a usual name (weight, capacity, cap, bandwidth, w), and each edge weighs 1 where there is none. `unweighted`: each edge weighs 1 in any
-    case. `vertices`: a table of the vertices beside a table of edges. `mass`, `name`: the column of that table, or the attribute of
-    vertices, with masses and with names. `delimiter`: the sign between columns, or 'tab' or 'space'. `header`: whether a table begins with
-    the names of its columns. `encoding`: of the text.
+    `format`: one of metis, csv, edges, graphml, gml, pajek, mtx. Without it the suffix decides, or the beginning of the text. A sparse
+    array that scipy saved (.npz) needs scipy. `source`, `target`: the columns of the ends in a table, by name or by number from 1; without
+    them, those with usual names. `weight`: the column, or the attribute of edges, with the weights. Without it that is one with a usual
+    name (weight, capacity, cap, bandwidth, w); if there is none, each edge weighs 1. `unweighted`: each edge weighs 1 in any case.
+    `vertices`: a table of the vertices beside a table of edges. `mass`, `name`: the column of that table, or the attribute of vertices,
+    with masses and with names. `delimiter`: the sign between columns, or 'tab' or 'space'. `header`: whether a table begins with the
+    names of its columns. `encoding`: of the text.
 
-    Raises BadInput where the file cannot be read or is no graph for certain, UnknownName for a column or an attribute that it does not
-    have. A million lines of CSV take some seconds and 200 MB; METIS text is handed on to the program and takes no time here."""
+    Raises BadInput if the file cannot be read, or could be read in two ways, and UnknownName for a column or an attribute that it does
+    not have. A million lines of CSV take some seconds and 200 MB; METIS text is passed to the program and takes no time here."""
     asked = ReadOptions(format, source, target, weight, unweighted, mass, name, vertices, delimiter, header, encoding)
     shown = 'standard input' if str(path) == '-' else str(path)
     if weight is not None and unweighted:

@@ -3,11 +3,12 @@ from __future__ import annotations
 
 import ast
 import csv
+import json
 import re
 from array import array
 from collections.abc import Iterator, Sequence
 from itertools import islice
-from typing import NamedTuple, Optional
+from typing import Any, NamedTuple, Optional
 
 from ..errors import BadInput, UnknownName
 from .content import Content
@@ -18,17 +19,24 @@ DELIMITERS = {'tab': '\t', 'space': ' ', '\\t': '\t'}
 SIGNS = '\t;,|'
 NO_CELL = ' \t\n#%'
 ODD_LINES = ('"', '\0', *(f'\n{sign}' for sign in NO_CELL))
-MARK = '\0'                           # stands for the end of a line among cells
+BLANKS = ' \t\r\v\f\x1c\x1d\x1e\x1f'     # those of ASCII but for the line feed
+MARK, NUMBER_MARK = '\0', -1           # stand for the end of a line among cells
 PIECE = 1 << 16                        # letters that are read at once
 SAMPLE = 20                            # lines that tell the sign between columns
 SEPARATOR_LINE = re.compile(r'"?sep=(.|\\t)"?', re.IGNORECASE)
 NUMBER = re.compile(r'[+-]?(\d+\.?\d*|\.\d+)([eE][+-]?\d+)?')
 Row = list[str]
+Column = list[Any]                     # of texts alone, or of numbers alone
 
 
 def plain_number(word: str) -> bool:
     """Whether the word has digits alone, 0 to 9."""
     return word.isascii() and word.isdigit()
+
+
+def has_numbers(column: Column) -> bool:
+    """Whether the cells are numbers, and not texts."""
+    return bool(column) and isinstance(column[0], int)
 
 
 class Piece(NamedTuple):
@@ -52,6 +60,21 @@ class Piece(NamedTuple):
         cells = cells if sign is None else cells[:-1]
         lines = self.text.count('\n')
         return cells if len(cells) == lines * (width + 1) and cells[width::width + 1].count(MARK) == lines else None
+
+    def numbers(self, sign: Optional[str], width: int) -> Optional[list[int]]:
+        """The cells as in `cells`, with -1 for a mark, if all are digits alone as Python writes numbers; else None. JSON has just such."""
+        if sign in (None, '"', MARK) or not plain_number(self.text.replace(str(sign), '').replace('\n', '')):
+            return None
+        try:
+            numbers: list[int] = json.loads('[' + self.text.replace(str(sign), ',').replace('\n', f',{NUMBER_MARK},')[:-1] + ']')
+        except ValueError:             # an empty cell, a needless 0, or more digits than Python takes
+            return None
+        lines = self.text.count('\n')
+        return numbers if len(numbers) == lines * (width + 1) and numbers[width::width + 1].count(NUMBER_MARK) == lines else None
+
+    def is_tight(self, sign: Optional[str]) -> bool:
+        """Whether no cell has a blank around it for certain; outside of ASCII any sign may be one."""
+        return sign is None or self.text.isascii() and not any(blank in self.text for blank in BLANKS if blank != sign)
 
 
 def pieces_of(content: Content) -> Iterator[Piece]:
@@ -115,14 +138,22 @@ class Table:
             raise BadInput(f'line {numbers[len(rows)]}: a cell cannot be read ({fault})') from None
         return rows
 
-    def cells(self, wanted: list[int]) -> Iterator[tuple[Sequence[int], list[list[str]]]]:
+    def cells(self, wanted: list[int]) -> Iterator[tuple[Sequence[int], list[Column]]]:
         """The wanted columns, some thousand cells of each at a time, and the numbers of their lines. Rows without any cell are left out;
-        raises BadInput for one with more cells than the table has columns, or without one that is wanted."""
+        raises BadInput for one with more cells than the table has columns, or without one that is wanted. Of lines with numbers alone
+        the cells are numbers."""
         skip, width = self.skip, self.width
         for piece in pieces_of(self.content):
-            cells = piece.cells(self.sign, width) if skip == 0 and self.attribute is None else None
+            plain = skip == 0 and self.attribute is None
+            digits = piece.numbers(self.sign, width) if plain else None
+            if digits is not None:
+                yield range(piece.start, piece.start + len(digits) // (width + 1)), [digits[place::width + 1] for place in wanted]
+                continue
+            cells = piece.cells(self.sign, width) if plain else None
             if cells is not None:
-                found = [[*map(str.strip, cells[place::width + 1])] for place in wanted]
+                found = [cells[place::width + 1] for place in wanted]
+                if not piece.is_tight(self.sign):
+                    found = [[*map(str.strip, column)] for column in found]
                 if not any('' in column for column in found):
                     yield range(piece.start, piece.start + len(found[0])), found
                     continue

@@ -3,9 +3,8 @@ from __future__ import annotations
 
 import re
 from array import array
-from collections import defaultdict
 from collections.abc import Sequence
-from itertools import chain, count
+from itertools import chain
 from typing import Any, Optional, Union
 
 from ..edges import Edges
@@ -13,7 +12,8 @@ from ..errors import BadInput, UnknownName
 from ..graph import RawGraph
 from .content import Content
 from .headings import Ends, ends_in, one_weight, quoted
-from .lines import Table, plain_number, table_of
+from .lines import Column, Table, has_numbers, plain_number, table_of
+from .names import Names
 from .options import ReadOptions
 from .vertices import add_vertices
 
@@ -38,7 +38,7 @@ def read_table(content: Content, options: ReadOptions) -> RawGraph:
     if not found.heads:
         raise BadInput('has no edge: one line for each is due, with two columns for its ends')
     refuse_two_readings(table, found, weight, options)
-    raw = RawGraph(list(found.place), found.edges(), notes=[*table.notes, told(table, source, target, weight)], lines=found.lines)
+    raw = RawGraph(found.names.all(), found.edges(), notes=[*table.notes, told(table, source, target, weight)], lines=found.lines)
     raw.directed = has_arrows(table)
     if options.vertices:
         add_vertices(raw, options)
@@ -123,7 +123,7 @@ def refuse_two_readings(table: Table, found: Links, weight: Optional[int], optio
     """Raises BadInput where what was taken for the names of columns may be an edge, or the list of edges a matrix."""
     if options.header is not None:
         return
-    if table.columns is not None and weight is None and table.width == 2 and any(name in found.place for name in table.columns):
+    if table.columns is not None and weight is None and table.width == 2 and not set(table.columns).isdisjoint(found.names.all()):
         short = any(ends.short for ends in ends_in(table.columns))
         if short or not ends_in(table.columns):
             raise BadInput(f'line {table.header_line}: {quoted(table.columns)} may be an edge or the names of columns; '
@@ -136,10 +136,10 @@ def refuse_two_readings(table: Table, found: Links, weight: Optional[int], optio
 # Rows
 
 class Links:
-    """The edges of a table as columns. `place`: the number of each name, in the order in which they stand in the file."""
+    """The edges of a table as columns."""
 
     def __init__(self) -> None:
-        self.place: defaultdict[str, int] = defaultdict(count().__next__)
+        self.names = Names()
         self.heads, self.tails, self.lines = array('I'), array('I'), array('I')
         self.whole = array('Q')                              # the weights, as long as all are whole numbers
         self.weights: list[Union[int, str]] = []             # all from the first other one on, as they stand
@@ -150,23 +150,23 @@ class Links:
         self.weighted = weight is not None
         wanted = [source, target] if weight is None else [source, target, weight]
         for numbers, cells in table.cells(wanted):
-            ends = array('I', map(self.place.__getitem__, chain.from_iterable(zip(cells[0], cells[1]))))
+            ends = self.names.places([*chain.from_iterable(zip(cells[0], cells[1]))])
             self.heads.extend(ends[::2])
             self.tails.extend(ends[1::2])
             self.lines.extend(numbers)
             if weight is not None:
                 self.weigh(cells[2])
 
-    def weigh(self, cells: list[str]) -> None:
+    def weigh(self, cells: Column) -> None:
         """Takes in the next weights."""
         before = len(self.whole)
-        if not self.weights and plain_number(''.join(cells)):
+        if not self.weights and (has_numbers(cells) or plain_number(''.join(cells))):
             try:
-                self.whole.extend(map(int, cells))
+                self.whole.extend(cells if has_numbers(cells) else map(int, cells))
                 return
             except OverflowError:
                 del self.whole[before:]
-        self.weights += [int(cell) if plain_number(cell) and len(cell) < 40 else cell for cell in cells]
+        self.weights += [int(cell) if plain_number(cell) and len(cell) < 40 else cell for cell in map(str, cells)]
 
     def edges(self) -> Edges:
         """The edges with whole weights where all are such, else with the weights as they stand; raises BadInput for thousands points."""

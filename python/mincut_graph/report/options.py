@@ -8,7 +8,7 @@ from .extras import read_levels, read_what_if
 
 
 def add_options(group: Any) -> None:
-    group.add_argument('--title', help='the heading of the page; the name of the file if not named')
+    group.add_argument('--title', help='the heading of the page; default: the name of the file')
     group.add_argument('--unit', default='', metavar='UNIT', help='the unit of the weights, such as Gbit/s; they are shown divided by --scale')
     group.add_argument('--levels', metavar='FILE', help='levels to show, as `levels --as json` prints them')
     group.add_argument('--what-if', metavar='FILE', help='values after changes to show, as `failures --as json` prints them')
