@@ -21,6 +21,7 @@ import random
 import shlex
 import sys
 import tempfile
+from concurrent.futures import ProcessPoolExecutor
 
 from checks import cactuses, metis, running
 from checks.answers_by_hand import triples_of
@@ -208,8 +209,8 @@ def check_answer(words, out_file, graph_file, facts):
 
 def apart(function, *arguments):
     """Calls the function in a process of its own, so that its memory is not counted as the program's."""
-    with multiprocessing.get_context('fork').Pool(1) as pool:
-        return pool.apply(function, arguments)
+    with ProcessPoolExecutor(1, multiprocessing.get_context('fork')) as pool:
+        return pool.submit(function, *arguments).result()
 
 
 def run_best(command, source_file, out_file, options):
