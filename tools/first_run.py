@@ -25,6 +25,8 @@ READING_JOBS = ('value', 'cactus', 'cuts', 'part', 'count', 'balanced', 'augment
 NOTICES = {'--help': 'HELP', '-h': 'HELP', '--version': 'VERSION', '-V': 'VERSION'}
 NOTICE_FILE = f'{first_build.ROOT}/crates/program_words/src/notice.rt'
 NOT_BUILT = 11
+# The logic under which the proofs were made, as `rt version` names it.
+LOGIC = 'dac8208d650f15bf'
 
 
 def say(text):
@@ -50,7 +52,7 @@ class Input:
     def keep(self):
         """Reads to the end. What cannot be read, as a folder, is left to the program, which says so."""
         if os.isatty(self.open_file):
-            say('the graph is read from the terminal, to its end (control-D on a line of its own)')
+            say('waiting for a graph on standard input (mincut JOB < GRAPH); control-D ends one that is typed')
         kept = tempfile.TemporaryFile(prefix='mincut-input-')
         while True:
             try:
@@ -124,11 +126,18 @@ def look_first(words, given):
     say(f'the answer above is not proved (status {look.status}); what comes next is the proof, and then the proved answer on standard output')
 
 
+def compare_logic():
+    told = subprocess.run(['rt', 'version'], stdin=subprocess.DEVNULL, stdout=subprocess.PIPE, stderr=subprocess.DEVNULL, text=True).stdout.strip()
+    if LOGIC not in told:
+        say(f"`rt version` says '{told}'; the proofs were made under the logic {LOGIC}, and may not pass under another")
+
+
 def built():
     """Whether the program is built, or could be."""
     if not shutil.which('rt'):
-        say("the program is not built, and rt, the toolchain's command, is not on the path; README.md says under 'What you need' which toolchain that is")
+        say("the program is not built, and rt, the toolchain's command, is not on the path; README.md says under 'To check it' which toolchain that is")
         return False
+    compare_logic()
     return first_build.build(say)
 
 

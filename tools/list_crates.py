@@ -1,16 +1,31 @@
 #!/usr/bin/env python3
-"""Writes crates/README.md by crates.txt, docs/MAP.md and the heads of the crates: one row for each crate, with what it is, where to
-begin reading it, and which crates call it."""
+"""Writes crates/README.md by crates.txt and the heads of the crates: one row for each crate, with what it is, where to begin reading it,
+and which crates call it."""
 import os
 import re
 
 ROOT = os.path.dirname(os.path.dirname(os.path.abspath(__file__)))
-# So many callers are named; where there are more, how many they are.
+# So many callers are named; if there are more, how many they are.
 MOST_CALLERS = 10
+# The file in the src/ of each crate to begin with, if that is not its lib.rt or main.rt.
+BEGINNINGS = {
+    'outside': 'source', 'cut_definitions': 'edge_list', 'vertex_set': 'side', 'vertex_classes': 'classes', 'metis_reader': 'reader',
+    'graph_maker': 'rings', 'weighted_graph': 'graph', 'component_cuts': 'edge_classes', 'capped_scan': 'capped',
+    'edge_certificates': 'heavy', 'row_ranges': 'graphs', 'arc_search': 'step_arcs', 'region_fronts': 'fronts', 'region_flow': 'regions',
+    'least_cut': 'sweep', 'forest_contraction': 'shrinking', 'scan_core': 'played', 'mark_board': 'marks', 'round_contract': 'classes',
+    'round_workers': 'one_round', 'worker_team': 'team', 'vertex_order': 'renumbering', 'min_value': 'by_list', 'rooted_cactus': 'cactus',
+    'cactus_walk': 'walk', 'flat_cactus': 'flat', 'node_tree': 'tree', 'certified_growth': 'kernel', 'region_parts': 'split',
+    'region_sweep': 'sweep', 'cactus_solver': 'by_list', 'cut_listing': 'lister', 'balanced_cut': 'weighed', 'tree_flattening': 'making',
+    'cactus_growth': 'insertion', 'edge_augment': 'augmenting', 'answer_pages': 'text', 'edge_arrays': 'arrays', 'mincut_c': 'values',
+    'program_words': 'command', 'stop_lines': 'stop', 'job_replies': 'intake', 'mincut_program': 'program', 'scan_forest': 'by_phases',
+    'max_flow': 'flow', 'residual_chain': 'across', 'cactus_merge': 'part', 'cactus_text': 'reading', 'value_tests': 'sets',
+    'tree_tests': 'chains', 'program_tests': 'answers',
+}
 HEAD = """# The crates
 
 One row for each crate, in the order of crates.txt: what it is, the file in its `src/` to begin with, and the crates that call it.
-[docs/MAP.md](../docs/MAP.md) says what each promises. `tools/list_crates.py` writes this page.
+What a crate promises is in the contracts of its public calls. [docs/CONTRIBUTING.md](../docs/CONTRIBUTING.md) has the way from a list of
+edges to the tree of the minimum cuts. `tools/list_crates.py` writes this page.
 """
 
 
@@ -39,20 +54,15 @@ def what(crate):
     return re.match(r'.*?[.](?= |$)', head)[0].replace('|', r'\|')
 
 
-def beginnings():
-    """For each crate the file that docs/MAP.md names first."""
-    found = {}
-    for line in read('docs/MAP.md').splitlines():
-        cells = line.split(' | ')
-        name, file = re.match(r'\| `(\w+)`', line), re.search(r'`([\w/]+\.rt)`', cells[-2]) if len(cells) > 3 else None
-        if name and file:
-            found[name[1]] = file[1]
-    return found
+def beginning(crate):
+    """The file to begin with, below the folder of the crate."""
+    names = [BEGINNINGS.get(crate, 'lib'), 'lib', 'main']
+    return next(f'src/{name}.rt' for name in names if os.path.exists(f'{ROOT}/crates/{crate}/src/{name}.rt'))
 
 
 def page():
     below = {crate: uses for _, _, crates in layers() for crate, uses in crates.items()}
-    begin, rows = beginnings(), [HEAD]
+    rows = [HEAD]
     for title, is_half, crates in layers():
         rows.append(f'{"##" if is_half else "###"} {title}\n')
         if crates:
@@ -60,8 +70,8 @@ def page():
         for crate in crates:
             calling = [f'`{other}`' for other, uses in below.items() if crate in uses and not other.endswith('_tests')]
             callers = ', '.join(calling) if len(calling) <= MOST_CALLERS else f'{len(calling)} crates'
-            file = begin.get(crate, 'lib.rt' if os.path.exists(f'{ROOT}/crates/{crate}/src/lib.rt') else 'main.rt')
-            rows.append(f'| `{crate}` | {what(crate)} | [{file}]({crate}/src/{file}) | {callers} |')
+            file = beginning(crate)
+            rows.append(f'| `{crate}` | {what(crate)} | [{os.path.basename(file)}]({crate}/{file}) | {callers} |')
         if crates:
             rows.append('')
     return '\n'.join(rows).rstrip() + '\n'

@@ -3,6 +3,7 @@
 
 usage: test_first_run.py"""
 import os
+import pty
 import re
 import shutil
 import signal
@@ -13,6 +14,7 @@ import tempfile
 import time
 import unittest
 
+from first_run import LOGIC
 from versions import versions
 
 TOP = os.path.dirname(os.path.dirname(os.path.abspath(__file__)))
@@ -39,8 +41,11 @@ if sys.argv[1] == 'try':
     sys.stdout.write('looked at %d bytes for %s\n' % (len(sys.stdin.read()), ' '.join(sys.argv[3:])))
     sys.stderr.write('a line of the program\nchecked: ended status=7\nrun=ended status=7 runners=1 races=unchecked proved=no\n')
     sys.exit(7)
-if sys.argv[1] in ('doc', 'version'):
+if sys.argv[1] == 'doc':
     print(at + '/START-HERE.md')
+    sys.exit()
+if sys.argv[1] == 'version':
+    print('played-kit logic ' + (told('logic') or ['LOGIC'])[0])
     sys.exit()
 if sys.argv[1] == 'lib':
     os.makedirs('out', exist_ok=True)
@@ -65,7 +70,7 @@ os.makedirs(out, exist_ok=True)
 with open(out + '/mincut', 'w') as file:
     file.write('#!/bin/sh\necho "proved $*"\nwc -c\nexit 3\n')
 os.chmod(out + '/mincut', 0o755)
-'''
+'''.replace('LOGIC', LOGIC)
 
 # The module by which it knows the libraries that it has proved.
 MODULE = r'''import os
@@ -170,7 +175,7 @@ class FirstRun(Played):
         status, out, err = self.mincut('count', given=b'x' * 20_000_000)
         self.assertEqual((status, out), (3, 'proved count\n20000000\n'))
         self.assertNotIn('looked', err)
-        self.assertEqual(self.calls(), ['ci'])
+        self.assertEqual(self.calls(), ['version', 'ci'])
 
     def test_a_built_program_starts_at_once_until_a_file_of_its_own_changes(self):
         self.mincut('value')
@@ -210,6 +215,23 @@ class FirstRun(Played):
         status, out, err = self.mincut('value')
         self.assertEqual((status, out), (11, ''))
         self.assertIn('vertex_set NOT PROVED', err)
+
+    def test_another_logic_is_told(self):
+        self.assertNotIn('logic', self.mincut('--build')[2])
+        self.tell('logic', '0123')
+        os.remove(f'{self.top}/crates/mincut/out/mincut')
+        self.assertIn(f"'played-kit logic 0123'; the proofs were made under the logic {LOGIC}", self.mincut('--build')[2])
+
+    def test_a_terminal_is_told_what_is_waited_for(self):
+        self.mincut('--build')
+        for words, waits in ((['value'], True), (['--workers', '2', 'cuts'], True), (['trial', '12'], False)):
+            ours, theirs = pty.openpty()
+            child = self.start(*words, stdin=theirs)
+            os.write(ours, b'\x04')
+            err = child.communicate(timeout=30)[1]
+            self.assertEqual(b'waiting for a graph on standard input' in err, waits)
+            os.close(ours)
+            os.close(theirs)
 
     def test_words_of_the_script(self):
         self.assertEqual(self.mincut('--look', 'cuts', '--least', '2')[:2], (7, f'looked at {len(GRAPH)} bytes for cuts --least 2\n'))

@@ -4,6 +4,7 @@ Each family takes a number of vertices, which it may round, and a source of rand
 facts). Facts that are known stand under `value`, `count` (of the minimum cuts), `shape` (nodes, bridges and cycles, where there is one
 normal cactus but for the order) and `balance` (the best one).
 """
+import itertools
 import math
 from collections.abc import Callable, Sequence
 from random import Random
@@ -316,6 +317,75 @@ def hypercube(n: int, rng: Random) -> Made:
     return n, shuffled(n, edges, rng), all_alone(n, k * (k + 1) // 2)
 
 
+def random_unweighted(n: int, rng: Random) -> Made:
+    """A random tree and further edges, eight for each vertex in all."""
+    pairs = {(rng.randrange(1, v), v) for v in range(2, n + 1)}
+    most = min(8 * n, n * (n - 1) // 2)
+    while len(pairs) < most:
+        u, v = rng.randrange(1, n + 1), rng.randrange(1, n + 1)
+        if u != v:
+            pairs.add((min(u, v), max(u, v)))
+    return n, [(u, v, 1) for u, v in pairs], {}
+
+
+def attachment(n: int, rng: Random) -> Made:
+    """Preferential attachment: each vertex is joined to four earlier ones, chosen by their degrees at random."""
+    n = max(n, 6)
+    edges = [(u, v, 1) for v in range(2, 6) for u in range(1, v)]
+    ends = [end for u, v, _ in edges for end in (u, v)]
+    for v in range(6, n + 1):
+        chosen = set()
+        while len(chosen) < 4:
+            chosen.add(rng.choice(ends))
+        for u in sorted(chosen):
+            edges.append((u, v, 1))
+            ends += (u, v)
+    return n, edges, {}
+
+
+def cubic(n: int, rng: Random) -> Made:
+    """A ring through all vertices and a matching of them, each in an order of its own at random, so each vertex has degree three."""
+    n = max(n - n % 2, 8)
+    table = {}
+    for step in (1, 2):
+        names = list(range(1, n + 1))
+        rng.shuffle(names)
+        for u, v, w in ring_edges(names)[::step]:
+            pair = min(u, v), max(u, v)
+            table[pair] = table.get(pair, 0) + w
+    return n, [(u, v, w) for (u, v), w in table.items()], {}
+
+
+def tree_of_cliques(n: int, rng: Random) -> Made:
+    """Cliques of eight vertices, each joined by one edge to an earlier one that is chosen at random."""
+    size, edges = 8, []
+    k = max(n // size, 2)
+    for clique in range(k):
+        first = clique * size + 1
+        edges += [(u, v, 1) for u in range(first, first + size) for v in range(u + 1, first + size)]
+        if clique:
+            edges.append((rng.randrange(1, first), first, 1))
+    return k * size, edges, {'value': 1, 'count': k - 1, 'shape': (k, k - 1, 0)}
+
+
+def tetrahedra(n: int, rng: Random) -> Made:
+    """The tetrahedra of a mesh: a cube of cubes, each cut into six around a diagonal; those with a common face are joined."""
+    k = max(2, round((n / 6) ** (1 / 3)))
+    orders = list(itertools.permutations(range(3)))
+    at = lambda cube, order: 1 + 6 * (cube[0] * k * k + cube[1] * k + cube[2]) + orders.index(order)
+    edges = []
+    for cube in itertools.product(range(k), repeat=3):
+        for order in orders:
+            # The corners of a tetrahedron are reached by steps along these axes, one after the other.
+            a, b, c = order
+            edges += [(at(cube, order), at(cube, other), 1) for other in ((b, a, c), (a, c, b)) if order < other]
+            # Its last face, away from the first corner, is the first one of a tetrahedron of the next cube along the first axis.
+            if cube[a] + 1 < k:
+                following = tuple(place + (axis == a) for axis, place in enumerate(cube))
+                edges.append((at(cube, order), at(following, (b, c, a)), 1))
+    return 6 * k ** 3, edges, {}
+
+
 # Each family with its number of vertices for a number of edges.
 FAMILIES: dict[str, tuple[Callable[[int, Random], Made], Callable[[int], int]]] = {
     'ring': (ring, lambda m: m),
@@ -337,6 +407,7 @@ FAMILIES: dict[str, tuple[Callable[[int, Random], Made], Callable[[int], int]]] 
     'petersen_by_three': (petersen_by_three, lambda m: m * 2 // 3),
     'petersen_scattered': (petersen_scattered, lambda m: m * 2 // 3),
     'regular': (regular, lambda m: m // 2),
+    'cubic': (cubic, lambda m: m * 2 // 3),
     'hypercube': (hypercube, lambda m: max(1 << k for k in range(4, 26) if k << (k - 1) <= max(m, 32))),
     'path': (path, lambda m: m + 1),
     'star': (star, lambda m: m + 1),
@@ -344,9 +415,13 @@ FAMILIES: dict[str, tuple[Callable[[int, Random], Made], Callable[[int], int]]] 
     'wheel': (wheel, lambda m: m // 2 + 1),
     'clique': (clique, lambda m: (1 + math.isqrt(1 + 8 * m)) // 2),
     'random_sparse': (random_sparse, lambda m: m // 3),
+    'random_unweighted': (random_unweighted, lambda m: m // 8),
     'random_dense': (random_dense, lambda m: 2 * math.isqrt(m)),
     'dense_clusters': (dense_clusters, lambda m: 2 * math.isqrt(m)),
     'ring_of_cliques': (ring_of_cliques, lambda m: m * 8 // 29),
+    'tree_of_cliques': (tree_of_cliques, lambda m: m * 8 // 29),
+    'attachment': (attachment, lambda m: m // 4),
+    'tetrahedra': (tetrahedra, lambda m: m // 2),
     'network': (network, lambda m: m * 19 // 32),
     'network_dual': (network_dual, lambda m: m * 19 // 32),
 }

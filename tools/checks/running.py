@@ -13,7 +13,7 @@ from collections import Counter
 from collections.abc import Callable, Collection
 from concurrent.futures import ThreadPoolExecutor
 from random import Random
-from typing import IO, NamedTuple
+from typing import IO, Any, NamedTuple
 
 # The folder may be reached by a link, as from bench/.
 TOP = os.path.dirname(os.path.dirname(os.path.dirname(os.path.realpath(__file__))))
@@ -56,10 +56,12 @@ def bounded(kilobytes: int) -> Callable[[], None] | None:
     return (lambda: resource.setrlimit(resource.RLIMIT_AS, (kilobytes * 1024, kilobytes * 1024))) if kilobytes else None
 
 
-def run_program(program: str, words: list[str], text: str, kilobytes: int = 0, env: dict[str, str] | None = None) -> Answer:
-    """(status, standard output, standard error) as texts; a program that takes two minutes is stopped, and has no status."""
+def run_program(program: str, words: list[str], text: str | IO[bytes], kilobytes: int = 0, env: dict[str, str] | None = None) -> Answer:
+    """(status, standard output, standard error) as texts, for a text or an open file; a program that takes two minutes is stopped, and
+    has no status."""
+    source: dict[str, Any] = {'input': text.encode()} if isinstance(text, str) else {'stdin': text}
     try:
-        child = subprocess.run([program, *words], input=text.encode(), stdout=subprocess.PIPE, stderr=subprocess.PIPE, env=env,
+        child = subprocess.run([program, *words], **source, stdout=subprocess.PIPE, stderr=subprocess.PIPE, env=env,
                                preexec_fn=bounded(kilobytes), timeout=LONGEST)
     except subprocess.TimeoutExpired:
         return None, '', 'no answer within two minutes'

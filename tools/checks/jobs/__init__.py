@@ -5,10 +5,10 @@ where nothing differs, else 1.
 """
 from types import ModuleType
 
-from . import augment, broken, cactus, cactus_text, canonical, components, growth, known, library, listing, memory, mutated, reader
+from . import augment, broken, cactus, cactus_text, canonical, components, growth, known, library, listing, memory, mutated, reader, regions
 
 # Those of many cases: they take --program, --count, --seed and --threads.
 OF_CASES: dict[str, ModuleType] = {'reader': reader, 'broken': broken, 'cactus': cactus, 'canonical': canonical, 'listing': listing,
                                    'components': components, 'augment': augment, 'growth': growth}
-ALL: dict[str, ModuleType] = {'known': known, **OF_CASES, 'memory': memory, 'mutated': mutated,
+ALL: dict[str, ModuleType] = {'known': known, **OF_CASES, 'memory': memory, 'mutated': mutated, 'regions': regions,
                               'cactus-text': cactus_text, 'library': library}

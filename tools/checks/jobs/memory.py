@@ -6,6 +6,9 @@ Two ways. Where a C compiler is there, a small library before the program's own 
 in each run, until a run meets none. And the address space is bounded (`ulimit -v`), in steps of so many KB, from where the program
 starts at all up to where it answers. Each run must end with status 5, its line on the error output and nothing on the standard
 output, or with the answer of a run with ample memory. While the program still makes the words it ends with status 5 and no line.
+
+In the first way each read of the standard input gives one byte, so the bytes read tell at which read the program stopped. It may
+stop before the first read, at the end of the header, or when all was read.
 """
 import argparse
 import os
@@ -38,6 +41,7 @@ SHIM = r'''
 #include <stddef.h>
 #include <stdlib.h>
 #include <sys/mman.h>
+#include <unistd.h>
 static atomic_long count;
 static long number(void) {
     static long n = -1;
@@ -63,6 +67,7 @@ int posix_memalign(void **out, size_t align, size_t size) {
 void *mmap(void *at, size_t size, int prot, int flags, int fd, off_t off) {
     REAL(mmap); if (fails()) { errno = ENOMEM; return MAP_FAILED; } return real(at, size, prot, flags, fd, off);
 }
+ssize_t read(int fd, void *room, size_t size) { REAL(read); return real(fd, room, fd == 0 && size > 1 ? 1 : size); }
 '''
 
 
@@ -82,6 +87,20 @@ def is_right(answer: Answer, whole: Answer) -> bool:
     return answer == whole or answer == (5, '', 'out of memory\n')
 
 
+def run_over_file(program: str, words: list[str], text: str, env: dict[str, str]) -> tuple[Answer, int]:
+    """What the program answers for a file of this text, and how many bytes of that it has read."""
+    with tempfile.TemporaryFile(buffering=0) as source:
+        source.write(text.encode())
+        source.seek(0)
+        answer = run_program(program, words, source, env=env)
+        return answer, source.tell()
+
+
+def may_stop_at(text: str, count: int) -> bool:
+    """Whether memory may run out when so many bytes were read, one by one: none, those of the header, or all."""
+    return count in (0, text.find('\n') + 1, len(text))
+
+
 def fail_each(program: str, library: str, words: list[str], text: str, whole: Answer, folder: str) -> Tried:
     """(runs, runs that ended with status 5, what is wrong) where allocation 1, 2, .. fails."""
     mark = os.path.join(folder, 'failed')
@@ -89,7 +108,7 @@ def fail_each(program: str, library: str, words: list[str], text: str, whole: An
     while k < 20_000:
         k += 1
         env = dict(os.environ, LD_PRELOAD=library, FAIL_AT=str(k), FAIL_MARK=mark)
-        answer = run_program(program, words, text, env=env)
+        answer, count = run_over_file(program, words, text, env)
         failed = os.path.exists(mark)
         if failed:
             os.remove(mark)
@@ -99,6 +118,8 @@ def fail_each(program: str, library: str, words: list[str], text: str, whole: An
         # an allocation before the program begins, as the loader's, ends it in the loader's way
         if not is_right(answer, whole) and not makes_words and not is_before_main(answer):
             wrong.append(f'allocation {k} of {words}: {answer}')
+        if answer[0] == 5 and not may_stop_at(text, count):
+            wrong.append(f'allocation {k} of {words}: stopped after {count} bytes')
         if not failed:
             return k, refused, wrong
     return k, refused, wrong + [f'{words}: no end']
