@@ -1,4 +1,4 @@
-/* The calls of mincut.h for C++17 and later: a graph is lent as spans, answers are vectors, and faults are exceptions. All of it stands in
+/* The calls of mincut.h for C++17 and later: a graph is passed as spans, answers are vectors, and faults are exceptions. Everything is in
  * this header; link with the library as from C.
  *
  *     mincut::EdgeList ring(4);
@@ -26,7 +26,7 @@
 
 namespace mincut {
 
-/* Spans are those of the standard library where it has them. Both kinds may be linked into one program, so all names differ with them. */
+/* Spans are those of the standard library if it has them. Both kinds may be linked into one program, so all names differ with them. */
 #if __cplusplus >= 202002L
 inline namespace standard_spans {
 
@@ -35,7 +35,7 @@ using Span = std::span<T>;
 #else
 inline namespace own_spans {
 
-/* Entries that stand side by side and belong to someone else, as std::span of C++20. */
+/* Adjacent entries that something else owns, like std::span of C++20. */
 template <class T>
 class Span {
 public:
@@ -87,20 +87,20 @@ inline void check(mincut_status status) {
     if (status != MINCUT_OK) throw Error(status);
 }
 
-/* A graph that is lent for a call: edge i joins u[i] and v[i] and weighs w[i]; the three have one length. */
+/* A graph that is lent for a call: edge i joins u[i] and v[i] and weighs w[i]; all three have the same length. */
 struct Graph {
     std::uint32_t vertices = 0;
     Span<const std::uint32_t> u, v;
     Span<const std::uint64_t> w;
 
-    /* the number of edges; without it an Error */
+    /* the number of edges; an Error if the lengths differ */
     std::size_t edges() const {
         if (v.size() != u.size() || w.size() != u.size()) throw Error(MINCUT_BAD_LENGTH);
         return u.size();
     }
 };
 
-/* Edges that are added one by one; it is taken where a Graph is. */
+/* Edges that are added one by one; it becomes a Graph in a call. */
 struct EdgeList {
     std::uint32_t vertices;
     std::vector<std::uint32_t> u, v;
@@ -115,13 +115,13 @@ struct EdgeList {
     operator Graph() const { return {vertices, u, v, w}; }
 };
 
-/* How many entries an array for all vertices gets: one where there are none, so that it has an address. */
+/* The length of an array for all vertices: one if there are none, so that it has an address. */
 inline std::size_t room_of(const Graph &graph) {
     if (graph.vertices > 4194304) throw Error(MINCUT_TOO_MANY_VERTICES);
     return graph.vertices ? graph.vertices : 1;
 }
 
-/* The masses of all vertices, or nothing for a mass of 1 each. */
+/* The masses of all vertices; an empty span for a mass of 1 each. */
 using Masses = Span<const std::uint64_t>;
 
 inline const std::uint64_t *data_of(const Graph &graph, Masses masses) {
@@ -129,14 +129,14 @@ inline const std::uint64_t *data_of(const Graph &graph, Masses masses) {
     return masses.empty() ? nullptr : masses.data();
 }
 
-/* The least weight of a cut: 0 where the graph is not connected. */
+/* The least weight of a cut; 0 if the graph is not connected. */
 inline std::uint64_t value(const Graph &graph) {
     std::uint64_t found = 0;
     check(mincut_value(graph.vertices, graph.edges(), graph.u.data(), graph.v.data(), graph.w.data(), &found));
     return found;
 }
 
-/* The lesser of the bound and the value. */
+/* The smaller of the bound and the value. */
 inline std::uint64_t value_below(const Graph &graph, std::uint64_t bound) {
     std::uint64_t found = 0;
     check(mincut_value_below(graph.vertices, graph.edges(), graph.u.data(), graph.v.data(), graph.w.data(), bound, &found));
@@ -164,7 +164,7 @@ inline Components components(const Graph &graph) {
     return found;
 }
 
-/* A cactus of all minimum cuts of a connected graph. Spans that it gives are of its own arrays. */
+/* A cactus of all minimum cuts of a connected graph. The spans it returns are of its own arrays. */
 class Cactus {
 public:
     explicit Cactus(const Graph &graph);
@@ -177,7 +177,7 @@ public:
     /* The vertices of a node, ascending; there may be none. */
     Span<const std::uint32_t> node(std::size_t i) const { return part(vertices_, node_starts_[i], node_starts_[i + 1]); }
 
-    /* The nodes of a cycle in its order; the last is joined to the first, below which the others hang. */
+    /* The nodes of a cycle in its order; the last is joined to the first, from which the others hang. */
     Span<const std::uint64_t> cycle(std::size_t i) const { return part(members_, cycle_starts_[i], cycle_starts_[i + 1]); }
 
     /* Where each node hangs. */
@@ -186,17 +186,17 @@ public:
     /* The node of each vertex. */
     std::vector<std::uint64_t> node_of() const;
 
-    /* The vertices of a node and of all nodes below it, in no particular order: for each node but 0 one side of a minimum cut. */
+    /* The vertices of a node and of all nodes below it, in no particular order. For each node but 0 this is one side of a minimum cut. */
     Span<const std::uint32_t> below(std::size_t node) const { return part(vertices_, places_[node].first, places_[node].end); }
 
-    /* The side of the minimum cut by a bridge, and by two edges of a cycle, i < j, where edge i joins its nodes i and i + 1. */
+    /* The side of the minimum cut of a bridge, and of two edges i < j of a cycle; edge i joins its nodes i and i + 1. */
     Span<const std::uint32_t> bridge_side(std::size_t bridge) const { return below(bridges_[bridge].lower); }
     Span<const std::uint32_t> cycle_side(std::size_t cycle, std::size_t i, std::size_t j) const {
         const mincut_range side = mincut_cycle_side(cycle_starts_.data(), members_.data(), places_.data(), cycle, i, j);
         return part(vertices_, side.first, side.end);
     }
 
-    /* Calls for each minimum cut, once, with its side without vertex 0: a span of vertices in no particular order. */
+    /* Calls its argument once for each minimum cut, with the side without vertex 0: a span of vertices in no particular order. */
     template <class Call>
     void for_each_side(Call call) const;
 
@@ -222,7 +222,7 @@ inline Cactus::Cactus(const Graph &graph) {
                         vertices_.data(), bridges_.data(), cycle_starts_.data(), members_.data()));
     places_.resize(sizes_.nodes);
     mincut_places(&sizes_, node_starts_.data(), bridges_.data(), cycle_starts_.data(), members_.data(), places_.data());
-    /* each list ends where the next begins, also the last */
+    /* each list ends where the next begins, even the last one */
     node_starts_.resize(sizes_.nodes + 1), node_starts_.back() = sizes_.vertices;
     cycle_starts_.resize(sizes_.cycles + 1), cycle_starts_.back() = sizes_.members;
     bridges_.resize(sizes_.bridges), members_.resize(sizes_.members);
@@ -235,7 +235,7 @@ inline std::vector<std::uint64_t> Cactus::node_of() const {
     return found;
 }
 
-/* The nodes without vertices between two cycles, of which they are lower node and upper node: their cut is told by both. */
+/* The nodes without vertices between two cycles, the lower node of one and the upper node of the other: both cycles have their cut. */
 inline std::vector<bool> Cactus::joints() const {
     std::vector<std::size_t> blocks(nodes()), of_cycles(nodes());
     for (const mincut_bridge &bridge : bridges_) ++blocks[bridge.upper];
@@ -260,13 +260,13 @@ void Cactus::for_each_side(Call call) const {
 
 inline Cactus cactus(const Graph &graph) { return Cactus(graph); }
 
-/* A minimum cut, and how evenly it parts the vertices. */
+/* A minimum cut, and how evenly it divides the vertices. */
 struct Balanced {
-    std::uint64_t value, balance;       /* balance: the lesser of the masses of the two sides */
-    std::vector<std::uint8_t> in_side;  /* for each vertex 0 for vertex 0 and all on its side, 1 for the others */
+    std::uint64_t value, balance;       /* balance: the smaller of the masses of the two sides */
+    std::vector<std::uint8_t> in_side;  /* 0 for vertex 0 and all vertices on its side, 1 for the others */
 };
 
-/* A minimum cut of a connected graph than which none has a greater balance; which of several such cuts is free. */
+/* A minimum cut of a connected graph of the greatest balance; any of several such cuts may be returned. */
 inline Balanced balanced(const Graph &graph, Masses masses = {}) {
     std::vector<std::uint8_t> in_side(room_of(graph));
     mincut_balance found{};
@@ -284,10 +284,10 @@ public:
     std::uint64_t value() const noexcept { return value_; }
     std::size_t size() const noexcept { return bytes_.size() / vertices_; }
 
-    /* A byte for each vertex: 0 for vertex 0 and all on its side, 1 for the others. */
+    /* A byte for each vertex: 0 for vertex 0 and all vertices on its side, 1 for the others. */
     Span<const std::uint8_t> row(std::size_t k) const { return Span<const std::uint8_t>(bytes_.data() + k * vertices_, vertices_); }
 
-    /* The vertices of a side, which ascend; vertex 0 is in none. */
+    /* The vertices of a side, ascending; vertex 0 is in none. */
     std::vector<std::uint32_t> list(std::size_t k) const {
         std::vector<std::uint32_t> found;
         const Span<const std::uint8_t> bytes = row(k);
@@ -309,7 +309,7 @@ private:
     std::vector<std::uint8_t> bytes_;
 };
 
-/* Lists sides by a call that takes a number of rows and a room: first by a small one, since the call tells how many sides there are. */
+/* Lists sides by a call that takes a number of rows and an array, first with few rows, since the call says how many sides there are. */
 template <class Call>
 Sides listed(const Graph &graph, Call call) {
     const std::size_t n = room_of(graph);
@@ -326,7 +326,7 @@ Sides listed(const Graph &graph, Call call) {
     return Sides(listing.value, n, std::move(bytes));
 }
 
-/* The minimum cuts of a connected graph whose balance, the lesser of the masses of their two sides, is `least` or more. */
+/* The minimum cuts of a connected graph whose balance, the smaller of the masses of their two sides, is `least` or more. */
 inline Sides sides_balanced(const Graph &graph, Masses masses, std::uint64_t least) {
     return listed(graph, [&](std::size_t rows, mincut_listing *listing, std::uint8_t *in_side) {
         return mincut_sides_balanced(graph.vertices, graph.edges(), graph.u.data(), graph.v.data(), graph.w.data(), data_of(graph, masses),
@@ -337,7 +337,7 @@ inline Sides sides_balanced(const Graph &graph, Masses masses, std::uint64_t lea
 /* All minimum cuts of a connected graph. */
 inline Sides sides(const Graph &graph) { return sides_balanced(graph, {}, 0); }
 
-/* The minimum cuts of a connected graph that separate two vertices: none where these are one vertex. */
+/* The minimum cuts of a connected graph that separate two vertices; none if they are the same vertex. */
 inline Sides sides_between(const Graph &graph, std::uint32_t a, std::uint32_t b) {
     return listed(graph, [&](std::size_t rows, mincut_listing *listing, std::uint8_t *in_side) {
         return mincut_sides_between(graph.vertices, graph.edges(), graph.u.data(), graph.v.data(), graph.w.data(), a, b, rows, listing,
@@ -345,10 +345,10 @@ inline Sides sides_between(const Graph &graph, std::uint32_t a, std::uint32_t b)
     });
 }
 
-/* The fewest edges of weight 1 that raise the value, and the sets that show that fewer do not. */
+/* The fewest edges of weight 1 that raise the value, and the sets that show that fewer are not enough. */
 struct Augmentation {
     std::uint64_t value;                                           /* of the graph as it is */
-    std::vector<std::pair<std::uint32_t, std::uint32_t>> edges;    /* ascending, the lesser vertex first */
+    std::vector<std::pair<std::uint32_t, std::uint32_t>> edges;    /* ascending, the smaller vertex first */
     std::size_t sets;                                              /* how many sets there are */
     std::vector<std::uint64_t> set_of;                             /* for each vertex the number of its set, from 1, or 0 */
 };

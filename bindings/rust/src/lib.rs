@@ -2,7 +2,7 @@
 //! their sides, and the fewest new edges that raise the value; and the components of a graph that is not connected.
 //!
 //! A graph has `n` vertices, 0 to n - 1; edge i joins `u[i]` and `v[i]` and weighs `w[i]`. Edges with the same ends are as one of
-//! the sum of their weights; loops and edges of weight 0 count for nothing. All limits are checked, and told by an [`Error`].
+//! the sum of their weights; loops and edges of weight 0 count for nothing. All limits are checked; an [`Error`] says what is wrong.
 //! The calls stand on proved exports of C, start no thread, and keep nothing. The place of each node in a cactus, and its sides, are
 //! in [`Cactus::places`].
 //!
@@ -24,7 +24,7 @@ use std::fmt;
 pub enum Error {
     /// n is 0 or 1.
     NoCut,
-    /// Memory is wanting.
+    /// Out of memory.
     OutOfMemory,
     /// The slices of the edges differ in length, or there are masses and not as many as vertices.
     BadLength,
@@ -40,7 +40,7 @@ pub enum Error {
     Disconnected,
     /// The masses add up to 2^64 or more.
     MassSum,
-    /// n times the number of the sides that are asked for, which is told here, is above 2^30.
+    /// n times the number of sides, which is given here, is above 2^30.
     TooManySides(u64),
     /// The library answered a status that this crate does not know: it is of another version.
     Unknown(u32),
@@ -187,7 +187,7 @@ impl Cactus {
 pub struct Place {
     /// The node above it: the upper end of its bridge, or the first node of its cycle.
     pub upper: u64,
-    /// The number of its bridge where `position` is 0, and else of its cycle.
+    /// The number of its bridge if `position` is 0, and otherwise of its cycle.
     pub block: usize,
     /// 0 for the lower end of a bridge, and else its place in the cycle, from 1.
     pub position: usize,
@@ -218,7 +218,7 @@ impl Places<'_> {
     }
 
     /// The side of the minimum cut by the edges `i` and `j` of a cycle, `i` below `j`: edge i joins its nodes i and i + 1, the last its
-    /// last node and its first. It panics where the cycle has no such edges.
+    /// last node and its first. It panics if the cycle has no such edges.
     pub fn cycle_side(&self, cycle: usize, i: usize, j: usize) -> &[u32] {
         let nodes = self.cactus.cycles().nth(cycle).expect("a cycle of this number");
         assert!(i < j, "the first edge comes before the second");
@@ -278,9 +278,9 @@ struct Raise {
 pub struct Augmentation {
     /// The value of the graph.
     pub value: u64,
-    /// The two ends of each edge, the lesser first.
+    /// The two ends of each edge, the smaller first.
     pub edges: Vec<(u32, u32)>,
-    /// For each vertex the number of its set, from 1, or 0 where it is in none. Each set is one side of a minimum cut.
+    /// For each vertex the number of its set, from 1, or 0 if it is in none. Each set is one side of a minimum cut.
     pub set_of: Vec<u64>,
 }
 
@@ -310,12 +310,12 @@ fn listed(n: u32, mut call: impl FnMut(&mut Listing, &mut [u8]) -> u32) -> Resul
     Ok(Sides { value: listing.value, n: n as usize, bytes })
 }
 
-/// A minimum cut, and how evenly it parts the vertices.
+/// A minimum cut, and how evenly it divides the vertices.
 #[derive(Clone, Debug, PartialEq, Eq)]
 pub struct Balanced {
     /// The value of the graph.
     pub value: u64,
-    /// The lesser of the masses of the two sides.
+    /// The smaller of the masses of the two sides.
     pub balance: u64,
     /// For each vertex whether it is on the side without vertex 0.
     pub in_side: Vec<bool>,
@@ -363,7 +363,7 @@ extern "C" {
     ) -> u32;
 }
 
-/// The least weight of a cut: 0 where the graph is not connected.
+/// The least weight of a cut; 0 if the graph is not connected.
 pub fn value(n: u32, u: &[u32], v: &[u32], w: &[u64]) -> Result<u64, Error> {
     let mut least = 0;
     // SAFETY: the slices are lent for the call, and the export checks all that they say.
@@ -371,7 +371,7 @@ pub fn value(n: u32, u: &[u32], v: &[u32], w: &[u64]) -> Result<u64, Error> {
     told(status).map(|()| least)
 }
 
-/// The lesser of the bound and the value: for separation, sooner than the value where that reaches the bound.
+/// The smaller of the bound and the value, to separate constraints.
 ///
 /// ```
 /// assert_eq!(mincut::value_below(3, &[0, 1, 2], &[1, 2, 0], &[1, 1, 1], 1), Ok(1));
@@ -476,7 +476,7 @@ pub fn sides(n: u32, u: &[u32], v: &[u32], w: &[u64]) -> Result<Sides, Error> {
     sides_balanced(n, u, v, w, &[], 0)
 }
 
-/// The minimum cuts of a connected graph whose balance, the lesser of the masses of their two sides, is `least` or more. `masses` has
+/// The minimum cuts of a connected graph whose balance, the smaller of the masses of their two sides, is `least` or more. `masses` has
 /// n entries, or none, for a mass of 1 each.
 ///
 /// ```
@@ -495,7 +495,7 @@ pub fn sides_balanced(n: u32, u: &[u32], v: &[u32], w: &[u64], masses: &[u64], l
     })
 }
 
-/// The minimum cuts of a connected graph that separate two vertices: none where these are one vertex.
+/// The minimum cuts of a connected graph that separate two vertices; none if they are the same vertex.
 ///
 /// ```
 /// let sides = mincut::sides_between(4, &[0, 1, 2], &[1, 2, 3], &[1, 1, 1], 1, 2).unwrap();
