@@ -19,7 +19,7 @@ twice, and the one with the least such work counts. Values and counts are compar
 and all texts of one job with each other; up to 10,000 edges the whole text is read. A run that fails has its own row and ends nothing
 else. Status 1 says that two answers differ or that the program failed.
 
---only replaces the rows of these families in results of the same commit. --quick takes small graphs, for a trial of a minute; its
+--only replaces the rows of these families in results of the same commit; --insertions measures `grow` alone. --quick takes small graphs, for a trial of a minute; its
 results go to a temporary folder unless --results names another.
 """
 import argparse
@@ -371,6 +371,10 @@ def measure(options, folder):
         rows, wrong = measure_largest(options, folder)
         keeper.keep(results.LARGEST, rows)
         return len(wrong)
+    if options.insertions:
+        rows, wrong = measure_insertions(options, folder)
+        keeper.keep(results.INSERTIONS, rows)
+        return len(wrong)
     rows = kept_rows(options, keeper.about)
     for family in options.only or results.KINDS:
         found, differing = measure_family(options, family, peers, folder)
@@ -399,6 +403,7 @@ def read_options():
     parser.add_argument('--again', type=int, default=2, help='how often a measurement is repeated at most')
     parser.add_argument('--library', help='where ./library installed the C library, to time its calls')
     parser.add_argument('--largest', action='store_true', help='measure the two largest graphs, and nothing else')
+    parser.add_argument('--insertions', action='store_true', help='measure the insertions, and nothing else')
     parser.add_argument('--results', help='the folder of the results, bench/results if none is named')
     parser.add_argument('--note', default='', help='a word on a program that is not the proved one; the documents say that it is a trial')
     parser.add_argument('--write', action='store_true', help='write the documents from the results')
