@@ -349,8 +349,9 @@ class Keeper:
         self.folder, self.about, self.start = options.results, circumstances(options, peers), time.monotonic()
 
     def keep(self, name, rows):
-        self.about.update(load_end=f'{os.getloadavg()[0]:.2f}', minutes=f'{(time.monotonic() - self.start) / 60:.1f}')
-        results.write(self.folder, name, self.about, rows)
+        minutes = self.about.get('minutes_before', 0) + (time.monotonic() - self.start) / 60
+        about = {key: value for key, value in self.about.items() if key != 'minutes_before'}
+        results.write(self.folder, name, {**about, 'load_end': f'{os.getloadavg()[0]:.2f}', 'minutes': f'{minutes:.1f}'}, rows)
 
 
 def kept_rows(options, about):
@@ -360,7 +361,15 @@ def kept_rows(options, about):
     before, rows = results.read(options.results, results.RUNS)
     if before and any(before.get(name) != str(about[name]) for name in ('commit', 'processor', 'processors')):
         sys.exit('the results are of another commit or machine: measure all families')
+    join_measurements(about, before)
     return [row for row in rows if row['family'] not in options.only]
+
+
+def join_measurements(about, before):
+    """Lets what the first line says hold for the rows of both: when it began, how long both took, the most runs and the lower limit."""
+    if before:
+        about.update(date=before['date'], load_start=before['load_start'], minutes_before=float(before['minutes']),
+                     repetitions=max(int(before['repetitions']), about['repetitions']), limit_s=min(int(before['limit_s']), about['limit_s']))
 
 
 def measure(options, folder):
