@@ -8,6 +8,7 @@ from pathlib import Path
 import pytest
 from checks import graphs
 from checks.cuts_by_hand import minimum_cuts
+from mincut_graph.command import main
 
 TOP = Path(__file__).resolve().parent.parent.parent
 EXAMPLES = TOP / 'examples'
@@ -28,6 +29,18 @@ def write(tmp_path):
         path.write_text(text, 'utf-8')
         return str(path)
     return written
+
+
+@pytest.fixture
+def call(capsys):
+    """(status, standard output, standard error) of the command for these words."""
+    def called(*words):
+        try:
+            status = main([str(word) for word in words])
+        except SystemExit as leaving:
+            status = leaving.code
+        return status, *capsys.readouterr()
+    return called
 
 
 def random_graphs(count, most=8):

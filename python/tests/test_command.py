@@ -9,22 +9,7 @@ import sys
 import pytest
 from conftest import EXAMPLES, TOP
 
-from mincut_graph.command import main
-
 LINKS = 'from,to,capacity,km\nParis,Lyon,10,400\nLyon,Nice,20,300\nNice,Paris,10,700\nParis,Paris,1,1\nParis,Lyon,5,400\n'
-
-
-@pytest.fixture
-def call(capsys):
-    """(status, standard output, standard error) of the command for these words."""
-    def called(*words):
-        try:
-            status = main([str(word) for word in words])
-        except SystemExit as leaving:
-            status = leaving.code
-        out, err = capsys.readouterr()
-        return status, out, err
-    return called
 
 
 @pytest.fixture

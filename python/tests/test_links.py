@@ -10,22 +10,9 @@ from checks import graphs
 from checks.cuts_by_hand import minimum_cuts
 
 from mincut_graph import Disconnected, MinimumCuts, UnknownName
-from mincut_graph.command import main
 from mincut_graph.ranges import Ranges
 
 LINKS = 'from,to,gbits\nParis,Lyon,10\nLyon,Nice,10\nNice,Paris,10\nNice,Genoa,20\nGenoa,Milan,20\n'
-
-
-@pytest.fixture
-def call(capsys):
-    """(status, standard output, standard error) of the command for these words."""
-    def called(*words):
-        try:
-            status = main([str(word) for word in words])
-        except SystemExit as leaving:
-            status = leaving.code
-        return status, *capsys.readouterr()
-    return called
 
 
 @pytest.fixture
