@@ -10,7 +10,7 @@ use Rattle.weighted_graph.specs.Searches.{is_seen}
 use Rattle.arc_search.specs.declared.direction.Direction.{Direction}
 use Rattle.region_flow.specs.Regions.{RegionState}
 use Rattle.region_parts.specs.declared.hub.Hub.{Hub}
-use Rattle.region_parts.specs.declared.hub.Hub.TheVariants.{Outside}
+use Rattle.region_parts.specs.declared.hub.Hub.TheVariants.{Outside, At}
 use Rattle.region_parts.specs.declared.hub.HubSearch.{HubSearch}
 use Rattle.region_parts.specs.declared.side.Side.{Side}
 use Rattle.region_parts.specs.Steps.{steps_in}
@@ -18,6 +18,10 @@ use Rattle.arc_search.specs.Found.{SearchState, IsSearch}
 use Rattle.region_fronts.specs.Fronts.{FrontsState, KeepsFronts}
 use Rattle.region_parts.specs.Sided.{direction_of, fed_in, goes_from}
 use Rattle.region_parts.specs.Hubs.{HaveBegun, HubGoesOn, KeepsFrontsFor}
+
+-- the outside is no vertex
+pub outside_not_at : (h : ℕ) → Outside ≡ At h → ⊥
+outside_not_at h e = cc
 
 pub hub_more : (s s' s'' : HubSearch) → HubGoesOn s s' → HubGoesOn s' s'' → HubGoesOn s s''
 hub_more s s' s'' h k = record {

@@ -93,8 +93,8 @@ fn part_search(alloc: Global, n: u32) -> Result<(Splitter, Parts), NoMemory>
     ensures splitter { IfOk result (λ search. IsReady n search.0) }
     ensures numbers { IfOk result (λ search. length search.1.numbers ≡ n + 1) }
 {
-    let splitter = Splitter::new(alloc, n)?;
     let parts = Parts::new(alloc, n)?;
+    let splitter = Splitter::new(alloc, n)?;
     Ok((splitter, parts))
 }
 
@@ -130,9 +130,9 @@ impl Sweep {
         ensures { IfOk result (IsUnderWay graph.now) }
     {
         let n = graph.n();
-        let start = enter_first(alloc, graph)?;
-        let first = first_node(alloc, n)?;
         let rows = part_rows(alloc, n)?;
+        let first = first_node(alloc, n)?;
+        let start = enter_first(alloc, graph)?;
         let (splitter, parts) = part_search(alloc, n)?;
         let (flow, fronts) = start;
         let (tree, homes) = first;

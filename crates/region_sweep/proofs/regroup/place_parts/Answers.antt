@@ -1,6 +1,6 @@
 -- One part more is placed.
-use Rattle.std.proofs.Common.{◌≡◌, ℕ, ◌+◌, ◌≤◌, get_or, ◌∙◌, arith}
-use Rattle.region_sweep.specs.Regrouping.{IsAmong}
+use Rattle.std.proofs.Common.{◌≡◌, ℕ, ◌+◌, ◌≤◌, get_or, ◌∙◌, subst, arith}
+use Rattle.region_sweep.specs.Regrouping.{ArePlaced, IsAmong}
 use Rattle.region_sweep.proofs.Labelling.{around, around_fits}
 use Rattle.region_sweep.proofs.Regrouping.{none_placed, one_placed, one_numbered}
 use Rattle.region_sweep.proofs.Regrouped.{not_first}
@@ -46,3 +46,67 @@ loop-before-preserved c =
       refined = refined_after old labels c.place_part-fresh.new.flow.labels c.loop-before.invariant.refined c.place_part-fresh.ensures.refined;
       fed = feed_after c.args.parted.graph.now c.args.flow.now c.loop-before.flow c.place_part-fresh.new.flow c.loop-before.invariant.fed c.place_part-fresh.ensures.fed c.place_part-fresh.ensures.refined;
     }
+
+pub overflow_add-i : goal.overflow_add-i
+overflow_add-i c = omega arith
+
+pub overflow_cast-node : goal.overflow_cast-node
+overflow_cast-node c = omega arith
+
+pub offset_bounds-nodes-i : goal.offset_bounds-nodes-i
+offset_bounds-nodes-i c = omega arith
+
+pub bounds-nodes-i : goal.bounds-nodes-i
+bounds-nodes-i c = omega (arith, c.requires.nodes, c.loop-before-test.true, c.count-before-end.ensures)
+
+pub place_part-fresh-requires-clause-flow : goal.place_part-fresh-requires-clause-flow
+place_part-fresh-requires-clause-flow c = c.loop-before.invariant.flow
+
+pub place_part-fresh-requires-clause-from_one : goal.place_part-fresh-requires-clause-from_one
+place_part-fresh-requires-clause-from_one c = omega arith
+
+pub place_part-fresh-requires-clause-to_count : goal.place_part-fresh-requires-clause-to_count
+place_part-fresh-requires-clause-to_count c = omega (arith, c.loop-before-test.true, c.count-before-end.ensures)
+
+pub place_part-fresh-requires-clause-numbers : goal.place_part-fresh-requires-clause-numbers
+place_part-fresh-requires-clause-numbers c = c.requires.listed.numbers_length
+
+pub place_part-fresh-requires-clause-outside : goal.place_part-fresh-requires-clause-outside
+place_part-fresh-requires-clause-outside c = c.requires.outside
+
+pub place_part-fresh-requires-clause-inside : goal.place_part-fresh-requires-clause-inside
+place_part-fresh-requires-clause-inside c = λ v e.
+    let placed = c.loop-before.invariant.placed in
+    let off = λ (a : IsAmong c.args.parted.parts.now.numbers c.loop-before.before v). (let r : ⊥ = omega (arith, a.early, e) in r) in
+    placed.kept v off ∙ c.requires.listed.inside v (omega (arith, e))
+
+pub place_part-fresh-requires-clause-region : goal.place_part-fresh-requires-clause-region
+place_part-fresh-requires-clause-region c = omega (arith, c.requires.numbered.below c.args.t, c.requires.label, c.loop-before.invariant.placed.more)
+
+pub place_part-fresh-requires-clause-fresh : goal.place_part-fresh-requires-clause-fresh
+place_part-fresh-requires-clause-fresh c = c.loop-before.invariant.numbered.below
+
+pub place_part-fresh-requires-clause-entered : goal.place_part-fresh-requires-clause-entered
+place_part-fresh-requires-clause-entered c = c.loop-before.invariant.placed.lengths.entered ∙ c.requires.entered
+
+pub place_part-fresh-requires-clause-regions : goal.place_part-fresh-requires-clause-regions
+place_part-fresh-requires-clause-regions c = c.loop-before.invariant.placed.lengths.regions ∙ c.requires.regions
+
+pub returns-clause-flow : goal.returns-clause-flow
+returns-clause-flow c = c.loop-before.invariant.flow
+
+pub returns-clause-placed : goal.returns-clause-placed
+returns-clause-placed c =
+    let p = c.args.parted.parts.now in
+    let all : c.loop-before.before ≡ p.count = omega (arith, c.loop-before-test.false, c.loop-before.auto.before-end, c.count-before-end.ensures) in
+    subst (λ (k : ℕ). ArePlaced p.numbers c.args.flow.now.labels c.loop-before.flow.labels c.args.homes.now c.loop-before.homes c.args.nodes.now k c.args.fresh c.loop-before.fresh) all
+    c.loop-before.invariant.placed
+
+pub returns-clause-numbered : goal.returns-clause-numbered
+returns-clause-numbered c = c.loop-before.invariant.numbered
+
+pub returns-clause-refined : goal.returns-clause-refined
+returns-clause-refined c = c.loop-before.invariant.refined
+
+pub returns-clause-fed : goal.returns-clause-fed
+returns-clause-fed c = c.loop-before.invariant.fed

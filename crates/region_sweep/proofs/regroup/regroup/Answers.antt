@@ -55,3 +55,39 @@ returns c =
       refined = refined_after old labels new c.place_parts-next.ensures.refined c.enter_last.ensures.refined;
       fed = feed_after c.args.parted.graph.now c.args.flow.now c.place_parts-next.new.flow c.enter_last.new.flow c.place_parts-next.ensures.fed c.enter_last.ensures.fed c.enter_last.ensures.refined;
     }
+
+pub place_parts-next-requires-clause-flow : goal.place_parts-next-requires-clause-flow
+place_parts-next-requires-clause-flow c = c.requires.flow
+
+pub place_parts-next-requires-clause-to_n : goal.place_parts-next-requires-clause-to_n
+place_parts-next-requires-clause-to_n c = c.requires.to_n
+
+pub place_parts-next-requires-clause-outside : goal.place_parts-next-requires-clause-outside
+place_parts-next-requires-clause-outside c = c.requires.outside
+
+pub place_parts-next-requires-clause-label : goal.place_parts-next-requires-clause-label
+place_parts-next-requires-clause-label c = c.requires.label
+
+pub place_parts-next-requires-clause-listed : goal.place_parts-next-requires-clause-listed
+place_parts-next-requires-clause-listed c = c.requires.listed
+
+pub place_parts-next-requires-clause-last : goal.place_parts-next-requires-clause-last
+place_parts-next-requires-clause-last c = c.requires.last
+
+pub place_parts-next-requires-clause-numbered : goal.place_parts-next-requires-clause-numbered
+place_parts-next-requires-clause-numbered c = c.requires.numbered
+
+pub place_parts-next-requires-clause-entered : goal.place_parts-next-requires-clause-entered
+place_parts-next-requires-clause-entered c = c.requires.homes_entered
+
+pub place_parts-next-requires-clause-regions : goal.place_parts-next-requires-clause-regions
+place_parts-next-requires-clause-regions c = c.requires.homes_regions
+
+pub place_parts-next-requires-clause-nodes : goal.place_parts-next-requires-clause-nodes
+place_parts-next-requires-clause-nodes c = c.requires.nodes
+
+pub enter_last-requires-clause-flow : goal.enter_last-requires-clause-flow
+enter_last-requires-clause-flow c = c.place_parts-next.ensures.flow
+
+pub enter_last-requires-clause-to_n : goal.enter_last-requires-clause-to_n
+enter_last-requires-clause-to_n c = c.requires.to_n

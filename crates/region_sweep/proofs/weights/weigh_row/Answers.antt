@@ -47,3 +47,18 @@ loop-arc-preserved c =
       later = λ i. omega (arith, inv.later i, step.later i, sum_by_more (arc_adds listed (one_part part i) (later_parts part (i + 1)) c.args.v) row k no_arc c.loop-arc-test.true);
       next = λ i. omega (arith, inv.next i, step.next i, sum_by_more (arc_adds listed (one_part part i) (one_part part (i + 1)) c.args.v) row k no_arc c.loop-arc-test.true);
     }
+
+pub loop-arc-init : goal.loop-arc-init
+loop-arc-init c = record { later = λ i. omega arith; next = λ i. omega arith }
+
+pub weigh_arc-requires-clause-labels : goal.weigh_arc-requires-clause-labels
+weigh_arc-requires-clause-labels c = omega (arith, c.requires.labels, c.requires.listed.numbers_length)
+
+pub weigh_arc-requires-clause-listed : goal.weigh_arc-requires-clause-listed
+weigh_arc-requires-clause-listed c = c.requires.here
+
+pub weigh_arc-requires-clause-later : goal.weigh_arc-requires-clause-later
+weigh_arc-requires-clause-later c = omega (arith, c.requires.later, c.loop-arc.auto.later)
+
+pub weigh_arc-requires-clause-next : goal.weigh_arc-requires-clause-next
+weigh_arc-requires-clause-next c = omega (arith, c.requires.next, c.loop-arc.auto.next)

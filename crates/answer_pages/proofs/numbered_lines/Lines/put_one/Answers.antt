@@ -1,4 +1,5 @@
 use Rattle.std.proofs.Common.{ℕ, List, [], ◌∷◌, ◌<◌, ◌++◌, length, ap, sym, subst, arith}
+use Rattle.std.proofs.lemmas.List.{length-map}
 use Rattle.std.proofs.lemmas.Option.{get_or_from_slice_get}
 use Rattle.std.specs.Prelude.{codes}
 use Rattle.std.specs.Fmt.{decimal}
@@ -55,3 +56,34 @@ returns-in-Members g c =
     let there = got xs c.args.i c.get-in-Members.result c.unwrap-in-Members.result c.get-in-Members.ensures.lookup.1 c.unwrap-in-Members.ensures in
     puts_as (ap (λ (l : List ℕ). c.args.page.now ++ l) (line_at (λ (n : ℕ). 32 ∷ decimal n) (texts c.args.self.now) xs c.args.i c.unwrap-in-Members.result.now (ap texts c.in-Members.is) there c.requires))
     c.put_number-in-Members.ensures
+
+pub cycle-requires : goal.cycle-requires
+cycle-requires g c =
+    let h = subst (λ l. c.args.i < length (texts l)) c.in-Cycles.is c.requires in
+    omega (arith, h, length-map c.in-Cycles.cactus.now.cycles (line (codes "cycle")))
+
+pub unwrap-requires : goal.unwrap-requires
+unwrap-requires g c =
+    let h = subst (λ l. c.args.i < length (texts l)) c.in-Bridges.is c.requires in
+    c.get.ensures.lookup.2 (omega (arith, h, length-map c.in-Bridges.bridges.now (λ (b : ℕ × ℕ). line (codes "bridge") (b.0 ∷ b.1 ∷ []))))
+
+pub put_line-requires : goal.put_line-requires
+put_line-requires g c = omega arith
+
+pub unwrap-requires-in-Sides : goal.unwrap-requires-in-Sides
+unwrap-requires-in-Sides g c =
+    let h = subst (λ l. c.args.i < length (texts l)) c.in-Sides.is c.requires in
+    c.get-in-Sides.ensures.lookup.2 (omega (arith, h, length-map c.in-Sides.sides.now (λ (s : VertexList). side_line s.members)))
+
+pub unwrap-requires-in-Vertices : goal.unwrap-requires-in-Vertices
+unwrap-requires-in-Vertices g c =
+    let h = subst (λ l. c.args.i < length (texts l)) c.in-Vertices.is c.requires in
+    c.get-in-Vertices.ensures.lookup.2 (omega (arith, h, length-map c.in-Vertices.numbers.now (λ (n : ℕ). 32 ∷ decimal n)))
+
+pub unwrap-requires-in-Members : goal.unwrap-requires-in-Members
+unwrap-requires-in-Members g c =
+    let h = subst (λ l. c.args.i < length (texts l)) c.in-Members.is c.requires in
+    c.get-in-Members.ensures.lookup.2 (omega (arith, h, length-map c.in-Members.numbers.now (λ (n : ℕ). 32 ∷ decimal n)))
+
+pub put_line-requires-in-Cycles : goal.put_line-requires-in-Cycles
+put_line-requires-in-Cycles g c = omega arith

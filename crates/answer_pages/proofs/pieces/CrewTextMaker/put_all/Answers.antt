@@ -1,8 +1,8 @@
-use Rattle.std.proofs.Common.{List, ℕ, ◌++◌, ◌+◌, ◌∙◌, length, ap, arith}
+use Rattle.std.proofs.Common.{◌≡◌, List, ℕ, ◌++◌, ◌+◌, ◌∙◌, length, refl, ap, arith}
 use Rattle.std.proofs.lemmas.Result.{err_from_is_err_and}
 use Rattle.answer_pages.specs.Lines.{joined_between, texts}
-use Rattle.answer_pages.proofs.Putting.{puts_as, puts_after, puts_failed}
-use Rattle.answer_pages.proofs.Between.{between_all, range_put, range_behind}
+use Rattle.answer_pages.proofs.Putting.{puts_as, puts_after, puts_failed, puts_ok}
+use Rattle.answer_pages.proofs.Between.{between_all, range_put, range_behind, range_start}
 use Rattle.answer_pages.proofs.pieces.CrewTextMaker.put_all.Goals as goal
 
 pub put_run-requires-sync-R : goal.put_run-requires-sync-R
@@ -53,3 +53,16 @@ returns-in_err-put_long-clause-puts g c =
     (puts_after (joined_between ts long (long + 1))
     (range_put c.args.page.now ts 0 c.runs.next long (omega arith) c.next_long-long.ensures.no_less c.runs.invariant.put c.in_ok-put_run.ensures.ok)
     (c.in_ok-put_run.ensures.cause.ok ∙ c.runs.invariant.same) c.in_err-put_long.ensures))
+
+pub runs-init : goal.runs-init
+runs-init g c = record { high = omega arith; put = range_start c.args.page.now (g.K.Sink.taken c.args.sink.now) (texts c.args.lines) 0; same = refl }
+
+pub next_long-long-requires : goal.next_long-long-requires
+next_long-long-requires g c = c.runs.invariant.high
+
+pub returns-clause-puts : goal.returns-clause-puts
+returns-clause-puts g c =
+    let ts = texts c.args.lines in
+    let end : c.runs.next ≡ length ts = omega (arith, c.runs-test.false, c.runs.invariant.high, c.count-count.ensures) in
+    puts_as (ap (λ (n : ℕ). c.args.page.now ++ joined_between ts 0 n) end ∙ ap (λ (l : List ℕ). c.args.page.now ++ l) (between_all ts))
+    (puts_ok tt c.runs.invariant.put c.runs.invariant.same)

@@ -47,3 +47,62 @@ returns-in-None-clause-fronts c =
     let read = c.read.ensures in
     fronts_more labels Outside Outside c.args.fronts.now c.loop.fronts c.read.new.self refl c.loop.invariant.fronts
     (fronts_read labels c.loop.fronts c.read.new.self read.vertices (rw c.labels.ensures at read.kept))
+
+pub loop-init : goal.loop-init
+loop-init c = record {
+  goes_on = record { same = refl; seen_kept = λ v is. is; unread = λ no. refl };
+  long = refl;
+  fronts = record { vertices = refl; kept = λ v at. at; same = λ no. refl };
+  begun = λ h. h;
+  search = λ turns free h. h;
+}
+
+pub label-requires : goal.label-requires
+label-requires c = omega (arith, c.requires.to_n, c.requires.flow.labels_length)
+
+pub read-requires : goal.read-requires
+read-requires c = rw c.labels.ensures (omega (arith, c.requires.flow.labels_length, c.loop.invariant.fronts.vertices, c.requires.vertices))
+
+pub returns-in-None-clause-goes_on : goal.returns-in-None-clause-goes_on
+returns-in-None-clause-goes_on c = c.loop.invariant.goes_on
+
+pub returns-in-None-clause-all : goal.returns-in-None-clause-all
+returns-in-None-clause-all c = λ is. rw c.label.ensures at (c.read.ensures.none c.in-None.is)
+
+pub returns-in-None-clause-search : goal.returns-in-None-clause-search
+returns-in-None-clause-search c = c.loop.invariant.search
+
+pub look_at-requires-clause-within : goal.look_at-requires-clause-within
+look_at-requires-clause-within c =
+    let inv = c.loop.invariant in
+    let read = c.in-Some.ensures in
+    omega (arith, read.to_n, read.vertices, inv.fronts.vertices, inv.long, c.requires.vertices, c.requires.seen)
+
+pub look_at-requires-clause-feed : goal.look_at-requires-clause-feed
+look_at-requires-clause-feed c =
+    let read = c.in-Some.ensures in
+    omega (arith, read.to_n, read.vertices, c.loop.invariant.fronts.vertices, c.requires.vertices, c.requires.flow.feed_length)
+
+pub look_at-requires-clause-inside : goal.look_at-requires-clause-inside
+look_at-requires-clause-inside c = (rw c.labels.ensures at c.in-Some.ensures.some) ∙ c.label.ensures
+
+pub look_at-requires-clause-hub : goal.look_at-requires-clause-hub
+look_at-requires-clause-hub c = c.loop.invariant.goes_on.same ∙ c.requires.hub
+
+pub look_at-requires-clause-next : goal.look_at-requires-clause-next
+look_at-requires-clause-next c = c.in-Some.ensures.next
+
+pub returns-clause-goes_on : goal.returns-clause-goes_on
+returns-clause-goes_on c = c.loop.invariant.goes_on
+
+pub returns-clause-fronts : goal.returns-clause-fronts
+returns-clause-fronts c = c.loop.invariant.fronts
+
+pub returns-clause-begun : goal.returns-clause-begun
+returns-clause-begun c = c.loop.invariant.begun
+
+pub returns-clause-all : goal.returns-clause-all
+returns-clause-all c = λ is. cc
+
+pub returns-clause-search : goal.returns-clause-search
+returns-clause-search c = c.loop.invariant.search

@@ -1,5 +1,5 @@
 -- More is listed with each hub, until nothing is left or the part of a hub.
-use Rattle.std.proofs.Common.{arith}
+use Rattle.std.proofs.Common.{refl, arith}
 use Rattle.region_parts.proofs.BetweenLemmas.{less_left, light_with_none, light_with_one, nothing_left}
 use Rattle.region_parts.proofs.splitter.Splitter.list_parts.Goals as goal
 
@@ -98,4 +98,19 @@ hubs-preserved c =
       front = c.search_around.ensures.front;
       some = omega (arith, c.hubs.invariant.some, after.counts.0, after.counts.1);
       passed = after.passed;
+    }
+
+pub hubs-init : goal.hubs-init
+hubs-init c =
+    record {
+      between = c.requires.between;
+      near = c.requires.near;
+      front = c.requires.front;
+      some = c.requires.some;
+      passed = record {
+        inner = record { within = omega arith; each = λ i l. absurd (omega (arith, l)) };
+        outer = record { within = omega arith; each = λ i l. absurd (omega (arith, l)) };
+        front = record { within = omega arith; each = λ i l. absurd (omega (arith, l)) };
+        unread = λ none. refl;
+      };
     }

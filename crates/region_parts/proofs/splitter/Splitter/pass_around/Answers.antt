@@ -3,7 +3,7 @@ use Rattle.std.proofs.Common.{ℕ, ◌+◌, ◌-◌, ◌<◌, length, sym, subst
 use Rattle.std.specs.Prelude.{Option, IfSome}
 use Rattle.std.proofs.lemmas.Option.{slice_get_past, slice_get_within}
 use Rattle.region_parts.specs.Passed.{IsLeft, IsListedIn, list_around}
-use Rattle.region_parts.proofs.Passing.{all_read, before_next, kept_around}
+use Rattle.region_parts.proofs.Passing.{all_read, at_place, before_next, kept_around}
 use Rattle.region_parts.proofs.splitter.Splitter.pass_around.Goals as goal
 
 pub returns-then-is_left-clause-passed : goal.returns-then-is_left-clause-passed
@@ -92,3 +92,11 @@ is_left-requires-clause-outer c = omega (arith, c.in-Some.ensures.vertex.1, c.re
 
 pub overflow_add-place : goal.overflow_add-place
 overflow_add-place c = omega (arith, c.in-Some.ensures.next)
+
+pub places-init : goal.places-init
+places-init c = record {
+  front = c.requires.front;
+  passed = c.requires.passed;
+  further = rw c.place-place.ensures (at_place c.args.around c.args.region.flow.now c.args.region.t c.args.fronts.now c.args.self.now c.args.passed c.requires.passed);
+  onward = omega arith;
+}

@@ -11,6 +11,7 @@ use Rattle.region_fronts.specs.Fronts.{list_at}
 use Rattle.region_parts.specs.Hubs.{HaveBegun, KeepsFrontsFor, starts_of}
 use Rattle.region_parts.specs.Sided.{fed_in, goes_from, stops}
 use Rattle.arc_search.proofs.Finding.{nothing}
+use Rattle.region_parts.proofs.HubSteps.{outside_not_at}
 use Rattle.region_parts.proofs.FirstRaces.{met_brings, fed_found, front_after}
 use Rattle.region_parts.proofs.splitter.Splitter.race_from_t.Goals as goal
 
@@ -39,7 +40,7 @@ run_race-requires-clause-hub c =
     let g = c.args.region.graph.now in
     let f = c.args.region.flow.now in
     let t = c.args.region.t in
-    c.start.ensures.search Outer g f t c.turns-outer.result.now c.requires.ready.hub (λ h is. absurd (cc))
+    c.start.ensures.search Outer g f t c.turns-outer.result.now c.requires.ready.hub (λ h is. absurd (outside_not_at h is))
 
 pub returns-clause-raced : goal.returns-clause-raced
 returns-clause-raced c =
@@ -93,3 +94,36 @@ returns-clause-raced c =
 pub returns-clause-front : goal.returns-clause-front
 returns-clause-front c =
     front_after c.args.region.graph.now c.args.region.flow.now c.args.region.t c.args.fronts.now c.run_race.new.fronts c.start.new.self.hub c.requires.front c.run_race.ensures.fronts
+
+pub start-requires : goal.start-requires
+start-requires c = record { within = λ h is. absurd (outside_not_at h is) }
+
+pub begin-requires : goal.begin-requires
+begin-requires c = record { within = omega (arith, c.requires.ready.near.seen_length, c.requires.region.at_border.to_n) }
+
+pub run_race-requires-clause-graph : goal.run_race-requires-clause-graph
+run_race-requires-clause-graph c = c.requires.region.at_border.is_graph
+
+pub run_race-requires-clause-flow : goal.run_race-requires-clause-flow
+run_race-requires-clause-flow c = c.requires.flow
+
+pub run_race-requires-clause-to_n : goal.run_race-requires-clause-to_n
+run_race-requires-clause-to_n c = c.requires.region.at_border.to_n
+
+pub run_race-requires-clause-outside : goal.run_race-requires-clause-outside
+run_race-requires-clause-outside c = c.requires.region.at_border.in_region
+
+pub run_race-requires-clause-own : goal.run_race-requires-clause-own
+run_race-requires-clause-own c = rw c.turns-inner.ensures c.requires.ready.inner.turns_length
+
+pub run_race-requires-clause-other : goal.run_race-requires-clause-other
+run_race-requires-clause-other c = rw c.turns-outer.ensures c.requires.ready.outer.turns_length
+
+pub run_race-requires-clause-good : goal.run_race-requires-clause-good
+run_race-requires-clause-good c = rw c.as_slice-good.ensures.value c.requires.ready.good_length
+
+pub run_race-requires-clause-vertices : goal.run_race-requires-clause-vertices
+run_race-requires-clause-vertices c = c.requires.front.vertices
+
+pub run_race-requires-clause-from_outside : goal.run_race-requires-clause-from_outside
+run_race-requires-clause-from_outside c = λ out. (refl, λ v. rw c.turns-outer.ensures (c.requires.ready.outer.turns v))

@@ -239,3 +239,39 @@ take-requires-in-Outer-2-clause-bordered c = rw c.labels-in-Outer-2.ensures c.re
 
 pub take-requires-clause-bordered : goal.take-requires-clause-bordered
 take-requires-clause-bordered c = rw c.labels-in-Inner-2.ensures c.requires.between.halves.inner_half.bordered
+
+pub take_first-requires-clause-labels : goal.take_first-requires-clause-labels
+take_first-requires-clause-labels c = rw c.labels.ensures c.requires.flow.labels_length
+
+pub take-requires-clause-labels : goal.take-requires-clause-labels
+take-requires-clause-labels c = rw c.labels-in-Inner-2.ensures c.requires.flow.labels_length
+
+pub take-requires-clause-kept : goal.take-requires-clause-kept
+take-requires-clause-kept c = c.requires.between.halves.inner_half.kept
+
+pub take-requires-clause-can : goal.take-requires-clause-can
+take-requires-clause-can c = rw (c.arcs-arcs.ensures.graph, c.arcs-arcs.ensures.flow) (c.requires.between.region.at_border.is_graph, c.requires.flow)
+
+pub take-requires-clause-vertices : goal.take-requires-clause-vertices
+take-requires-clause-vertices c = rw c.arcs-arcs.ensures.graph
+
+pub take-requires-clause-memory : goal.take-requires-clause-memory
+take-requires-clause-memory c = omega (arith, c.requires.between.memory)
+
+pub take_first-requires-in-Outer-clause-labels : goal.take_first-requires-in-Outer-clause-labels
+take_first-requires-in-Outer-clause-labels c = rw c.labels-in-Outer.ensures c.requires.flow.labels_length
+
+pub take-requires-in-Outer-2-clause-labels : goal.take-requires-in-Outer-2-clause-labels
+take-requires-in-Outer-2-clause-labels c = rw c.labels-in-Outer-2.ensures c.requires.flow.labels_length
+
+pub take-requires-in-Outer-2-clause-kept : goal.take-requires-in-Outer-2-clause-kept
+take-requires-in-Outer-2-clause-kept c = c.requires.between.halves.outer_half.kept
+
+pub take-requires-in-Outer-2-clause-can : goal.take-requires-in-Outer-2-clause-can
+take-requires-in-Outer-2-clause-can c = rw (c.arcs-arcs.ensures.graph, c.arcs-arcs.ensures.flow) (c.requires.between.region.at_border.is_graph, c.requires.flow)
+
+pub take-requires-in-Outer-2-clause-vertices : goal.take-requires-in-Outer-2-clause-vertices
+take-requires-in-Outer-2-clause-vertices c = rw c.arcs-arcs.ensures.graph
+
+pub take-requires-in-Outer-2-clause-memory : goal.take-requires-in-Outer-2-clause-memory
+take-requires-in-Outer-2-clause-memory c = omega (arith, c.requires.between.memory)

@@ -50,3 +50,6 @@ returns-in-Front-clause-read c = record {
   shorter = rw (c.in-Front.is, ← c.label.ensures) c.read.ensures.no_longer;
   same = λ side e. cc (sym c.in-Front.is ∙ e);
 }
+
+pub label-requires : goal.label-requires
+label-requires c = omega (arith, c.requires.between.region.at_border.to_n, c.requires.flow.labels_length)

@@ -24,3 +24,30 @@ returns-clause-under_way c =
     let f = c.in_ok-put_ends.ensures in
     entered c.args.graph.now s c.enter-2.new.self c.enter.new.self c.put_ends.new.self c.args.t c.requires.heavy.0 c.n-n.ensures.edge_list.is_graph c.requires.under_way c.requires.open
     c.requires.heavy.1 c.requires.heavy.2 e.flow e.labels e.fed homes f.vertices f.kept (rw c.labels.ensures at f.ends)
+
+pub enter-requires : goal.enter-requires
+enter-requires c = omega (arith, c.requires.open.to_n, c.requires.under_way.room.entered)
+
+pub enter-requires-2-clause-flow : goal.enter-requires-2-clause-flow
+enter-requires-2-clause-flow c = c.requires.under_way.flow
+
+pub enter-requires-2-clause-to_n : goal.enter-requires-2-clause-to_n
+enter-requires-2-clause-to_n c = c.requires.open.to_n
+
+pub enter-requires-2-clause-outside : goal.enter-requires-2-clause-outside
+enter-requires-2-clause-outside c = c.requires.open.outside
+
+pub put_ends-requires-clause-to_n : goal.put_ends-requires-clause-to_n
+put_ends-requires-clause-to_n c = c.requires.open.to_n
+
+pub put_ends-requires-clause-labels : goal.put_ends-requires-clause-labels
+put_ends-requires-clause-labels c = rw c.labels.ensures c.enter-2.ensures.flow.labels_length
+
+pub put_ends-requires-clause-vertices : goal.put_ends-requires-clause-vertices
+put_ends-requires-clause-vertices c = c.requires.under_way.room.vertices
+
+pub returns-in_err-put_ends-clause-labels : goal.returns-in_err-put_ends-clause-labels
+returns-in_err-put_ends-clause-labels c = c.enter-2.ensures.labels
+
+pub returns-clause-labels : goal.returns-clause-labels
+returns-clause-labels c = c.enter-2.ensures.labels

@@ -5,6 +5,7 @@ use Rattle.region_flow.proofs.Least.{fed_least}
 use Rattle.region_flow.specs.Parted.{AreLightParts}
 use Rattle.region_fronts.specs.Listed.{part_in}
 use Rattle.region_parts.proofs.Covering.{fed_others}
+use Rattle.region_sweep.proofs.Stepping.{from_two}
 use Rattle.region_sweep.proofs.UnderWay.{fed_value, flowed, looked}
 use Rattle.region_sweep.proofs.sweep.Sweep.find_parts.Goals as goal
 
@@ -104,3 +105,14 @@ returns-clause-labels c = c.flow-fed.ensures.labels
 
 pub returns-clause-listed : goal.returns-clause-listed
 returns-clause-listed c = c.split.ensures.listed
+
+pub feed-requires : goal.feed-requires
+feed-requires c = omega (arith, c.flow-fed.ensures.flow.feed_length, c.requires.open.to_n)
+
+pub split-requires-clause-from_one : goal.split-requires-clause-from_one
+split-requires-clause-from_one c =
+    let h = c.requires.under_way in
+    omega (arith, from_two c.args.self.now.flow.labels c.args.t h.flow.nobody h.sweeping.entered c.requires.open.outside)
+
+pub split-requires-clause-root : goal.split-requires-clause-root
+split-requires-clause-root c = rw c.flow-fed.ensures.labels c.requires.under_way.sweeping.entered

@@ -74,3 +74,24 @@ returns-then-is_empty-clause-left c =
     let own = c.args.share.now.own in
     let h = c.requires.under_way in
     empty_left c.args.graph.now s.flow.labels c.args.share.now c.requires.share.share h.flow.labels_length h.flow.nobody (omega (arith, eqb-true (vec_len own) 0 (sym c.if-is_empty.ensures), own.ok.0))
+
+pub returns-then-is_empty-clause-under_way : goal.returns-then-is_empty-clause-under_way
+returns-then-is_empty-clause-under_way c = c.requires.under_way
+
+pub graft-requires-clause-old : goal.graft-requires-clause-old
+graft-requires-clause-old c = c.requires.under_way.sweeping.nodes.root
+
+pub put_away-requires-clause-entered : goal.put_away-requires-clause-entered
+put_away-requires-clause-entered c = omega (arith, c.requires.under_way.room.entered, c.requires.share.share.labelled.long)
+
+pub put_away-requires-clause-some : goal.put_away-requires-clause-some
+put_away-requires-clause-some c = omega (arith, c.len-count.ensures.uppers, c.requires.under_way.sweeping.nodes.root)
+
+pub cut_off-requires-clause-flow : goal.cut_off-requires-clause-flow
+cut_off-requires-clause-flow c = c.requires.under_way.flow
+
+pub put_all_ends-requires-clause-labels : goal.put_all_ends-requires-clause-labels
+put_all_ends-requires-clause-labels c = rw c.labels.ensures c.cut_off.ensures.flow.labels_length
+
+pub put_all_ends-requires-clause-vertices : goal.put_all_ends-requires-clause-vertices
+put_all_ends-requires-clause-vertices c = c.requires.under_way.room.vertices

@@ -63,3 +63,6 @@ returns-clause-some c = c.choose.ensures
 
 pub returns-clause-none : goal.returns-clause-none
 returns-clause-none c = λ none. cc
+
+pub next-requires-clause-root : goal.next-requires-clause-root
+next-requires-clause-root c = rw c.labels.ensures c.requires.under_way.sweeping.entered

@@ -29,3 +29,42 @@ steps-smaller g c =
 
 pub run-requires-clause-least : goal.run-requires-clause-least
 run-requires-clause-least g c = subst (λ (k : ℕ). IsLeastWeight c.args.graph.now k) (sym c.requires.value) (least_weight c.args.graph.now c.n-n.ensures.edge_list.is_graph c.requires.enough)
+
+pub run-requires-clause-under_way : goal.run-requires-clause-under_way
+run-requires-clause-under_way g c = c.requires.under_way
+
+pub run-requires-clause-connected : goal.run-requires-clause-connected
+run-requires-clause-connected g c = c.requires.connected
+
+pub returns-then-workers-eq1-clause-under_way : goal.returns-then-workers-eq1-clause-under_way
+returns-then-workers-eq1-clause-under_way g c = c.run.ensures.under_way
+
+pub returns-then-workers-eq1-clause-all : goal.returns-then-workers-eq1-clause-all
+returns-then-workers-eq1-clause-all g c = c.run.ensures.all
+
+pub steps-init : goal.steps-init
+steps-init g c = c.requires.under_way
+
+pub next-requires-clause-under_way : goal.next-requires-clause-under_way
+next-requires-clause-under_way g c = c.steps.invariant
+
+pub next-requires-clause-connected : goal.next-requires-clause-connected
+next-requires-clause-connected g c = c.requires.connected
+
+pub step-requires-clause-under_way : goal.step-requires-clause-under_way
+step-requires-clause-under_way g c = c.next.ensures.under_way
+
+pub step-requires-clause-connected : goal.step-requires-clause-connected
+step-requires-clause-connected g c = c.requires.connected
+
+pub step-requires-clause-open : goal.step-requires-clause-open
+step-requires-clause-open g c = rw c.next.ensures.labels c.in-Some.ensures.some
+
+pub share_large-requires : goal.share_large-requires
+share_large-requires g c = (c.type_bounds.sync-R, (c.requires.connected, (c.requires.enough, (c.requires.value, (c.requires.workers, c.in_ok-is_split.ensures.under_way)))))
+
+pub steps-preserved-in-Continue-branch-2 : goal.steps-preserved-in-Continue-branch-2
+steps-preserved-in-Continue-branch-2 g c = c.in_ok-share_large.ensures.under_way
+
+pub steps-preserved : goal.steps-preserved
+steps-preserved g c = c.in_ok-is_split.ensures.under_way

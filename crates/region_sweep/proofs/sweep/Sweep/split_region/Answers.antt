@@ -1,5 +1,5 @@
 -- The region is split.
-use Rattle.std.proofs.Common.{◌≡◌, ℕ, inl, ◌<◌, List, length, get_or, set, sym, ◌∙◌, ap, subst, arith}
+use Rattle.std.proofs.Common.{◌≡◌, ℕ, inl, ◌<◌, List, length, get_or, set, refl, sym, ◌∙◌, ap, subst, arith}
 use Rattle.std.proofs.lemmas.List.{length-set, get_or-set_same}
 use Rattle.std.specs.Vec.{with_items}
 use Rattle.node_tree.specs.Flat.{AreLinked}
@@ -9,8 +9,9 @@ use Rattle.region_fronts.specs.Listed.{part_in}
 use Rattle.region_parts.proofs.FewParts.{few_parts}
 use Rattle.region_sweep.proofs.Labelling.{fresh_labels}
 use Rattle.node_tree.proofs.PartWeights.{weights_small}
+use Rattle.region_sweep.proofs.Regrouping.{home_outside}
 use Rattle.region_sweep.proofs.Splitting.{parts}
-use Rattle.region_sweep.proofs.Stepping.{IsSplit}
+use Rattle.region_sweep.proofs.Stepping.{IsSplit, from_two}
 use Rattle.region_sweep.proofs.UnderWay.{IsRegrown, few_labels, split, written_long}
 use Rattle.region_sweep.proofs.sweep.Sweep.split_region.Goals as goal
 
@@ -232,3 +233,25 @@ put_ends-requires-clause-labels c = rw c.labels.ensures c.regroup-self.ensures.f
 
 pub put_ends-requires-clause-vertices : goal.put_ends-requires-clause-vertices
 put_ends-requires-clause-vertices c = c.in_ok-put_listed.ensures.vertices ∙ c.requires.under_way.room.vertices
+
+pub bounds-nodes-1 : goal.bounds-nodes-1
+bounds-nodes-1 c = rw c.as_mut_slice-nodes.ensures.value (omega (arith, c.requires.under_way.room.nodes))
+
+pub regroup-self-requires-clause-from_one : goal.regroup-self-requires-clause-from_one
+regroup-self-requires-clause-from_one c =
+    let h = c.requires.under_way in
+    omega (arith, from_two c.args.self.now.flow.labels c.args.t h.flow.nobody h.sweeping.entered c.requires.open.outside)
+
+pub regroup-self-requires-clause-root : goal.regroup-self-requires-clause-root
+regroup-self-requires-clause-root c = c.requires.under_way.sweeping.entered
+
+pub regroup-self-requires-clause-last : goal.regroup-self-requires-clause-last
+regroup-self-requires-clause-last c = rw c.label-region.ensures c.requires.light.numbered.t_last
+
+pub hang_parts-requires-clause-node : goal.hang_parts-requires-clause-node
+hang_parts-requires-clause-node c =
+    let s = c.args.self.now in
+    let h = c.requires.under_way in
+    let same = get_or-set_same c.as_mut_slice-nodes.result.now 1 c.of_region-node.result 0 (rw c.as_mut_slice-nodes.ensures.value (omega (arith, h.room.nodes))) in
+    let home = home_outside s.homes s.flow.labels c.args.t (get_or s.flow.labels c.args.t 0) refl c.requires.open.outside in
+    omega (arith, same, rw c.label-region.ensures at c.of_region-node.ensures, home, h.sweeping.nodes.homes c.args.t)
