@@ -9,3 +9,5 @@ pub mod Pigeons
 pub mod Placed
 pub mod RangeMasses
 pub mod Chains
+pub mod Between
+pub mod Weighing

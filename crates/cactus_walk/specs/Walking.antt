@@ -1,5 +1,7 @@
 -- What is known of the borders of a tree, and what a walk keeps of its place among them.
 use Rattle.std.specs.Prelude.{ℕ, ◌+◌, ◌≡◌, ◌≤◌, ◌<◌, ⊤, Bool, List, [], ◌∷◌, map, drop, length}
+use Rattle.std.specs.Coded.{Coded-set, Unit-prop, coded_ℕ, le_prop}
+use mathlib.Core.HLevel.{Π_prop, ×_prop, ×₃_prop}
 use Rattle.rooted_cactus.specs.Borders.{border_at}
 use Rattle.cactus_walk.specs.Repeats.{ranges_left}
 use Rattle.rooted_cactus.specs.Places.{side_at}
@@ -14,6 +16,15 @@ AreBorders long (b ∷ bs) = (b.place ≤ long) × (b.following ≤ length bs) �
 abbrev pub AreChained : List Border → Type 0
 AreChained [] = ⊤
 AreChained (b ∷ bs) = (0 < b.following → (b.place ≤ (border_at bs 0).place) × (b.following ≡ (border_at bs 0).following + 1)) × AreChained bs
+
+-- each of the two has one proof at most, so a struct may keep it
+pub AreBorders-prop : (long : ℕ) (bs : List Border) → IsProp (AreBorders long bs)
+AreBorders-prop long [] = Unit-prop
+AreBorders-prop long (b ∷ bs) = ×₃_prop le_prop le_prop (AreBorders-prop long bs)
+
+pub AreChained-prop : (bs : List Border) → IsProp (AreChained bs)
+AreChained-prop [] = Unit-prop
+AreChained-prop (b ∷ bs) = ×_prop (Π_prop (λ h. ×_prop le_prop (Coded-set coded_ℕ b.following ((border_at bs 0).following + 1)))) (AreChained-prop bs)
 
 -- the sides from a border on, without those of its cuts that end at the first borders behind it, which were passed
 abbrev pub sides_left : ℕ → List ℕ → List Border → List Bool → ℕ → ℕ → List (List ℕ)

@@ -9,6 +9,7 @@ ghost use Rattle.rooted_cactus.specs.Rooted.{sides_of};
 mod borders;
 mod masses;
 mod places;
+mod ranges;
 mod repeats;
 mod shown;
 
@@ -16,6 +17,7 @@ pub use borders::next_start;
 use cut_definitions::NoMemory;
 pub use masses::masses_before;
 pub use places::{CutPlaces, KeptPlaces, cut_places, kept_places};
+pub use ranges::CutRanges;
 use repeats::{next_kept, passed_over};
 use rooted_cactus::{Border, Cactus};
 use shown::change_side;

@@ -8,11 +8,11 @@ use Rattle.cut_definitions.specs.Graph.{IsVertex}
 use Rattle.cactus_walk.proofs.Chains.{later, no_less}
 use Rattle.cactus_walk.proofs.Stepping.{place_within}
 use Rattle.cactus_walk.specs.declared.walk.shown.Span.{Span}
-use Rattle.balanced_cut.specs.Ends.{IsRangeOf, range_of}
+use Rattle.cactus_walk.specs.Weighing.{IsRangeOf, last_of, range_of}
 use Rattle.rooted_cactus.specs.Borders.{range_between}
 use Rattle.canonical_cactus.specs.Minima.{IsLeast}
-use Rattle.balanced_cut.proofs.Moving.{behind_there}
-use Rattle.canonical_cactus.specs.FirstBest.{HasUpTo, IsBeyond, IsNoLater, IsRanked, IsTaken, IsWithin, NoneEmpty, count_of, last_of, place_at, range_at, side_between, side_of, vertex_at}
+use Rattle.cactus_walk.proofs.Between.{behind_there}
+use Rattle.canonical_cactus.specs.FirstBest.{HasUpTo, IsBeyond, IsNoLater, IsRanked, IsTaken, IsWithin, NoneEmpty, count_of, place_at, range_at, side_between, side_of, vertex_at}
 use Rattle.canonical_cactus.specs.declared.first_side.Ends.{Ends}
 use Rattle.canonical_cactus.specs.declared.first_side.Ranked.{Ranked}
 use Rattle.canonical_cactus.proofs.FirstBest.{no_later_both, no_later_itself}
@@ -20,42 +20,42 @@ use Rattle.canonical_cactus.proofs.Compared.{AreLeastBeyond, at_place, come_toge
 
 -- ---- borders of one block
 -- places do not go down along it
-pub place_no_less : (k : Ranked) (start a b : ℕ) → IsRanked k → start ≤ a → a ≤ b → b ≤ last_of k start → place_at k a ≤ place_at k b
-place_no_less k start a b ranked sa ab within = no_less k.places.borders.items start a b ranked.chained sa ab within
+pub place_no_less : (k : Ranked) (start a b : ℕ) → start ≤ a → a ≤ b → b ≤ last_of k.ranges start → place_at k a ≤ place_at k b
+place_no_less k start a b sa ab within = no_less k.ranges.borders.items start a b k.ranges.chained sa ab within
 
 -- each border behind another is at a place within the list
-pub place_fits : (k : Ranked) (start b : ℕ) → IsRanked k → start < b → b ≤ last_of k start → place_at k b ≤ count_of k
-place_fits k start b ranked sb within =
-    place_within (count_of k) k.places.borders.items b ranked.borders (behind_there (count_of k) k.places.borders.items start b ranked.borders sb within)
+pub place_fits : (k : Ranked) (start b : ℕ) → start < b → b ≤ last_of k.ranges start → place_at k b ≤ count_of k
+place_fits k start b sb within =
+    place_within (count_of k) k.ranges.borders.items b k.ranges.within (behind_there (count_of k) k.ranges.borders.items start b k.ranges.within sb within)
 
 -- a range between two borders behind another is a range of the list
-pub range_fits : (k : Ranked) (start a b top : ℕ) → IsRanked k → start ≤ a → a ≤ b → b ≤ top → start < top → top ≤ last_of k start → IsRangeOf (count_of k) (range_between k.places.borders.items a b)
-range_fits k start a b top ranked sa ab bt st within =
-    let fits = place_fits k start top ranked st within in
-    let low = place_no_less k start b top ranked (omega (arith, sa, ab)) bt within in
-    (place_no_less k start a b ranked sa ab (omega (arith, bt, within)), omega (arith, fits, low))
+pub range_fits : (k : Ranked) (start a b top : ℕ) → start ≤ a → a ≤ b → b ≤ top → start < top → top ≤ last_of k.ranges start → IsRangeOf (count_of k) (range_between k.ranges.borders.items a b)
+range_fits k start a b top sa ab bt st within =
+    let fits = place_fits k start top st within in
+    let low = place_no_less k start b top (omega (arith, sa, ab)) bt within in
+    (place_no_less k start a b sa ab (omega (arith, bt, within)), omega (arith, fits, low))
 
 -- a border behind another, in its block, is in the list of borders
-pub border_in : (k : Ranked) (start b top : ℕ) → IsRanked k → b ≤ top → start < top → top ≤ last_of k start → b < length k.places.borders.items
-border_in k start b top ranked bt st within =
-    omega (arith, bt, behind_there (count_of k) k.places.borders.items start top ranked.borders st within)
+pub border_in : (k : Ranked) (start b top : ℕ) → b ≤ top → start < top → top ≤ last_of k.ranges start → b < length k.ranges.borders.items
+border_in k start b top bt st within =
+    omega (arith, bt, behind_there (count_of k) k.ranges.borders.items start top k.ranges.within st within)
 
 -- all have the same last one
-pub same_last : (k : Ranked) (start a : ℕ) → IsRanked k → start ≤ a → a ≤ last_of k start → last_of k a ≡ last_of k start
-same_last k start a ranked sa within =
-    omega (arith, (later (a - start) k.places.borders.items start a ranked.chained (omega (arith, sa)) (omega (arith, sa, within))).1, sa, within)
+pub same_last : (k : Ranked) (start a : ℕ) → start ≤ a → a ≤ last_of k.ranges start → last_of k.ranges a ≡ last_of k.ranges start
+same_last k start a sa within =
+    omega (arith, (later (a - start) k.ranges.borders.items start a k.ranges.chained (omega (arith, sa)) (omega (arith, sa, within))).1, sa, within)
 
 -- ---- vertices
 pub vertex_bound : (k : Ranked) (p : ℕ) → IsRanked k → p < count_of k → vertex_at k p < 4294967295
 vertex_bound k p ranked l =
-    let v : IsVertex (count_of k) (get_or k.places.order.items p 0) = All-get_or (IsVertex (count_of k)) k.places.order.items p 0 (omega (arith, l, ranked.long)) ranked.vertices in
-    omega (arith, v.1, ranked.few)
+    let v : IsVertex (count_of k) (get_or k.ranges.order.items p 0) = All-get_or (IsVertex (count_of k)) k.ranges.order.items p 0 (omega (arith, l)) k.ranges.vertices in
+    omega (arith, v.1, k.ranges.few)
 
 -- a vertex stands at one place
 pub one_place : (k : Ranked) (p q : ℕ) → IsRanked k → p < count_of k → q < count_of k → vertex_at k p ≡ vertex_at k q → p ≡ q
 one_place k p q ranked pl ql e =
     let at : Range = range p (p + 1) in
-    let xs = k.places.order.items in
+    let xs = k.ranges.order.items in
     one_inside p q (sym (at_place k q ranked ql at) ∙ ap (has (elements_at xs at)) (sym e) ∙ at_place k p ranked pl at ∙ inside_yes at p (omega arith) (omega arith))
 
 -- ---- the least vertex of a range
@@ -149,7 +149,7 @@ same_beyond k r other r2 other2 v e f is = subst (λ x. IsLeastBeyond k x other2
 
 -- ---- what the tree of minima tells
 -- a vertex up to a number is not in a range whose least one is greater
-pub not_here : (k : Ranked) (a b vertex least q : ℕ) (span : Span) → IsRanked k → range_of span ≡ range_between k.places.borders.items a b → place_at k b ≤ count_of k → IsLeast k.least span.from span.to least → vertex < least → vertex_at k q ≤ vertex →
+pub not_here : (k : Ranked) (a b vertex least q : ℕ) (span : Span) → IsRanked k → range_of span ≡ range_between k.ranges.borders.items a b → place_at k b ≤ count_of k → IsLeast k.least span.from span.to least → vertex < least → vertex_at k q ≤ vertex →
     (q < place_at k a) ⊎ (place_at k b ≤ q)
 not_here k a b vertex least q span ranked is fits tells more up = elim (cases_lt q (place_at k a)) [
   | inl l ↦ inl l
@@ -160,7 +160,7 @@ not_here k a b vertex least q span ranked is fits tells more up = elim (cases_lt
 ]
 
 -- a vertex up to a number is in a range whose least one is not greater
-pub has_here : (k : Ranked) (a b vertex least : ℕ) (span : Span) → IsRanked k → range_of span ≡ range_between k.places.borders.items a b → place_at k b ≤ count_of k → IsLeast k.least span.from span.to least → least ≤ vertex → vertex < 4294967295 → HasUpTo k a b vertex
+pub has_here : (k : Ranked) (a b vertex least : ℕ) (span : Span) → IsRanked k → range_of span ≡ range_between k.ranges.borders.items a b → place_at k b ≤ count_of k → IsLeast k.least span.from span.to least → least ≤ vertex → vertex < 4294967295 → HasUpTo k a b vertex
 has_here k a b vertex least span ranked is fits tells up bound = elim tells.there [
   | inl e ↦ absurd (omega (arith, e, up, bound))
   | inr w ↦
@@ -208,19 +208,19 @@ empty_first k r other ranked fits other_fits none =
 -- ---- ranges around another one
 -- a longer range that takes in the least vertex around comes first where a greater one is inside
 pub step_first : (k : Ranked) (bounds old : Ends) (s e s2 e2 vertex q g : ℕ) → IsRanked k → IsWithin k bounds old → bounds.start ≤ s2 → s2 ≤ s → s ≤ old.start → old.end ≤ e → e ≤ e2 → e2 ≤ bounds.end →
-    ((p : ℕ) → IsBeyond (range_at k bounds) (range_at k old) p → vertex ≤ vertex_at k p) → vertex_at k q ≤ vertex → IsBeyond (range_between k.places.borders.items s2 e2) (range_between k.places.borders.items s e) q →
+    ((p : ℕ) → IsBeyond (range_at k bounds) (range_at k old) p → vertex ≤ vertex_at k p) → vertex_at k q ≤ vertex → IsBeyond (range_between k.ranges.borders.items s2 e2) (range_between k.ranges.borders.items s e) q →
     place_at k old.start ≤ g → g < place_at k old.end → vertex < vertex_at k g → IsNoLater (side_between k s2 e2) (side_between k s e)
 step_first k bounds old s e s2 e2 vertex q g ranked is a b c d f h least up beyond from to greater =
-    let bs = k.places.borders.items in
+    let bs = k.ranges.borders.items in
     let start = bounds.start in
-    let end_in : e2 ≤ last_of k start = omega (arith, h, is.block) in
-    let p0 : place_at k start ≤ place_at k s2 = place_no_less k start start s2 ranked (omega arith) a (omega (arith, b, c, is.some, d, f, end_in)) in
-    let p1 : place_at k s2 ≤ place_at k s = place_no_less k start s2 s ranked a b (omega (arith, c, is.some, d, f, end_in)) in
-    let p2 : place_at k s ≤ place_at k old.start = place_no_less k start s old.start ranked (omega (arith, a, b)) c (omega (arith, is.some, d, f, end_in)) in
-    let p3 : place_at k old.end ≤ place_at k e = place_no_less k start old.end e ranked (omega (arith, is.start, is.some)) d (omega (arith, f, end_in)) in
-    let p4 : place_at k e ≤ place_at k e2 = place_no_less k start e e2 ranked (omega (arith, is.start, is.some, d)) f end_in in
-    let p5 : place_at k e2 ≤ place_at k bounds.end = place_no_less k start e2 bounds.end ranked (omega (arith, is.start, is.some, d, f)) h is.block in
-    let n2 : place_at k e2 ≤ count_of k = place_fits k start e2 ranked (omega (arith, is.start, is.some, d, f)) end_in in
+    let end_in : e2 ≤ last_of k.ranges start = omega (arith, h, is.block) in
+    let p0 : place_at k start ≤ place_at k s2 = place_no_less k start start s2 (omega arith) a (omega (arith, b, c, is.some, d, f, end_in)) in
+    let p1 : place_at k s2 ≤ place_at k s = place_no_less k start s2 s a b (omega (arith, c, is.some, d, f, end_in)) in
+    let p2 : place_at k s ≤ place_at k old.start = place_no_less k start s old.start (omega (arith, a, b)) c (omega (arith, is.some, d, f, end_in)) in
+    let p3 : place_at k old.end ≤ place_at k e = place_no_less k start old.end e (omega (arith, is.start, is.some)) d (omega (arith, f, end_in)) in
+    let p4 : place_at k e ≤ place_at k e2 = place_no_less k start e e2 (omega (arith, is.start, is.some, d)) f end_in in
+    let p5 : place_at k e2 ≤ place_at k bounds.end = place_no_less k start e2 bounds.end (omega (arith, is.start, is.some, d, f)) h is.block in
+    let n2 : place_at k e2 ≤ count_of k = place_fits k start e2 (omega (arith, is.start, is.some, d, f)) end_in in
     let r2 : Range = range_between bs s2 e2 in
     let r1 : Range = range_between bs s e in
     least_decides k r2 r1 q g ranked n2 (omega (arith, n2, p4)) beyond
@@ -257,8 +257,8 @@ joined_next k bounds inner old new vertex g ranked is will low high taken least 
         | inl passed ↦
             let top = max e old.end in
             let bottom = min s old.start in
-            let there : place_at k (new.start + 1) ≤ place_at k bottom = place_no_less k bounds.start (new.start + 1) bottom ranked (omega (arith, will.start)) (omega (arith, passed, one.0)) (omega (arith, is.start, is.some, is.end, is.block)) in
-            let up_to : place_at k bottom ≤ place_at k top = place_no_less k bounds.start bottom top ranked (omega (arith, a, is.start)) (omega (arith, is.some)) (omega (arith, d, is.end, is.block)) in
+            let there : place_at k (new.start + 1) ≤ place_at k bottom = place_no_less k bounds.start (new.start + 1) bottom (omega (arith, will.start)) (omega (arith, passed, one.0)) (omega (arith, is.start, is.some, is.end, is.block)) in
+            let up_to : place_at k bottom ≤ place_at k top = place_no_less k bounds.start bottom top (omega (arith, a, is.start)) (omega (arith, is.some)) (omega (arith, d, is.end, is.block)) in
             let first : IsNoLater (side_between k new.start top) (side_between k bottom top) =
             step_first k bounds old bottom top new.start top vertex w.0 g ranked is will.start (omega (arith, passed, one.0)) (omega arith) (omega arith) (omega arith) (omega (arith, d, is.end)) least w.3
             (w.1, omega (arith, w.2, there, up_to), inl (omega (arith, w.2, there))) from to greater in
@@ -279,8 +279,8 @@ joined_next k bounds inner old new vertex g ranked is will low high taken least 
         | inl passed ↦
             let top = max e old.end in
             let bottom = min s old.start in
-            let there : place_at k top ≤ place_at k i = place_no_less k bounds.start top i ranked (omega (arith, is.start, is.some)) (omega (arith, passed, two.2, two.3)) (omega (arith, two.2, will.end, is.block)) in
-            let up_to : place_at k bottom ≤ place_at k top = place_no_less k bounds.start bottom top ranked (omega (arith, a, is.start)) (omega (arith, is.some)) (omega (arith, d, is.end, is.block)) in
+            let there : place_at k top ≤ place_at k i = place_no_less k bounds.start top i (omega (arith, is.start, is.some)) (omega (arith, passed, two.2, two.3)) (omega (arith, two.2, will.end, is.block)) in
+            let up_to : place_at k bottom ≤ place_at k top = place_no_less k bounds.start bottom top (omega (arith, a, is.start)) (omega (arith, is.some)) (omega (arith, d, is.end, is.block)) in
             let reach : place_at k (i + 1) ≡ place_at k new.end = ap (place_at k) (sym two.2) in
             let first : IsNoLater (side_between k bottom new.end) (side_between k bottom top) =
             step_first k bounds old bottom top bottom new.end vertex w.0 g ranked is (omega (arith, a, is.start)) (omega arith) (omega arith) (omega arith) (omega (arith, passed, two.2, two.3)) will.end least w.3
@@ -301,15 +301,15 @@ pub joined_end : (k : Ranked) (bounds inner ends : Ends) (vertex : ℕ) → IsRa
     ((q : ℕ) → place_at k ends.start ≤ q → q < place_at k ends.end → vertex_at k q ≤ vertex) → AreJoined k bounds inner ends →
     (s e : ℕ) → bounds.start ≤ s → s ≤ inner.start → inner.end ≤ e → e ≤ bounds.end → IsNoLater (side_between k ends.start ends.end) (side_between k s e)
 joined_end k bounds inner ends vertex ranked is least none joined s e a b c d =
-    let bs = k.places.borders.items in
+    let bs = k.ranges.borders.items in
     let bottom = min s ends.start in
     let top = max e ends.end in
-    let end_in : top ≤ last_of k bounds.start = omega (arith, d, is.end, is.block) in
-    let p0 : place_at k bounds.start ≤ place_at k bottom = place_no_less k bounds.start bounds.start bottom ranked (omega arith) (omega (arith, a, is.start)) (omega (arith, is.some, end_in)) in
-    let p1 : place_at k bottom ≤ place_at k ends.start = place_no_less k bounds.start bottom ends.start ranked (omega (arith, a, is.start)) (omega arith) (omega (arith, is.some, end_in)) in
-    let p2 : place_at k ends.end ≤ place_at k top = place_no_less k bounds.start ends.end top ranked (omega (arith, is.start, is.some)) (omega arith) end_in in
-    let p3 : place_at k top ≤ place_at k bounds.end = place_no_less k bounds.start top bounds.end ranked (omega (arith, is.start, is.some)) (omega (arith, d, is.end)) is.block in
-    let fits : place_at k top ≤ count_of k = place_fits k bounds.start top ranked (omega (arith, is.start, is.some)) end_in in
+    let end_in : top ≤ last_of k.ranges bounds.start = omega (arith, d, is.end, is.block) in
+    let p0 : place_at k bounds.start ≤ place_at k bottom = place_no_less k bounds.start bounds.start bottom (omega arith) (omega (arith, a, is.start)) (omega (arith, is.some, end_in)) in
+    let p1 : place_at k bottom ≤ place_at k ends.start = place_no_less k bounds.start bottom ends.start (omega (arith, a, is.start)) (omega arith) (omega (arith, is.some, end_in)) in
+    let p2 : place_at k ends.end ≤ place_at k top = place_no_less k bounds.start ends.end top (omega (arith, is.start, is.some)) (omega arith) end_in in
+    let p3 : place_at k top ≤ place_at k bounds.end = place_no_less k bounds.start top bounds.end (omega (arith, is.start, is.some)) (omega (arith, d, is.end)) is.block in
+    let fits : place_at k top ≤ count_of k = place_fits k bounds.start top (omega (arith, is.start, is.some)) end_in in
     let r : Range = range_between bs ends.start ends.end in
     let other : Range = range_between bs bottom top in
     let first : IsNoLater (side_of k r) (side_of k other) = begins_with k r other ranked (omega (arith, fits, p2)) fits
@@ -324,24 +324,24 @@ joined_end k bounds inner ends vertex ranked is least none joined s e a b c d =
 
 -- ---- the range with the least vertex of all
 -- the range with the least vertex of all comes before each range without that vertex
-pub least_first : (k : Ranked) (bounds : Ends) (at vertex s e : ℕ) → IsRanked k → NoneEmpty k → bounds.end ≤ last_of k bounds.start → bounds.start ≤ at → at < bounds.end →
+pub least_first : (k : Ranked) (bounds : Ends) (at vertex s e : ℕ) → IsRanked k → NoneEmpty k → bounds.end ≤ last_of k.ranges bounds.start → bounds.start ≤ at → at < bounds.end →
     ((p : ℕ) → place_at k bounds.start ≤ p → p < place_at k bounds.end → vertex ≤ vertex_at k p) → HasUpTo k at (at + 1) vertex → bounds.start ≤ s → s < e → e ≤ bounds.end → (e ≤ at) ⊎ (at + 1 ≤ s) →
     IsNoLater (side_between k at (at + 1)) (side_between k s e)
 least_first k bounds at vertex s e ranked some block low high least w a b c apart =
-    let bs = k.places.borders.items in
+    let bs = k.ranges.borders.items in
     let first = bounds.start in
-    let s_last : last_of k s ≡ last_of k first = same_last k first s ranked a (omega (arith, b, c, block)) in
+    let s_last : last_of k.ranges s ≡ last_of k.ranges first = same_last k first s a (omega (arith, b, c, block)) in
     let g = place_at k s in
     let g_in : g < place_at k (s + 1) = some s (omega (arith, s_last, b, c, block)) in
-    let p0 : place_at k first ≤ g = place_no_less k first first s ranked (omega arith) a (omega (arith, b, c, block)) in
-    let p1 : place_at k (s + 1) ≤ place_at k e = place_no_less k first (s + 1) e ranked (omega (arith, a)) (omega (arith, b)) (omega (arith, c, block)) in
-    let p2 : place_at k e ≤ place_at k bounds.end = place_no_less k first e bounds.end ranked (omega (arith, a, b)) c block in
-    let q0 : place_at k first ≤ place_at k at = place_no_less k first first at ranked (omega arith) low (omega (arith, high, block)) in
-    let q1 : place_at k (at + 1) ≤ place_at k bounds.end = place_no_less k first (at + 1) bounds.end ranked (omega (arith, low)) (omega (arith, high)) block in
-    let fits : place_at k bounds.end ≤ count_of k = place_fits k first bounds.end ranked (omega (arith, low, high)) block in
+    let p0 : place_at k first ≤ g = place_no_less k first first s (omega arith) a (omega (arith, b, c, block)) in
+    let p1 : place_at k (s + 1) ≤ place_at k e = place_no_less k first (s + 1) e (omega (arith, a)) (omega (arith, b)) (omega (arith, c, block)) in
+    let p2 : place_at k e ≤ place_at k bounds.end = place_no_less k first e bounds.end (omega (arith, a, b)) c block in
+    let q0 : place_at k first ≤ place_at k at = place_no_less k first first at (omega arith) low (omega (arith, high, block)) in
+    let q1 : place_at k (at + 1) ≤ place_at k bounds.end = place_no_less k first (at + 1) bounds.end (omega (arith, low)) (omega (arith, high)) block in
+    let fits : place_at k bounds.end ≤ count_of k = place_fits k first bounds.end (omega (arith, low, high)) block in
     let out : (w.0 < g) ⊎ (place_at k e ≤ w.0) = elim apart [
-      | inl before ↦ inr (let m : place_at k e ≤ place_at k at = place_no_less k first e at ranked (omega (arith, a, b)) before (omega (arith, high, block)) in omega (arith, m, w.1))
-      | inr behind ↦ inl (let m : place_at k (at + 1) ≤ g = place_no_less k first (at + 1) s ranked (omega (arith, low)) behind (omega (arith, b, c, block)) in omega (arith, m, w.2))
+      | inl before ↦ inr (let m : place_at k e ≤ place_at k at = place_no_less k first e at (omega (arith, a, b)) before (omega (arith, high, block)) in omega (arith, m, w.1))
+      | inr behind ↦ inl (let m : place_at k (at + 1) ≤ g = place_no_less k first (at + 1) s (omega (arith, low)) behind (omega (arith, b, c, block)) in omega (arith, m, w.2))
     ] in
     let less : (p : ℕ) → g ≤ p → p < place_at k e → vertex_at k w.0 < vertex_at k p = λ p from to.
     let differ : vertex_at k w.0 ≡ vertex_at k p → ⊥ = λ same.

@@ -65,11 +65,11 @@ has_itself : (x : ℕ) → has (x ∷ []) x ≡ true
 has_itself x = grind (arith, nat_tests)
 
 -- whether a range has the vertex at a place
-pub at_place : (k : Ranked) (p : ℕ) → IsRanked k → p < count_of k → (r : Range) → has (elements_at k.places.order.items r) (vertex_at k p) ≡ is_inside r p
+pub at_place : (k : Ranked) (p : ℕ) → IsRanked k → p < count_of k → (r : Range) → has (elements_at k.ranges.order.items r) (vertex_at k p) ≡ is_inside r p
 at_place k p ranked l r =
-    let xs = k.places.order.items in
-    let within : p < length xs = omega (arith, l, ranked.long) in
-    let v : IsVertex (count_of k) (get_or xs p 0) = All-get_or (IsVertex (count_of k)) xs p 0 within ranked.vertices in
+    let xs = k.ranges.order.items in
+    let within : p < length xs = omega (arith, l) in
+    let v : IsVertex (count_of k) (get_or xs p 0) = All-get_or (IsVertex (count_of k)) xs p 0 within k.ranges.vertices in
     let q = ranked.once (get_or xs p 0) v.0 v.1 in
     let here : has (elements_at xs (range p (p + 1))) (get_or xs p 0) ≡ true = ap (λ l. has l (get_or xs p 0)) (one_element xs p within) ∙ has_itself (get_or xs p 0) in
     let same : p ≡ q.0 = one_inside p q.0 (sym (q.1 (range p (p + 1))) ∙ here) in
@@ -78,11 +78,11 @@ at_place k p ranked l r =
 -- the place of a vertex
 place_of : (k : Ranked) (v : ℕ) → IsRanked k → 1 ≤ v → v ≤ count_of k → (p : ℕ) × (p < count_of k) × (vertex_at k p ≡ v)
 place_of k v ranked low high =
-    let xs = k.places.order.items in
+    let xs = k.ranges.order.items in
     let q = ranked.once v low high in
     let here : has (elements_at xs (range q.0 (q.0 + 1))) v ≡ true = q.1 (range q.0 (q.0 + 1)) ∙ inside_yes (range q.0 (q.0 + 1)) q.0 (omega arith) (omega arith) in
     elim (cases_lt q.0 (length xs)) [
-      | inl l ↦ (q.0, omega (arith, l, ranked.long), has_one (get_or xs q.0 0) v (ap (λ l. has l v) (sym (one_element xs q.0 l)) ∙ here))
+      | inl l ↦ (q.0, omega (arith, l), has_one (get_or xs q.0 0) v (ap (λ l. has l v) (sym (one_element xs q.0 l)) ∙ here))
       | inr past ↦ absurd (false≢true (ap (λ l. has l v) (sym (elements_past xs q.0 (q.0 + 1) past)) ∙ here))
     ]
 
@@ -98,9 +98,9 @@ turned k r other own others are = record { own_less = are.others_less; own_there
 
 -- below both both ranges have the same vertices
 alike : (k : Ranked) (r other : Range) (own others v : ℕ) → IsRanked k → AreLeastBeyond k r other own others → 1 ≤ v → v ≤ count_of k → v < own → v < others →
-    has (elements_at k.places.order.items r) v ≡ has (elements_at k.places.order.items other) v
+    has (elements_at k.ranges.order.items r) v ≡ has (elements_at k.ranges.order.items other) v
 alike k r other own others v ranked are low high below_own below_others =
-    let xs = k.places.order.items in
+    let xs = k.ranges.order.items in
     let q = place_of k v ranked low high in
     let p = q.0 in
     let in_one : has (elements_at xs r) v ≡ is_inside r p = ap (has (elements_at xs r)) (sym q.2) ∙ at_place k p ranked q.1 r in
@@ -120,14 +120,14 @@ alike k r other own others v ranked are low high below_own below_others =
 record IsAlone (k : Ranked) (r other : Range) (x : ℕ) : Type 0 where
   low : 1 ≤ x
   high : x ≤ count_of k
-  is : has (elements_at k.places.order.items r) x ≡ true
-  not_other : has (elements_at k.places.order.items other) x ≡ false
+  is : has (elements_at k.ranges.order.items r) x ≡ true
+  not_other : has (elements_at k.ranges.order.items other) x ≡ false
 
 alone : (k : Ranked) (r other : Range) (p x : ℕ) → IsRanked k → r.to ≤ count_of k → IsBeyond r other p → vertex_at k p ≡ x → IsAlone k r other x
 alone k r other p x ranked fits beyond e =
-    let xs = k.places.order.items in
+    let xs = k.ranges.order.items in
     let there : p < count_of k = omega (arith, beyond.1, fits) in
-    let v : IsVertex (count_of k) (get_or xs p 0) = All-get_or (IsVertex (count_of k)) xs p 0 (omega (arith, there, ranked.long)) ranked.vertices in
+    let v : IsVertex (count_of k) (get_or xs p 0) = All-get_or (IsVertex (count_of k)) xs p 0 (omega (arith, there)) k.ranges.vertices in
     record {
       low = omega (arith, v.0, e);
       high = omega (arith, v.1, e);
@@ -145,11 +145,11 @@ own_alone k r other own others ranked fits bound less are = elim are.own_there [
 pub comes_first : (k : Ranked) (r other : Range) (own others q : ℕ) → IsRanked k → r.to ≤ count_of k → other.to ≤ count_of k → others ≤ 4294967295 → own < others → AreLeastBeyond k r other own others →
     other.from ≤ q → q < other.to → own < vertex_at k q → IsNoLater (side_of k r) (side_of k other)
 comes_first k r other own others q ranked fits other_fits bound less are from to greater =
-    let xs = k.places.order.items in
+    let xs = k.ranges.order.items in
     let n = count_of k in
     let x = own_alone k r other own others ranked fits bound less are in
     let there : q < n = omega (arith, to, other_fits) in
-    let v : IsVertex n (get_or xs q 0) = All-get_or (IsVertex n) xs q 0 (omega (arith, there, ranked.long)) ranked.vertices in
+    let v : IsVertex n (get_or xs q 0) = All-get_or (IsVertex n) xs q 0 (omega (arith, there)) k.ranges.vertices in
     ap is_gt (first_alone (has (elements_at xs r)) (has (elements_at xs other)) own (vertex_at k q) n 1 x.is x.not_other
     (λ u a b. alike k r other own others u ranked are a (omega (arith, b, x.high)) b (omega (arith, b, less))) x.low (omega (arith, x.high)) greater (omega (arith, v.1))
     (at_place k q ranked there other ∙ inside_yes other q from to))
@@ -158,7 +158,7 @@ comes_first k r other own others q ranked fits other_fits bound less are from to
 pub comes_behind : (k : Ranked) (r other : Range) (own others : ℕ) → IsRanked k → r.to ≤ count_of k → others ≤ 4294967295 → own < others → AreLeastBeyond k r other own others →
     ((q : ℕ) → other.from ≤ q → q < other.to → vertex_at k q ≤ own) → IsNoLater (side_of k other) (side_of k r)
 comes_behind k r other own others ranked fits bound less are none =
-    let xs = k.places.order.items in
+    let xs = k.ranges.order.items in
     let n = count_of k in
     let x = own_alone k r other own others ranked fits bound less are in
     ap is_gt (first_end (has (elements_at xs r)) (has (elements_at xs other)) own n 1 x.is x.not_other
@@ -175,13 +175,13 @@ pub come_together : (k : Ranked) (r other : Range) (own others : ℕ) → IsRank
 come_together k r other own others ranked fits other_fits same are = elim are.own_there [
   | inl e ↦
       subst (λ l. IsNoLater (side_of k r) l)
-      (filter-same (has (elements_at k.places.order.items r)) (has (elements_at k.places.order.items other)) (count_of k) 1
-      (λ v a b. alike k r other own others v ranked are a (omega (arith, b)) (omega (arith, b, e, ranked.few)) (omega (arith, b, e, same, ranked.few))))
+      (filter-same (has (elements_at k.ranges.order.items r)) (has (elements_at k.ranges.order.items other)) (count_of k) 1
+      (λ v a b. alike k r other own others v ranked are a (omega (arith, b)) (omega (arith, b, e, k.ranges.few)) (omega (arith, b, e, same, k.ranges.few))))
       (no_later_itself (side_of k r))
   | inr w ↦ elim are.others_there [
-    | inl e ↦ absurd (omega (arith, e, same, (alone k r other w.0 own ranked fits w.1 w.2).high, ranked.few))
+    | inl e ↦ absurd (omega (arith, e, same, (alone k r other w.0 own ranked fits w.1 w.2).high, k.ranges.few))
     | inr u ↦
         absurd (false≢true (sym (alone k other r u.0 others ranked other_fits u.1 u.2).not_other
-        ∙ ap (has (elements_at k.places.order.items r)) (sym same) ∙ (alone k r other w.0 own ranked fits w.1 w.2).is))
+        ∙ ap (has (elements_at k.ranges.order.items r)) (sym same) ∙ (alone k r other w.0 own ranked fits w.1 w.2).is))
   ]
 ]

@@ -16,30 +16,26 @@
 //! around comes behind all that is in it. So of each run one range is compared.
 
 ghost use Rattle.std.specs.Prelude.{◌≡◌, ◌≢◌, ◌+◌, ◌<◌, ◌≤◌, ◌⊎◌, [], ℕ, IfOk, IsFalse, IsTrue, Some, length, slice_index};
-ghost use Rattle.std.specs.List.{All, Contains};
-ghost use Rattle.balanced_cut.specs.Ends.{IsRangeOf, range_of, span_mass};
+ghost use Rattle.std.specs.List.{Contains};
 ghost use Rattle.rooted_cactus.specs.Borders.{range_between, border_at, ranges_between};
 ghost use Rattle.rooted_cactus.specs.CutRanges.{Range};
-ghost use Rattle.rooted_cactus.specs.Places.{side_at};
-ghost use Rattle.cut_definitions.specs.Graph.{IsVertex};
 ghost use Rattle.rooted_cactus.specs.Rooted.{sides_of};
 ghost use Rattle.rooted_cactus.specs.Trees.{blocks};
-ghost use Rattle.canonical_cactus.specs.FirstBest.{AreLess, HasUpTo, IsBeyond, IsEmptyOne, IsFirstBefore, IsFirstBest, IsFirstOfRun, IsFound, IsFoundAt, IsNoLater, IsNotAfter, IsNotAfterAt, IsRanked, IsRankedOf, IsRun, IsTaken, IsWanted, IsWithin, NoneEmpty, count_of, last_of, mass_of, range_at, side_between, side_of, vertex_at};
+ghost use Rattle.cactus_walk.specs.Weighing.{IsRangeOf, IsShort, last_of, mass_between, range_of, total_mass};
+ghost use Rattle.canonical_cactus.specs.FirstBest.{HasUpTo, IsBeyond, IsEmptyOne, IsFirstBefore, IsFirstBest, IsFirstOfRun, IsFound, IsFoundAt, IsNoLater, IsNotAfter, IsNotAfterAt, IsRanked, IsRankedOf, IsRun, IsTaken, IsWanted, IsWithin, NoneEmpty, count_of, range_at, side_between, side_of, vertex_at};
 
 use crate::minima::Minima;
-use balanced_cut::{Scale, balance_of, best};
-use cactus_walk::{CutPlaces, Span, cut_places, put_range};
+use balanced_cut::{balance_of, best};
+use cactus_walk::{CutRanges, Span, cut_places};
 use cut_definitions::{NoMemory, VertexWeights};
 use rooted_cactus::Cactus;
 use std::alloc::Global;
 use vertex_set::Side;
 
-/// The cuts of a cactus, what they are weighed by, the balance that is wanted,
-/// and what their sides are compared by.
+/// The cuts of a cactus, the balance that is wanted, and what the sides are compared by.
 #[derive(Drop)]
 struct Ranked {
-    places: CutPlaces,
-    scale: Scale,
+    ranges: CutRanges,
     high: u128,
     /// The least vertices of ranges.
     least: Minima,
@@ -121,56 +117,6 @@ impl Ranked {
         }
     }
 
-    /// The range from one border to another.
-    fn between(&self, start: usize, end: usize) -> Span
-        requires start { start < length self.now.places.borders.items }
-        requires end { end < length self.now.places.borders.items }
-        ensures { range_of result ≡ range_between self.now.places.borders.items start end }
-    {
-        Span {
-            from: self.places.borders[start].place,
-            to: self.places.borders[end].place,
-        }
-    }
-
-    /// The last border of the block of a border.
-    fn last_of(&self, start: usize) -> usize
-        requires ranked { IsRanked self.now }
-        requires start { start < length self.now.places.borders.items }
-        ensures is { result ≡ start + (border_at self.now.places.borders.items start).following }
-        ensures there { result < length self.now.places.borders.items }
-    {
-        start + self.places.borders[start].following
-    }
-
-    /// The mass of the range from one border to another of its block.
-    fn mass_between(&self, start: usize, end: usize) -> u128
-        requires ranked { IsRanked self.now }
-        requires behind { start < end }
-        requires within { end ≤ start + (border_at self.now.places.borders.items start).following }
-        ensures { result ≡ span_mass self.now.scale (range_between self.now.places.borders.items start end) }
-    {
-        self.scale.mass(self.between(start, end))
-    }
-
-    /// The first border from one on up to which the range from another has a mass or more; the end
-    /// of the block where none has.
-    fn end_from(&self, mass: u128, start: usize, from: usize) -> usize
-        requires ranked { IsRanked self.now }
-        requires start { start < length self.now.places.borders.items }
-        requires less { AreLess self.now mass start from }
-        ensures behind { start < result }
-        ensures less { AreLess self.now mass start result }
-        ensures reached { result ≤ start + (border_at self.now.places.borders.items start).following → mass ≤ span_mass self.now.scale (range_between self.now.places.borders.items start result) }
-    {
-        let last = self.last_of(start);
-        let mut end = from.max(start + 1);
-        'ends: while end <= last && self.mass_between(start, end) < mass {
-            end += 1;
-        }
-        end
-    }
-
     /// The range of the earlier of the side that was found and that at another range.
     fn earlier(&self, found: Option<Span>, span: Span) -> Span
         requires ranked { IsRanked self.now }
@@ -194,18 +140,18 @@ impl Ranked {
 
     /// The range between two borders.
     fn span(&self, ends: Ends) -> Span
-        requires start { ends.start < length self.now.places.borders.items }
-        requires end { ends.end < length self.now.places.borders.items }
+        requires start { ends.start < length self.now.ranges.borders.items }
+        requires end { ends.end < length self.now.ranges.borders.items }
         ensures { range_of result ≡ range_at self.now ends }
     {
-        self.between(ends.start, ends.end)
+        self.ranges.between(ends.start, ends.end)
     }
 
     /// The first border from one on of which the range to the next one has
     /// a vertex up to a number.
     fn first_with(&self, from: usize, end: usize, vertex: u32) -> usize
         requires ranked { IsRanked self.now }
-        requires within { end ≤ last_of self.now from }
+        requires within { end ≤ last_of self.now.ranges from }
         requires behind { from < end }
         requires vertex { vertex < 4294967295 }
         requires has { HasUpTo self.now from end vertex }
@@ -214,7 +160,7 @@ impl Ranked {
         ensures has { HasUpTo self.now result (result + 1) vertex }
     {
         let mut at = from;
-        'parts: while self.least.least(self.between(at, at + 1)) > vertex {
+        'parts: while self.least.least(self.ranges.between(at, at + 1)) > vertex {
             at += 1;
         }
         at
@@ -223,7 +169,7 @@ impl Ranked {
     /// The last border before one of which the range to the next one has a vertex up to a number.
     fn last_with(&self, from: usize, end: usize, vertex: u32) -> usize
         requires ranked { IsRanked self.now }
-        requires within { end ≤ last_of self.now from }
+        requires within { end ≤ last_of self.now.ranges from }
         requires behind { from < end }
         requires vertex { vertex < 4294967295 }
         requires has { HasUpTo self.now from end vertex }
@@ -232,7 +178,7 @@ impl Ranked {
         ensures has { HasUpTo self.now result (result + 1) vertex }
     {
         let mut at = end - 1;
-        'parts: while self.least.least(self.between(at, at + 1)) > vertex {
+        'parts: while self.least.least(self.ranges.between(at, at + 1)) > vertex {
             at -= 1;
         }
         at
@@ -247,7 +193,8 @@ impl Ranked {
         ensures within { IsWithin self.now bounds result }
         ensures taken { IsTaken self.now inner result vertex }
     {
-        if self.least.least(self.between(bounds.start, inner.start)) <= vertex {
+        let before = self.ranges.between(bounds.start, inner.start);
+        if self.least.least(before) <= vertex {
             Ends {
                 start: self.last_with(bounds.start, inner.start, vertex),
                 end: inner.end,
@@ -289,7 +236,7 @@ impl Ranked {
     fn first_within(&self, bounds: Ends) -> Ends
         requires ranked { IsRanked self.now }
         requires some { bounds.start < bounds.end }
-        requires block { bounds.end ≤ last_of self.now bounds.start }
+        requires block { bounds.end ≤ last_of self.now.ranges bounds.start }
         requires none_empty { NoneEmpty self.now }
         ensures within { IsWithin self.now bounds result }
         ensures first { (s e : ℕ) → bounds.start ≤ s → s < e → e ≤ bounds.end → IsNoLater (side_between self.now result.start result.end) (side_between self.now s e) }
@@ -310,17 +257,17 @@ impl Ranked {
     /// from one border on, and before another.
     fn first_of_run(&self, mass: u128, run: Ends, ends: Ends) -> Option<Ends>
         requires ranked { IsRanked self.now }
-        requires start { run.end < length self.now.places.borders.items }
+        requires start { run.end < length self.now.ranges.borders.items }
         requires first { run.start ≤ run.end }
         requires run { IsRun self.now run.start run.end }
-        requires last { 0 < (border_at self.now.places.borders.items run.end).following → 0 < mass_of self.now run.end (run.end + 1) }
+        requires last { 0 < (border_at self.now.ranges.borders.items run.end).following → 0 < mass_between self.now.ranges run.end (run.end + 1) }
         requires none_empty { mass ≡ 0 → NoneEmpty self.now }
-        requires light { AreLess self.now mass run.end ends.start }
+        requires light { IsShort self.now.ranges mass run.end ends.start }
         requires behind { run.end < ends.start }
-        requires reached { ends.start ≤ last_of self.now run.end → mass ≤ mass_of self.now run.end ends.start }
-        requires heavy { AreLess self.now (mass + 1) run.end ends.end }
+        requires reached { ends.start ≤ last_of self.now.ranges run.end → mass ≤ mass_between self.now.ranges run.end ends.start }
+        requires heavy { IsShort self.now.ranges (mass + 1) run.end ends.end }
         requires past { run.end < ends.end }
-        requires passed { ends.end ≤ last_of self.now run.end → mass + 1 ≤ mass_of self.now run.end ends.end }
+        requires passed { ends.end ≤ last_of self.now.ranges run.end → mass + 1 ≤ mass_between self.now.ranges run.end ends.end }
         ensures { IsFirstOfRun self.now mass run.start run.end result }
     {
         if mass == 0 {
@@ -345,12 +292,12 @@ impl Ranked {
 
     /// Whether the next border is of the same block, and there is no mass before it.
     fn goes_on(&self, start: usize) -> bool
-        requires ranked { IsRanked self.now }
-        requires start { start < length self.now.places.borders.items }
-        ensures on { IsTrue result → (0 < (border_at self.now.places.borders.items start).following) × (mass_of self.now start (start + 1) ≡ 0) }
-        ensures last { IsFalse result → 0 < (border_at self.now.places.borders.items start).following → 0 < mass_of self.now start (start + 1) }
+        requires start { start < length self.now.ranges.borders.items }
+        ensures on { IsTrue result → (0 < (border_at self.now.ranges.borders.items start).following) × (mass_between self.now.ranges start (start + 1) ≡ 0) }
+        ensures last { IsFalse result → 0 < (border_at self.now.ranges.borders.items start).following → 0 < mass_between self.now.ranges start (start + 1) }
     {
-        self.places.borders[start].following > 0 && self.mass_between(start, start + 1) == 0
+        self.ranges.borders[start].following > 0
+            && self.ranges.mass(self.ranges.between(start, start + 1)) == 0
     }
 
     /// Of the side that was found and that at a range, if there is one, the range of the earlier.
@@ -372,15 +319,15 @@ impl Ranked {
     /// of borders without mass between them is gone over at its last one.
     fn first_from(&self, mass: u128, start: usize, search: Search) -> Search
         requires ranked { IsRanked self.now }
-        requires start { start < length self.now.places.borders.items }
-        requires mass { (mass ≡ self.now.high) ⊎ (mass + self.now.high ≡ self.now.scale.total) }
+        requires start { start < length self.now.ranges.borders.items }
+        requires mass { (mass ≡ self.now.high) ⊎ (mass + self.now.high ≡ total_mass self.now.ranges) }
         requires none_empty { mass ≡ 0 → NoneEmpty self.now }
         requires search { IsFirstBefore self.now mass start search }
         ensures kept { (r : Range) → IsNotAfter self.now search.found r → IsNotAfter self.now result.found r }
         ensures first { IsFirstBefore self.now mass (start + 1) result }
     {
-        let light = self.end_from(mass, start, search.light);
-        let heavy = self.end_from(mass + 1, start, search.heavy);
+        let light = self.ranges.first_end(mass, start, search.light);
+        let heavy = self.ranges.first_end(mass + 1, start, search.heavy);
         if self.goes_on(start) {
             return Search {
                 found: search.found,
@@ -408,12 +355,12 @@ impl Ranked {
     /// The first of the side that was found and the sides at all ranges of a mass.
     fn first_of_mass(&self, mass: u128, found: Option<Span>) -> Option<Span>
         requires ranked { IsRanked self.now }
-        requires mass { (mass ≡ self.now.high) ⊎ (mass + self.now.high ≡ self.now.scale.total) }
+        requires mass { (mass ≡ self.now.high) ⊎ (mass + self.now.high ≡ total_mass self.now.ranges) }
         requires none_empty { mass ≡ 0 → NoneEmpty self.now }
         requires found { IsFound self.now found }
         ensures found { IsFound self.now result }
         ensures kept { (r : Range) → IsNotAfter self.now found r → IsNotAfter self.now result r }
-        ensures first { (i e : ℕ) → i < length self.now.places.borders.items → i < e → e ≤ last_of self.now i → mass_of self.now i e ≡ mass → IsNotAfter self.now result (range_between self.now.places.borders.items i e) }
+        ensures first { (i e : ℕ) → i < length self.now.ranges.borders.items → i < e → e ≤ last_of self.now.ranges i → mass_between self.now.ranges i e ≡ mass → IsNotAfter self.now result (range_between self.now.ranges.borders.items i e) }
     {
         let mut search = Search {
             found,
@@ -421,7 +368,7 @@ impl Ranked {
             light: 0,
             heavy: 0,
         };
-        'starts: for start in 0..self.places.borders.len() {
+        'starts: for start in 0..self.ranges.borders.len() {
             search = self.first_from(mass, start, search);
         }
         search.found
@@ -429,12 +376,11 @@ impl Ranked {
 
     /// The range of a cut that has no vertex, if there is one.
     fn empty_range(&self) -> Option<Span>
-        requires ranked { IsRanked self.now }
         ensures { IsEmptyOne self.now result }
     {
-        'starts: for start in 0..self.places.borders.len() {
-            if self.places.borders[start].following > 0 {
-                let span = self.between(start, start + 1);
+        'starts: for start in 0..self.ranges.borders.len() {
+            if self.ranges.borders[start].following > 0 {
+                let span = self.ranges.between(start, start + 1);
                 if span.from == span.to {
                     return Some(span);
                 }
@@ -449,9 +395,9 @@ impl Ranked {
         requires ranked { IsRanked self.now }
         requires none_empty { self.now.high ≡ 0 → NoneEmpty self.now }
         ensures found { IsFound self.now result }
-        ensures first { (r : Range) → Contains (ranges_between self.now.places.borders.items) r → IsWanted self.now r → IsNotAfter self.now result r }
+        ensures first { (r : Range) → Contains (ranges_between self.now.ranges.borders.items) r → IsWanted self.now r → IsNotAfter self.now result r }
     {
-        let rest = self.scale.total - self.high;
+        let rest = self.ranges.total() - self.high;
         let found = self.first_of_mass(self.high, None);
         if rest == self.high {
             return found;
@@ -463,7 +409,7 @@ impl Ranked {
     fn first(&self) -> Option<Span>
         requires ranked { IsRanked self.now }
         ensures found { IsFound self.now result }
-        ensures first { (r : Range) → Contains (ranges_between self.now.places.borders.items) r → IsWanted self.now r → IsNotAfter self.now result r }
+        ensures first { (r : Range) → Contains (ranges_between self.now.ranges.borders.items) r → IsWanted self.now r → IsNotAfter self.now result r }
     {
         if self.high == 0 {
             if let Some(span) = self.empty_range() {
@@ -497,33 +443,19 @@ fn rank_cuts(
     ensures high { IfOk result (λ k. k.high ≡ high) }
     ensures cuts { IfOk result (IsRankedOf cactus.now.vertices weights.now (sides_of cactus.now)) }
 {
-    // known by these calls: that it is a cactus, and how many vertices there may be
+    // known by this call: that it is a cactus
     let _n = cactus.n();
-    let _known = weights.len();
     let places = cut_places(alloc, cactus)?;
-    let scale = Scale::of(alloc, &places.order, weights)?;
-    let least = Minima::of(alloc, &places.order)?;
-    let wanting = wanting_of(alloc, &places.order)?;
+    let ranges = CutRanges::of(alloc, places.order, places.borders, weights)?;
+    let least = Minima::of(alloc, &ranges.order)?;
+    let wanting = wanting_of(alloc, &ranges.order)?;
     let wanting = Minima::of(alloc, &wanting)?;
     Ok(Ranked {
-        places,
-        scale,
+        ranges,
         high,
         least,
         wanting,
     })
-}
-
-/// The side at a range.
-fn side_at_span(alloc: Global, n: u32, order: &[u32], span: Span) -> Result<Side, NoMemory>
-    requires vertices { All (IsVertex n) order.now }
-    requires to { span.to ≤ length order.now }
-    ensures n { IfOk result (λ s. s.vertices ≡ n) }
-    ensures side { IfOk result (λ s. s.members ≡ side_at n order.now (range_of span)) }
-{
-    let mut side = Side::empty(alloc, n)?;
-    put_range(&mut side, order, span.from, span.to);
-    Ok(side)
 }
 
 /// Of all sides of the cuts of the cactus that have the best balance by the masses
@@ -543,7 +475,7 @@ pub fn first_best(alloc: Global, cactus: &Cactus, weights: &VertexWeights) -> Re
     let high = balance_of(&some, weights);
     let ranked = rank_cuts(alloc, cactus, weights, high)?;
     match ranked.first() {
-        Some(span) => side_at_span(alloc, cactus.n(), &ranked.places.order, span),
+        Some(span) => ranked.ranges.side(alloc, span),
         None => Ok(some),
     }
 }

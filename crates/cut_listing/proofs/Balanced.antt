@@ -1,13 +1,11 @@
 -- The sides of a least balance are those at the ranges of a least balance.
-use Rattle.std.proofs.Common.{◌≡◌, ℕ, zero, suc, ◌+◌, ◌-◌, ◌≤◌, ◌<◌, ◌^◌, min, Bool, true, false, inl, inr, List, [], ◌∷◌, length, get_or, map, take, drop, ap, ◌∙◌, sym, refl, subst, arith}
+use Rattle.std.proofs.Common.{◌≡◌, ℕ, zero, suc, ◌+◌, ◌≤◌, ◌<◌, ◌^◌, Bool, true, false, inl, inr, List, [], ◌∷◌, length, map, take, drop, ap, ◌∙◌, sym, refl, subst, arith}
 use Rattle.std.specs.Prelude.{◌↔◌, nat_le}
 use Rattle.std.specs.List.{All, Contains, concat, filter}
 use Rattle.std.proofs.lemmas.Bool.{cases_Bool}
 use Rattle.std.proofs.lemmas.List.{length-map}
 use Rattle.std.proofs.lemmas.List.Elements.{All-append, All-cons, All-drop, All-head, All-map, All-nil, All-tail}
-use Rattle.cut_definitions.specs.Balance.{AreMasses, balance, mass}
 use Rattle.cut_definitions.specs.Cuts.{has}
-use Rattle.cut_definitions.specs.Weight.{complement}
 use Rattle.rooted_cactus.specs.Borders.{border_at, ranges_to}
 use Rattle.rooted_cactus.specs.CutRanges.{Range}
 use Rattle.cut_definitions.specs.Members.{AreDifferent}
@@ -15,28 +13,24 @@ use Rattle.rooted_cactus.specs.Entered.{entered}
 use Rattle.rooted_cactus.specs.Normal.{is_normal}
 use Rattle.rooted_cactus.specs.Numbers.{number}
 use Rattle.rooted_cactus.specs.Places.{AreOnce, side_at}
-use Rattle.cut_definitions.specs.Graph.{IsVertex}
-use Rattle.cactus_walk.specs.RangeMasses.{mass_before}
 use Rattle.cactus_walk.specs.Repeats.{passed_over, ranges_kept}
 use Rattle.rooted_cactus.specs.Rooted.{IsCactus, Rooted, sides_of}
 use Rattle.cactus_walk.specs.Walking.{AreBorders, AreChained}
+use Rattle.cactus_walk.specs.Weighing.{AreSumsOf, IsRangeOf, IsWeighed}
+use Rattle.cactus_walk.specs.declared.walk.ranges.CutRanges.{CutRanges}
 use Rattle.rooted_cactus.specs.declared.tree.border.Border.{Border}
 use Rattle.rooted_cactus.proofs.Bounds.{number_small}
 use Rattle.rooted_cactus.proofs.Distinct.{number_of_sides}
 use Rattle.rooted_cactus.proofs.Once.{each_there}
-use Rattle.cactus_walk.proofs.RangeMasses.{before_bound, before_no_less, side_balance}
+use Rattle.cactus_walk.proofs.Weighing.{same_balance}
 use Rattle.cut_listing.specs.Asks.{is_balanced}
-use Rattle.cut_listing.specs.Bands.{AreRising, is_heavy, range_balance, whole}
+use Rattle.cut_listing.specs.Bands.{is_heavy}
 use Rattle.cut_listing.specs.Listings.{different}
 use Rattle.cut_listing.proofs.Counted.{number_different}
 use Rattle.cut_listing.proofs.Listed.{all_different, same_different}
 use Rattle.cut_listing.proofs.Passes.{asked_differ, given_asked}
 
 -- ---- the ranges between borders
--- a range of so many places
-abbrev IsRangeOf : ℕ → Range → Type 0
-IsRangeOf long r = (r.from ≤ r.to) × (r.to ≤ long)
-
 -- the borders that follow one of their block
 above : (long low f : ℕ) (bs : List Border) → AreBorders long bs → AreChained bs → f ≤ length bs → (0 < f → (low ≤ (border_at bs 0).place) × (f ≡ (border_at bs 0).following + 1)) →
     All (λ (b : Border). (low ≤ b.place) × (b.place ≤ long)) (take f bs)
@@ -74,127 +68,85 @@ filter_same p q g P (r ∷ rs) all same =
     left_head : (q : Range → Bool) (r : Range) (rs : List Range) → q r ≡ false → filter q (r ∷ rs) ≡ filter q rs
     left_head q r rs out = rw out refl
 
--- ---- the masses before the places of a list
--- what is known of a cactus, its vertices in a row, and the masses before their places
-pub record AreWeighed (c : Rooted) (masses order before : List ℕ) (bs : List Border) (ms : List Bool) : Type 0 where
+-- ---- the sides of a least balance
+-- what is known of a cactus, its cuts as ranges, and which of these a walk leaves out
+pub record AreWeighed (c : Rooted) (masses : List ℕ) (r : CutRanges) (ms : List Bool) : Type 0 where
   pub cactus : IsCactus c.vertices c.root
   pub normal : is_normal c.root ≡ true
-  pub weights : AreMasses masses
-  pub many : length masses ≡ c.vertices
-  pub entered_is : order ≡ concat (entered c.root)
-  pub long : length order ≡ c.vertices
-  pub once : AreOnce c.vertices order
-  pub vertices : All (IsVertex c.vertices) order
-  pub borders : AreBorders (length order) bs
-  pub chained : AreChained bs
-  pub sums_long : length before ≡ length order + 1
-  pub sums : (k : ℕ) → k ≤ length order → get_or before k 0 ≡ mass_before masses order k
-  pub sides : (side : List ℕ) → Contains (map (side_at c.vertices order) (ranges_kept bs ms)) side ↔ Contains (sides_of c) side
-  pub different : AreDifferent (map (side_at c.vertices order) (ranges_kept bs ms))
+  pub weighed : IsWeighed c.vertices masses r
+  pub sides : (side : List ℕ) → Contains (map (side_at c.vertices r.order.items) (ranges_kept r.borders.items ms)) side ↔ Contains (sides_of c) side
+  pub different : AreDifferent (map (side_at c.vertices r.order.items) (ranges_kept r.borders.items ms))
 
--- the masses were summed along a list that was lent
-pub weighed : (c : Rooted) (masses order lent before : List ℕ) (bs : List Border) (ms : List Bool) → IsCactus c.vertices c.root → is_normal c.root ≡ true → AreMasses masses → length masses ≡ c.vertices →
-    order ≡ concat (entered c.root) → length order ≡ c.vertices → AreOnce c.vertices order → All (IsVertex c.vertices) order → AreBorders (length order) bs → AreChained bs →
-    ((side : List ℕ) → Contains (map (side_at c.vertices order) (ranges_kept bs ms)) side ↔ Contains (sides_of c) side) → AreDifferent (map (side_at c.vertices order) (ranges_kept bs ms)) →
-    lent ≡ order → length before ≡ length lent + 1 → ((k : ℕ) → k ≤ length lent → get_or before k 0 ≡ mass_before masses lent k) → AreWeighed c masses order before bs ms
-weighed c masses order lent before bs ms cactus normal weights many entered_is long once vertices borders chained sides differ same sums_long sums = record {
-  cactus = cactus;
-  normal = normal;
-  weights = weights;
-  many = many;
-  entered_is = entered_is;
-  long = long;
-  once = once;
-  vertices = vertices;
-  borders = borders;
-  chained = chained;
-  sums_long = omega (arith, sums_long, ap length same);
-  sums = λ k l. sums k (omega (arith, l, ap length same)) ∙ ap (λ o. mass_before masses o k) same;
-  sides = sides;
-  different = differ;
-}
-
-pub rising : (c : Rooted) (masses order before : List ℕ) (bs : List Border) (ms : List Bool) → AreWeighed c masses order before bs ms → AreRising before
-rising c masses order before bs ms w =
-    let last : whole before ≡ mass_before masses order (length order) = ap (λ k. get_or before k 0) (let e : length before - 1 ≡ length order = omega (arith, w.sums_long) in e) ∙ w.sums (length order) (omega arith) in
-    let own : All (IsVertex (length masses)) order = subst (λ n. All (IsVertex n) order) (sym w.many) w.vertices in
+-- the ranges were made of an order and of borders
+pub weighed : (c : Rooted) (masses order : List ℕ) (bs : List Border) (r : CutRanges) (ms : List Bool) → IsCactus c.vertices c.root → is_normal c.root ≡ true → length masses ≡ c.vertices →
+    order ≡ concat (entered c.root) → length order ≡ c.vertices → AreOnce c.vertices order → ((side : List ℕ) → Contains (map (side_at c.vertices order) (ranges_kept bs ms)) side ↔ Contains (sides_of c) side) →
+    AreDifferent (map (side_at c.vertices order) (ranges_kept bs ms)) → r.order.items ≡ order → r.borders.items ≡ bs → AreSumsOf masses r → AreWeighed c masses r ms
+weighed c masses order bs r ms cactus normal many entered_is long once sides differ same_order same_bs sums =
+    let same : map (side_at c.vertices r.order.items) (ranges_kept r.borders.items ms) ≡ map (side_at c.vertices order) (ranges_kept bs ms) =
+    ap (λ o. map (side_at c.vertices o) (ranges_kept r.borders.items ms)) same_order ∙ ap (λ b. map (side_at c.vertices order) (ranges_kept b ms)) same_bs in
     record {
-      some = omega (arith, w.sums_long);
-      rise = λ j k l m. omega (arith, w.sums j (omega (arith, l, m, w.sums_long)), w.sums k (omega (arith, m, w.sums_long)), before_no_less masses order j k l (omega (arith, m, w.sums_long)));
-      small = omega (arith, last, before_bound masses order (length order) w.weights own (omega arith), w.weights.few, w.many, w.long);
+      cactus = cactus;
+      normal = normal;
+      weighed = record {
+        counted = many;
+        long = ap length same_order ∙ long;
+        once = subst (AreOnce c.vertices) (sym same_order) once;
+        every = λ v l m. ap (λ xs. has xs v) (same_order ∙ entered_is) ∙ each_there c.vertices c.root cactus v l m;
+        sums = sums;
+      };
+      sides = λ side. subst (λ l. Contains l side ↔ Contains (sides_of c) side) (sym same) (sides side);
+      different = subst AreDifferent (sym same) differ;
     }
 
 -- a side at a range has the least balance where the range has
-same_answer : (c : Rooted) (masses order before : List ℕ) (bs : List Border) (ms : List Bool) (least : ℕ) → AreWeighed c masses order before bs ms → (r : Range) → IsRangeOf (length order) r →
-    is_balanced masses least (side_at c.vertices order r) ≡ is_heavy before least r
-same_answer c masses order before bs ms least w r fits =
-    let side = side_at c.vertices order r in
-    let every : (v : ℕ) → 1 ≤ v → v ≤ c.vertices → has order v ≡ true = λ v l m. ap (λ xs. has xs v) w.entered_is ∙ each_there c.vertices c.root w.cactus v l m in
-    let both = side_balance c.vertices masses order w.many w.once w.vertices every r.from r.to fits.0 fits.1 in
-    let last : whole before ≡ mass_before masses order (length order) = ap (λ k. get_or before k 0) (let e : length before - 1 ≡ length order = omega (arith, w.sums_long) in e) ∙ w.sums (length order) (omega arith) in
-    let from = w.sums r.from (omega (arith, fits.0, fits.1)) in
-    let to = w.sums r.to fits.1 in
-    let own : mass masses (has side) ≡ get_or before r.to 0 - get_or before r.from 0 = omega (arith, both.0, from, to) in
-    let other : mass masses (complement (has side)) ≡ whole before - (get_or before r.to 0 - get_or before r.from 0) = omega (arith, both.1, from, to, last) in
-    let same : balance masses side ≡ range_balance before r = ap (λ k. min k (mass masses (complement (has side)))) own ∙ ap (min (get_or before r.to 0 - get_or before r.from 0)) other in
-    ap (nat_le least) same
+same_answer : (c : Rooted) (masses : List ℕ) (r : CutRanges) (ms : List Bool) (least : ℕ) → AreWeighed c masses r ms → (q : Range) → IsRangeOf c.vertices q → is_balanced masses least (side_at c.vertices r.order.items q) ≡ is_heavy r least q
+same_answer c masses r ms least w q fits = ap (nat_le least) (same_balance c.vertices masses r q w.weighed fits)
 
 -- the sides of the least balance, of those that a walk gives
-pub balanced_given : (c : Rooted) (masses order before : List ℕ) (bs : List Border) (ms : List Bool) (least : ℕ) → AreWeighed c masses order before bs ms →
-    filter (is_balanced masses least) (map (side_at c.vertices order) (ranges_kept bs ms)) ≡ map (side_at c.vertices order) (filter (is_heavy before least) (ranges_kept bs ms))
-balanced_given c masses order before bs ms least w =
-    filter_same (is_balanced masses least) (is_heavy before least) (side_at c.vertices order) (IsRangeOf (length order)) (ranges_kept bs ms) (kept_fit (length order) bs ms w.borders w.chained)
-    (same_answer c masses order before bs ms least w)
+pub balanced_given : (c : Rooted) (masses : List ℕ) (r : CutRanges) (ms : List Bool) (least : ℕ) → AreWeighed c masses r ms →
+    filter (is_balanced masses least) (map (side_at c.vertices r.order.items) (ranges_kept r.borders.items ms)) ≡ map (side_at c.vertices r.order.items) (filter (is_heavy r least) (ranges_kept r.borders.items ms))
+balanced_given c masses r ms least w =
+    filter_same (is_balanced masses least) (is_heavy r least) (side_at c.vertices r.order.items) (IsRangeOf c.vertices) (ranges_kept r.borders.items ms)
+    (subst (λ n. All (IsRangeOf n) (ranges_kept r.borders.items ms)) w.weighed.long (kept_fit (length r.order.items) r.borders.items ms r.within r.chained)) (same_answer c masses r ms least w)
 
 -- the sides at the heavy ranges are different
-pub balanced_differ : (c : Rooted) (masses order before : List ℕ) (bs : List Border) (ms : List Bool) (least : ℕ) → AreWeighed c masses order before bs ms →
-    AreDifferent (map (side_at c.vertices order) (filter (is_heavy before least) (ranges_kept bs ms)))
-balanced_differ c masses order before bs ms least w =
-    subst AreDifferent (balanced_given c masses order before bs ms least w) (asked_differ (is_balanced masses least) (map (side_at c.vertices order) (ranges_kept bs ms)) w.different)
+pub balanced_differ : (c : Rooted) (masses : List ℕ) (r : CutRanges) (ms : List Bool) (least : ℕ) → AreWeighed c masses r ms → AreDifferent (map (side_at c.vertices r.order.items) (filter (is_heavy r least) (ranges_kept r.borders.items ms)))
+balanced_differ c masses r ms least w =
+    subst AreDifferent (balanced_given c masses r ms least w) (asked_differ (is_balanced masses least) (map (side_at c.vertices r.order.items) (ranges_kept r.borders.items ms)) w.different)
 
 -- the sides at the heavy ranges are all balanced sides
-pub balanced_all : (c : Rooted) (masses order before : List ℕ) (bs : List Border) (ms : List Bool) (least : ℕ) → AreWeighed c masses order before bs ms →
-    different (map (side_at c.vertices order) (filter (is_heavy before least) (ranges_kept bs ms))) ≡ different (filter (is_balanced masses least) (sides_of c))
-balanced_all c masses order before bs ms least w =
-    ap different (sym (balanced_given c masses order before bs ms least w)) ∙ given_asked (is_balanced masses least) (map (side_at c.vertices order) (ranges_kept bs ms)) (sides_of c) w.sides
+pub balanced_all : (c : Rooted) (masses : List ℕ) (r : CutRanges) (ms : List Bool) (least : ℕ) → AreWeighed c masses r ms →
+    different (map (side_at c.vertices r.order.items) (filter (is_heavy r least) (ranges_kept r.borders.items ms))) ≡ different (filter (is_balanced masses least) (sides_of c))
+balanced_all c masses r ms least w =
+    ap different (sym (balanced_given c masses r ms least w)) ∙ given_asked (is_balanced masses least) (map (side_at c.vertices r.order.items) (ranges_kept r.borders.items ms)) (sides_of c) w.sides
 
-pub balanced_number : (c : Rooted) (masses order before : List ℕ) (bs : List Border) (ms : List Bool) (least : ℕ) → AreWeighed c masses order before bs ms →
-    length (filter (is_heavy before least) (ranges_kept bs ms)) ≡ length (different (filter (is_balanced masses least) (sides_of c)))
-balanced_number c masses order before bs ms least w =
-    let heavy = filter (is_heavy before least) (ranges_kept bs ms) in
-    sym (length-map heavy (side_at c.vertices order)) ∙ sym (all_different (map (side_at c.vertices order) heavy) (balanced_differ c masses order before bs ms least w))
-    ∙ ap length (balanced_all c masses order before bs ms least w)
+pub balanced_number : (c : Rooted) (masses : List ℕ) (r : CutRanges) (ms : List Bool) (least : ℕ) → AreWeighed c masses r ms →
+    length (filter (is_heavy r least) (ranges_kept r.borders.items ms)) ≡ length (different (filter (is_balanced masses least) (sides_of c)))
+balanced_number c masses r ms least w =
+    let heavy = filter (is_heavy r least) (ranges_kept r.borders.items ms) in
+    let side = side_at c.vertices r.order.items in
+    sym (length-map heavy side) ∙ sym (all_different (map side heavy) (balanced_differ c masses r ms least w)) ∙ ap length (balanced_all c masses r ms least w)
 
--- how many balanced sides are different, counted by lists that were lent
-pub counted_lent : (c : Rooted) (masses order before : List ℕ) (bs : List Border) (ms : List Bool) (least : ℕ) → AreWeighed c masses order before bs ms →
-    (lent_before : List ℕ) (lent_bs : List Border) (lent_ms : List Bool) (cuts : ℕ) → lent_before ≡ before → lent_bs ≡ bs → lent_ms ≡ ms →
-    cuts ≡ length (filter (is_heavy lent_before least) (ranges_kept lent_bs lent_ms)) → cuts ≡ length (different (filter (is_balanced masses least) (sides_of c)))
-counted_lent c masses order before bs ms least w lent_before lent_bs lent_ms cuts same_before same_bs same_ms is =
-    is ∙ ap (λ l. length (filter (is_heavy lent_before least) (ranges_kept l lent_ms))) same_bs
-    ∙ ap (λ l. length (filter (is_heavy lent_before least) (ranges_kept bs l))) same_ms
-    ∙ ap (λ l. length (filter (is_heavy l least) (ranges_kept bs ms))) same_before
-    ∙ balanced_number c masses order before bs ms least w
+-- how many balanced sides are different, counted by marks that were lent
+pub counted_lent : (c : Rooted) (masses : List ℕ) (r : CutRanges) (ms : List Bool) (least : ℕ) → AreWeighed c masses r ms → (lent : List Bool) (cuts : ℕ) → lent ≡ ms →
+    cuts ≡ length (filter (is_heavy r least) (ranges_kept r.borders.items lent)) → cuts ≡ length (different (filter (is_balanced masses least) (sides_of c)))
+counted_lent c masses r ms least w lent cuts same is = is ∙ ap (λ l. length (filter (is_heavy r least) (ranges_kept r.borders.items l))) same ∙ balanced_number c masses r ms least w
 
--- the sides that are gathered by lists that were lent are different, and all that are balanced
-pub gathered_lent : (c : Rooted) (masses order before : List ℕ) (bs : List Border) (ms : List Bool) (least : ℕ) → AreWeighed c masses order before bs ms →
-    (n : ℕ) (lent_order lent_before : List ℕ) (lent_bs : List Border) (lent_ms : List Bool) (sides : List (List ℕ)) → n ≡ c.vertices → lent_order ≡ order → lent_before ≡ before → lent_bs ≡ bs → lent_ms ≡ ms →
-    sides ≡ map (side_at n lent_order) (filter (is_heavy lent_before least) (ranges_kept lent_bs lent_ms)) →
-    AreDifferent sides × (different sides ≡ different (filter (is_balanced masses least) (sides_of c)))
-gathered_lent c masses order before bs ms least w n lent_order lent_before lent_bs lent_ms sides same_n same_order same_before same_bs same_ms is =
-    let gathered : sides ≡ map (side_at c.vertices order) (filter (is_heavy before least) (ranges_kept bs ms)) =
-    is ∙ ap (λ k. map (side_at k lent_order) (filter (is_heavy lent_before least) (ranges_kept lent_bs lent_ms))) same_n
-    ∙ ap (λ l. map (side_at c.vertices l) (filter (is_heavy lent_before least) (ranges_kept lent_bs lent_ms))) same_order
-    ∙ ap (λ l. map (side_at c.vertices order) (filter (is_heavy lent_before least) (ranges_kept l lent_ms))) same_bs
-    ∙ ap (λ l. map (side_at c.vertices order) (filter (is_heavy lent_before least) (ranges_kept bs l))) same_ms
-    ∙ ap (λ l. map (side_at c.vertices order) (filter (is_heavy l least) (ranges_kept bs ms))) same_before in
-    (subst AreDifferent (sym gathered) (balanced_differ c masses order before bs ms least w), ap different gathered ∙ balanced_all c masses order before bs ms least w)
+-- the sides that are gathered by marks that were lent are different, and all that are balanced
+pub gathered_lent : (c : Rooted) (masses : List ℕ) (r : CutRanges) (ms : List Bool) (least : ℕ) → AreWeighed c masses r ms → (lent : List Bool) (sides : List (List ℕ)) → lent ≡ ms →
+    sides ≡ map (side_at (length r.order.items) r.order.items) (filter (is_heavy r least) (ranges_kept r.borders.items lent)) → AreDifferent sides × (different sides ≡ different (filter (is_balanced masses least) (sides_of c)))
+gathered_lent c masses r ms least w lent sides same is =
+    let gathered : sides ≡ map (side_at c.vertices r.order.items) (filter (is_heavy r least) (ranges_kept r.borders.items ms)) =
+    is ∙ ap (λ k. map (side_at k r.order.items) (filter (is_heavy r least) (ranges_kept r.borders.items lent))) w.weighed.long
+    ∙ ap (λ l. map (side_at c.vertices r.order.items) (filter (is_heavy r least) (ranges_kept r.borders.items l))) same in
+    (subst AreDifferent (sym gathered) (balanced_differ c masses r ms least w), ap different gathered ∙ balanced_all c masses r ms least w)
 
 -- a walk gives few sides
-pub kept_small : (c : Rooted) (masses order before : List ℕ) (bs : List Border) (ms : List Bool) → AreWeighed c masses order before bs ms → length (ranges_kept bs ms) < 2 ^ 62
-kept_small c masses order before bs ms w =
-    let given = map (side_at c.vertices order) (ranges_kept bs ms) in
+pub kept_small : (c : Rooted) (masses : List ℕ) (r : CutRanges) (ms : List Bool) → AreWeighed c masses r ms → length (ranges_kept r.borders.items ms) < 2 ^ 62
+kept_small c masses r ms w =
+    let given = map (side_at c.vertices r.order.items) (ranges_kept r.borders.items ms) in
     let sides = sides_of c in
     let same : length (different given) ≡ length (different sides) = ap length (same_different given sides (λ s. (w.sides s).0) (λ s. (w.sides s).1)) in
     let all : length (different sides) ≡ number c.root = number_different (number c.root) sides (number_of_sides c.vertices c.root w.cactus w.normal) in
-    let small : number c.root < 2 ^ 62 = number_small c.vertices c.root w.cactus w.normal (omega (arith, w.weights.few, w.many)) in
-    omega (arith, same, all, small, all_different given w.different, length-map (ranges_kept bs ms) (side_at c.vertices order))
+    let small : number c.root < 2 ^ 62 = number_small c.vertices c.root w.cactus w.normal (omega (arith, r.few, w.weighed.long)) in
+    omega (arith, same, all, small, all_different given w.different, length-map (ranges_kept r.borders.items ms) (side_at c.vertices r.order.items))

@@ -1,82 +1,39 @@
 -- The bands of borders: which ranges they have, and how their ends move on.
-use Rattle.std.proofs.Common.{◌≡◌, ℕ, zero, suc, ◌+◌, ◌-◌, ◌≤◌, ◌<◌, min, max, ◌⊎◌, inl, inr, Bool, true, false, List, [], ◌∷◌, ◌++◌, length, get_or, map, take, drop, ap, ◌∙◌, sym, refl, subst, arith}
+use Rattle.std.proofs.Common.{◌≡◌, ℕ, zero, suc, ◌+◌, ◌-◌, ◌≤◌, ◌<◌, min, max, inl, inr, Bool, true, false, List, [], ◌∷◌, ◌++◌, length, get_or, map, take, drop, ap, ◌∙◌, sym, refl, subst, arith}
 use Rattle.std.specs.List.{filter}
-use Rattle.std.proofs.lemmas.Bool.{cases_Bool, cases_lt, le-leb, lt-leb}
+use Rattle.std.proofs.lemmas.Bool.{cases_Bool, le-leb, lt-leb}
 use Rattle.std.proofs.lemmas.List.{length-append, length-drop, length-map, length-take, map-append}
 use Rattle.std.proofs.lemmas.List.Elements.{filter-append}
 use Rattle.std.proofs.Math.Seq.{take-suc}
 use Rattle.rooted_cactus.specs.Borders.{border_at, ranges_to, range_between}
 use Rattle.rooted_cactus.specs.CutRanges.{Range}
 use Rattle.cactus_walk.specs.Repeats.{mark_at, passed_over, ranges_kept}
-use Rattle.cactus_walk.specs.Walking.{AreBorders, AreChained}
+use Rattle.cactus_walk.specs.Walking.{AreBorders}
+use Rattle.cactus_walk.specs.Weighing.{last_of, mass_between, range_balance, total_mass}
+use Rattle.cactus_walk.specs.declared.walk.ranges.CutRanges.{CutRanges}
 use Rattle.rooted_cactus.specs.declared.tree.border.Border.{Border}
 use Rattle.rooted_cactus.proofs.Elements.{drop_nothing}
-use Rattle.cactus_walk.proofs.Stepping.{end_there, place_within}
-use Rattle.cactus_walk.proofs.Chains.{next_at, no_less}
-use Rattle.cut_listing.specs.Bands.{AreEnds, AreRising, AreShort, IsShort, is_heavy, mass_at, range_balance, ranges_of, whole}
-
--- ---- borders of one block
--- a border of a block is there
-pub block_there : (n : ℕ) (bs : List Border) (i e : ℕ) → AreBorders n bs → i < length bs → i ≤ e → e ≤ i + (border_at bs i).following → e < length bs
-block_there n bs i e h w ie few = elim (lt_or i e) [
-  | inl l ↦ end_there n bs i (e - i - 1) e h w (omega (arith, l, few)) (omega (arith, l))
-  | inr l ↦ omega (arith, l, ie, w)
-]
-  where
-    lt_or : (a b : ℕ) → (a < b) ⊎ (b ≤ a)
-    lt_or a b = grind arith
-
--- the place of a border has a mass before it
-pub place_there : (before : List ℕ) (bs : List Border) (e : ℕ) → AreBorders (length before - 1) bs → AreRising before → e < length bs → (border_at bs e).place < length before
-place_there before bs e h up w = omega (arith, place_within (length before - 1) bs e h w, up.some)
-
--- no mass is above the last
-pub mass_small : (before : List ℕ) (bs : List Border) (e : ℕ) → AreBorders (length before - 1) bs → AreRising before → e < length bs → mass_at before bs e ≤ whole before
-mass_small before bs e h up w =
-    up.rise (border_at bs e).place (length before - 1) (place_within (length before - 1) bs e h w) (omega (arith, up.some))
-
--- the masses before two borders of a block
-mass_rises : (before : List ℕ) (bs : List Border) (i a b : ℕ) → AreBorders (length before - 1) bs → AreChained bs → AreRising before → i < length bs → i ≤ a → a ≤ b → b ≤ i + (border_at bs i).following →
-    mass_at before bs a ≤ mass_at before bs b
-mass_rises before bs i a b h c up w ia ab few =
-    up.rise (border_at bs a).place (border_at bs b).place (no_less bs i a b c ia ab few) (place_there before bs b h up (block_there (length before - 1) bs i b h w (omega (arith, ia, ab)) few))
+use Rattle.cactus_walk.proofs.Between.{block_there}
+use Rattle.cactus_walk.proofs.Weighing.{longer, mass_whole, short_next}
+use Rattle.cut_listing.specs.Bands.{AreEnds, AreShort, is_heavy, ranges_of}
 
 -- ---- the ends move on
--- one border on
-short_next : (before : List ℕ) (bs : List Border) (mass start end : ℕ) → AreBorders (length before - 1) bs → AreChained bs → AreRising before → start < length bs → IsShort before bs mass start end → IsShort before bs mass (start + 1) end
-short_next before bs mass start end h c up w s = elim (cases_lt 0 (border_at bs start).following) [
-  | inl some ↦
-      let next = next_at bs start (start + 1) c refl some in
-      record {
-        within = omega (arith, s.within, next.1);
-        less = λ e l m.
-            let less = s.less e (omega (arith, l)) m in
-            let more = mass_rises before bs start start (start + 1) h c up w (omega arith) (omega arith) (omega (arith, some)) in
-            omega (arith, less, more);
-      }
-  | inr none ↦ record {
-    within = omega (arith, s.within, none);
-    less = λ e l m. absurd (omega (arith, s.within, none, l, m));
-  }
-]
-
-pub ends_next : (before : List ℕ) (bs : List Border) (least start from to : ℕ) → AreBorders (length before - 1) bs → AreChained bs → AreRising before → start < length bs → AreEnds before bs least start from to →
-    AreShort before bs least (start + 1) from to
-ends_next before bs least start from to h c up w ends = record {
-  low = short_next before bs least start from h c up w ends.short.low;
-  high = short_next before bs (whole before - least + 1) start to h c up w ends.short.high;
+pub ends_next : (c : CutRanges) (least start from to : ℕ) → AreEnds c least start from to → AreShort c least (start + 1) from to
+ends_next c least start from to ends = record {
+  low = short_next c least start from ends.short.low;
+  high = short_next c (total_mass c - least + 1) start to ends.short.high;
 }
 
 -- ---- which ranges from a border have the least balance
 -- a mass and the rest of all
-heavy_enough : (whole here there least : ℕ) → here ≤ there → there ≤ whole → here + least ≤ there → there < here + (whole - least + 1) → least ≤ min (there - here) (whole - (there - here))
-heavy_enough whole here there least a b c d = omega (arith, a, b, c, d)
+heavy_enough : (whole mass least : ℕ) → mass ≤ whole → least ≤ mass → mass < whole - least + 1 → least ≤ min mass (whole - mass)
+heavy_enough whole mass least a b c = omega (arith, a, b, c)
 
-too_light : (whole here there least : ℕ) → here ≤ there → there ≤ whole → there < here + least → min (there - here) (whole - (there - here)) < least
-too_light whole here there least a b c = omega (arith, a, b, c)
+too_light : (whole mass least : ℕ) → mass < least → min mass (whole - mass) < least
+too_light whole mass least a = omega (arith, a)
 
-too_heavy : (whole here there least : ℕ) → here ≤ there → there ≤ whole → here + (whole - least + 1) ≤ there → min (there - here) (whole - (there - here)) < least
-too_heavy whole here there least a b c = omega (arith, a, b, c)
+too_heavy : (whole mass least : ℕ) → mass ≤ whole → whole - least + 1 ≤ mass → min mass (whole - mass) < least
+too_heavy whole mass least a b = omega (arith, a, b)
 
 -- whether a place is one of a band
 pub record IsInside (q : ℕ → Bool) (low high from to : ℕ) : Type 0 where
@@ -84,26 +41,21 @@ pub record IsInside (q : ℕ → Bool) (low high from to : ℕ) : Type 0 where
   pub before : (e : ℕ) → low ≤ e → e < high → e < from → q e ≡ false
   pub behind : (e : ℕ) → low ≤ e → e < high → to ≤ e → q e ≡ false
 
-pub heavy_inside : (before : List ℕ) (bs : List Border) (least start from to : ℕ) → AreBorders (length before - 1) bs → AreChained bs → AreRising before → start < length bs → AreEnds before bs least start from to →
-    IsInside (λ e. is_heavy before least (range_between bs start e)) (start + 1) (start + (border_at bs start).following + 1) from to
-heavy_inside before bs least start from to h c up w ends =
-    let here = mass_at before bs start in
-    let rises : (e : ℕ) → start + 1 ≤ e → e < start + (border_at bs start).following + 1 → here ≤ mass_at before bs e =
-    λ e l m. mass_rises before bs start start e h c up w (omega arith) (omega (arith, l)) (omega (arith, m)) in
-    let small : (e : ℕ) → start + 1 ≤ e → e < start + (border_at bs start).following + 1 → mass_at before bs e ≤ whole before =
-    λ e l m. mass_small before bs e h up (block_there (length before - 1) bs start e h w (omega (arith, l)) (omega (arith, m))) in
+pub heavy_inside : (c : CutRanges) (least start from to : ℕ) → AreEnds c least start from to → IsInside (λ e. is_heavy c least (range_between c.borders.items start e)) (start + 1) (last_of c start + 1) from to
+heavy_inside c least start from to ends =
+    let bs = c.borders.items in
+    let small : (e : ℕ) → start + 1 ≤ e → e < last_of c start + 1 → mass_between c start e ≤ total_mass c = λ e l m. mass_whole c start e (omega (arith, l)) (omega (arith, m)) in
     record {
       inside = λ e l m f t.
           let enough = ends.enough (omega (arith, f, m)) in
-          let more = mass_rises before bs start from e h c up w (omega (arith, ends.behind)) f (omega (arith, m)) in
+          let more = longer c start from e ends.behind f (omega (arith, m)) in
           let less = ends.short.high.less e (omega (arith, l)) t in
-          le-leb least (range_balance before (range_between bs start e)) (heavy_enough (whole before) here (mass_at before bs e) least (rises e l m) (small e l m) (omega (arith, enough, more)) less);
-      before = λ e l m f.
-          lt-leb least (range_balance before (range_between bs start e)) (too_light (whole before) here (mass_at before bs e) least (rises e l m) (small e l m) (ends.short.low.less e (omega (arith, l)) f));
+          le-leb least (range_balance c (range_between bs start e)) (heavy_enough (total_mass c) (mass_between c start e) least (small e l m) (omega (arith, enough, more)) less);
+      before = λ e l m f. lt-leb least (range_balance c (range_between bs start e)) (too_light (total_mass c) (mass_between c start e) least (ends.short.low.less e (omega (arith, l)) f));
       behind = λ e l m t.
           let much = ends.too_much (omega (arith, t, m)) in
-          let more = mass_rises before bs start to e h c up w (omega (arith, ends.behind_to)) t (omega (arith, m)) in
-          lt-leb least (range_balance before (range_between bs start e)) (too_heavy (whole before) here (mass_at before bs e) least (rises e l m) (small e l m) (omega (arith, much, more)));
+          let more = longer c start to e ends.behind_to t (omega (arith, m)) in
+          lt-leb least (range_balance c (range_between bs start e)) (too_heavy (total_mass c) (mass_between c start e) least (small e l m) (omega (arith, much, more)));
     }
 
 -- ---- lists
@@ -201,21 +153,20 @@ kept_split (b ∷ bs) (m ∷ ms) zero (suc next) w same e =
 kept_split (b ∷ bs) (m ∷ ms) (suc start) (suc next) w same e = kept_split bs ms start next (omega (arith, w)) (omega (arith, same)) (omega (arith, e))
 
 -- the ranges of the least balance from a border on: its band, and those from the next border on
-pub band_of : (before : List ℕ) (bs : List Border) (ms : List Bool) (least start from to kept : ℕ) → AreBorders (length before - 1) bs → AreChained bs → AreRising before → start < length bs → length ms ≡ length bs →
-    kept ≡ max from (start + 1 + passed_over (mark_at ms start)) → AreEnds before bs least start from to →
-    filter (is_heavy before least) (ranges_kept (drop start bs) (drop start ms)) ≡ ranges_of bs start kept to ++ filter (is_heavy before least) (ranges_kept (drop (start + 1) bs) (drop (start + 1) ms))
-band_of before bs ms least start from to kept h c up w same is ends =
-    let q = is_heavy before least in
+pub band_of : (c : CutRanges) (ms : List Bool) (least start from to kept : ℕ) → start < length c.borders.items → length ms ≡ length c.borders.items → kept ≡ max from (start + 1 + passed_over (mark_at ms start)) → AreEnds c least start from to →
+    filter (is_heavy c least) (ranges_kept (drop start c.borders.items) (drop start ms)) ≡ ranges_of c.borders.items start kept to ++ filter (is_heavy c least) (ranges_kept (drop (start + 1) c.borders.items) (drop (start + 1) ms))
+band_of c ms least start from to kept w same is ends =
+    let bs = c.borders.items in
+    let q = is_heavy c least in
     let passed = passed_over (mark_at ms start) in
     let here = ranges_to (border_at bs start).place (drop passed (take (border_at bs start).following (drop (start + 1) bs))) in
     let rest = ranges_kept (drop (start + 1) bs) (drop (start + 1) ms) in
     ap (filter q) (kept_split bs ms start (start + 1) w same refl) ∙ filter-append q here rest
-    ∙ ap (λ l. l ++ filter q rest) (band_here q (length before - 1) bs start passed from to kept h w is ends.short.high.within (heavy_inside before bs least start from to h c up w ends))
+    ∙ ap (λ l. l ++ filter q rest) (band_here q (length c.order.items) bs start passed from to kept c.within w is ends.short.high.within (heavy_inside c least start from to ends))
 
 -- a band lies within the borders
-pub band_within : (before : List ℕ) (bs : List Border) (least start from to : ℕ) → AreBorders (length before - 1) bs → start < length bs → AreEnds before bs least start from to → to ≤ length bs
-band_within before bs least start from to h w ends =
-    omega (arith, ends.short.high.within, block_there (length before - 1) bs start (start + (border_at bs start).following) h w (omega arith) (omega arith))
+pub band_within : (c : CutRanges) (least start from to : ℕ) → start < length c.borders.items → AreEnds c least start from to → to ≤ length c.borders.items
+band_within c least start from to w ends = omega (arith, ends.short.high.within, block_there (length c.order.items) c.borders.items start (last_of c start) c.within w (omega arith) (omega arith))
 
 -- the number of its ranges
 pub band_long : (bs : List Border) (start from to : ℕ) → to ≤ length bs → length (ranges_of bs start from to) ≡ to - from
@@ -250,15 +201,15 @@ few_pass q (r ∷ rs) = elim (cases_Bool (q r)) [
 ]
 
 -- the number of the ranges of the least balance from a border on
-pub band_counted : (before : List ℕ) (bs : List Border) (ms : List Bool) (least start from to kept end : ℕ) → AreBorders (length before - 1) bs → AreChained bs → AreRising before → start < length bs → length ms ≡ length bs →
-    kept ≡ max from (start + 1 + passed_over (mark_at ms start)) → end ≡ to → AreEnds before bs least start from to →
-    length (filter (is_heavy before least) (ranges_kept (drop start bs) (drop start ms))) ≡ (end - kept) + length (filter (is_heavy before least) (ranges_kept (drop (start + 1) bs) (drop (start + 1) ms)))
-band_counted before bs ms least start from to kept end h c up w same is e ends =
-    let rest = filter (is_heavy before least) (ranges_kept (drop (start + 1) bs) (drop (start + 1) ms)) in
+pub band_counted : (c : CutRanges) (ms : List Bool) (least start from to kept end : ℕ) → start < length c.borders.items → length ms ≡ length c.borders.items → kept ≡ max from (start + 1 + passed_over (mark_at ms start)) → end ≡ to → AreEnds c least start from to →
+    length (filter (is_heavy c least) (ranges_kept (drop start c.borders.items) (drop start ms))) ≡ (end - kept) + length (filter (is_heavy c least) (ranges_kept (drop (start + 1) c.borders.items) (drop (start + 1) ms)))
+band_counted c ms least start from to kept end w same is e ends =
+    let bs = c.borders.items in
+    let rest = filter (is_heavy c least) (ranges_kept (drop (start + 1) bs) (drop (start + 1) ms)) in
     omega (
       arith,
-      ap length (band_of before bs ms least start from to kept h c up w same is ends),
+      ap length (band_of c ms least start from to kept w same is ends),
       length-append (ranges_of bs start kept to) rest,
-      band_long bs start kept to (band_within before bs least start from to h w ends),
+      band_long bs start kept to (band_within c least start from to w ends),
       e,
     )

@@ -8,13 +8,10 @@
 
 ghost use Rattle.std.specs.Prelude.{◌≡◌, ◌+◌, ◌-◌, ◌<◌, ◌≤◌, ◌^◌, ◌++◌, true, IfErr, IfOk, OnOk, length, map, max};
 ghost use Rattle.std.specs.List.{All, filter};
-ghost use Rattle.rooted_cactus.specs.Borders.{border_at};
 ghost use Rattle.rooted_cactus.specs.Normal.{is_normal};
 ghost use Rattle.rooted_cactus.specs.Places.{side_at};
-ghost use Rattle.cut_definitions.specs.Graph.{IsVertex};
 ghost use Rattle.cactus_walk.specs.Repeats.{mark_at, passed_over, ranges_kept};
-ghost use Rattle.cactus_walk.specs.Walking.{AreBorders, AreChained};
-ghost use Rattle.cut_listing.specs.Bands.{AreEnds, AreRising, AreShort, IsShort, is_heavy, mass_at, ranges_of};
+ghost use Rattle.cut_listing.specs.Bands.{AreEnds, AreShort, is_heavy, ranges_of};
 ghost use Rattle.cut_listing.specs.Listings.{IsList, IsRefusal};
 ghost use Rattle.vertex_set.specs.Side.{members_of};
 
@@ -22,9 +19,9 @@ use crate::ask::Ask;
 use crate::limit::is_too_large;
 use crate::list_refusal::ListRefusal;
 use crate::sorting::sort_sides;
-use cactus_walk::{kept_places, masses_before, put_range};
+use cactus_walk::{CutRanges, kept_places};
 use cut_definitions::{NoMemory, VertexWeights};
-use rooted_cactus::{Border, Cactus};
+use rooted_cactus::Cactus;
 use std::alloc::Global;
 use vertex_set::Side;
 
@@ -44,51 +41,17 @@ impl Band {
     }
 }
 
-/// Where the sides of a cactus lie: the number of the vertices, these in the order of entering,
-/// and the borders of the blocks.
-#[derive(Clone, Copy)]
-struct Layout<'a> {
-    n: u32,
-    order: &'a [u32],
-    borders: &'a [Border],
-}
-
-/// The first border from one on up to which the ranges from another have a mass or more; the end
-/// of the block where none has.
-fn end_from(borders: &[Border], before: &[u128], mass: u128, start: usize, from: usize) -> usize
-    requires borders { AreBorders (length before.now - 1) borders.now }
-    requires before { AreRising before.now }
-    requires start { start < length borders.now }
-    requires mass { mass < 2 ^ 87 }
-    requires behind { start < from }
-    requires short { IsShort before.now borders.now mass start from }
-    ensures behind { from ≤ result }
-    ensures short { IsShort before.now borders.now mass start result }
-    ensures reached { result ≤ start + (border_at borders.now start).following → mass_at before.now borders.now start + mass ≤ mass_at before.now borders.now result }
-{
-    let end = start + borders[start].following + 1;
-    let reached = before[borders[start].place] + mass;
-    let mut at = from;
-    'ends: while at < end && before[borders[at].place] < reached {
-        at += 1;
-    }
-    at
-}
-
 /// The two ends of the band of a border, from those of the border before it.
-fn move_ends(borders: &[Border], before: &[u128], least: u64, start: usize, ends: Band) -> Band
-    requires borders { AreBorders (length before.now - 1) borders.now }
-    requires before { AreRising before.now }
-    requires start { start < length borders.now }
-    requires short { AreShort before.now borders.now least start ends.from ends.to }
-    ensures { AreEnds before.now borders.now least start result.from result.to }
+fn move_ends(ranges: &CutRanges, least: u64, start: usize, ends: Band) -> Band
+    requires start { start < length ranges.now.borders.items }
+    requires short { AreShort ranges.now least start ends.from ends.to }
+    ensures { AreEnds ranges.now least start result.from result.to }
 {
     let least = least as u128;
-    let whole = before[before.len() - 1];
-    let most = whole.saturating_sub(least);
+    let most = ranges.total().saturating_sub(least);
     Band {
-        from: end_from(borders, before, least, start, ends.from.max(start + 1)),
-        to: end_from(borders, before, most + 1, start, ends.to.max(start + 1)),
+        from: ranges.first_end(least, start, ends.from),
+        to: ranges.first_end(most + 1, start, ends.to),
     }
 }
 
@@ -106,65 +69,36 @@ fn kept_band(repeats: &[bool], start: usize, ends: Band) -> Band
 }
 
 /// The number of the ranges that have the least balance.
-fn count_bands(borders: &[Border], repeats: &[bool], before: &[u128], least: u64) -> u64
-    requires borders { AreBorders (length before.now - 1) borders.now }
-    requires chained { AreChained borders.now }
-    requires repeats { length repeats.now ≡ length borders.now }
-    requires before { AreRising before.now }
-    requires few { length (ranges_kept borders.now repeats.now) < 2 ^ 62 }
-    ensures { result ≡ length (filter (is_heavy before.now least) (ranges_kept borders.now repeats.now)) }
+fn count_bands(ranges: &CutRanges, repeats: &[bool], least: u64) -> u64
+    requires repeats { length repeats.now ≡ length ranges.now.borders.items }
+    requires few { length (ranges_kept ranges.now.borders.items repeats.now) < 2 ^ 62 }
+    ensures { result ≡ length (filter (is_heavy ranges.now least) (ranges_kept ranges.now.borders.items repeats.now)) }
 {
     let mut ends = Band { from: 0, to: 0 };
     let mut count: u64 = 0;
-    'starts: for start in 0..borders.len() {
-        ends = move_ends(borders, before, least, start, ends);
+    'starts: for start in 0..ranges.borders.len() {
+        ends = move_ends(ranges, least, start, ends);
         count += kept_band(repeats, start, ends).len() as u64;
     }
     count
 }
 
-/// The side at the range from one border to another.
-fn side_between(
-    alloc: Global,
-    n: u32,
-    order: &[u32],
-    from: Border,
-    to: Border,
-) -> Result<Side, NoMemory>
-    requires vertices { All (IsVertex n) order.now }
-    requires to { to.place ≤ length order.now }
-    ensures n { IfOk result (λ s. s.vertices ≡ n) }
-    ensures side { IfOk result (λ s. s.members ≡ side_at n order.now record { from = from.place; to = to.place }) }
-{
-    let mut side = Side::empty(alloc, n)?;
-    put_range(&mut side, order, from.place, to.place);
-    Ok(side)
-}
-
-/// Puts the sides at the ranges of a band behind those that were found.
+/// Appends the sides at the ranges from a border to those of a band.
 fn add_sides(
     alloc: Global,
     found: &mut Vec<Side>,
-    layout: Layout<'_>,
+    ranges: &CutRanges,
     start: usize,
     band: Band,
 ) -> Result<(), NoMemory>
-    requires vertices { All (IsVertex layout.n) layout.order.now }
-    requires borders { AreBorders (length layout.order.now) layout.borders.now }
-    requires start { start < length layout.borders.now }
-    requires band { band.to ≤ length layout.borders.now }
-    requires found { All (λ s. s.vertices ≡ layout.n) found.old.items }
-    ensures found { OnOk result (All (λ s. s.vertices ≡ layout.entry.n) found.new.items) }
-    ensures added { OnOk result (members_of found.new.items ≡ members_of found.old.items ++ map (side_at layout.entry.n layout.entry.order.now) (ranges_of layout.entry.borders.now start band.from band.to)) }
+    requires start { start < length ranges.now.borders.items }
+    requires band { band.to ≤ length ranges.now.borders.items }
+    requires found { All (λ s. s.vertices ≡ length ranges.now.order.items) found.old.items }
+    ensures found { OnOk result (All (λ s. s.vertices ≡ length ranges.now.order.items) found.new.items) }
+    ensures added { OnOk result (members_of found.new.items ≡ members_of found.old.items ++ map (side_at (length ranges.now.order.items) ranges.now.order.items) (ranges_of ranges.now.borders.items start band.from band.to)) }
 {
     'ends: for end in band.from..band.to {
-        let side = side_between(
-            alloc,
-            layout.n,
-            layout.order,
-            layout.borders[start],
-            layout.borders[end],
-        )?;
+        let side = ranges.side(alloc, ranges.between(start, end))?;
         found.push(side)?;
     }
     Ok(())
@@ -173,26 +107,20 @@ fn add_sides(
 /// The sides at the ranges that have the least balance.
 fn gather_bands(
     alloc: Global,
-    layout: Layout<'_>,
+    ranges: &CutRanges,
     repeats: &[bool],
-    before: &[u128],
     least: u64,
 ) -> Result<Vec<Side>, NoMemory>
-    requires vertices { All (IsVertex layout.n) layout.order.now }
-    requires long { length before.now ≡ length layout.order.now + 1 }
-    requires borders { AreBorders (length layout.order.now) layout.borders.now }
-    requires chained { AreChained layout.borders.now }
-    requires repeats { length repeats.now ≡ length layout.borders.now }
-    requires before { AreRising before.now }
-    ensures over_n { IfOk result (λ v. All (λ s. s.vertices ≡ layout.entry.n) v.items) }
-    ensures sides { IfOk result (λ v. members_of v.items ≡ map (side_at layout.entry.n layout.entry.order.now) (filter (is_heavy before.now least) (ranges_kept layout.entry.borders.now repeats.now))) }
+    requires repeats { length repeats.now ≡ length ranges.now.borders.items }
+    ensures over_n { IfOk result (λ v. All (λ s. s.vertices ≡ length ranges.now.order.items) v.items) }
+    ensures sides { IfOk result (λ v. members_of v.items ≡ map (side_at (length ranges.now.order.items) ranges.now.order.items) (filter (is_heavy ranges.now least) (ranges_kept ranges.now.borders.items repeats.now))) }
 {
     let mut ends = Band { from: 0, to: 0 };
     let mut found = Vec::new(alloc);
-    'starts: for start in 0..layout.borders.len() {
-        ends = move_ends(layout.borders, before, least, start, ends);
+    'starts: for start in 0..ranges.borders.len() {
+        ends = move_ends(ranges, least, start, ends);
         let band = kept_band(repeats, start, ends);
-        add_sides(alloc, &mut found, layout, start, band)?;
+        add_sides(alloc, &mut found, ranges, start, band)?;
     }
     Ok(found)
 }
@@ -217,25 +145,19 @@ pub fn list_balanced(
     ensures list { IfOk result (λ v. IsList (2 ^ 30) cactus.now.vertices (Ask.Least least weights.entry) cactus.now v.items) }
     ensures refusal { IfErr result (IsRefusal (2 ^ 30) cactus.now.vertices (Ask.Least least weights.entry) cactus.now) }
 {
-    // known by these calls: the vertices are few, and the cactus has them all
-    let _few = weights.len();
+    // known by this call: the cactus has all its vertices
     let _root = cactus.root();
     let n = cactus.n();
     let places = kept_places(alloc, cactus)?;
-    let before = masses_before(alloc, &places.order, weights)?;
-    let cuts = count_bands(&places.borders, &places.repeats, &before, least);
+    let ranges = CutRanges::of(alloc, places.order, places.borders, weights)?;
+    let cuts = count_bands(&ranges, &places.repeats, least);
     if is_too_large(cuts, n) {
         return Err(ListRefusal::TooLarge { cuts, n });
     }
     if cuts == 0 {
         return Ok(Vec::new(alloc));
     }
-    let layout = Layout {
-        n,
-        order: &places.order,
-        borders: &places.borders,
-    };
-    let mut sides = gather_bands(alloc, layout, &places.repeats, &before, least)?;
+    let mut sides = gather_bands(alloc, &ranges, &places.repeats, least)?;
     sort_sides(&mut sides, n);
     Ok(sides)
 }

@@ -6,7 +6,7 @@ use Rattle.cut_listing.proofs.weighed.count_bands.Given as goal
 
 abbrev pub invariant-starts : goal.invariant-starts
 invariant-starts l = record {
-  last : l.start-end ≡ length l.borders;
-  ends : AreShort l.before l.borders l.least l.start l.ends.from l.ends.to;
-  counted : l.count + length (filter (is_heavy l.before l.least) (ranges_kept (drop l.start l.borders) (drop l.start l.repeats))) ≡ length (filter (is_heavy l.before l.least) (ranges_kept l.borders l.repeats));
+  last : l.start-end ≡ length l.ranges.borders.items;
+  ends : AreShort l.ranges l.least l.start l.ends.from l.ends.to;
+  counted : l.count + length (filter (is_heavy l.ranges l.least) (ranges_kept (drop l.start l.ranges.borders.items) (drop l.start l.repeats))) ≡ length (filter (is_heavy l.ranges l.least) (ranges_kept l.ranges.borders.items l.repeats));
 }

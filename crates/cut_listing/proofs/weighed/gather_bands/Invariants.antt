@@ -8,8 +8,8 @@ use Rattle.cut_listing.proofs.weighed.gather_bands.Given as goal
 
 abbrev pub invariant-starts : goal.invariant-starts
 invariant-starts l = record {
-  last : l.start-end ≡ length l.layout.borders.now;
-  ends : AreShort l.before l.layout.borders.now l.least l.start l.ends.from l.ends.to;
-  over_n : All (λ s. s.vertices ≡ l.layout.n) l.found.items;
-  gathered : members_of l.found.items ++ map (side_at l.layout.n l.layout.order.now) (filter (is_heavy l.before l.least) (ranges_kept (drop l.start l.layout.borders.now) (drop l.start l.repeats))) ≡ map (side_at l.layout.n l.layout.order.now) (filter (is_heavy l.before l.least) (ranges_kept l.layout.borders.now l.repeats));
+  last : l.start-end ≡ length l.ranges.borders.items;
+  ends : AreShort l.ranges l.least l.start l.ends.from l.ends.to;
+  over_n : All (λ s. s.vertices ≡ length l.ranges.order.items) l.found.items;
+  gathered : members_of l.found.items ++ map (side_at (length l.ranges.order.items) l.ranges.order.items) (filter (is_heavy l.ranges l.least) (ranges_kept (drop l.start l.ranges.borders.items) (drop l.start l.repeats))) ≡ map (side_at (length l.ranges.order.items) l.ranges.order.items) (filter (is_heavy l.ranges l.least) (ranges_kept l.ranges.borders.items l.repeats));
 }

@@ -1,7 +1,7 @@
 -- The earlier one is kept.
 use Rattle.std.proofs.Common.{Some, subst}
-use Rattle.balanced_cut.specs.Ends.{range_of}
-use Rattle.balanced_cut.proofs.Moving.{best_fits}
+use Rattle.cactus_walk.specs.Weighing.{range_of}
+use Rattle.cactus_walk.proofs.Between.{best_fits}
 use Rattle.canonical_cactus.specs.FirstBest.{IsFound, IsNotAfter, count_of, side_of}
 use Rattle.canonical_cactus.proofs.FirstBest.{no_later_both, no_later_itself}
 use Rattle.canonical_cactus.proofs.first_side.Ranked.earlier.Goals as goal
@@ -10,7 +10,7 @@ pub goes_before-requires-clause-span : goal.goes_before-requires-clause-span
 goes_before-requires-clause-span c =
     let k = c.args.self.now in
     let found : IsFound k (Some c.in-Some.best) = subst (IsFound k) c.in-Some.is c.requires.found in
-    best_fits (count_of k) k.places.borders.items (range_of c.in-Some.best) c.requires.ranked.borders c.requires.ranked.chained found.0
+    best_fits (count_of k) k.ranges.borders.items (range_of c.in-Some.best) c.args.self.now.ranges.within c.args.self.now.ranges.chained found.0
 
 pub returns-else-goes_before-clause-kept : goal.returns-else-goes_before-clause-kept
 returns-else-goes_before-clause-kept c = λ r h.

@@ -1,42 +1,42 @@
 -- The range takes in the least vertex around as long as it has a greater one, and comes first after that.
 use Rattle.std.proofs.Common.{◌≤◌, ◌<◌, inl, inr, length, ap, sym, subst, arith}
 use Rattle.rooted_cactus.specs.CutRanges.{Range}
-use Rattle.balanced_cut.specs.Ends.{IsRangeOf, range_of}
-use Rattle.canonical_cactus.specs.FirstBest.{IsRanked, IsWithin, count_of, place_at, range_at}
+use Rattle.cactus_walk.specs.Weighing.{IsRangeOf, range_of}
+use Rattle.canonical_cactus.specs.FirstBest.{IsWithin, count_of, place_at, range_at}
 use Rattle.canonical_cactus.specs.declared.first_side.Ends.{Ends}
 use Rattle.canonical_cactus.specs.declared.first_side.Ranked.{Ranked}
 use Rattle.canonical_cactus.proofs.Around.{border_in, joined_end, joined_next, joined_start, range_fits, same_beyond, vertex_bound}
 use Rattle.canonical_cactus.proofs.first_side.Ranked.first_around.Goals as goal
 
 -- both ranges are ranges of the list
-bounds_fit : (k : Ranked) (bounds inner : Ends) → IsRanked k → IsWithin k bounds inner → IsRangeOf (count_of k) (range_at k bounds)
-bounds_fit k bounds inner ranked is = range_fits k bounds.start bounds.start bounds.end bounds.end ranked (omega arith) (omega (arith, is.start, is.some, is.end)) (omega arith) (omega (arith, is.start, is.some, is.end)) is.block
+bounds_fit : (k : Ranked) (bounds inner : Ends) → IsWithin k bounds inner → IsRangeOf (count_of k) (range_at k bounds)
+bounds_fit k bounds inner is = range_fits k bounds.start bounds.start bounds.end bounds.end (omega arith) (omega (arith, is.start, is.some, is.end)) (omega arith) (omega (arith, is.start, is.some, is.end)) is.block
 
-inner_fits : (k : Ranked) (bounds inner : Ends) → IsRanked k → IsWithin k bounds inner → IsRangeOf (count_of k) (range_at k inner)
-inner_fits k bounds inner ranked is = range_fits k bounds.start inner.start inner.end bounds.end ranked is.start (omega (arith, is.some)) is.end (omega (arith, is.start, is.some, is.end)) is.block
+inner_fits : (k : Ranked) (bounds inner : Ends) → IsWithin k bounds inner → IsRangeOf (count_of k) (range_at k inner)
+inner_fits k bounds inner is = range_fits k bounds.start inner.start inner.end bounds.end is.start (omega (arith, is.some)) is.end (omega (arith, is.start, is.some, is.end)) is.block
 
 -- the borders of both ranges are in the list of borders
-end_in : (k : Ranked) (bounds inner : Ends) → IsRanked k → IsWithin k bounds inner → bounds.end < length k.places.borders.items
-end_in k bounds inner ranked is = border_in k bounds.start bounds.end bounds.end ranked (omega arith) (omega (arith, is.start, is.some, is.end)) is.block
+end_in : (k : Ranked) (bounds inner : Ends) → IsWithin k bounds inner → bounds.end < length k.ranges.borders.items
+end_in k bounds inner is = border_in k bounds.start bounds.end bounds.end (omega arith) (omega (arith, is.start, is.some, is.end)) is.block
 
 pub span-all-requires-clause-end : goal.span-all-requires-clause-end
-span-all-requires-clause-end c = end_in c.args.self.now c.args.bounds c.args.inner c.requires.ranked c.requires.within
+span-all-requires-clause-end c = end_in c.args.self.now c.args.bounds c.args.inner c.requires.within
 
 pub span-requires-clause-start : goal.span-requires-clause-start
-span-requires-clause-start c = omega (arith, end_in c.args.self.now c.args.bounds c.args.inner c.requires.ranked c.requires.within, c.requires.within.some, c.requires.within.end)
+span-requires-clause-start c = omega (arith, end_in c.args.self.now c.args.bounds c.args.inner c.requires.within, c.requires.within.some, c.requires.within.end)
 
 pub span-requires-clause-end : goal.span-requires-clause-end
-span-requires-clause-end c = omega (arith, end_in c.args.self.now c.args.bounds c.args.inner c.requires.ranked c.requires.within, c.requires.within.end)
+span-requires-clause-end c = omega (arith, end_in c.args.self.now c.args.bounds c.args.inner c.requires.within, c.requires.within.end)
 
 pub least_beyond-vertex-requires-clause-span : goal.least_beyond-vertex-requires-clause-span
 least_beyond-vertex-requires-clause-span c =
     let k = c.args.self.now in
-    subst (IsRangeOf (count_of k)) (sym c.span-all.ensures) (bounds_fit k c.args.bounds c.args.inner c.requires.ranked c.requires.within)
+    subst (IsRangeOf (count_of k)) (sym c.span-all.ensures) (bounds_fit k c.args.bounds c.args.inner c.requires.within)
 
 pub least_beyond-vertex-requires-clause-other : goal.least_beyond-vertex-requires-clause-other
 least_beyond-vertex-requires-clause-other c =
     let k = c.args.self.now in
-    subst (IsRangeOf (count_of k)) (sym c.span.ensures) (inner_fits k c.args.bounds c.args.inner c.requires.ranked c.requires.within)
+    subst (IsRangeOf (count_of k)) (sym c.span.ensures) (inner_fits k c.args.bounds c.args.inner c.requires.within)
 
 pub taken-init : goal.taken-init
 taken-init c =
@@ -54,30 +54,30 @@ taken-init c =
 pub span-requires-in-taken-clause-start : goal.span-requires-in-taken-clause-start
 span-requires-in-taken-clause-start c =
     let is = c.taken.invariant.within in
-    omega (arith, end_in c.args.self.now c.args.bounds c.taken.ends c.requires.ranked is, is.some, is.end)
+    omega (arith, end_in c.args.self.now c.args.bounds c.taken.ends is, is.some, is.end)
 
 pub span-requires-in-taken-clause-end : goal.span-requires-in-taken-clause-end
 span-requires-in-taken-clause-end c =
     let is = c.taken.invariant.within in
-    omega (arith, end_in c.args.self.now c.args.bounds c.taken.ends c.requires.ranked is, is.end)
+    omega (arith, end_in c.args.self.now c.args.bounds c.taken.ends is, is.end)
 
 pub has_greater-requires-clause-span : goal.has_greater-requires-clause-span
 has_greater-requires-clause-span c =
     let k = c.args.self.now in
-    subst (IsRangeOf (count_of k)) (sym c.span-in-taken.ensures) (inner_fits k c.args.bounds c.taken.ends c.requires.ranked c.taken.invariant.within)
+    subst (IsRangeOf (count_of k)) (sym c.span-in-taken.ensures) (inner_fits k c.args.bounds c.taken.ends c.taken.invariant.within)
 
 pub with_vertex-ends-requires-clause-vertex : goal.with_vertex-ends-requires-clause-vertex
 with_vertex-ends-requires-clause-vertex c =
     let k = c.args.self.now in
     let g = c.has_greater.ensures.some c.taken-test.true in
-    let fits = inner_fits k c.args.bounds c.taken.ends c.requires.ranked c.taken.invariant.within in
+    let fits = inner_fits k c.args.bounds c.taken.ends c.taken.invariant.within in
     omega (arith, g.3, vertex_bound k g.0 c.requires.ranked (omega (arith, g.2, fits.1, ap (λ (r : Range). r.to) c.span-in-taken.ensures)))
 
 pub with_vertex-ends-requires-clause-around : goal.with_vertex-ends-requires-clause-around
 with_vertex-ends-requires-clause-around c =
     let k = c.args.self.now in
     let g = c.has_greater.ensures.some c.taken-test.true in
-    let fits = inner_fits k c.args.bounds c.taken.ends c.requires.ranked c.taken.invariant.within in
+    let fits = inner_fits k c.args.bounds c.taken.ends c.taken.invariant.within in
     elim c.taken.invariant.least.there [
       | inl e ↦ absurd (omega (arith, e, g.3, vertex_bound k g.0 c.requires.ranked (omega (arith, g.2, fits.1, ap (λ (r : Range). r.to) c.span-in-taken.ensures))))
       | inr w ↦ w
@@ -86,17 +86,17 @@ with_vertex-ends-requires-clause-around c =
 pub span-requires-in-taken-2-clause-end : goal.span-requires-in-taken-2-clause-end
 span-requires-in-taken-2-clause-end c =
     let is = c.with_vertex-ends.ensures.within in
-    omega (arith, end_in c.args.self.now c.args.bounds c.with_vertex-ends.result c.requires.ranked is, is.end)
+    omega (arith, end_in c.args.self.now c.args.bounds c.with_vertex-ends.result is, is.end)
 
 pub least_beyond-vertex-requires-in-taken-clause-span : goal.least_beyond-vertex-requires-in-taken-clause-span
 least_beyond-vertex-requires-in-taken-clause-span c =
     let k = c.args.self.now in
-    subst (IsRangeOf (count_of k)) (sym c.taken.invariant.all) (bounds_fit k c.args.bounds c.args.inner c.requires.ranked c.requires.within)
+    subst (IsRangeOf (count_of k)) (sym c.taken.invariant.all) (bounds_fit k c.args.bounds c.args.inner c.requires.within)
 
 pub least_beyond-vertex-requires-in-taken-clause-other : goal.least_beyond-vertex-requires-in-taken-clause-other
 least_beyond-vertex-requires-in-taken-clause-other c =
     let k = c.args.self.now in
-    subst (IsRangeOf (count_of k)) (sym c.span-in-taken-2.ensures) (inner_fits k c.args.bounds c.with_vertex-ends.result c.requires.ranked c.with_vertex-ends.ensures.within)
+    subst (IsRangeOf (count_of k)) (sym c.span-in-taken-2.ensures) (inner_fits k c.args.bounds c.with_vertex-ends.result c.with_vertex-ends.ensures.within)
 
 pub taken-preserved : goal.taken-preserved
 taken-preserved c =

@@ -1,5 +1,5 @@
 use Rattle.std.proofs.Common.{◌≡◌, ◌-◌, ◌+◌, ◌≤◌}
-use Rattle.balanced_cut.specs.Ends.{range_of}
+use Rattle.cactus_walk.specs.Weighing.{range_of}
 use Rattle.canonical_cactus.specs.FirstBest.{IsWithin, range_at}
 use Rattle.canonical_cactus.proofs.Around.{AreJoined, IsLeastBeyond}
 use Rattle.canonical_cactus.proofs.first_side.Ranked.first_around.Given as goal

@@ -8,10 +8,10 @@ pub returns-then-rest-self-clause-first : goal.returns-then-rest-self-clause-fir
 returns-then-rest-self-clause-first c =
     let k = c.args.self.now in
     let one = c.first_of_mass-found.ensures.first in
-    both_searched k (k.scale.total - k.high) c.first_of_mass-found.result c.requires.ranked (omega (arith, c.requires.ranked.half)) one (λ i e a b w m. one i e a b w (omega (arith, m, c.if-rest-self.true)))
+    both_searched k (c.total.result - k.high) c.first_of_mass-found.result (omega (arith, c.requires.ranked.half, c.total.ensures)) one (λ i e a b w m. one i e a b w (omega (arith, m, c.if-rest-self.true)))
 
 pub returns-clause-first : goal.returns-clause-first
 returns-clause-first c =
     let k = c.args.self.now in
-    both_searched k (k.scale.total - k.high) c.first_of_mass.result c.requires.ranked (omega (arith, c.requires.ranked.half))
-    (λ i e a b w m. c.first_of_mass.ensures.kept (range_between k.places.borders.items i e) (c.first_of_mass-found.ensures.first i e a b w m)) c.first_of_mass.ensures.first
+    both_searched k (c.total.result - k.high) c.first_of_mass.result (omega (arith, c.requires.ranked.half, c.total.ensures))
+    (λ i e a b w m. c.first_of_mass.ensures.kept (range_between k.ranges.borders.items i e) (c.first_of_mass-found.ensures.first i e a b w m)) c.first_of_mass.ensures.first

@@ -5,7 +5,7 @@ use Rattle.canonical_cactus.proofs.first_side.Ranked.first_of_mass.Goals as goal
 
 pub starts-init : goal.starts-init
 starts-init c = record {
-  last = omega (arith, c.len-start-end.ensures, c.args.self.now.places.borders.ok.0);
+  last = omega (arith, c.len-start-end.ensures, c.args.self.now.ranges.borders.ok.0);
   search = search_begins c.args.self.now c.args.mass c.args.found c.requires.found;
   kept = λ r h. h;
 }
@@ -19,4 +19,4 @@ starts-preserved c = record {
 
 pub returns-clause-first : goal.returns-clause-first
 returns-clause-first c =
-    search_ends c.args.self.now c.args.mass c.starts.start c.starts.search c.requires.ranked (omega (arith, c.starts-test.false, c.starts.invariant.last)) c.starts.invariant.search
+    search_ends c.args.self.now c.args.mass c.starts.start c.starts.search (omega (arith, c.starts-test.false, c.starts.invariant.last)) c.starts.invariant.search

@@ -8,26 +8,26 @@ use Rattle.canonical_cactus.proofs.FirstBest.{no_later_both}
 use Rattle.canonical_cactus.proofs.first_side.Ranked.first_within.Goals as goal
 
 pub span-requires-clause-end : goal.span-requires-clause-end
-span-requires-clause-end c = border_in c.args.self.now c.args.bounds.start c.args.bounds.end c.args.bounds.end c.requires.ranked (omega arith) c.requires.some c.requires.block
+span-requires-clause-end c = border_in c.args.self.now c.args.bounds.start c.args.bounds.end c.args.bounds.end (omega arith) c.requires.some c.requires.block
 
 pub least-vertex-requires-clause-from : goal.least-vertex-requires-clause-from
 least-vertex-requires-clause-from c =
-    let fits = range_fits c.args.self.now c.args.bounds.start c.args.bounds.start c.args.bounds.end c.args.bounds.end c.requires.ranked (omega arith) (omega (arith, c.requires.some)) (omega arith) c.requires.some c.requires.block in
+    let fits = range_fits c.args.self.now c.args.bounds.start c.args.bounds.start c.args.bounds.end c.args.bounds.end (omega arith) (omega (arith, c.requires.some)) (omega arith) c.requires.some c.requires.block in
     omega (arith, fits.0, fits.1, ap (λ (r : Range). r.from) c.span.ensures, c.requires.ranked.least_size)
 
 pub least-vertex-requires-clause-to : goal.least-vertex-requires-clause-to
 least-vertex-requires-clause-to c =
-    let fits = range_fits c.args.self.now c.args.bounds.start c.args.bounds.start c.args.bounds.end c.args.bounds.end c.requires.ranked (omega arith) (omega (arith, c.requires.some)) (omega arith) c.requires.some c.requires.block in
+    let fits = range_fits c.args.self.now c.args.bounds.start c.args.bounds.start c.args.bounds.end c.args.bounds.end (omega arith) (omega (arith, c.requires.some)) (omega arith) c.requires.some c.requires.block in
     omega (arith, fits.1, ap (λ (r : Range). r.to) c.span.ensures, c.requires.ranked.least_size)
 
 pub first_with-start-requires-clause-vertex : goal.first_with-start-requires-clause-vertex
 first_with-start-requires-clause-vertex c =
     let k = c.args.self.now in
     let first = c.args.bounds.start in
-    let fits = range_fits c.args.self.now c.args.bounds.start c.args.bounds.start c.args.bounds.end c.args.bounds.end c.requires.ranked (omega arith) (omega (arith, c.requires.some)) (omega arith) c.requires.some c.requires.block in
+    let fits = range_fits c.args.self.now c.args.bounds.start c.args.bounds.start c.args.bounds.end c.args.bounds.end (omega arith) (omega (arith, c.requires.some)) (omega arith) c.requires.some c.requires.block in
     let p = place_at k first in
     let some : p < place_at k (first + 1) = c.requires.none_empty first (omega (arith, c.requires.some, c.requires.block)) in
-    let to : place_at k (first + 1) ≤ place_at k c.args.bounds.end = place_no_less k first (first + 1) c.args.bounds.end c.requires.ranked (omega arith) (omega (arith, c.requires.some)) c.requires.block in
+    let to : place_at k (first + 1) ≤ place_at k c.args.bounds.end = place_no_less k first (first + 1) c.args.bounds.end (omega arith) (omega (arith, c.requires.some)) c.requires.block in
     let there : p < place_at k c.args.bounds.end = omega (arith, some, to) in
     omega (
       arith,
@@ -40,10 +40,10 @@ pub first_with-start-requires-clause-has : goal.first_with-start-requires-clause
 first_with-start-requires-clause-has c =
     let k = c.args.self.now in
     let first = c.args.bounds.start in
-    let fits = range_fits c.args.self.now c.args.bounds.start c.args.bounds.start c.args.bounds.end c.args.bounds.end c.requires.ranked (omega arith) (omega (arith, c.requires.some)) (omega arith) c.requires.some c.requires.block in
+    let fits = range_fits c.args.self.now c.args.bounds.start c.args.bounds.start c.args.bounds.end c.args.bounds.end (omega arith) (omega (arith, c.requires.some)) (omega arith) c.requires.some c.requires.block in
     let p = place_at k first in
     let some : p < place_at k (first + 1) = c.requires.none_empty first (omega (arith, c.requires.some, c.requires.block)) in
-    let to : place_at k (first + 1) ≤ place_at k c.args.bounds.end = place_no_less k first (first + 1) c.args.bounds.end c.requires.ranked (omega arith) (omega (arith, c.requires.some)) c.requires.block in
+    let to : place_at k (first + 1) ≤ place_at k c.args.bounds.end = place_no_less k first (first + 1) c.args.bounds.end (omega arith) (omega (arith, c.requires.some)) c.requires.block in
     let there : p < place_at k c.args.bounds.end = omega (arith, some, to) in
     has_here k first c.args.bounds.end c.least-vertex.result c.least-vertex.result c.span.result c.requires.ranked c.span.ensures fits.1 c.least-vertex.ensures (omega arith)
     (omega (
@@ -59,7 +59,7 @@ returns-clause-first c = λ s e a b d.
     let bounds = c.args.bounds in
     let at = c.first_with-start.result in
     let found = c.first_around.result in
-    let fits = range_fits c.args.self.now c.args.bounds.start c.args.bounds.start c.args.bounds.end c.args.bounds.end c.requires.ranked (omega arith) (omega (arith, c.requires.some)) (omega arith) c.requires.some c.requires.block in
+    let fits = range_fits c.args.self.now c.args.bounds.start c.args.bounds.start c.args.bounds.end c.args.bounds.end (omega arith) (omega (arith, c.requires.some)) (omega arith) c.requires.some c.requires.block in
     let low = c.first_with-start.ensures.from in
     let high = c.first_with-start.ensures.end in
     let least : (p : ℕ) → place_at k bounds.start ≤ p → p < place_at k bounds.end → c.least-vertex.result ≤ vertex_at k p = λ p from to.

@@ -1,6 +1,6 @@
 -- The least vertex that only one of the two ranges has decides, with the greatest of the other one.
 use Rattle.std.proofs.Common.{inl, inr, ◌≡◌, Bool, true, false, not, refl, sym, arith}
-use Rattle.balanced_cut.specs.Ends.{range_of}
+use Rattle.cactus_walk.specs.Weighing.{range_of}
 use Rattle.canonical_cactus.proofs.Compared.{AreLeastBeyond, come_together, comes_behind, comes_first}
 use Rattle.canonical_cactus.proofs.first_side.Ranked.goes_before.Goals as goal
 

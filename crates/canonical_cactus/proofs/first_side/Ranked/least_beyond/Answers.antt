@@ -1,7 +1,7 @@
 -- What one range has and another has not is what is before the other and what is behind it.
 use Rattle.std.proofs.Common.{◌≡◌, ℕ, ◌⊎◌, inl, inr, min, ◌∙◌, sym, subst, arith}
 use Rattle.std.proofs.lemmas.Bool.{cases_lt}
-use Rattle.balanced_cut.specs.Ends.{range_of}
+use Rattle.cactus_walk.specs.Weighing.{range_of}
 use Rattle.canonical_cactus.specs.FirstBest.{IsBeyond, vertex_at}
 use Rattle.canonical_cactus.proofs.first_side.Ranked.least_beyond.Goals as goal
 
