@@ -3,3 +3,4 @@ pub mod LightEdges
 pub mod FewEdges
 pub mod Sweeping
 pub mod ByDegrees
+pub mod FoundCuts

@@ -91,6 +91,16 @@ pub fn least_degree(alloc: Global, list: &EdgeList) -> Result<u64, NoMemory>
     Ok(least_after_first(&degrees))
 }
 
+/// Whether a graph of two or more vertices is dense, as `value_of_dense` tells it by the least
+/// degree, which is given; that is the value then.
+pub fn degree_is_value(list: &EdgeList, least: u64) -> bool
+    requires enough { 2 ≤ list.now.vertices }
+    requires least { IsLeastDegree list.now least }
+    ensures { IsTrue result → least ≡ value list.now }
+{
+    !has_few_edges(list) && are_light(list.n(), list.edges(), least)
+}
+
 /// The value of a graph of two or more vertices, where it is dense: the number of vertices times
 /// the heaviest edge is at most twice the least degree. Then the least degree is the value (after
 /// Chartrand, 1966). None where the graph is not dense.

@@ -18,7 +18,9 @@
 
 pub mod dense;
 mod front;
+pub mod lightest;
 pub mod sweep;
 
-pub use dense::{degrees_of, least_degree, value_of_dense};
+pub use dense::{degree_is_value, degrees_of, least_degree, value_of_dense};
+pub use lightest::{LightestCut, lightest_cut_below, lightest_vertex_cut};
 pub use sweep::{Swept, least_weight, least_weight_below, least_weight_within};

@@ -42,7 +42,7 @@ fn has_even_degrees(graph: &Graph) -> bool
 }
 
 /// What each cut weighs at least where the graph is connected: 1, or 2 where all degrees are even.
-fn least_if_connected(graph: &Graph) -> u64
+pub(crate) fn least_if_connected(graph: &Graph) -> u64
     requires { 2 ≤ graph.now.vertices }
     ensures { IsConnected graph.now → result ≤ value graph.now }
 {
@@ -53,7 +53,7 @@ fn least_if_connected(graph: &Graph) -> u64
 /// it either: the side of a cut with k vertices, at most half of all, weighs no less than k
 /// degrees less what k (k - 1) of the heaviest edges weigh (after Chartrand, 1966). It looks no
 /// further than the first edge that is too heavy.
-fn is_dense(graph: &Graph, weight: u64) -> bool
+pub(crate) fn is_dense(graph: &Graph, weight: u64) -> bool
     requires enough { 2 ≤ graph.now.vertices }
     requires degrees { HasDegrees graph.now weight }
     ensures { IsTrue result → weight ≤ value graph.now }
