@@ -2,6 +2,7 @@
 
 ghost use Rattle.std.specs.Prelude.{◌≡◌, ◌↔◌, ◌*◌, ◌^◌, ◌<◌, ◌≤◌, ℕ, IfOk, IfSome, IsTrue, MatchOption, if◌then◌else◌, length, min, nat_lt};
 ghost use Rattle.cut_definitions.specs.Cuts.{value};
+ghost use Rattle.cut_definitions.specs.Degrees.{IsLeastDegree};
 ghost use Rattle.cut_definitions.specs.Graph.{Graph};
 ghost use Rattle.weighted_graph.specs.ContractionLaws.{PartsNoClass};
 ghost use Rattle.forest_contraction.specs.Left.{AreTies, IsContracted, IsLesser, IsLowered, Tells};
@@ -340,6 +341,37 @@ fn contract_rest(alloc: Global, first: Contracted) -> Result<Contracted, NoMemor
     })
 }
 
+/// What `contract_list` answers, by the least degree, which is given.
+pub fn contract_from_degree(
+    alloc: Global,
+    list: &EdgeList,
+    least: u64,
+) -> Result<Contracted, NoMemory>
+    requires enough { 2 ≤ list.now.vertices }
+    requires least { IsLeastDegree list.now least }
+    ensures { IfOk result (λ c. MatchOption c.list (value list.now ≤ c.bound)
+        (λ small. value list.now ≡ (if nat_lt small.vertices 2 then c.bound else min c.bound (value small)))) }
+{
+    // known by this call: it is an edge list
+    let _n = list.n();
+    if list.len() <= FEW_EDGES || least == 0 {
+        return Ok(Contracted {
+            bound: least,
+            list: None,
+        });
+    }
+    let Contracted { bound, list: found } = pass(alloc, list, least)?;
+    let Some(small) = found else {
+        let other = other_pass(alloc, list, bound)?;
+        return contract_rest(alloc, other);
+    };
+    let made = Contracted {
+        bound,
+        list: Some(small),
+    };
+    contract_rest(alloc, made)
+}
+
 /// A bound, and perhaps a smaller graph, from which the value of a graph of two or more vertices
 /// can be told: it is the lesser of the bound and the value of the smaller graph, or the bound
 /// where that has one vertex. Where there is no smaller graph the value is at most the bound.
@@ -357,25 +389,8 @@ pub fn contract_list(alloc: Global, list: &EdgeList) -> Result<Contracted, NoMem
     ensures { IfOk result (λ c. MatchOption c.list (value list.now ≤ c.bound)
         (λ small. value list.now ≡ (if nat_lt small.vertices 2 then c.bound else min c.bound (value small)))) }
 {
-    // known by this call: it is an edge list
-    let _n = list.n();
     let least = least_degree(alloc, list)?;
-    if list.len() <= FEW_EDGES || least == 0 {
-        return Ok(Contracted {
-            bound: least,
-            list: None,
-        });
-    }
-    let Contracted { bound, list: found } = pass(alloc, list, least)?;
-    let Some(small) = found else {
-        let other = other_pass(alloc, list, bound)?;
-        return contract_rest(alloc, other);
-    };
-    let made = Contracted {
-        bound,
-        list: Some(small),
-    };
-    contract_rest(alloc, made)
+    contract_from_degree(alloc, list, least)
 }
 
 /// What contraction leaves of a graph, and classes that no minimum cut parts,

@@ -2,6 +2,7 @@
 
 ghost use Rattle.std.specs.Prelude.{◌≡◌, ◌≤◌, IfOk, IfSome, if◌then◌else◌, min, nat_lt};
 ghost use Rattle.cut_definitions.specs.Cuts.{value};
+ghost use Rattle.cut_definitions.specs.Degrees.{IsLeastDegree};
 ghost use Rattle.cut_definitions.specs.Graph.{Graph as EdgeGraph};
 ghost use Rattle.forest_contraction.specs.Left.{AreTies, Tells};
 
@@ -9,7 +10,7 @@ use crate::rounds::value_by_rounds;
 use crate::values::lesser_away;
 use cut_definitions::{EdgeList, MOST_WEIGHT, NoMemory};
 use forest_contraction::{
-    Contracted, FEW_EDGES, Ties, WithTies, contract_list, contract_with_ties,
+    Contracted, FEW_EDGES, Ties, WithTies, contract_from_degree, contract_list, contract_with_ties,
 };
 use least_cut::value_of_dense;
 use outside::Gate;
@@ -129,6 +130,23 @@ fn value_of_contracted<T: Team>(team: &T, left: Contracted) -> Result<Option<u64
     };
     let weight = lesser_by_rows(team, small, bound)?;
     Ok(Some(weight))
+}
+
+/// The value of a graph of two or more vertices by its list of edges and its least degree, if
+/// forests make the list shorter. None if they do not; the value is that of the graph with rows
+/// then. The cost is that of `lesser_of_list` without rows.
+pub fn value_by_contraction<T: Team>(
+    team: &T,
+    list: &EdgeList,
+    least: u64,
+) -> Result<Option<u64>, NoMemory>
+    requires ready { T.ready team.now }
+    requires enough { 2 ≤ list.now.vertices }
+    requires least { IsLeastDegree list.now least }
+    ensures { IfOk result (λ found. IfSome found (λ weight. weight ≡ value list.now)) }
+{
+    let contracted = contract_from_degree(team.alloc(), list, least)?;
+    value_of_contracted(team, contracted)
 }
 
 /// The value of a graph of two or more vertices by its list of edges, if that can be told without

@@ -18,10 +18,13 @@ mod scanning;
 mod scans;
 mod values;
 
-pub use by_list::{ValueWithTies, lesser_of_list, value_of_list, value_with_ties};
+pub use by_list::{
+    ValueWithTies, lesser_of_list, value_by_contraction, value_of_list, value_with_ties,
+};
 pub use closing::reduce_by_scans;
 pub use forest_contraction::FEW_EDGES;
 pub use kept_graph::Kernel;
 pub use kernels::{kernel, reduce};
 pub use narrowing::{ValueWithKernel, value_with_kernel};
 pub use rounds::value;
+pub use values::value_by_sweeps;

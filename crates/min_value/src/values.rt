@@ -65,7 +65,7 @@ pub(crate) fn lesser_away<T: Team>(team: &T, graph: Graph, bound: u64) -> Result
 
 /// The value of a graph of two or more vertices, by a sweep,
 /// and where that is cut short by scans and a further one.
-pub(crate) fn value_by_sweeps<T: Team>(team: &T, graph: &Graph) -> Result<u64, NoMemory>
+pub fn value_by_sweeps<T: Team>(team: &T, graph: &Graph) -> Result<u64, NoMemory>
     requires ready { T.ready team.now }
     requires enough { 2 ≤ graph.now.vertices }
     ensures { IfOk result (λ weight. weight ≡ value graph.now) }
