@@ -1,8 +1,11 @@
 -- One graph in place of another.
-use Rattle.std.proofs.Common.{ℕ, ◌≤◌, List, map, refl, subst, arith}
+use Rattle.std.proofs.Common.{◌≡◌, ℕ, ◌≤◌, List, map, length, refl, ◌∙◌, subst, arith}
 use Rattle.cut_definitions.specs.Graph.{Graph, IsGraph}
 use Rattle.cut_definitions.specs.Cuts.{value}
-use Rattle.cut_definitions.specs.Contraction.{label}
+use Rattle.cut_definitions.specs.Contraction.{label, lift}
+use Rattle.vertex_set.specs.Side.{VertexList}
+use Rattle.least_cut.specs.declared.lightest.LightestCut.{LightestCut}
+use Rattle.least_cut.specs.Lightest.{IsLightestCut}
 use Rattle.weighted_graph.proofs.Labelling.{classes_le}
 use Rattle.min_value.specs.Kernels.{IsKept}
 use Rattle.min_value.proofs.Kept.{kept_more, value_of_small}
@@ -31,3 +34,12 @@ kept_can_stand g small ok small_ok least labels h = record {
 
 pub can_stand_itself : (g : Graph) → 2 ≤ g.vertices → CanStandFor g g
 can_stand_itself g two = record { same_value = refl; enough = two; connected = λ connected. connected }
+
+-- a minimum cut of what is kept, lifted, is one of the graph
+pub lifted_cut : (g small : Graph) (labels : List ℕ) (cut : LightestCut) (side : VertexList) → IsKept g (value small) small labels → IsLightestCut small cut →
+    side ≡ record { vertices = length labels; members = lift labels cut.side.members } → IsLightestCut g (record { weight = cut.weight; side = side })
+lifted_cut g small labels cut side h is lifted = rw lifted (record {
+  weight = is.weight ∙ h.same_value;
+  over = h.labelled.long;
+  minimum = h.minimum_cuts.lifted cut.side.members is.minimum;
+})

@@ -28,7 +28,7 @@ use worker_team::{Crew, Team};
 
 /// A graph with rows that stands for that of a list:
 /// on classes that no minimum cut parts, where there are such.
-fn with_rows<T: Team>(
+pub(crate) fn with_rows<T: Team>(
     team: &T,
     list: EdgeList,
     classes: Option<ListClasses>,

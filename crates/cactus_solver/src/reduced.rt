@@ -2,11 +2,13 @@
 
 ghost use Rattle.std.specs.Prelude.{◌≡◌, ◌≤◌, IfOk, IfSome};
 ghost use Rattle.cut_definitions.specs.Cuts.{value as least_value};
+ghost use Rattle.least_cut.specs.Lightest.{IsLightestCut};
 ghost use Rattle.min_value.specs.Kernels.{IsKept};
 ghost use Rattle.node_tree.specs.Finished.{IsFinished};
 ghost use Rattle.cactus_solver.specs.Reducing.{CanStandFor, IsReduced, graph_in, list_in};
 
 use cut_definitions::{EdgeList, NoMemory};
+use least_cut::LightestCut;
 use min_value::Kernel;
 use node_tree::HomedTree;
 use std::alloc::Global;
@@ -119,6 +121,21 @@ impl Reduced {
                 list,
                 graph: next.graph,
                 labels: labels.compose(alloc, &next.labels)?,
+            }),
+        }
+    }
+
+    /// A minimum cut of the list, by one of the graph.
+    pub(crate) fn lift_cut(&self, alloc: Global, cut: LightestCut) -> Result<LightestCut, NoMemory>
+        requires reduced { IsReduced self.now }
+        requires cut { IsLightestCut (graph_in self.now) cut }
+        ensures { IfOk result (IsLightestCut (list_in self.now)) }
+    {
+        match self {
+            Reduced::Whole(_) => Ok(cut),
+            Reduced::Kernel { labels, .. } => Ok(LightestCut {
+                weight: cut.weight,
+                side: labels.lift(alloc, &cut.side)?,
             }),
         }
     }

@@ -22,7 +22,7 @@ use worker_team::Crew;
 
 /// The tree of the minimum cuts of a graph whose value is given: read off the graph where it is a
 /// tree whose edges all have the value, and else by a sweep.
-pub(crate) fn tree_of_cuts<T: SweepTeam>(
+pub fn tree_of_cuts<T: SweepTeam>(
     team: &T,
     graph: &Graph,
     value: u64,

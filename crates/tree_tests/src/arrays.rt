@@ -1,4 +1,4 @@
-//! Trees of minimum cuts in arrays, made flat without boxes and with them.
+//! Trees of minimum cuts in arrays, made flat without boxes and with them, and counted.
 
 ghost use Rattle.std.specs.Prelude.{◌≤◌};
 ghost use Rattle.cactus_solver.specs.SolvedLists.{IsTreeSolved};
@@ -11,7 +11,7 @@ use flat_cactus::{FlatCactus, flatten};
 use region_sweep::cactus_by_tree;
 use std::alloc::Global;
 use std::test::Fail;
-use tree_flattening::canonical_flat;
+use tree_flattening::{canonical_flat, count_of_tree};
 use worker_team::Alone;
 
 /// Files of graphs whose trees have a vertex in each node and no cycle of three: a path, a star
@@ -74,6 +74,32 @@ fn agrees(alloc: Global, list: &EdgeList, found: SolvedTree, plain: bool) -> Res
         }
         None => Ok(!plain),
     }
+}
+
+/// The number of the minimum cuts by the arrays of their tree, where these tell it.
+fn count_by_text(alloc: Global, text: &str) -> Result<Option<u64>, NoMemory> {
+    let Some(list) = edges_of(alloc, text) else {
+        return Ok(None);
+    };
+    if list.n() < 2 {
+        return Ok(None);
+    }
+    let SolvedList { list, cuts } = tree_of_long_list(&Alone { alloc }, list)?;
+    match cuts {
+        Cuts::Joined(found) => count_of_tree(alloc, &list, &found.tree),
+        Cuts::Apart(_) => Ok(None),
+    }
+}
+
+#[test]
+fn arrays_count_the_cuts_where_no_node_is_empty(rt: HostRuntime) -> Result<(), Fail> {
+    let counts = [3, 4, 15, 12];
+    for i in 0..4 {
+        assert!(rt; count_by_text(rt.alloc(), PLAIN[i])? == Some(counts[i]));
+    }
+    assert!(rt; count_by_text(rt.alloc(), OTHER[0])? == Some(3));
+    assert!(rt; count_by_text(rt.alloc(), OTHER[1])?.is_none());
+    Ok(())
 }
 
 #[test]

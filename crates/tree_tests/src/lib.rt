@@ -31,6 +31,8 @@ mod listings;
 #[cfg(test)]
 mod lists;
 #[cfg(test)]
+mod one_cut;
+#[cfg(test)]
 mod ranges;
 #[cfg(test)]
 mod scattered;

@@ -14,7 +14,7 @@ fn weight_after(v: u32) -> u32 {
 }
 
 /// A file with a path of 1,101 vertices, without the edge after one of them if that is named.
-fn path(alloc: Global, gap: Option<u32>) -> Result<String, NoMemory> {
+pub(crate) fn path(alloc: Global, gap: Option<u32>) -> Result<String, NoMemory> {
     let edges = if gap.is_some() { 1_099 } else { 1_100 };
     let mut text = format!(in alloc; "1101 {edges} 1\n")?;
     for v in 1u32..1_102 {
