@@ -1,11 +1,13 @@
 -- What a solved graph is printed as.
-use Rattle.std.proofs.Common.{◌≡◌, ℕ, List, [], ◌<◌, ◌≤◌, ◌^◌, ◌∙◌, sym, ap, subst, true}
+use Rattle.std.proofs.Common.{◌≡◌, ℕ, List, [], ◌<◌, ◌≤◌, ◌^◌, ◌∙◌, sym, ap, subst, arith, true}
 use Rattle.std.proofs.lemmas.List.Elements.{All-contains_itself, All-weaker}
 use Rattle.std.specs.Prelude.{◌*◌, length}
 use Rattle.cut_definitions.specs.Graph.{Graph}
 use Rattle.cut_definitions.specs.Cuts.{value, mincuts}
 use Rattle.cut_definitions.proofs.Values.{IsSide-from_mincuts}
-use Rattle.rooted_cactus.specs.Different.{HasNoEmptySide, HaveSameSides}
+use Rattle.cut_definitions.proofs.Order.{mincuts_sorted}
+use Rattle.component_cuts.proofs.Different.{different_ascending, no_more}
+use Rattle.rooted_cactus.specs.Different.{HasDifferent, HasNoEmptySide, HaveSameSides}
 use Rattle.rooted_cactus.specs.Trees.{blocks}
 use Rattle.flat_cactus.proofs.SomeBlock.{not_alone}
 use Rattle.rooted_cactus.specs.Rooted.{Rooted, IsCactus, sides_of}
@@ -38,6 +40,13 @@ canonical_is g solved c s over canonical same is = record {
   canonical = canonical;
   sides = λ side. (λ at. (s.sides side).0 ((same side).0 at), λ at. (same side).1 ((s.sides side).1 at));
 }
+
+-- a number of different minimum cuts that are all of them is the length of their list
+pub number_is : (g : Graph) (k : ℕ) → HasDifferent k (mincuts g) → k ≡ length (mincuts g)
+number_is g k h =
+    let most = no_more h.members (mincuts g) h.different (λ l. (h.same l).0) in
+    let least = no_more (mincuts g) h.members (different_ascending (mincuts g) (mincuts_sorted g)) (λ l. (h.same l).1) in
+    omega (arith, most, least, h.many)
 
 -- no minimum cut has an empty side
 pub none_empty : (g : Graph) (solved : Solved) → IsSolved g solved → HasNoEmptySide solved.cactus

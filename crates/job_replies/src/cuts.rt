@@ -104,6 +104,15 @@ pub fn count_of_cuts(alloc: Global, solved: &Solved) -> Result<u64, NoMemory>
     solved.cactus.count_within(alloc)
 }
 
+/// The value and the number of all minimum cuts, which are given.
+pub fn number_reply(alloc: Global, value: u64, count: u64) -> Result<Reply, NoMemory>
+    ensures text { IfOk result (λ reply. text_of reply ≡ count_text value count) }
+    ensures printable { IfOk result IsPrintable }
+{
+    let text = format!(in alloc; "value {value}\ncount {count}\n")?;
+    Ok(Reply::Text(text))
+}
+
 /// The number of all minimum cuts.
 fn count_reply(alloc: Global, graph: &EdgeList, solved: &Solved) -> Result<Reply, NoMemory>
     requires solved { IsSolved graph.now solved.now }
@@ -112,10 +121,9 @@ fn count_reply(alloc: Global, graph: &EdgeList, solved: &Solved) -> Result<Reply
 {
     // known by this call: the graph has at most 4,194,304 vertices
     let _n = graph.n();
-    let value = solved.value;
     let count = count_of_cuts(alloc, solved)?;
-    let text = format!(in alloc; "value {value}\ncount {count}\n")?;
-    Ok(Reply::Text(text))
+    let reply = number_reply(alloc, solved.value, count)?;
+    Ok(reply)
 }
 
 /// The first of the most balanced minimum cuts, in the order of lists.

@@ -24,7 +24,7 @@ mod reply;
 mod telling;
 
 pub use apart::apart_reply;
-pub use cuts::cuts_reply;
+pub use cuts::{cuts_reply, number_reply};
 pub use ending::finish;
 pub use facts::{facts_reply, made_for};
 pub use growth::{Growing, apart_growth, grown_reply, step_for};

@@ -16,3 +16,4 @@ pub mod Grouping
 pub mod Arrays
 pub mod HeadGroups
 pub mod Parts
+pub mod RunCounts

@@ -43,6 +43,14 @@ plan_of x = record {
 abbrev pub AreFilled : ℕ → NodeArrays → Type 0
 AreFilled n a = (i : ℕ) → i < length a.links.uppers → 1 ≤ length (own_of n a i)
 
+-- these are the vertices of each node, of which none is empty, so there are no more nodes than vertices
+pub record AreOwn (n : ℕ) (a : NodeArrays) (members : List (List ℕ)) : Type 0 where
+  pub few : length a.links.uppers ≤ n
+  pub laid : AreLaid a.links.uppers a.links.follows
+  pub many : length members ≡ length a.links.uppers
+  pub own : (i : ℕ) → i < length a.links.uppers → slice_index_or members i [] ≡ own_of n a i
+  pub filled : AreFilled n a
+
 -- no cycle has three nodes, with the one above: none has two that follow each other and no more
 abbrev pub HasNoTriangle : TreeLinks → Type 0
 HasNoTriangle t = (h : ℕ) → 1 ≤ h → h < length t.uppers → is_follower t.follows h ≡ false → length (run_of t h) ≡ 2 → ⊥

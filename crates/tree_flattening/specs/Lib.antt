@@ -3,3 +3,4 @@ pub mod Arranged
 pub mod Grouped
 pub mod Walked
 pub mod CanonicalFlats
+pub mod Counted

@@ -1,11 +1,11 @@
 //! The blocks of a tree in the order of their least vertices.
 
-ghost use Rattle.std.specs.Prelude.{ℕ, ◌≡◌, ◌+◌, ◌-◌, ◌<◌, ◌≤◌, ◌^◌, [], IfOk, IfSome, IfNone, IsFalse, IsTrue, length, not, slice_index, slice_index_or};
+ghost use Rattle.std.specs.Prelude.{ℕ, ◌≡◌, ◌+◌, ◌-◌, ◌<◌, ◌≤◌, ◌^◌, ◌⊎◌, [], IfOk, IfSome, IfNone, IsFalse, IsTrue, length, not, slice_index, slice_index_or};
 ghost use Rattle.std.specs.List.{filter, range_with_len};
 ghost use Rattle.std.specs.List.Sorted.{IsNonDecreasingBy, IsPermutation};
 ghost use Rattle.node_tree.specs.Finished.{arrays_of};
 ghost use Rattle.node_tree.specs.Flat.{AreNodes, is_follower};
-ghost use Rattle.tree_flattening.specs.Arranged.{HasNoTriangle, IsOrdered, IsSorted, IsUnfit};
+ghost use Rattle.tree_flattening.specs.Arranged.{AreFilled, AreOwn, HasNoTriangle, IsOrdered, IsSorted, IsUnfit};
 
 use crate::arrangement::Arranged;
 use crate::groups::Groups;
@@ -110,6 +110,26 @@ fn arrange_filled<'a>(
     Ok(Arranged::new(tree, members, heads, nodes))
 }
 
+/// The vertices 1 to n of each node of a tree;
+/// none where there are more nodes than vertices, or a node has no vertex.
+pub fn members_of(alloc: Global, tree: &HomedTree, n: u32) -> Result<Option<Groups>, NoMemory>
+    requires homes { length tree.now.homes.items ≡ n + 1 }
+    requires nodes { AreNodes (arrays_of tree.now) }
+    ensures own { IfOk result (λ o. IfSome o (AreOwn n (arrays_of tree.now))) }
+    ensures none { IfOk result (λ o. IfNone o ((n < length tree.now.tree.uppers) ⊎ ¬ (AreFilled n (arrays_of tree.now)))) }
+{
+    let count = tree.tree.len();
+    if count > n as usize {
+        return Ok(None);
+    }
+    let vertices = vertices_to(alloc, n)?;
+    let members = Groups::of(alloc, &vertices, &tree.homes, count)?;
+    if !are_filled(&members) {
+        return Ok(None);
+    }
+    Ok(Some(members))
+}
+
 /// A tree over the vertices 1 to n whose blocks stand in the order of their least vertices;
 /// none where there are more nodes than vertices, a node has no vertex, or a cycle has three
 /// nodes with the one above.
@@ -123,15 +143,12 @@ pub fn arrange<'a>(
     ensures ordered { IfOk result (λ o. IfSome o (IsOrdered n (arrays_of tree.now))) }
     ensures unfit { IfOk result (λ o. IfNone o (IsUnfit n (arrays_of tree.now))) }
 {
-    let count = tree.tree.len();
-    if count > n as usize || has_triangle(&tree.tree) {
+    if has_triangle(&tree.tree) {
         return Ok(None);
     }
-    let vertices = vertices_to(alloc, n)?;
-    let members = Groups::of(alloc, &vertices, &tree.homes, count)?;
-    if !are_filled(&members) {
+    let Some(members) = members_of(alloc, tree, n)? else {
         return Ok(None);
-    }
+    };
     let arranged = arrange_filled(alloc, &tree.tree, members)?;
     Ok(Some(arranged))
 }

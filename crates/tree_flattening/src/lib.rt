@@ -6,14 +6,17 @@
 //! (`arranging`). The least vertex at or under each node and below each block (`leasts`) gives the
 //! order of the blocks and the direction of the cycles (`arrangement`). Then nodes are numbered in
 //! the order in which the tree is entered (`walking`). The canonical cactus is that of
-//! `canonical_cactus`, and its flat form that of `flat_cactus`.
+//! `canonical_cactus`, and its flat form that of `flat_cactus`. `count_of_tree` counts the minimum
+//! cuts by such a tree (`counting`).
 #![tactic(auto)]
 
 mod arrangement;
 mod arranging;
+mod counting;
 mod groups;
 mod leasts;
 mod making;
 mod walking;
 
+pub use counting::count_of_tree;
 pub use making::canonical_flat;

@@ -1,6 +1,5 @@
 use Rattle.std.proofs.Common.{◌∙◌, arith}
 use Rattle.answer_pages.specs.Listings.{count_text}
-use Rattle.job_replies.proofs.Answering.{two_lines}
 use Rattle.job_replies.proofs.cuts.count_reply.Goals as goal
 
 pub count_of_cuts-requires-clause-few : goal.count_of_cuts-requires-clause-few
@@ -8,4 +7,4 @@ count_of_cuts-requires-clause-few c = omega (arith, c.requires.solved.over, c.n-
 
 pub returns-clause-text : goal.returns-clause-text
 returns-clause-text c =
-    c.in_ok-text.ensures.ok ∙ (two_lines c.args.solved.now.value c.in_ok-count.count ∙ (λ i. count_text (c.requires.solved.value i) (c.in_ok-count.ensures c.args.graph.now c.requires.solved i)))
+    c.in_ok-reply.ensures.text ∙ (λ i. count_text (c.requires.solved.value i) (c.in_ok-count.ensures c.args.graph.now c.requires.solved i))

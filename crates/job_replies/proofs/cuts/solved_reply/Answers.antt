@@ -107,3 +107,27 @@ returns-in_ok-cactus_reply-in-Cactus-clause-printable c = (c.in_ok-cactus_reply-
 
 pub returns-in_ok-augment_reply-in-Augment-clause-printable : goal.returns-in_ok-augment_reply-in-Augment-clause-printable
 returns-in_ok-augment_reply-in-Augment-clause-printable c = (c.in_ok-augment_reply-in-Augment).ensures.printable
+
+pub listing_reply-requires-clause-solved : goal.listing_reply-requires-clause-solved
+listing_reply-requires-clause-solved c = c.requires.solved
+
+pub balanced_reply-requires-clause-enough : goal.balanced_reply-requires-clause-enough
+balanced_reply-requires-clause-enough c = c.requires.enough
+
+pub balanced_reply-requires-clause-weighed : goal.balanced_reply-requires-clause-weighed
+balanced_reply-requires-clause-weighed c = c.requires.weighed
+
+pub balanced_reply-requires-clause-solved : goal.balanced_reply-requires-clause-solved
+balanced_reply-requires-clause-solved c = c.requires.solved
+
+pub cactus_reply-requires-clause-enough : goal.cactus_reply-requires-clause-enough
+cactus_reply-requires-clause-enough c = c.requires.enough
+
+pub cactus_reply-requires-clause-solved : goal.cactus_reply-requires-clause-solved
+cactus_reply-requires-clause-solved c = c.requires.solved
+
+pub augment_reply-requires-clause-enough : goal.augment_reply-requires-clause-enough
+augment_reply-requires-clause-enough c = c.requires.enough
+
+pub augment_reply-requires-clause-solved : goal.augment_reply-requires-clause-solved
+augment_reply-requires-clause-solved c = c.requires.solved
