@@ -6,7 +6,7 @@ use Rattle.flat_cactus.specs.Flat.{Flat, cut_at, items_in}
 use Rattle.flat_cactus.proofs.Flats.{cut_length}
 use Rattle.mincut_c.specs.Filled.{AreSmall, BeginsWithBridges, Counts, CountsCactus, HasRoomBy, HoldsCycles, HoldsFlat, HoldsNodes, IsShort}
 use Rattle.flat_cactus.specs.Shown.{ShowsCuts}
-use Rattle.mincut_c.specs.Shown.{HasFewParts, IsNormalFlat}
+use Rattle.mincut_c.specs.Shown.{HasFewParts, IsCanonicalFlat}
 use Rattle.mincut_c.specs.declared.filling.Bridge.{Bridge}
 use Rattle.mincut_c.specs.declared.filling.CactusSizes.{CactusSizes}
 
@@ -55,5 +55,5 @@ not_short n sizes node_starts vertices pairs cycle_starts members s room short =
     omega (arith, short, s.nodes, s.vertices, s.bridges, s.cycles, s.members, room.for_nodes, room.for_vertices, room.for_bridges, room.for_cycles, room.for_members)
 
 -- the sizes of a cactus of the minimum cuts of a graph, with its value
-pub counts_cactus : (g : Graph) (flat : Flat) (sizes : CactusSizes) → ShowsCuts g flat → IsNormalFlat flat → HasFewParts g.vertices flat → Counts flat sizes → sizes.value ≡ value g → CountsCactus g sizes
-counts_cactus g flat sizes shows normal few c same = record { flat = flat; shows = shows; normal = normal; counts = c; small = small g.vertices flat sizes c few; same_value = same }
+pub counts_cactus : (g : Graph) (flat : Flat) (sizes : CactusSizes) → ShowsCuts g flat → IsCanonicalFlat flat → HasFewParts g.vertices flat → Counts flat sizes → sizes.value ≡ value g → CountsCactus g sizes
+counts_cactus g flat sizes shows canonical few c same = record { flat = flat; shows = shows; canonical = canonical; counts = c; small = small g.vertices flat sizes c few; same_value = same }

@@ -13,16 +13,16 @@ use Rattle.rooted_cactus.specs.declared.tree.Block.{Block}
 use Rattle.rooted_cactus.specs.declared.tree.Children.{Children}
 use Rattle.rooted_cactus.specs.declared.tree.Block.TheVariants.{Bridge, Cycle}
 use Rattle.rooted_cactus.specs.Entered.{entered}
-use Rattle.rooted_cactus.specs.Normal.{is_normal}
 use Rattle.rooted_cactus.specs.Rooted.{IsCactus, Rooted}
 use Rattle.rooted_cactus.proofs.CutRanges.{size_is}
 use Rattle.rooted_cactus.proofs.Induction.{tree_induction}
+use Rattle.canonical_cactus.specs.Canonical.{is_canonical}
 use Rattle.flat_cactus.specs.Flat.{Flat}
 use Rattle.flat_cactus.specs.FlatLaws.{LawOfFlatOrder}
 use Rattle.flat_cactus.specs.Flattened.{BlockJoins, Joins, TreeJoins, beside, block_joins, blocks_from, blocks_size, bridge_before, cycle_before, flat_of, joins_of, roots_from, tree_joins, trees_from, trees_size}
 use Rattle.flat_cactus.proofs.JoinsOut.{joins_bridge, joins_cycle, joins_out}
 use Rattle.flat_cactus.proofs.TreePieces.{tree_holds}
-use Rattle.mincut_c.specs.Shown.{IsNormalFlat}
+use Rattle.mincut_c.specs.Shown.{IsCanonicalFlat}
 
 -- ---- runs of numbers, and lists in another order
 
@@ -134,14 +134,14 @@ cycle_hangs nodes h up first =
 tree_hangs : (x : Node) → TreeHangs x
 tree_hangs = tree_induction TreeHangs BlockHangs node_hangs bridge_hangs cycle_hangs
 
--- the flat cactus of a normal cactus
-pub normal_flat : (c : Rooted) (flat : Flat) → LawOfFlatOrder → IsCactus c.vertices c.root → is_normal c.root ≡ true → flat ≡ flat_of c → IsNormalFlat flat
-normal_flat c flat order is normal e =
+-- the flat cactus of a canonical cactus
+pub canonical_flat : (c : Rooted) (flat : Flat) → LawOfFlatOrder → IsCactus c.vertices c.root → is_canonical c.root ≡ true → flat ≡ flat_of c → IsCanonicalFlat flat
+canonical_flat c flat order is canonical e =
     let size : (tree_joins c.root).size ≡ length (entered c.root) = sym (tree_holds c.root).size ∙ size_is c.root in
     rw e (record {
       rooted = c;
       is_cactus = is;
-      normal = normal;
+      canonical = canonical;
       entered = refl;
       each_once = subst (λ (k : ℕ). IsPermutation (range_with_len 1 (k - 1)) (ends (joins_of c.root))) size (tree_hangs c.root 0);
       in_order = order c.vertices c.root is;

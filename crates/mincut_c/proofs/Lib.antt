@@ -2,9 +2,11 @@ pub mod HangingNodes
 pub mod Numbered
 pub mod Counting
 pub mod Showing
+pub mod StatusNumbers
 pub mod Room
 pub mod MassSums
 pub mod RowBytes
 pub mod Listing
 pub mod SetNumbers
 pub mod FewSets
+pub mod CutBytes

@@ -1,8 +1,10 @@
--- A flat cactus that is made of a normal one has few parts.
-use Rattle.std.proofs.Common.{◌≡◌, ℕ, ◌+◌, ◌-◌, ◌*◌, ◌≤◌, List, [], ◌∷◌, length, refl, sym, ◌∙◌, arith, length-append}
+-- The flat canonical cactus of a graph has few parts.
+use Rattle.std.proofs.Common.{◌≡◌, ℕ, true, ◌+◌, ◌-◌, ◌*◌, ◌≤◌, List, [], ◌∷◌, length, refl, sym, ◌∙◌, arith, length-append}
 use Rattle.std.specs.List.{All, concat, sum_by}
 use Rattle.std.proofs.lemmas.List.Elements.{All-head, All-tail}
 use Rattle.std.proofs.lemmas.List.Sums.{sum_by-cons}
+use Rattle.canonical_cactus.specs.Canonical.{arranged, is_canonical}
+use Rattle.cut_definitions.proofs.Bools.{and_first}
 use Rattle.cut_definitions.specs.Graph.{Graph}
 use Rattle.flat_cactus.proofs.SomeBlock.{some_block}
 use Rattle.flat_cactus.specs.Flat.{Flat, items_in}
@@ -11,11 +13,11 @@ use Rattle.flat_cactus.specs.FlatLaws.{LawOfFlatForm}
 use Rattle.flat_cactus.specs.Flattened.{flat_of}
 use Rattle.rooted_cactus.proofs.Masses.{vertices_length}
 use Rattle.rooted_cactus.specs.Entered.{entered}
+use Rattle.rooted_cactus.specs.Normal.{is_normal}
 use Rattle.rooted_cactus.specs.NormalLaws.{LawOfFewNodes}
-use Rattle.rooted_cactus.specs.Rooted.{Rooted, IsCactus}
-use Rattle.rooted_cactus.specs.Solving.{IsSolved}
-use Rattle.rooted_cactus.specs.declared.solved.Solved.{Solved}
-use Rattle.mincut_c.specs.Shown.{HasFewParts}
+use Rattle.rooted_cactus.specs.Rooted.{Rooted}
+use Rattle.rooted_cactus.specs.declared.tree.Node.{Node}
+use Rattle.mincut_c.specs.Shown.{HasFewParts, IsCanonicalOf}
 
 -- what the cycles add to the nodes, and how long they are together
 cycles_long : (count : ℕ) (cycles : List (List ℕ)) → All (IsCycleBelow count) cycles →
@@ -43,10 +45,12 @@ few n flat two formed nodes all =
       members = omega (arith, formed.count, cycles.0, cycles.1);
     }
 
-pub few_parts : (g : Graph) (solved : Solved) (flat : Flat) → LawOfFlatForm → LawOfFewNodes → 2 ≤ g.vertices → IsCactus solved.cactus.vertices solved.cactus.root →
-    flat ≡ flat_of solved.cactus → IsSolved g solved → HasFewParts g.vertices flat
-few_parts g solved flat form law two is e s =
-    let c : Rooted = solved.cactus in
-    let nodes = law c.vertices c.root is s.normal (some_block g c two s.sides) in
-    let all = sym (joined_length (entered c.root)) ∙ vertices_length c.vertices c.root is in
-    rw e (few g.vertices (flat_of c) two (form c.vertices c.root is) (omega (arith, nodes, s.over)) (all ∙ s.over))
+normal_of : (root : Node) → is_canonical root ≡ true → is_normal root ≡ true
+normal_of root e = and_first (is_normal root) (arranged root).in_order e
+
+pub few_parts : (g : Graph) (flat : Flat) → LawOfFlatForm → LawOfFewNodes → 2 ≤ g.vertices → IsCanonicalOf g flat → HasFewParts g.vertices flat
+few_parts g flat form law two k =
+    let c : Rooted = k.rooted in
+    let nodes = law c.vertices c.root k.is_cactus (normal_of c.root k.canonical) (some_block g c two k.sides) in
+    let all = sym (joined_length (entered c.root)) ∙ vertices_length c.vertices c.root k.is_cactus in
+    rw k.entered (few g.vertices (flat_of c) two (form c.vertices c.root k.is_cactus) (omega (arith, nodes, k.over)) (all ∙ k.over))

@@ -7,7 +7,7 @@ use Rattle.mincut_c.specs.Rows.{BeginsFromZero}
 use Rattle.mincut_c.specs.declared.filling.Bridge.{Bridge}
 use Rattle.mincut_c.specs.declared.filling.CactusSizes.{CactusSizes}
 use Rattle.flat_cactus.specs.Shown.{ShowsCuts}
-use Rattle.mincut_c.specs.Shown.{IsNormalFlat}
+use Rattle.mincut_c.specs.Shown.{IsCanonicalFlat}
 
 -- an array begins with the list
 abbrev pub Begins : List ℕ → List ℕ → Type 0
@@ -82,18 +82,18 @@ pub record HoldsFlat (flat : Flat) (sizes : CactusSizes) (node_starts vertices :
   pub bridges : BeginsWithBridges flat.bridges pairs
   pub cycles : HoldsCycles flat.cycles sizes.members cycle_starts members
 
--- the sizes tell the value of a graph, and count the nodes, bridges and cycles of a normal cactus of its minimum cuts
+-- the sizes tell the value of a graph, and count the nodes, bridges and cycles of the canonical cactus of its minimum cuts
 pub record CountsCactus (g : Graph) (sizes : CactusSizes) : Type 0 where
   pub flat : Flat
   pub shows : ShowsCuts g flat
-  pub normal : IsNormalFlat flat
+  pub canonical : IsCanonicalFlat flat
   pub counts : Counts flat sizes
   pub small : AreSmall g.vertices sizes
   pub same_value : sizes.value ≡ value g
 
--- the arrays hold a normal cactus of all minimum cuts of a graph
+-- the arrays hold the canonical cactus of all minimum cuts of a graph
 pub record HoldsCactus (g : Graph) (sizes : CactusSizes) (node_starts vertices : List ℕ) (pairs : List Bridge) (cycle_starts members : List ℕ) : Type 0 where
   pub flat : Flat
   pub shows : ShowsCuts g flat
-  pub normal : IsNormalFlat flat
+  pub canonical : IsCanonicalFlat flat
   pub holds : HoldsFlat flat sizes node_starts vertices pairs cycle_starts members

@@ -6,3 +6,4 @@ pub mod Balanced
 pub mod Listed
 pub mod Raised
 pub mod Components
+pub mod OneCut

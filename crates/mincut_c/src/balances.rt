@@ -25,7 +25,7 @@ pub struct Balanced {
 
 /// Tells a side by a byte for each vertex, where there is room for n of them,
 /// and else writes nothing.
-fn put_side(side: &Side, inside: &mut [u8]) -> bool
+pub(crate) fn put_side(side: &Side, inside: &mut [u8]) -> bool
     ensures told { IsTrue result → TellsSide side.now.vertices side.now.members inside.new }
     ensures short { IsFalse result → length inside.old < side.now.vertices }
     ensures left { IsFalse result → inside.new ≡ inside.old }

@@ -1,4 +1,4 @@
-//! The cactus of all minimum cuts, in arrays.
+//! The canonical cactus of all minimum cuts, in arrays.
 
 ghost use Rattle.std.specs.Prelude.{◌≡◌, ◌≢◌, ◌≤◌, length};
 ghost use Rattle.edge_arrays.specs.Given.{given};
@@ -10,9 +10,9 @@ use crate::solving::flat_of_arrays;
 use crate::status::{NO_ROOM, OK, status_of};
 use std::alloc::Global;
 
-/// A cactus of all minimum cuts of the connected graph with `n` vertices, counted from 0, whose
-/// edges the arrays give, in its normal form. The sizes tell the value, and how many entries of
-/// each array the cactus takes.
+/// The canonical cactus of all minimum cuts of the connected graph with `n` vertices, counted from
+/// 0, whose edges the arrays give. The sizes tell the value, and how many entries of each array
+/// the cactus takes.
 ///
 /// The status is 0 where there is an answer. It is 9 where an array is shorter than its size
 /// tells, which is told all the same: never where the arrays have 2n, n, 2n, n and 3n

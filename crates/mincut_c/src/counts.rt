@@ -1,14 +1,48 @@
 //! The number of the minimum cuts.
 
 ghost use Rattle.std.specs.Prelude.{◌≡◌, ◌≢◌, ◌≤◌, IfOk, IfErr};
+ghost use Rattle.cactus_solver.specs.SolvedLists.{IsTreeSolved};
 ghost use Rattle.cut_definitions.specs.Cuts.{mincuts};
 ghost use Rattle.edge_arrays.specs.Given.{given};
 ghost use Rattle.rooted_cactus.specs.Different.{HasDifferent};
 ghost use Rattle.mincut_c.specs.Statuses.{HasCuts, IsReason, TellsFault, number_of};
 
-use crate::solving::solved_of_arrays;
+use crate::solving::tree_of_arrays;
 use crate::status::{Fault, OK, status_of};
+use cactus_solver::SolvedTree;
+use cut_definitions::{EdgeList, NoMemory};
+use edge_arrays::laws::same_mincuts;
+use region_sweep::cactus_by_tree;
 use std::alloc::Global;
+use tree_flattening::count_of_tree;
+
+/// The number of the minimum cuts of a connected graph, by their cactus.
+fn count_by_cactus(alloc: Global, list: &EdgeList, found: SolvedTree) -> Result<u64, NoMemory>
+    requires enough { 2 ≤ list.now.vertices }
+    requires solved { IsTreeSolved list.now found }
+    ensures { IfOk result (λ count. HasDifferent count (mincuts list.now)) }
+{
+    // known by this call: the graph has at most 4,194,304 vertices
+    let _n = list.n();
+    let SolvedTree { value, tree } = found;
+    let solved = cactus_by_tree(alloc, list, value, tree)?;
+    let cactus = solved.cactus;
+    let count = cactus.count_within(alloc)?;
+    Ok(count)
+}
+
+/// The number of the minimum cuts of a connected graph, whose tree is given.
+/// No cactus is made where that has just the nodes of one.
+fn count_by_tree(alloc: Global, list: &EdgeList, found: SolvedTree) -> Result<u64, NoMemory>
+    requires enough { 2 ≤ list.now.vertices }
+    requires solved { IsTreeSolved list.now found }
+    ensures { IfOk result (λ count. HasDifferent count (mincuts list.now)) }
+{
+    match count_of_tree(alloc, list, &found.tree)? {
+        Some(count) => Ok(count),
+        None => count_by_cactus(alloc, list, found),
+    }
+}
 
 /// The number of the minimum cuts of the graph of the arrays.
 fn count_of_arrays(alloc: Global, n: u32, us: &[u32], vs: &[u32], ws: &[u64]) -> Result<u64, Fault>
@@ -17,9 +51,9 @@ fn count_of_arrays(alloc: Global, n: u32, us: &[u32], vs: &[u32], ws: &[u64]) ->
     ensures reason { IfErr result (λ fault. IsReason fault n us.now vs.now ws.now) }
     ensures known { IfErr result (λ fault. number_of fault ≤ 8) }
 {
-    let solved = solved_of_arrays(alloc, n, us, vs, ws)?;
-    let cactus = solved.cactus;
-    let count = cactus.count_within(alloc)?;
+    same_mincuts();
+    let (list, found) = tree_of_arrays(alloc, n, us, vs, ws)?;
+    let count = count_by_tree(alloc, &list, found)?;
     Ok(count)
 }
 

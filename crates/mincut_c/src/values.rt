@@ -16,7 +16,7 @@ use worker_team::Alone;
 
 /// Whether forests are tried before a sweep: where there are few edges, in all or for each vertex,
 /// the sweep costs less. Either answer is right.
-fn suits_forests(list: &EdgeList) -> bool {
+pub(crate) fn suits_forests(list: &EdgeList) -> bool {
     let n = list.n() as usize;
     list.len() > FEW_EDGES && list.len() >= n + n / 2
 }
