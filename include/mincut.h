@@ -1,5 +1,5 @@
-/* Minimum cuts of a weighted undirected graph: their value, their number, a cactus of all of them, a most balanced one, lists of
- * their sides, and the fewest new edges that raise the value; and the components of a graph that is not connected.
+/* Minimum cuts of a weighted undirected graph: their value, one of them, their number, a cactus of all of them, a most balanced one, lists
+ * of their sides, and the fewest new edges that raise the value; and the components of a graph that is not connected.
  *
  * Graphs. A graph has n vertices, 0 to n - 1, and m edges in three arrays of m entries: edge i joins u[i] and v[i] and has the weight
  * w[i], a whole number. The edges are in any order, each of them once and not once for each end. Edges with the same ends count as one
@@ -68,6 +68,18 @@ mincut_status mincut_value(uint32_t n, size_t m, const uint32_t *u, const uint32
 mincut_status mincut_value_below(uint32_t n, size_t m, const uint32_t *u, const uint32_t *v, const uint64_t *w, uint64_t bound,
                                  uint64_t *value);
 
+/* The value and one minimum cut; any of several may be returned. in_side has n entries: 0 for vertex 0 and all vertices on its side, 1 for
+ * the others. If the graph is not connected, the value is 0 and the others are one or more whole components.
+ *
+ * The statuses are 0 to 7. With a status other than MINCUT_OK the outputs are unchanged. Cost: about that of mincut_value. */
+mincut_status mincut_cut(uint32_t n, size_t m, const uint32_t *u, const uint32_t *v, const uint64_t *w, uint64_t *value,
+                         uint8_t *in_side);
+
+/* The same if the value is below the bound. Otherwise `value` gets the bound and in_side is unchanged: no cut weighs less. The statuses
+ * and the cost are those of mincut_cut; flows end at the bound. */
+mincut_status mincut_cut_below(uint32_t n, size_t m, const uint32_t *u, const uint32_t *v, const uint64_t *w, uint64_t bound,
+                               uint64_t *value, uint8_t *in_side);
+
 /* The number of all minimum cuts of a connected graph, at most n (n - 1) / 2; none is listed. With a status other than MINCUT_OK,
  * `count` is unchanged. The statuses are 0 to 8. Cost: that of the cactus. */
 mincut_status mincut_count(uint32_t n, size_t m, const uint32_t *u, const uint32_t *v, const uint64_t *w, uint64_t *count);
@@ -96,12 +108,15 @@ typedef struct mincut_sizes {
     size_t members;  /* entries of members */
 } mincut_sizes;
 
-/* A cactus of all minimum cuts of a connected graph, in normal form: a node without vertices is in at least three bridges and cycles, or
- * in exactly two cycles.
+/* The canonical cactus of all minimum cuts of a connected graph. It is in normal form: a node without vertices is in at least three
+ * bridges and cycles, or in exactly two cycles. Of all such cactuses it is the one in which each cycle has four or more nodes, the bridges
+ * and cycles that hang from a node are in the order of the least vertices that hang in them, and the least vertex at or below the second
+ * node of a cycle is less than that at or below its last. So the arrays depend only on the minimum cuts, and the program's job `cactus`
+ * prints the same, with vertices from 1.
  *
  * The vertices of node i begin at vertices[node_starts[i]] and end where node i + 1 begins, or at the end; they ascend, and there may be
  * none. Each vertex is in one node, and vertex 0 is in node 0. The nodes of cycle i begin at members[cycle_starts[i]] and end where
- * cycle i + 1 begins, or at the end. They are in the order of the cycle, at least three, and the last is joined to the first. If one
+ * cycle i + 1 begins, or at the end. They are in the order of the cycle, at least four, and the last is joined to the first. If one
  * bridge, or two edges of one cycle, are removed, node 0 no longer reaches some nodes: their vertices are one side of a minimum cut.
  * Each minimum cut is one of these. It occurs twice only at a node without vertices between two cycles.
  *
@@ -207,14 +222,17 @@ mincut_status mincut_augment(uint32_t n, size_t m, const uint32_t *u, const uint
                              uint32_t *from, uint32_t *to, uint64_t *set_of);
 
 /* The proved exports beneath the calls above, for bindings. Each array is a pointer, which is not null even if the length is 0, and its
- * length. The statuses are the same. mincut_raw_cactus, mincut_raw_balanced, mincut_raw_components, mincut_raw_augment and the lists of
- * sides accept any room: if an array is too short, the status is MINCUT_NO_ROOM and the arrays are unchanged; all but
- * mincut_raw_balanced and mincut_raw_components then fill in the sizes. There are n masses, or none. mincut_raw_sides lists the minimum
- * cuts of balance `least` or more, which are all if that is 0. */
+ * length. The statuses are the same. Arrays for answers may have any room: if one is too short for the answer, the status is MINCUT_NO_ROOM
+ * and the arrays are unchanged; mincut_raw_cactus, mincut_raw_augment and the lists of sides then fill in the sizes, and the others change
+ * nothing. There are n masses, or none. mincut_raw_sides lists the minimum cuts of balance `least` or more, which are all if that is 0. */
 uint32_t mincut_raw_value(uint32_t n, const uint32_t *u, size_t u_len, const uint32_t *v, size_t v_len, const uint64_t *w,
                           size_t w_len, uint64_t *value);
 uint32_t mincut_raw_value_below(uint32_t n, const uint32_t *u, size_t u_len, const uint32_t *v, size_t v_len, const uint64_t *w,
                                 size_t w_len, uint64_t bound, uint64_t *value);
+uint32_t mincut_raw_cut(uint32_t n, const uint32_t *u, size_t u_len, const uint32_t *v, size_t v_len, const uint64_t *w, size_t w_len,
+                        uint64_t *value, uint8_t *in_side, size_t in_side_len);
+uint32_t mincut_raw_cut_below(uint32_t n, const uint32_t *u, size_t u_len, const uint32_t *v, size_t v_len, const uint64_t *w,
+                              size_t w_len, uint64_t bound, uint64_t *value, uint8_t *in_side, size_t in_side_len);
 uint32_t mincut_raw_count(uint32_t n, const uint32_t *u, size_t u_len, const uint32_t *v, size_t v_len, const uint64_t *w,
                           size_t w_len, uint64_t *count);
 uint32_t mincut_raw_components(uint32_t n, const uint32_t *u, size_t u_len, const uint32_t *v, size_t v_len, const uint64_t *w,

@@ -16,6 +16,7 @@
 #include <cstddef>
 #include <cstdint>
 #include <iterator>
+#include <optional>
 #include <stdexcept>
 #include <type_traits>
 #include <utility>
@@ -140,6 +141,28 @@ inline std::uint64_t value(const Graph &graph) {
 inline std::uint64_t value_below(const Graph &graph, std::uint64_t bound) {
     std::uint64_t found = 0;
     check(mincut_value_below(graph.vertices, graph.edges(), graph.u.data(), graph.v.data(), graph.w.data(), bound, &found));
+    return found;
+}
+
+/* A minimum cut. */
+struct Cut {
+    std::uint64_t value;                /* the least weight of a cut */
+    std::vector<std::uint8_t> in_side;  /* 0 for vertex 0 and all vertices on its side, 1 for the others */
+};
+
+/* One minimum cut, at about the price of the value; any of several may be returned. The graph need not be connected. */
+inline Cut cut(const Graph &graph) {
+    Cut found{0, std::vector<std::uint8_t>(room_of(graph))};
+    check(mincut_cut(graph.vertices, graph.edges(), graph.u.data(), graph.v.data(), graph.w.data(), &found.value, found.in_side.data()));
+    return found;
+}
+
+/* The same if the value is below the bound, or nothing: then no cut weighs less than the bound. */
+inline std::optional<Cut> cut_below(const Graph &graph, std::uint64_t bound) {
+    Cut found{0, std::vector<std::uint8_t>(room_of(graph))};
+    check(mincut_cut_below(graph.vertices, graph.edges(), graph.u.data(), graph.v.data(), graph.w.data(), bound, &found.value,
+                           found.in_side.data()));
+    if (found.value == bound) return std::nullopt;
     return found;
 }
 

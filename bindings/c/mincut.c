@@ -42,6 +42,18 @@ mincut_status mincut_value_below(uint32_t n, size_t m, const uint32_t *u, const 
     return (mincut_status)mincut_raw_value_below(n, some(u), m, some(v), m, some(w), m, bound, value);
 }
 
+mincut_status mincut_cut(uint32_t n, size_t m, const uint32_t *u, const uint32_t *v, const uint64_t *w, uint64_t *value,
+                         uint8_t *in_side) {
+    if (is_bad(m, u, v, w) || !value || !in_side) return MINCUT_BAD_LENGTH;
+    return (mincut_status)mincut_raw_cut(n, some(u), m, some(v), m, some(w), m, value, in_side, n);
+}
+
+mincut_status mincut_cut_below(uint32_t n, size_t m, const uint32_t *u, const uint32_t *v, const uint64_t *w, uint64_t bound,
+                               uint64_t *value, uint8_t *in_side) {
+    if (is_bad(m, u, v, w) || !value || !in_side) return MINCUT_BAD_LENGTH;
+    return (mincut_status)mincut_raw_cut_below(n, some(u), m, some(v), m, some(w), m, bound, value, in_side, n);
+}
+
 mincut_status mincut_count(uint32_t n, size_t m, const uint32_t *u, const uint32_t *v, const uint64_t *w, uint64_t *count) {
     if (is_bad(m, u, v, w) || !count) return MINCUT_BAD_LENGTH;
     return (mincut_status)mincut_raw_count(n, some(u), m, some(v), m, some(w), m, count);

@@ -25,6 +25,27 @@ int main(void) {
     if (mincut_value(4, 6, u, v, one, &value) != MINCUT_OK || value != 2) return 1;
     if (mincut_value_below(4, 6, u, v, one, 1, &value) != MINCUT_OK || value != 1) return 17;
     if (mincut_value_below(4, 6, u, v, one, 3, &value) != MINCUT_OK || value != 2) return 18;
+    uint8_t side[] = {9, 9, 9, 9, 9, 9, 9};
+    const uint64_t uneven[] = {3, 1, 3, 1, 9, 0}, light[] = {1, 0, 1, 0, 9, 0};
+    if (mincut_cut(4, 6, u, v, uneven, &value, side) != MINCUT_OK || value != 2 || side[0] != 0 || side[1] != 0) return 61;
+    if (side[2] != 1 || side[3] != 1 || side[4] != 9) return 62;
+    side[2] = side[3] = 9;
+    if (mincut_cut_below(4, 6, u, v, uneven, 2, &value, side) != MINCUT_OK || value != 2 || side[2] != 9 || side[3] != 9) return 63;
+    if (mincut_cut_below(4, 6, u, v, uneven, 0, &value, side) != MINCUT_OK || value != 0 || side[2] != 9 || side[3] != 9) return 64;
+    if (mincut_cut_below(4, 6, u, v, uneven, 3, &value, side) != MINCUT_OK || value != 2 || side[0] != 0 || side[1] != 0) return 65;
+    if (side[2] != 1 || side[3] != 1 || side[4] != 9) return 66;
+    if (mincut_cut(4, 6, u, v, light, &value, side) != MINCUT_OK || value != 0) return 67;
+    if (side[0] != 0 || side[1] != 0 || side[2] != 1 || side[3] != 1 || side[4] != 9) return 68;
+    if (mincut_cut_below(6, 6, u, v, one, 1, &value, side) != MINCUT_OK || value != 0 || side[0] != 0 || side[4] + side[5] < 1 || side[6] != 9) return 69;
+    if (side[1] != 0 || side[2] != 0 || side[3] != 0) return 70;
+    value = 77, side[0] = 9;
+    if (mincut_cut(3, 4, u, v, one, &value, side) != MINCUT_BAD_VERTEX || value != 77 || side[0] != 9) return 71;
+    if (mincut_cut_below(4, 6, u, v, great, 5, &value, side) != MINCUT_WEIGHT_SUM || value != 77 || side[0] != 9) return 72;
+    if (mincut_cut(1, 0, NULL, NULL, NULL, &value, side) != MINCUT_NO_CUT || mincut_cut_below(0, 0, NULL, NULL, NULL, 5, &value, side) != MINCUT_NO_CUT) return 73;
+    if (mincut_cut(4, 6, u, v, one, &value, NULL) != MINCUT_BAD_LENGTH || mincut_cut(4, 6, u, v, one, NULL, side) != MINCUT_BAD_LENGTH) return 74;
+    if (mincut_cut_below(4, 6, u, v, NULL, 5, &value, side) != MINCUT_BAD_LENGTH || mincut_cut_below(4, 6, u, v, one, 5, &value, NULL) != MINCUT_BAD_LENGTH) return 75;
+    if (mincut_raw_cut(4, u, 6, v, 6, one, 6, &value, side, 3) != MINCUT_NO_ROOM || mincut_raw_cut_below(4, u, 6, v, 6, one, 6, 9, &value, side, 3) != MINCUT_NO_ROOM) return 76;
+    if (value != 77 || side[0] != 9) return 77;
     value = 77;
     if (mincut_value(3, 4, u, v, one, &value) != MINCUT_BAD_VERTEX || value != 77) return 2;
     if (mincut_value(4, 6, u, v, great, &value) != MINCUT_WEIGHT_SUM || value != 77) return 3;
@@ -87,7 +108,6 @@ int main(void) {
     for (uint32_t i = 0; i < 6; ++i)
         if (part_of[i] != (i < 4 ? 0 : i - 3)) return 46;
     if (part_of[6] != 9) return 47;
-    const uint64_t light[] = {1, 0, 1, 0, 9, 0};
     if (mincut_components(4, 6, u, v, light, &parts, part_of) != MINCUT_OK || parts != 2 || part_of[1] != 0 || part_of[2] != 1 || part_of[3] != 1) return 48;
     if (mincut_components(0, 0, NULL, NULL, NULL, &parts, NULL) != MINCUT_OK || parts != 0) return 49;
     if (mincut_components(1, 0, NULL, NULL, NULL, &parts, part_of) != MINCUT_OK || parts != 1 || part_of[0] != 0) return 50;

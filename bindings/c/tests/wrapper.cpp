@@ -38,7 +38,17 @@ static int faults() {
     if (!tells(MINCUT_MASS_SUM, [&] { mincut::balanced(four, vast); })) return 7;
     if (!tells(MINCUT_BAD_VERTEX, [&] { mincut::sides_between(four, 0, 4); })) return 8;
     if (!tells(MINCUT_TOO_MANY_VERTICES, [] { mincut::cactus(mincut::EdgeList(~0u)); })) return 9;
+    if (!tells(MINCUT_NO_CUT, [] { mincut::cut(mincut::EdgeList(0)); })) return 22;
+    if (!tells(MINCUT_BAD_LENGTH, [&] { mincut::cut_below({4, four.u, four.v, mass}, 2); })) return 23;
     return mincut::TooManySides(7).sides() == 7 ? 0 : 10;
+}
+
+// Whether this is the side of a minimum cut of a connected graph.
+static bool is_side(const mincut::Graph &graph, const std::vector<std::uint8_t> &in_side) {
+    const mincut::Sides all = mincut::sides(graph);
+    for (std::size_t k = 0; k < all.size(); ++k)
+        if (std::equal(all.row(k).begin(), all.row(k).end(), in_side.begin(), in_side.end())) return true;
+    return false;
 }
 
 static int answers() {
@@ -46,6 +56,10 @@ static int answers() {
     const std::array<std::uint64_t, 3> w{1, 1, 1};
     const mincut::Graph path{4, u, v, w};
     if (mincut::value(path) != 1 || mincut::count(path) != 3 || mincut::value_below(ring(5), 1) != 1) return 11;
+    const mincut::Cut one = mincut::cut(mincut::EdgeList(3));
+    if (one.value != 0 || one.in_side.size() != 3 || one.in_side[0] != 0 || one.in_side[1] + one.in_side[2] == 0) return 24;
+    const std::optional<mincut::Cut> below = mincut::cut_below(path, 2);
+    if (!below || below->value != 1 || !is_side(path, below->in_side) || mincut::cut_below(path, 1)) return 25;
     const mincut::Balanced best = mincut::balanced(path);
     if (best.value != 1 || best.balance != 2 || best.in_side != std::vector<std::uint8_t>{0, 0, 1, 1}) return 12;
     if (mincut::sides(path).lists() != std::vector<Side>{{1, 2, 3}, {2, 3}, {3}}) return 13;
@@ -59,7 +73,7 @@ static int answers() {
     return mincut::cactus(path).bridge_side(0).size() == 3 ? 0 : 19;
 }
 
-// Whether the cactus gives each side that is listed, and each once.
+// Whether the cactus gives each side that is listed, and each once, and the single cut is one of them.
 static bool agrees(const mincut::EdgeList &edges) {
     std::multiset<Side> told;
     mincut::cactus(edges).for_each_side([&](mincut::Span<const std::uint32_t> span) {
@@ -68,7 +82,7 @@ static bool agrees(const mincut::EdgeList &edges) {
         told.insert(side);
     });
     const std::vector<Side> lists = mincut::sides(edges).lists();
-    return told == std::multiset<Side>(lists.begin(), lists.end());
+    return told == std::multiset<Side>(lists.begin(), lists.end()) && is_side(edges, mincut::cut(edges).in_side);
 }
 
 int main() {

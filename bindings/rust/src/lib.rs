@@ -1,5 +1,5 @@
-//! Minimum cuts of a weighted undirected graph: their value, their number, a cactus of all of them, a most balanced one, lists of
-//! their sides, and the fewest new edges that raise the value; and the components of a graph that is not connected.
+//! Minimum cuts of a weighted undirected graph: their value, one of them, their number, a cactus of all of them, a most balanced one,
+//! lists of their sides, and the fewest new edges that raise the value; and the components of a graph that is not connected.
 //!
 //! A graph has `n` vertices, 0 to n - 1; edge i joins `u[i]` and `v[i]` and weighs `w[i]`. Edges with the same ends are as one of
 //! the sum of their weights; loops and edges of weight 0 count for nothing. All limits are checked; an [`Error`] says what is wrong.
@@ -101,7 +101,7 @@ struct Sizes {
     members: usize,
 }
 
-/// A cactus of all minimum cuts of a connected graph, in its normal form.
+/// The canonical cactus of all minimum cuts of a connected graph. Each of its cycles has four or more nodes.
 ///
 /// Taking away one bridge, or two edges of one cycle, leaves some nodes without a way to node 0, which has vertex 0: their
 /// vertices are one side of a minimum cut, and each minimum cut is one of these.
@@ -310,6 +310,25 @@ fn listed(n: u32, mut call: impl FnMut(&mut Listing, &mut [u8]) -> u32) -> Resul
     Ok(Sides { value: listing.value, n: n as usize, bytes })
 }
 
+/// A minimum cut.
+#[derive(Clone, Debug, PartialEq, Eq)]
+pub struct Cut {
+    /// The value of the graph.
+    pub value: u64,
+    /// For each vertex whether it is on the side without vertex 0.
+    pub in_side: Vec<bool>,
+}
+
+/// The length of an array for all vertices; none above the limit, where the graph is refused whatever the room.
+fn room_of(n: u32) -> usize {
+    if n > 4_194_304 { 0 } else { n as usize }
+}
+
+/// A side as bools, given by a byte for each vertex.
+fn bools(bytes: &[u8]) -> Vec<bool> {
+    bytes.iter().map(|byte| *byte == 1).collect()
+}
+
 /// A minimum cut, and how evenly it divides the vertices.
 #[derive(Clone, Debug, PartialEq, Eq)]
 pub struct Balanced {
@@ -348,6 +367,14 @@ extern "C" {
     fn mincut_raw_value_below(
         n: u32, u: *const u32, u_len: usize, v: *const u32, v_len: usize, w: *const u64, w_len: usize, bound: u64, value: *mut u64,
     ) -> u32;
+    fn mincut_raw_cut(
+        n: u32, u: *const u32, u_len: usize, v: *const u32, v_len: usize, w: *const u64, w_len: usize, value: *mut u64,
+        in_side: *mut u8, in_side_len: usize,
+    ) -> u32;
+    fn mincut_raw_cut_below(
+        n: u32, u: *const u32, u_len: usize, v: *const u32, v_len: usize, w: *const u64, w_len: usize, bound: u64, value: *mut u64,
+        in_side: *mut u8, in_side_len: usize,
+    ) -> u32;
     fn mincut_raw_count(
         n: u32, u: *const u32, u_len: usize, v: *const u32, v_len: usize, w: *const u64, w_len: usize, count: *mut u64,
     ) -> u32;
@@ -384,6 +411,44 @@ pub fn value_below(n: u32, u: &[u32], v: &[u32], w: &[u64], bound: u64) -> Resul
     told(status).map(|()| least)
 }
 
+/// One minimum cut, at about the price of the value; which of several is free. The graph need not be connected: then the value is 0, and
+/// the vertices in the side are one or more whole components.
+///
+/// ```
+/// // a path of three vertices with weights 2 and 1
+/// let found = mincut::cut(3, &[0, 1], &[1, 2], &[2, 1]).unwrap();
+/// assert_eq!((found.value, found.in_side), (1, vec![false, false, true]));
+/// ```
+pub fn cut(n: u32, u: &[u32], v: &[u32], w: &[u64]) -> Result<Cut, Error> {
+    let mut bytes = vec![0u8; room_of(n)];
+    let mut least = 0;
+    // SAFETY: as above.
+    let status = unsafe {
+        mincut_raw_cut(
+            n, u.as_ptr(), u.len(), v.as_ptr(), v.len(), w.as_ptr(), w.len(), &mut least, bytes.as_mut_ptr(), bytes.len(),
+        )
+    };
+    told(status).map(|()| Cut { value: least, in_side: bools(&bytes) })
+}
+
+/// The same if the value is below the bound, or `None`: then no cut weighs less than the bound.
+///
+/// ```
+/// assert_eq!(mincut::cut_below(3, &[0, 1], &[1, 2], &[2, 1], 1), Ok(None));
+/// assert_eq!(mincut::cut_below(3, &[0, 1], &[1, 2], &[2, 1], 2).unwrap().unwrap().value, 1);
+/// ```
+pub fn cut_below(n: u32, u: &[u32], v: &[u32], w: &[u64], bound: u64) -> Result<Option<Cut>, Error> {
+    let mut bytes = vec![0u8; room_of(n)];
+    let mut least = 0;
+    // SAFETY: as above.
+    let status = unsafe {
+        mincut_raw_cut_below(
+            n, u.as_ptr(), u.len(), v.as_ptr(), v.len(), w.as_ptr(), w.len(), bound, &mut least, bytes.as_mut_ptr(), bytes.len(),
+        )
+    };
+    told(status).map(|()| (least < bound).then(|| Cut { value: least, in_side: bools(&bytes) }))
+}
+
 /// The number of all minimum cuts of a connected graph.
 pub fn count(n: u32, u: &[u32], v: &[u32], w: &[u64]) -> Result<u64, Error> {
     let mut number = 0;
@@ -399,8 +464,7 @@ pub fn count(n: u32, u: &[u32], v: &[u32], w: &[u64]) -> Result<u64, Error> {
 /// assert_eq!((found.count, found.component_of), (3, vec![0, 1, 1, 0, 2]));
 /// ```
 pub fn components(n: u32, u: &[u32], v: &[u32], w: &[u64]) -> Result<Components, Error> {
-    // a graph above the limit is refused whatever the room
-    let mut component_of = vec![0; if n > 4_194_304 { 0 } else { n as usize }];
+    let mut component_of = vec![0; room_of(n)];
     let mut count = 0;
     // SAFETY: as above.
     let status = unsafe {
@@ -413,8 +477,7 @@ pub fn components(n: u32, u: &[u32], v: &[u32], w: &[u64]) -> Result<Components,
 
 /// A cactus of all minimum cuts of a connected graph.
 pub fn cactus(n: u32, u: &[u32], v: &[u32], w: &[u64]) -> Result<Cactus, Error> {
-    // a graph above the limit is refused whatever the room
-    let room = if n > 4_194_304 { 0 } else { n as usize };
+    let room = room_of(n);
     let mut sizes = Sizes::default();
     let mut node_starts = vec![0; 2 * room];
     let mut vertices = vec![0; room];
@@ -450,8 +513,7 @@ pub fn cactus(n: u32, u: &[u32], v: &[u32], w: &[u64]) -> Result<Cactus, Error> 
 /// assert_eq!(mincut::balanced(4, &[0, 1, 2], &[1, 2, 3], &[1, 1, 1], &[5, 1, 1, 1]).unwrap().balance, 3);
 /// ```
 pub fn balanced(n: u32, u: &[u32], v: &[u32], w: &[u64], masses: &[u64]) -> Result<Balanced, Error> {
-    // a graph above the limit is refused whatever the room
-    let mut bytes = vec![0u8; if n > 4_194_304 { 0 } else { n as usize }];
+    let mut bytes = vec![0u8; room_of(n)];
     let mut told = Balance::default();
     // SAFETY: as above.
     let status = unsafe {
@@ -461,7 +523,7 @@ pub fn balanced(n: u32, u: &[u32], v: &[u32], w: &[u64], masses: &[u64]) -> Resu
         )
     };
     self::told(status)?;
-    Ok(Balanced { value: told.value, balance: told.balance, in_side: bytes.iter().map(|byte| *byte == 1).collect() })
+    Ok(Balanced { value: told.value, balance: told.balance, in_side: bools(&bytes) })
 }
 
 /// All minimum cuts of a connected graph, by their sides.
@@ -521,8 +583,7 @@ pub fn sides_between(n: u32, u: &[u32], v: &[u32], w: &[u64], a: u32, b: u32) ->
 /// assert_eq!(found.set_of, [1, 0, 2]);
 /// ```
 pub fn augment(n: u32, u: &[u32], v: &[u32], w: &[u64]) -> Result<Augmentation, Error> {
-    // a graph above the limit is refused whatever the room
-    let room = if n > 4_194_304 { 0 } else { n as usize };
+    let room = room_of(n);
     let (mut from, mut to, mut set_of, mut raise) = (vec![0; room], vec![0; room], vec![0; room], Raise::default());
     // SAFETY: as above; the outputs are different vectors.
     let status = unsafe {

@@ -1,4 +1,4 @@
-use mincut::{balanced, cactus, components, count, sides, sides_balanced, sides_between, value, Error};
+use mincut::{balanced, cactus, components, count, cut, cut_below, sides, sides_balanced, sides_between, value, Error};
 
 #[test]
 fn each_fault_is_told() {
@@ -9,6 +9,9 @@ fn each_fault_is_told() {
     assert_eq!(cactus(u32::MAX, &[], &[], &[]).unwrap_err(), Error::TooManyVertices);
     assert_eq!(value(2, &[0], &[2], &[1]), Err(Error::BadVertex));
     assert_eq!(value(2, &[0, 0], &[1, 1], &[1 << 61, 1]), Err(Error::WeightSum));
+    assert_eq!(cut(1, &[], &[], &[]), Err(Error::NoCut));
+    assert_eq!(cut(u32::MAX, &[], &[], &[]), Err(Error::TooManyVertices));
+    assert_eq!(cut_below(2, &[0], &[2], &[1], 5), Err(Error::BadVertex));
     assert_eq!(count(2, &[], &[], &[]), Err(Error::Disconnected));
     assert_eq!(balanced(2, &[0], &[1], &[1], &[1]), Err(Error::BadLength));
     assert_eq!(balanced(2, &[0], &[1], &[1], &[u64::MAX, 1]), Err(Error::MassSum));
@@ -17,6 +20,21 @@ fn each_fault_is_told() {
     assert_eq!(sides(2, &[], &[], &[]), Err(Error::Disconnected));
     assert_eq!(sides_between(2, &[0], &[1], &[1], 0, 2), Err(Error::BadVertex));
     assert_eq!(sides_balanced(2, &[0], &[1], &[1], &[1], 0), Err(Error::BadLength));
+}
+
+#[test]
+fn one_cut_has_a_side() {
+    // two triangles, joined by an edge
+    let (u, v, w) = ([0, 1, 2, 3, 4, 5, 2], [1, 2, 0, 4, 5, 3, 3], [2, 2, 2, 2, 2, 2, 1]);
+    let found = cut(6, &u, &v, &w).unwrap();
+    assert_eq!((found.value, &found.in_side[..]), (1, &[false, false, false, true, true, true][..]));
+    assert_eq!(cut_below(6, &u, &v, &w, 2), Ok(Some(found)));
+    assert_eq!(cut_below(6, &u, &v, &w, 1), Ok(None));
+    assert_eq!(cut_below(6, &u, &v, &w, 0), Ok(None));
+    // without that edge the other triangle is a component
+    let apart = cut(6, &u[..6], &v[..6], &w[..6]).unwrap();
+    assert_eq!((apart.value, &apart.in_side[..]), (0, &[false, false, false, true, true, true][..]));
+    assert_eq!(cut_below(6, &u[..6], &v[..6], &w[..6], u64::MAX), Ok(Some(apart)));
 }
 
 #[test]
