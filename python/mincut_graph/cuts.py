@@ -20,7 +20,7 @@ from .numbers import whole_numbers
 from .places import find_library
 from .program import Program
 from .ranges import Range, Ranges
-from .results import Augmentation, Balanced, Choice, Comparison, CutLink, Failure, Growth, Link, NewLinks, Site, State, Step
+from .results import Augmentation, Balanced, Choice, Comparison, Cut, CutLink, Failure, Growth, Link, NewLinks, Site, State, Step
 from .sources import WEIGHT, Mass, raw_graph
 from .words import checked_words, checked_workers
 
@@ -33,8 +33,9 @@ Answer = TypeVar('Answer')
 class MinimumCuts:
     """The minimum cuts of a graph; later changes to the graph are not seen.
 
-    The graph is solved once: `value` asks for the value alone, and the first call that needs more asks for all minimum cuts at once, as
-    their cactus, from which the others read their answers. `augment`, `grow`, `what_if`, `levels` and `failures` say what they ask for.
+    The graph is solved once: `value` asks for the value alone, `cut` for one cut, and the first call that needs more asks for all minimum
+    cuts at once, as their cactus, from which the others read their answers. `augment`, `grow`, `what_if`, `levels` and `failures` say what
+    they ask for.
 
     `graph`: a graph of networkx or igraph, a symmetric sparse array of scipy, a list of pairs or triples (u, v, weight), a `RawGraph`
     of `read_graph`, or a finished `Graph`. Weights are whole numbers of 0 or more, 1 where there are none; parallel edges add up, and
@@ -44,7 +45,7 @@ class MinimumCuts:
     function of a vertex; each is 1 without it. `names`: those of the rows of a matrix. `scale`: all weights are multiplied by it.
     `undirected`: takes a directed graph as an undirected one, each arrow an edge.
 
-    `program`, `workers` (1 to 64): the program that answers. `library`: the shared library that answers `value`, `cactus` and `augment`;
+    `program`, `workers` (1 to 64): the program that answers. `library`: the shared library that answers `value`, `cut`, `cactus` and `augment`;
     None looks for one, False goes by the program alone. `time_limit`: seconds for each call that names no other, None for no limit.
 
     Raises BadInput for what is not a graph, UnknownName for a mass that is missing. Calls raise NoCut below two vertices, Disconnected
@@ -107,6 +108,33 @@ class MinimumCuts:
         >>> MinimumCuts([('a', 'b', 3), ('b', 'c', 2)]).value()
         2"""
         return self._once('value', lambda: self.fastest().value(self.graph, self.limit(time_limit)))
+
+    def cut(self, *, time_limit: Optional[float] = None) -> Cut:
+        """One minimum cut, any of several. If the graph is not connected, its side is one or more whole components. By the library it costs
+        about what `value` does; the program finds all minimum cuts at once.
+
+        >>> MinimumCuts([('a', 'b', 3), ('b', 'c', 2)]).cut()
+        Cut(value=2, side=['c'])"""
+        value, side = self._once('cut', lambda: self._one_cut(time_limit))
+        return Cut(value, self.named(side))
+
+    def cut_below(self, bound: int, *, time_limit: Optional[float] = None) -> Optional[Cut]:
+        """One minimum cut if the value is below the bound, otherwise None. By the library it costs no more than `cut`, since flows end at the
+        bound; the program finds the value first. Raises BadInput for a bound that is not a whole number of 0 or more.
+
+        >>> MinimumCuts([('a', 'b', 3), ('b', 'c', 2)]).cut_below(3)
+        Cut(value=2, side=['c'])"""
+        most = whole(bound, 'bound', 0)
+        if most is None:
+            raise BadInput('bound is None; it has to be a whole number')
+        with Deadline(self.limit(time_limit)) as deadline:
+            if self.library and 'value' not in self._known:
+                found = self.library.cut_below(self.graph, most, deadline.left())
+                if found is None:
+                    return None
+                self._known['value'], self._known['cut'] = found[0], found
+            is_below = self.value(time_limit=deadline.left()) < most
+            return self.cut(time_limit=deadline.left()) if is_below else None
 
     def count(self, *, time_limit: Optional[float] = None) -> int:
         """The number of all minimum cuts. A graph of k components has 2^(k-1) - 1; more than 127 are refused with TooLarge.
@@ -172,8 +200,8 @@ class MinimumCuts:
         return Balanced(ranges.balance(best), self.named(ranges.side(best)))
 
     def links(self, side: Iterable[Hashable]) -> list[Link]:
-        """The links between a side, or any other set of vertices, and all other vertices. Each has its end in the set first; they are in the
-        order of their ends. Their weights add up to that of the cut. Raises UnknownName. Costs the links at the smaller of both sides.
+        """The links between a side, or any set of vertices, and all others. Each has its end in the set first; they are in the order of their
+        ends. Their weights add up to that of the cut. Raises UnknownName. Costs the links at the smaller of both sides.
 
         >>> MinimumCuts([('Paris', 'Lyon', 10), ('Lyon', 'Nice', 20), ('Nice', 'Paris', 10)]).links(['Lyon', 'Nice'])
         [Link(source='Lyon', target='Paris', weight=10), Link(source='Nice', target='Paris', weight=10)]"""
@@ -277,9 +305,9 @@ class MinimumCuts:
             return Choice([self._link(*edges[k]) for k in chosen.taken], chosen.cost, chosen.before, chosen.after, chosen.target)
 
     def grow(self, insertions: Iterable[Sequence[Any]], *, time_limit: Optional[float] = None) -> Growth:
-        """The value and the number of minimum cuts after each insertion, and the cactus after the last. There are 1 to 1,000 insertions, pairs
-        or triples of two vertices and a weight of 1 or more. The graph itself stays as it is. Raises UnknownName, BadWords for an
-        insertion that joins a vertex to itself, Disconnected. Costs a run of the program.
+        """A `Step` for each insertion, and the cactus after the last. There are 1 to 1,000 insertions, pairs or triples of two vertices and a
+        weight of 1 or more. The graph itself stays as it is. Raises UnknownName, BadWords for an insertion that joins a vertex to itself,
+        Disconnected. Costs a run of the program.
 
         >>> MinimumCuts([('a', 'b'), ('b', 'c'), ('c', 'd'), ('d', 'a')]).grow([('a', 'c'), ('b', 'd')]).steps
         [Step(value=2, count=2), Step(value=3, count=4)]"""
@@ -304,7 +332,7 @@ class MinimumCuts:
             return Comparison(self.state(time_limit=deadline.left()), other.state(time_limit=deadline.left()))
 
     def state(self, *, time_limit: Optional[float] = None) -> State:
-        """The value, the number of minimum cuts, and a most balanced one with its links.
+        """The value, the count, and a most balanced cut with its links.
 
         >>> MinimumCuts([('a', 'b', 2), ('b', 'c', 2), ('c', 'a', 3)]).state()
         State(value=4, count=1, balance=1, side=['b'], links=[Link(source='b', target='a', weight=2), Link(source='b', target='c', weight=2)])"""
@@ -315,8 +343,9 @@ class MinimumCuts:
 
     def failures(self, processes: Optional[int] = None, progress: Optional[Progress] = None,
                  *, time_limit: Optional[float] = None) -> list[Failure]:
-        """A `Failure` for each link, the worst first: a lower value, and for the same value more minimum cuts. Costs a run of the program for
-        each link, `processes` at a time, as many as there are processors if not given. `progress(done, all)` is called after each.
+        """A `Failure` for each link, the worst first. A lower value is worse, and for the same value more minimum cuts. Costs a run of the
+        program for each link, `processes` at a time, as many as there are processors if not given. `progress(done, all)` is called after
+        each.
 
         >>> MinimumCuts([('a', 'b'), ('b', 'c'), ('c', 'a'), ('c', 'd')]).failures()[0]
         Failure(source='c', target='d', weight=1, value=0, count=1)"""
@@ -411,6 +440,18 @@ class MinimumCuts:
         """All minimum cuts as ranges of one list of vertices. Raises Disconnected."""
         cactus = self.solved(time_limit)
         return self._once('ranges', lambda: Ranges(cactus, self.graph.masses))
+
+    def _one_cut(self, time_limit: Optional[float]) -> tuple[int, list[int]]:
+        """(value, side) of one minimum cut, the side by places from 0: by the library, or one of all cuts."""
+        if self.library and 'cactus' not in self._known:
+            value, side = self.library.cut(self.graph, self.limit(time_limit))
+            self._known['value'] = value
+            return value, side
+        try:
+            ranges = self.ranges(time_limit)
+        except Disconnected:
+            return 0, self._once('components', self.graph.components)[1]
+        return ranges.cactus.value, ranges.side(next(ranges.all()))
 
     def _near(self) -> list[list[tuple[int, int]]]:
         """For each vertex its neighbours, ascending, with the weights of the links."""

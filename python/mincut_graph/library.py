@@ -1,5 +1,5 @@
-"""The shared library as a back end: the calls of mincut.h by ctypes, for the value, the count, the cactus, a most balanced cut, lists of
-sides, and augmentations.
+"""The shared library as a back end: the calls of mincut.h by ctypes, for the value, one cut, the count, the cactus, a most balanced cut,
+lists of sides, and augmentations.
 
 A call on a small graph without a time limit runs in this process, and an interrupt waits for its end, some milliseconds. All others run
 in a process of their own, which is ended where the call is interrupted or its time is over.
@@ -23,6 +23,7 @@ from .graph import Graph
 T = TypeVar('T')
 EDGES_IN_PROCESS = 20_000
 FIRST_ROOM = 1 << 16                   # bytes for the rows of a first call, which tells how many sides there are
+MOST_BOUND = (1 << 64) - 1             # above each value
 MOST_COMPONENTS = 127                  # as in the program, whose count has 127 bits
 INTERRUPTS = {signal.SIGINT, signal.SIGTERM}
 NO_CUT, OUT_OF_MEMORY, DISCONNECTED, NO_ROOM, MASS_SUM, TOO_MANY_SIDES = 1, 2, 8, 9, 10, 11
@@ -61,6 +62,8 @@ class Library:
         try:
             loaded = ctypes.CDLL(path)
             loaded.mincut_value.argtypes = loaded.mincut_count.argtypes = graph + [POINTER(c_uint64)]
+            loaded.mincut_cut.argtypes = graph + [POINTER(c_uint64), POINTER(c_uint8)]
+            loaded.mincut_cut_below.argtypes = graph + [c_uint64, POINTER(c_uint64), POINTER(c_uint8)]
             loaded.mincut_cactus.argtypes = graph + [POINTER(Sizes), POINTER(c_size_t), POINTER(c_uint32), POINTER(Bridge),
                                                      POINTER(c_size_t), POINTER(c_uint64)]
             loaded.mincut_balanced.argtypes = graph + [POINTER(c_uint64), POINTER(Balance), POINTER(c_uint8)]
@@ -74,6 +77,21 @@ class Library:
 
     def value(self, graph: Graph, time_limit: Optional[float] = None) -> int:
         return alone(lambda: self.number(self.loaded.mincut_value, graph), graph, time_limit)
+
+    def cut(self, graph: Graph, time_limit: Optional[float] = None) -> tuple[int, list[int]]:
+        """(value, side) of one minimum cut; of a graph in several components the side is some of these."""
+        return alone(lambda: self.one_cut(self.loaded.mincut_cut, graph), graph, time_limit)
+
+    def cut_below(self, graph: Graph, bound: int, time_limit: Optional[float] = None) -> Optional[tuple[int, list[int]]]:
+        """The same if the value is below the bound, or None."""
+        most = min(bound, MOST_BOUND)
+        value, side = alone(lambda: self.one_cut(self.loaded.mincut_cut_below, graph, most), graph, time_limit)
+        return (value, side) if value < bound else None
+
+    def one_cut(self, call: Callable[..., int], graph: Graph, *asked: int) -> tuple[int, list[int]]:
+        value, inside = c_uint64(), (c_uint8 * len(graph.names))()
+        checked(call(*arrays(graph), *asked, byref(value), inside), graph)
+        return value.value, [v for v, byte in enumerate(inside) if byte]
 
     def count(self, graph: Graph, time_limit: Optional[float] = None) -> tuple[int, int]:
         """(value, number of minimum cuts)."""

@@ -16,6 +16,12 @@ class Link(NamedTuple):
     weight: int
 
 
+class Cut(NamedTuple):
+    """A minimum cut, by its side without the first vertex."""
+    value: int
+    side: list[Any]
+
+
 class Balanced(NamedTuple):
     """A minimum cut: the mass of its lighter side, and its side without the first vertex."""
     balance: int
@@ -23,7 +29,7 @@ class Balanced(NamedTuple):
 
 
 class Augmentation(NamedTuple):
-    """The fewest edges of weight 1 that raise the value, and the sets that each need an end of one."""
+    """The edges of `augment`, and the sets that each need an end of one."""
     edges: list[tuple[Any, Any]]
     sets: list[list[Any]]
 

@@ -1,4 +1,4 @@
-/* Stands in for the shared library in tests, with the calls of mincut.h: the value, the count, a most balanced cut, lists of sides and the sets of an augmentation by trying all
+/* Stands in for the shared library in tests, with the calls of mincut.h: the value, one cut, the count, a most balanced cut, lists of sides and the sets of an augmentation by trying all
  * sides of up to 16 vertices, and the cactus of a ring whose edges stand in order, written down from another node than the canonical cactus begins with. A first weight
  * of 999 makes a call that does not end, one of 998 one that ends its process, one of 997 one without memory. */
 #include <stddef.h>
@@ -46,6 +46,22 @@ static int check(uint32_t n, size_t m, const uint32_t *u, const uint32_t *v, con
 int mincut_value(uint32_t n, size_t m, const uint32_t *u, const uint32_t *v, const uint64_t *w, uint64_t *value) {
     uint64_t count;
     return best(n, m, u, v, w, value, &count);
+}
+
+int mincut_cut_below(uint32_t n, size_t m, const uint32_t *u, const uint32_t *v, const uint64_t *w, uint64_t bound, uint64_t *value,
+                     uint8_t *in_side) {
+    uint64_t least, count;
+    const int status = best(n, m, u, v, w, &least, &count);
+    if (status) return status;
+    *value = least < bound ? least : bound;
+    uint32_t side = 2;
+    while (weight_of(m, u, v, w, side) != least) side += 2;
+    for (uint32_t i = 0; least < bound && i < n; ++i) in_side[i] = side >> i & 1;
+    return 0;
+}
+
+int mincut_cut(uint32_t n, size_t m, const uint32_t *u, const uint32_t *v, const uint64_t *w, uint64_t *value, uint8_t *in_side) {
+    return mincut_cut_below(n, m, u, v, w, UINT64_MAX, value, in_side);
 }
 
 int mincut_count(uint32_t n, size_t m, const uint32_t *u, const uint32_t *v, const uint64_t *w, uint64_t *count) {

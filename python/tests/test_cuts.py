@@ -23,6 +23,8 @@ def test_square():
     assert cuts.sides() == [['b'], ['b', 'c'], ['b', 'c', 'd'], ['c'], ['c', 'd'], ['d']]
     assert cuts.sides(parting=('b', 'd')) == [['b'], ['b', 'c'], ['c', 'd'], ['d']]
     assert cuts.sides(least=2) == [['b', 'c'], ['c', 'd']]
+    assert cuts.cut().value == 2 and cuts.cut().side in cuts.sides()
+    assert (cuts.cut_below(2), cuts.cut_below(3)) == (None, cuts.cut())
     assert cuts.balanced() == (2, ['b', 'c'])
     cactus = cuts.cactus()
     assert (cactus.value, sorted(cactus.node_of()), cactus.bridges, cactus.cycles) == (2, ['a', 'b', 'c', 'd'], [], [[0, 1, 2, 3]])
@@ -52,8 +54,11 @@ def test_no_answer():
     for graph in ([], [('a', 'a')]):
         with pytest.raises(mincut_graph.NoCut):
             MinimumCuts(graph).cactus()
+        with pytest.raises(mincut_graph.NoCut):
+            MinimumCuts(graph).cut()
     apart = MinimumCuts([(1, 2), (3, 4), (4, 5)])
     assert (apart.value(), apart.count()) == (0, 1)
+    assert apart.cut() == apart.cut_below(1) == (0, [3, 4, 5]) and apart.cut_below(0) is None
     with pytest.raises(mincut_graph.Disconnected) as caught:
         apart.cactus()
     assert caught.value.components == 2
@@ -92,12 +97,14 @@ def test_a_graph_is_solved_once(write):
     os.chmod(program, 0o755)
     cuts = MinimumCuts(SQUARE, program=program)
     for _ in range(2):
+        assert cuts.cut_below(2) is None and (cuts.cut().value, cuts.cut_below(3)) == (2, cuts.cut())
         assert (cuts.value(), cuts.count(), len(cuts.sides()), len(cuts.sides(least=2)), cuts.balanced().balance) == (2, 6, 6, 2, 2)
         assert len(cuts.sides(parting=('b', 'd'))) == 4 and cuts.cactus().count() == 6 and cuts.augment()
         assert len(cuts.sites()) == 4 and cuts.cut_links()[0].places == 3 and cuts.levels().at(2) == [['a', 'b', 'c', 'd']] and cuts.state()
     apart = MinimumCuts([(1, 2), (3, 4), (4, 5)], program=program)
     for _ in range(2):
         assert (apart.value(), apart.count(), apart.sides(), apart.balanced()) == (0, 1, [[3, 4, 5]], (2, [3, 4, 5]))
+        assert apart.cut() == (0, [3, 4, 5])
     with open(program + '.words') as words:
         assert words.read().split() == ['value', 'cactus', 'augment'] + ['value', 'count', 'cuts', 'balanced']
 
@@ -108,7 +115,7 @@ def test_what_is_given_is_judged():
                        (lambda: cuts.what_if(remove=[('a', 'b', 1)]), 'two vertices'), (lambda: cuts.levels(up_to='x'), 'whole number'),
                        (lambda: cuts.sides(least=1.5), 'whole number'), (lambda: cuts.failures(processes=0), '1 or more'), (lambda: cuts.grow(3), 'is no list'),
                        (lambda: cuts.candidates([('a', 'c')], target=-1), '0 or more'), (lambda: cuts.candidates([('a', 'c')], costs=7), 'is no list'),
-                       (lambda: cuts.grow(['ab']), "'ab' is a text")):
+                       (lambda: cuts.grow(['ab']), "'ab' is a text"), (lambda: cuts.cut_below(1.5), 'whole number'), (lambda: cuts.cut_below(None), 'whole number')):
         with pytest.raises(mincut_graph.BadInput, match=line):
             call()
 

@@ -44,6 +44,22 @@ def test_cactus_is_canonical(stub):
         assert MinimumCuts(edges, library=stub).cactus() == MinimumCuts(edges, library=False).cactus()
 
 
+def test_one_cut(stub):
+    for n, edges, value, sides in random_graphs(40):
+        graph = MinimumCuts(edges).graph
+        found = Library(stub).cut(graph)
+        assert found[0] == value and found[1] in Program().sides(graph, None, None)[1]
+        assert Library(stub).cut_below(graph, value + 1) == Library(stub).cut_below(graph, 1 << 70) == found
+        assert Library(stub).cut_below(graph, value) is None
+    assert MinimumCuts([(1, 2), (3, 4), (4, 5)], library=stub).cut() == (0, [3, 4, 5])
+    assert MinimumCuts(ring(4), library=stub, time_limit=20).cut_below(2) is None, 'in a process of its own'
+    with pytest.raises(mincut_graph.NoCut):
+        MinimumCuts([], library=stub).cut()
+    cuts = MinimumCuts(ring(4), library=stub)
+    assert (cuts.cut_below(2), cuts.cut_below(3).value, cuts.value(), cuts.cut_below(0)) == (None, 2, 2, None)
+    assert cuts.cut() == cuts.cut_below(5) and cuts.cut().side in cuts.sides()
+
+
 def test_most_balanced(stub):
     for n, edges, value, sides in random_graphs(40):
         masses = {v: v % 3 for edge in edges for v in edge[:2]}
@@ -137,6 +153,9 @@ def test_library_and_program_agree():
         by_library, by_program = MinimumCuts(edges, library=str(LIBRARY)), MinimumCuts(edges, library=False)
         assert by_library.value() == by_program.value() and by_library.count() == by_program.count()
         assert by_library.cactus() == by_program.cactus()
+        value = by_program.value()
+        fresh = MinimumCuts(edges, library=str(LIBRARY))
+        assert fresh.cut_below(value) is None and fresh.cut_below(value + 1) == fresh.cut() and fresh.cut().side in by_program.sides()
         for asked in ((None, None), (2, None), (None, (0, n - 1))):
             assert Library(str(LIBRARY)).sides(by_library.graph, *asked) == Program().sides(by_program.graph, *asked)
 
