@@ -78,6 +78,14 @@ static uint64_t by_value_below(const Arrays &g) {
     return value;
 }
 
+static uint64_t by_cut(const Arrays &g) {
+    static std::vector<uint8_t> inside;
+    inside.resize(g.n);
+    uint64_t value = 0;
+    if (mincut_cut(g.n, g.u.size(), g.u.data(), g.v.data(), g.w.data(), &value, inside.data())) exit(3);
+    return value;
+}
+
 static uint64_t by_cactus(const Arrays &g) {
     static std::vector<size_t> starts, cycles;
     static std::vector<uint32_t> vertices;
@@ -120,6 +128,7 @@ int main(int count, char **words) {
         if (by_value(g) != by_lemon(g, false) || by_value(g) != by_igraph(g)) return puts("values differ"), 1;
     time_calls("mincut_value", graphs, calls, by_value);
     time_calls("mincut_value_below", graphs, calls, by_value_below);
+    time_calls("mincut_cut", graphs, calls, by_cut);
     time_calls("mincut_cactus", graphs, calls, by_cactus);
     time_calls("mincut_balanced", graphs, calls, by_balanced);
     time_calls("LEMON NagamochiIbaraki", graphs, calls, [](const Arrays &g) { return by_lemon(g, false); });

@@ -4,8 +4,9 @@
 
 It compiles the tests of bindings/c/tests against the library, those of mincut.hpp by C++17 and C++20, and the shim anew under the address and
 undefined sanitizers; runs them, the small ones under valgrind and helgrind where these are there; makes each allocation of a call fail in turn; runs --calls random
-graphs with faults in them in-process; compares value, number, sides, lists of them, a most balanced cut and an augmentation on --graphs random
-multigraphs with the program, and the components with those by hand; compiles and runs the examples; and has cargo test the Rust crate. --quick leaves out valgrind and cargo.
+graphs with faults in them in-process; compares value, one cut, number, sides, lists of them, a most balanced cut and an augmentation on --graphs random
+multigraphs with the program, and the components with those by hand; weighs one cut of a graph of each family; compiles and runs the examples; and has
+cargo test the Rust crate. --quick leaves out valgrind and cargo.
 """
 import argparse
 import ctypes
@@ -19,11 +20,13 @@ import tempfile
 from ctypes import byref, c_size_t, c_uint32, c_uint64
 
 from .. import cactuses, metis, running
+from ..families import FAMILIES
 from ..graphs import graph_of
 
 ROOT = running.TOP
 TESTS = f'{ROOT}/bindings/c/tests'
 SANITIZERS = ('-fsanitize=address,undefined', '-fno-sanitize-recover=all')
+FAMILY_EDGES = 3000   # enough that the library contracts a graph by forests
 
 
 def run(*words, **more):
@@ -148,6 +151,43 @@ def components_differ(library, n, u, v, w):
     return count.value != len(firsts) or list(component_of) != [firsts.index(x) for x in least]
 
 
+def cut_differs(library, n, u, v, w, value):
+    """Whether the side of one cut, without a bound or below one, is not that of a cut of this weight; or a bound that the value reaches, or a
+    fault, changes what it should not."""
+    m = len(u)
+    edges = (c_size_t(m), (c_uint32 * m)(*u), (c_uint32 * m)(*v), (c_uint64 * m)(*w))
+
+    def answer(count, *bound):
+        least, inside = c_uint64(77), (ctypes.c_uint8 * (n + 1))(*[7] * (n + 1))
+        call = library.mincut_cut_below if bound else library.mincut_cut
+        status = call(c_uint32(count), *edges, *map(c_uint64, bound), byref(least), inside)
+        return status, least.value, list(inside)
+
+    def is_cut(told):
+        status, least, inside = told
+        is_side = inside[0] == 0 and inside[n] == 7 and set(inside[:n]) == {0, 1}
+        return (status, least) == (0, value) and is_side and sum(x for a, b, x in zip(u, v, w) if inside[a] != inside[b]) == value
+
+    left = [7] * (n + 1)
+    return not (is_cut(answer(n)) and all(is_cut(answer(n, bound)) for bound in (value + 1, 2 * value + 5, (1 << 64) - 1))
+                and all(answer(n, bound) == (0, bound, left) for bound in {0, value // 2, value})
+                and (not u or answer(max(u + v)) == answer(max(u + v), value + 1) == (6, 77, left)))
+
+
+def check_families(prefix):
+    """One cut of a graph of each family, and of two copies of it beside each other."""
+    library, rng = ctypes.CDLL(f'{prefix}/lib/libmincut.so'), random.Random(5)
+    for name, (made, vertices_for) in FAMILIES.items():
+        n, edges, facts = made(vertices_for(FAMILY_EDGES), rng)
+        u, v, w = ([edge[k] - (k < 2) for edge in edges] for k in range(3))
+        m, value = len(u), c_uint64()
+        assert library.mincut_value(c_uint32(n), c_size_t(m), (c_uint32 * m)(*u), (c_uint32 * m)(*v), (c_uint64 * m)(*w), byref(value)) == 0
+        two = 2 * n, u + [x + n for x in u], v + [x + n for x in v], w + w
+        if facts.get('value', value.value) != value.value or cut_differs(library, n, u, v, w, value.value) or cut_differs(library, *two, 0):
+            sys.exit(f'one cut of the family {name} differs')
+    told(f'{len(FAMILIES)} families: one cut of each, and of two graphs beside each other')
+
+
 def balanced(library, n, u, v, w, masses):
     """The value, the balance, and the side of a most balanced cut; nothing where the graph is not connected."""
     m, balance, inside = len(u), Balance(), (ctypes.c_uint8 * n)()
@@ -248,6 +288,8 @@ def check_program(prefix, program, graphs):
         sides = set(in_order)
         if components_differ(library, *graph):
             sys.exit(f'graph {number} differs in its components: {graph}')
+        if cut_differs(library, *graph, value):
+            sys.exit(f'graph {number} differs in its one cut: {graph}')
         found, count, of_cactus = asked(library, *graph)
         apart += count is None
         masses = [rng.choice([0, 1, 1, 2, 1 << 40]) for _ in range(graph[0])] if rng.random() < 0.7 else None
@@ -315,5 +357,6 @@ def main(given: argparse.Namespace) -> int:
         check_examples(built, prefix)
         if not given.quick and shutil.which('cargo'):
             check_rust(prefix, room)
+    check_families(prefix)
     check_program(prefix, program, given.graphs)
     return running.tell_end('library', f'{given.calls} calls with faults, {given.graphs} multigraphs and the tests of bindings/', [])
