@@ -3,7 +3,8 @@
 
     apt-get install g++ pkg-config liblemon-dev libigraph-dev python3-networkx    # once; what is not installed is left out
     bench/measure.py [--program PATH] [--quick] [--only FAMILY,..] [--repetitions 4] [--limit 10] [--peers lemon-ni,..]
-                     [--load-limit 0.3] [--library PREFIX] [--results FOLDER]
+                     [--load-limit 0.3] [--results FOLDER]
+    bench/measure.py --library PREFIX              # the calls of the C library that `./library PREFIX` put there
     /usr/bin/python3 bench/measure.py --largest    # the two largest graphs that the program takes, about ten minutes; needs python3-numpy
     bench/measure.py --write                       # writes the documents and plots from the results
     bench/measure.py --check                       # says whether they are what the results give; status 1 if not
@@ -384,6 +385,10 @@ def measure(options, folder):
         rows, wrong = measure_insertions(options, folder)
         keeper.keep(results.INSERTIONS, rows)
         return len(wrong)
+    if options.library:
+        calls = contenders.library_calls(options.library, folder)
+        keeper.keep(results.CALLS, [dict(zip(results.COLUMNS[results.CALLS], call)) for call in calls])
+        return 0
     rows = kept_rows(options, keeper.about)
     for family in options.only or results.KINDS:
         found, differing = measure_family(options, family, peers, folder)
@@ -393,9 +398,6 @@ def measure(options, folder):
         found, differing = measure_insertions(options, folder)
         wrong += differing
         keeper.keep(results.INSERTIONS, found)
-    if options.library:
-        calls = contenders.library_calls(options.library, folder)
-        keeper.keep(results.CALLS, [dict(zip(results.COLUMNS[results.CALLS], call)) for call in calls])
     return len(wrong)
 
 
@@ -410,7 +412,7 @@ def read_options():
     parser.add_argument('--peers', default='lemon-ni,lemon-ho,igraph,networkx', type=running.names_among(contenders.PEERS))
     parser.add_argument('--load-limit', type=float, default=0.3, help='processors that other work may keep busy')
     parser.add_argument('--again', type=int, default=2, help='how often a measurement is repeated at most')
-    parser.add_argument('--library', help='where ./library installed the C library, to time its calls')
+    parser.add_argument('--library', help='where ./library installed the C library: measure its calls, and nothing else')
     parser.add_argument('--largest', action='store_true', help='measure the two largest graphs, and nothing else')
     parser.add_argument('--insertions', action='store_true', help='measure the insertions, and nothing else')
     parser.add_argument('--results', help='the folder of the results, bench/results if none is named')

@@ -263,6 +263,14 @@ def insertions_part(found):
     return table(['Graph', 'Edges', '`cactus`, s', f'{count} insertions, s', 'each, ms'], lines)
 
 
+def measured_apart(found, name):
+    """A sentence on a measurement of another commit than the main one, if it is of another."""
+    about, main = found[name][0], found[results.RUNS][0]
+    if not main or about['commit'] == main['commit']:
+        return []
+    return paragraph(f'Measured on {about["date"][:10]}, of the crates of commit {about["commit"]}.')
+
+
 def calls_part(found):
     """The calls of the library on small graphs, in a line."""
     _, rows = found[results.CALLS]
@@ -272,7 +280,8 @@ def calls_part(found):
         times = [f'{row["microseconds"]:,.0f}' for row in rows_where(rows, call=name)]
         told.append(f'{name} {"/".join(times)}')
     graphs = ', '.join(f'{n:,} vertices and {m:,} edges' for n, m in sizes)
-    return paragraph(f'Microseconds of the processor for one call, on graphs of {graphs}: {"; ".join(told)}.')
+    return [*paragraph(f'Microseconds of the processor for one call, on graphs of {graphs}: {"; ".join(told)}.'), '',
+            *measured_apart(found, results.CALLS)]
 
 
 def large_part(found):
@@ -283,7 +292,8 @@ def large_part(found):
         for job in JOBS:
             own = [own_row(rows_where(rows, family=family), job, workers) for workers in (1, 2, 4)]
             lines.append([family, f'`{job}`', time_of(own[0]), *(time_of(row, 'clock_s') for row in own), memory_of(own[0])])
-    return table(['Graph', 'Job', 'processor, s', '1 worker, s', '2 workers, s', '4 workers, s', 'MB'], lines)
+    return [*table(['Graph', 'Job', 'processor, s', '1 worker, s', '2 workers, s', '4 workers, s', 'MB'], lines), '',
+            *measured_apart(found, results.LARGEST)]
 
 
 # Plots
@@ -338,7 +348,8 @@ def document(path, found):
 def made_files(folder):
     """({path: text} of all documents and plots as the results give them, what is wrong)"""
     found = {name: results.read(folder, name) for name in results.COLUMNS}
-    commits = {about['commit'] for about, _ in found.values() if about}
+    # the largest graphs and the calls are measured by themselves, and say of what commit
+    commits = {found[name][0]['commit'] for name in (results.RUNS, results.INSERTIONS) if found[name][0]}
     files, wrong = {}, [f'the results are of several commits: {", ".join(sorted(commits))}'] if len(commits) > 1 else []
     for path in PARTS:
         files[path], faults = document(path, found)
