@@ -1,4 +1,4 @@
-//! The list of edges that a graph is given by.
+//! The list of edges of a graph.
 
 ghost use Rattle.std.specs.Prelude.{◌≡◌, ◌↔◌, ◌<◌, ◌≤◌, [], length, IsTrue, OnOk, OnErr, slice_get, slice_index_or};
 ghost use Rattle.cut_definitions.specs.Graph.{IsEdgeList, with_edge};
@@ -7,7 +7,7 @@ use crate::NoMemory;
 use std::alloc::Global;
 use std::marker::Model;
 
-/// An edge between the vertices `u` and `v`, which are counted from 1, of the whole weight `w`.
+/// An edge of integer weight `w` between the vertices `u` and `v`, which are counted from 1.
 #[derive(Clone, Copy, Debug, PartialEq, Eq)]
 pub struct Edge {
     pub u: u32,
@@ -17,9 +17,9 @@ pub struct Edge {
 
 /// A graph on the vertices 1 to n, as the ascending list of its edges.
 ///
-/// Each edge has `1 <= u < v <= n` and `w >= 1`, the edges ascend by (u, v), and no pair
-/// stands twice. There are at most 4,194,304 vertices and 16,777,216 edges, and the
-/// weights add up to at most 2^61.
+/// Each edge has `1 <= u < v <= n` and `w >= 1`, the edges ascend by (u, v), and no pair occurs
+/// twice. There are at most 4,194,304 vertices and 16,777,216 edges, and the weights add up to at
+/// most 2^61.
 #[derive(Drop)]
 pub struct EdgeList {
     n: u32,
@@ -48,7 +48,7 @@ impl EdgeList {
         }
     }
 
-    /// The graph of a finished list of edges, which is taken over. It takes no memory.
+    /// The graph of a finished list of edges, which it takes over. It takes no memory.
     pub fn from_edges(n: u32, edges: Vec<Edge>) -> EdgeList
         requires { IsEdgeList (record { vertices = n; edges = edges.items }) }
         ensures { result ≡ record { vertices = n; edges = edges.items } }
@@ -56,8 +56,8 @@ impl EdgeList {
         EdgeList { n, edges }
     }
 
-    /// Appends an edge, which comes after all others.
-    /// Where memory is wanting the list stays as it was.
+    /// Appends an edge, which must come after all others. If it runs out of memory, the list is
+    /// unchanged.
     pub fn push(&mut self, edge: Edge) -> Result<(), NoMemory>
         requires { IsEdgeList (with_edge self.old edge) }
         ensures ok { OnOk result (self.new ≡ with_edge self.old edge) }
@@ -98,7 +98,7 @@ impl EdgeList {
         self.edges[i]
     }
 
-    /// All edges, lent without a copy.
+    /// All edges, as a borrowed slice.
     pub fn edges(&self) -> &[Edge]
         ensures value { result.now ≡ self.now.edges }
         ensures edge_list { IsEdgeList self.now }

@@ -2,12 +2,12 @@
 
 ghost use Rattle.cut_definitions.specs.Laws.{LawOfBothAndEither, LawOfChain, LawOfChainAcross, LawOfContraction, LawOfCover, LawOfCrossing, LawOfDifferences, LawOfIntervals, LawOfJoinedIntervals, LawOfMembers, LawOfMinimumSides, LawOfNeighbours, LawOfNesting, LawOfSubintervals};
 
-/// The weights of two sets against those of their intersection and union.
+/// How the weights of two sets compare with those of their intersection and union.
 pub fn both_and_either()
     ensures { LawOfBothAndEither }
 {}
 
-/// The weights of two sets against those of their differences.
+/// How the weights of two sets compare with those of their differences.
 pub fn differences()
     ensures { LawOfDifferences }
 {}
@@ -27,7 +27,7 @@ pub fn chain_across()
     ensures { LawOfChainAcross }
 {}
 
-/// Minimum cuts as sets and as sides.
+/// Minimum cuts as sets, and as sides.
 pub fn minimum_sides()
     ensures { LawOfMinimumSides }
 {}
@@ -57,7 +57,7 @@ pub fn neighbours()
     ensures { LawOfNeighbours }
 {}
 
-/// Contraction of classes that no minimum cut parts.
+/// Contraction of classes that no minimum cut separates.
 pub fn contraction()
     ensures { LawOfContraction }
 {}

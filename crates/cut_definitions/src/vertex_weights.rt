@@ -1,17 +1,16 @@
-//! The masses of the vertices, by which the balance of a cut is told.
+//! The masses of the vertices, by which the balance of a cut is measured.
 
 ghost use Rattle.std.specs.Prelude.{◌≡◌, ◌↔◌, ◌+◌, ◌++◌, ◌≤◌, [], length, replicate, IsTrue};
 ghost use Rattle.cut_definitions.specs.Balance.{AreMasses, mass_of};
 
 use std::marker::Model;
 
-/// A mass of 0 or more for each of the vertices 1 to n, of which there are at most
-/// 4,194,304. Contracts see the list of the masses in the order of the vertices. The last
-/// ones that are 1 need no memory.
+/// A mass of 0 or more for each of the vertices 1 to n, with n at most 4,194,304. Contracts see
+/// the list of the masses in the order of the vertices. Trailing masses of 1 need no memory.
 #[derive(Drop)]
 pub struct VertexWeights {
     masses: Vec<u64>,
-    // how many vertices behind these have a mass of 1
+    // how many vertices after these have a mass of 1
     ones: u32,
 }
 
@@ -27,7 +26,7 @@ impl Model for VertexWeights {
 }
 
 impl VertexWeights {
-    /// The weights of a list, which has one for each vertex and is taken over. It takes no memory.
+    /// The masses in a list, one for each vertex. The list is taken over; no memory is taken.
     pub fn from_list(list: Vec<u64>) -> VertexWeights
         requires { length list.items ≤ 4194304 }
         ensures { result ≡ list.items }
@@ -35,8 +34,8 @@ impl VertexWeights {
         VertexWeights::with_ones(list, 0)
     }
 
-    /// The weights of a list, which is taken over, and behind them so many that are 1.
-    /// It takes no memory.
+    /// The masses in a list, followed by `ones` masses of 1. The list is taken over; no memory is
+    /// taken.
     pub fn with_ones(list: Vec<u64>, ones: u32) -> VertexWeights
         requires { length list.items + ones ≤ 4194304 }
         ensures { result ≡ list.items ++ replicate ones 1 }
@@ -59,7 +58,7 @@ impl VertexWeights {
         self.len() == 0
     }
 
-    /// The mass of a vertex of 1 to n.
+    /// The mass of vertex v, from 1 to n.
     pub fn of(&self, v: u32) -> u64
         requires from_one { 1 ≤ v }
         requires to_n { v ≤ length self.now }

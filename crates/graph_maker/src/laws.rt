@@ -1,13 +1,13 @@
-//! The laws of the made graph. The functions do nothing, and their contracts are the laws.
+//! The laws of the made graph. The functions do nothing; their contracts are the laws.
 
 ghost use Rattle.graph_maker.specs.Made.{LawOfConnectedMaking, LawOfMaking};
 
-/// The made graph has five edges for each ring: four round it, and one to the ring that follows.
+/// The made graph has five edges for each ring: four in it, and one to the next ring.
 pub fn making()
     ensures { LawOfMaking }
 {}
 
-/// The made graph is connected: every cut of it weighs at least 1.
+/// The made graph is connected: each cut weighs at least 1.
 pub fn connected_making()
     ensures { LawOfConnectedMaking }
 {}

@@ -13,7 +13,7 @@ fn double(u: u32, v: u32) -> Edge
     Edge { u, v, w: 2 }
 }
 
-/// Appends the edges of one ring at its first vertex.
+/// Appends the edges from the first vertex of a ring, in ring 0 with the link to the last ring.
 fn push_first(edges: &mut Vec<Edge>, rings: u32, ring: u32) -> Result<(), NoMemory>
     requires rings { rings ≤ 25000 }
     requires ring { ring < rings }
@@ -28,7 +28,7 @@ fn push_first(edges: &mut Vec<Edge>, rings: u32, ring: u32) -> Result<(), NoMemo
     Ok(())
 }
 
-/// Appends the other edges of one ring, with its link to the next one.
+/// Appends the other edges of a ring, with its link to the next one if there is one.
 fn push_others(edges: &mut Vec<Edge>, rings: u32, ring: u32) -> Result<(), NoMemory>
     requires rings { rings ≤ 25000 }
     requires ring { ring < rings }
@@ -43,11 +43,10 @@ fn push_others(edges: &mut Vec<Edge>, rings: u32, ring: u32) -> Result<(), NoMem
     Ok(())
 }
 
-/// The graph for a number from 12 to 100,000:
-/// the number rounded down to a multiple of 4 is its number of vertices.
+/// The graph for a number from 12 to 100,000. It has as many vertices as the number rounded down
+/// to a multiple of 4, and 5 edges for each 4 vertices.
 ///
-/// It takes 16 bytes of memory for each edge, of which it has five fourths as many as vertices,
-/// and is refused only where these are wanting. One step for each edge.
+/// It takes 16 bytes and O(1) steps for each edge, and fails only if it runs out of memory.
 pub fn make(alloc: Global, number: u32) -> Result<EdgeList, NoMemory>
     requires from { 12 ≤ number }
     requires to { number ≤ 100000 }

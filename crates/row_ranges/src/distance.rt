@@ -6,7 +6,8 @@ ghost use Rattle.cut_definitions.specs.declared.edge_list.Edge.{Edge};
 
 use cut_definitions::Edge;
 
-/// Whether the greater end of most edges is greater than the other by `distance` or more. O(m).
+/// Whether the ends of more than half of the edges differ by `distance` or more, as numbers of
+/// vertices. O(m).
 pub fn most_lead_far(edges: &[Edge], distance: u32) -> bool
     ensures { IsTrue result ↔ (length edges.now / 2 < count_by (λ (e : Edge). not (nat_lt (e.v - e.u) distance)) edges.now) }
 {

@@ -1,4 +1,4 @@
-//! The graph of a list of edges, whose rows several workers fill.
+//! The graph of a list of edges, whose rows several workers can fill.
 
 ghost use Rattle.std.specs.Prelude.{◌≡◌, IfOk};
 ghost use Rattle.weighted_graph.specs.Rows.{IsIndexed};
@@ -12,17 +12,17 @@ use std::thread::Threads;
 use weighted_graph::row_index::row_starts;
 use weighted_graph::{Arc, Graph, RowIndex};
 
-/// The least number of edges for which threads pay: below it they cost more than they save.
+/// The least number of edges for which threads pay off.
 const EDGES_FOR_THREADS: usize = 1_048_576;
 
-/// With fewer edges for each vertex the lists that the workers make for their
-/// vertices cost what they save.
+/// With fewer edges for each vertex, the lists that the workers make for their vertices cost as
+/// much as they save.
 const EDGES_FOR_EACH_VERTEX: usize = 8;
 
-/// The writes into the rows of so many vertices stay in the nearer caches.
+/// The writes into the rows of this many vertices stay in the nearer caches.
 const NEAR: u32 = 16_384;
 
-/// Whether several workers fill the rows sooner than one. Either answer is right.
+/// Whether several workers fill the rows sooner than one. This decides the running time only.
 fn is_shared(list: &EdgeList) -> bool {
     let edges = list.len();
     edges >= EDGES_FOR_THREADS
@@ -61,13 +61,15 @@ fn rows_by_ranges<R: Threads + Sync>(
     })
 }
 
-/// The graph of a list of edges, which is taken over, as `Graph::from_list` makes it. Where there
-/// are two workers or more, 1,048,576 edges or more, eight or more for each vertex, and most of
-/// these lead to a near vertex, its rows are filled side by side, each worker's for a range of
-/// vertices. More than 64 workers count as 64. Want of a thread alone costs no more than time.
+/// The graph of a list of edges, which is taken over, as from `Graph::from_list`.
 ///
-/// It takes O(n + m) steps for each worker, and memory in proportion to n + m. It is refused only
-/// where that is wanting; the list is gone then.
+/// With two or more workers, the rows of some graphs are filled in parallel, each worker's for a
+/// range of vertices. Such a graph has at least 1,048,576 edges and eight for each vertex, and
+/// most of them lead to a near vertex. More than 64 workers count as 64. If no thread starts, the
+/// call takes longer, and nothing else changes.
+///
+/// It takes O(n + m) steps for each worker, and memory in proportion to n + m. It fails only if it
+/// runs out of memory; the list is dropped then.
 pub fn graph_of_list<R: Threads + Sync>(
     rt: &R,
     alloc: Global,

@@ -1,4 +1,4 @@
-//! The rows of both halves of a range, filled side by side.
+//! The rows of both halves of a range, filled in parallel.
 
 ghost use Rattle.std.specs.Prelude.{ℕ, ◌≡◌, ◌++◌, List, IfOk, length};
 ghost use Rattle.std.specs.Thread.{IsSync};
@@ -11,8 +11,7 @@ use std::alloc::Global;
 use std::thread::{Threads, join_mut};
 use weighted_graph::Arc;
 
-/// Fills the rows of two ranges, which stand one after another, side by side.
-/// It answers the degrees of both.
+/// Fills the rows of two adjacent ranges in parallel, and returns the degrees of both.
 #[cycle(ranges)]
 fn fill_halves<R: Threads + Sync>(
     rt: &R,
@@ -41,8 +40,8 @@ fn fill_halves<R: Threads + Sync>(
     Ok(degrees)
 }
 
-/// Fills the rows of a range, its halves side by side where there are two workers or more for it.
-/// It answers the degrees.
+/// Fills the rows of a range, its halves in parallel if it has two or more workers, and returns
+/// the degrees.
 #[cycle(ranges)]
 pub(crate) fn fill_ranges<R: Threads + Sync>(
     rt: &R,

@@ -1,12 +1,12 @@
-//! A range of vertices, whose rows stand one after another.
+//! A range of vertices, whose rows follow one another.
 
 ghost use Rattle.std.specs.Prelude.{◌+◌, ◌<◌, ◌≤◌, length};
 
 use cut_definitions::Edge;
 
-/// A run of vertices from `first` on: all edges of the graph, where the row of each vertex of
-/// the run begins among those of all vertices and where the last one ends, and how many
-/// workers there are for the run.
+/// A run of vertices from `first` on, with all edges of the graph. `starts` says where the row of
+/// each vertex of the run begins among all rows, and where the last one ends. `workers` is the
+/// number of workers for the run.
 #[derive(Clone, Copy)]
 pub struct Range<'a> {
     pub edges: &'a [Edge],
@@ -15,7 +15,7 @@ pub struct Range<'a> {
     pub workers: u32,
 }
 
-/// The place at which a range is parted: about as many arcs stand before it as after it.
+/// The place at which a range is split, with about as many arcs before it as after it.
 pub(crate) fn middle(starts: &[usize]) -> usize
     requires { 3 ≤ length starts.now }
     ensures { (0 < result) × (result + 1 < length starts.now) }

@@ -1,4 +1,4 @@
-//! Classes of vertices, joined one pair after another.
+//! Classes of vertices, which are merged one pair at a time.
 
 ghost use Rattle.std.specs.Prelude.{◌≡◌, ◌+◌, ◌<◌, ◌≤◌, ℕ, IfOk, IsFalse, IsTrue, length, slice_index};
 ghost use Rattle.cut_definitions.specs.Weight.{VertexSet};
@@ -9,8 +9,8 @@ use cut_definitions::NoMemory;
 use std::alloc::Global;
 use std::marker::Model;
 
-/// The first vertex of a class. On the way to it each second vertex gets the parent of its parent,
-/// so that the next search is shorter.
+/// The first vertex of a class. On the way there, every second vertex gets the parent of its
+/// parent, so that the next search is shorter.
 fn first_of(parents: &mut [u32], v: u32) -> u32
     requires parents { AreParents parents.old }
     requires within { v < length parents.old }
@@ -31,7 +31,7 @@ fn first_of(parents: &mut [u32], v: u32) -> u32
     at
 }
 
-/// Numbers that are their own parents.
+/// A list of numbers in which each is its own parent.
 fn own_parents(alloc: Global, count: u32) -> Result<Vec<u32>, NoMemory>
     ensures long { IfOk result (λ parents. length parents.items ≡ count) }
     ensures own { IfOk result (λ parents. (v : ℕ) → v < count → slice_index parents.items v ≡ v) }
@@ -43,9 +43,9 @@ fn own_parents(alloc: Global, count: u32) -> Result<Vec<u32>, NoMemory>
     Ok(parents)
 }
 
-/// Classes of the numbers 0 to n, of which 0 stands for no vertex. Contracts see the
-/// parents. It is union-find by the trees of Galler and Fischer (1964), with path halving
-/// (Tarjan and van Leeuwen, 1984).
+/// Classes of the numbers 0 to n, in which 0 is no vertex. Contracts see the parents. This is
+/// union-find by the trees of Galler and Fischer (1964), with path halving (Tarjan and van
+/// Leeuwen, 1984).
 #[derive(Drop)]
 pub struct Classes {
     parents: Vec<u32>,
@@ -63,8 +63,8 @@ impl Model for Classes {
 }
 
 impl Classes {
-    /// Each number in a class of its own. It takes 4 bytes of memory for each,
-    /// and is refused only where that is wanting.
+    /// Each number from 0 to n in a class of its own. It takes 4 bytes for each, in O(n) steps,
+    /// and fails only if it runs out of memory.
     pub fn new(alloc: Global, n: u32) -> Result<Classes, NoMemory>
         requires { n ≤ 4194304 }
         ensures long { IfOk result (λ c. length c ≡ n + 1) }
@@ -74,7 +74,7 @@ impl Classes {
         Ok(Classes { parents })
     }
 
-    /// Whether two numbers are in one class. The ways to the firsts of both are halved.
+    /// Whether two numbers are in one class. The paths to the first vertices of both are halved.
     pub fn are_joined(&mut self, u: u32, v: u32) -> bool
         requires first { u < length self.old }
         requires second { v < length self.old }
@@ -88,7 +88,7 @@ impl Classes {
         first == second
     }
 
-    /// Makes the classes of two numbers one.
+    /// Merges the classes of two numbers. The paths to the first vertices of both are halved.
     pub fn join(&mut self, u: u32, v: u32)
         requires first { u < length self.old }
         requires second { v < length self.old }
@@ -101,9 +101,9 @@ impl Classes {
         parents[last as usize] = first.min(second);
     }
 
-    /// The numbers of the classes of the vertices 1 to n, in their order: a class comes before
-    /// another where its least vertex does. 0 is alone. It takes 4 bytes of memory for each
-    /// vertex, and is refused only where that is wanting.
+    /// The numbers of the classes of the vertices 1 to n. Classes are numbered from 1 in the order
+    /// of their least vertices, and 0 is alone. It takes 4 bytes a vertex, and fails only if it
+    /// runs out of memory.
     pub fn numbers(&self, alloc: Global) -> Result<Vec<u32>, NoMemory>
         requires { Respects self.now no_vertex }
         ensures numbers { IfOk result (λ l. AreNumbersOf self.now l.items) }
@@ -112,8 +112,8 @@ impl Classes {
         class_numbers(alloc, &self.parents)
     }
 
-    /// The number of the classes of the vertices 1 to n, where 0 is alone.
-    /// It takes O(n) steps and no memory.
+    /// The number of the classes of the vertices 1 to n; 0 is alone. It takes O(n) steps and no
+    /// memory.
     pub fn count(&self) -> u32
         requires { Respects self.now no_vertex }
         ensures { HasClasses self.now result }

@@ -30,8 +30,8 @@ pub(crate) fn class_numbers(alloc: Global, parents: &[u32]) -> Result<Vec<u32>, 
     Ok(numbers)
 }
 
-/// The number of the classes of the vertices from 1 on:
-/// that of the vertices that are their own parents.
+/// The number of the classes of the vertices from 1 on, which is the number of vertices that are
+/// their own parents.
 pub(crate) fn count_firsts(parents: &[u32]) -> u32
     requires parents { AreParents parents.now }
     requires some { 1 ≤ length parents.now }

@@ -18,7 +18,7 @@ use std::marker::Model;
 
 /// A set of the vertices 1 to n.
 ///
-/// The bit of vertex v is that of place v in the words; bit 0 and those past n are never set.
+/// Bit v of the words is that of vertex v. Bit 0 and the bits past n are never set.
 #[derive(Drop)]
 pub struct Side {
     n: u32,
@@ -36,8 +36,8 @@ impl Model for Side {
 }
 
 impl Side {
-    /// The empty set of vertices of 1 to n. It takes n/8 bytes of memory, and is refused only
-    /// where these are wanting.
+    /// The empty set of vertices of 1 to n. It takes n/8 bytes, in O(n/64) steps, and fails only
+    /// if it runs out of memory.
     pub fn empty(alloc: Global, n: u32) -> Result<Side, NoMemory>
         ensures { IfOk result (λ s. s ≡ record { vertices = n; members = [] }) }
     {
@@ -45,7 +45,7 @@ impl Side {
         Ok(Side { n, words })
     }
 
-    /// Puts a vertex of 1 to n in; where it is a member already, nothing changes.
+    /// Inserts a vertex of 1 to n. If it is a member already, nothing changes.
     pub fn insert(&mut self, v: u32)
         requires from_one { 1 ≤ v }
         requires to_n { v ≤ self.old.vertices }
@@ -54,7 +54,7 @@ impl Side {
         self.words[v as usize / 64] |= 1 << (v % 64);
     }
 
-    /// Takes a vertex of 1 to n out; where it is no member, nothing changes.
+    /// Removes a vertex of 1 to n. If it is not a member, nothing changes.
     pub fn remove(&mut self, v: u32)
         requires from_one { 1 ≤ v }
         requires to_n { v ≤ self.old.vertices }
@@ -72,7 +72,7 @@ impl Side {
         is_set(&self.words, v as usize)
     }
 
-    /// The greatest number that a member may have.
+    /// The greatest number that a member can have.
     pub fn n(&self) -> u32
         ensures value { result ≡ self.now.vertices }
         ensures ascending { IsAscendingWithin 1 self.now.vertices self.now.members }
@@ -80,7 +80,7 @@ impl Side {
         self.n
     }
 
-    /// Puts all members of another set over the same n in: the union. 64 vertices a step.
+    /// Makes this set the union with another one over the same n, in n/64 steps.
     pub fn join_in(&mut self, other: &Side)
         requires { self.old.vertices ≡ other.now.vertices }
         ensures { self.new ≡ listed self.old.vertices (either (has self.old.members) (has other.now.members)) }
@@ -88,7 +88,7 @@ impl Side {
         join_words(&mut self.words, &other.words);
     }
 
-    /// Takes all members of another set over the same n out: the difference. 64 vertices a step.
+    /// Removes all members of another set over the same n, in n/64 steps.
     pub fn take_out(&mut self, other: &Side)
         requires { self.old.vertices ≡ other.now.vertices }
         ensures { self.new ≡ listed self.old.vertices (minus (has self.old.members) (has other.now.members)) }
@@ -96,8 +96,7 @@ impl Side {
         clear_words(&mut self.words, &other.words);
     }
 
-    /// Puts in what is out, and takes out what is in: the complement in 1 to n.
-    /// 64 vertices a step.
+    /// Makes this set its complement in 1 to n, in n/64 steps.
     pub fn flip(&mut self)
         ensures { self.new ≡ listed self.old.vertices (complement (has self.old.members)) }
     {
@@ -105,7 +104,7 @@ impl Side {
         flip_within(&mut self.words, end);
     }
 
-    /// The number of members. 64 vertices a step.
+    /// The number of members, in n/64 steps.
     pub fn len(&self) -> u32
         ensures { result ≡ length self.now.members }
     {
@@ -119,8 +118,8 @@ impl Side {
         self.next_from(0).is_none()
     }
 
-    /// The least member that is v or greater, for any v; none exactly where there is none. Words
-    /// without members are skipped, 64 vertices a step.
+    /// The least member that is v or greater, for any v; none exactly if there is no such member.
+    /// Words without members are skipped, 64 vertices a step.
     pub fn next_from(&self, v: u32) -> Option<u32>
         ensures { MatchOption result ((u : ℕ) → v ≤ u → has self.now.members u ≡ false) (IsNextFrom self.now v) }
     {
@@ -133,8 +132,8 @@ impl Side {
         }
     }
 
-    /// The order of the ascending lists of the members, a list that another begins with first;
-    /// where these are equal, the order of n. Equal words are skipped, 64 vertices a step.
+    /// The order of the ascending lists of members, in which a prefix comes first. If the lists
+    /// are equal, it is the order of n. Equal words are skipped, 64 vertices a step.
     pub fn compare(&self, other: &Side) -> Ordering
         ensures { result ≡ ordering_then (slice_cmp nat_cmp self.now.members other.now.members) (nat_cmp self.now.vertices other.now.vertices) }
     {

@@ -1,4 +1,4 @@
-//! Bits in words: the place k of a list of words is bit k mod 64 of word k div 64.
+//! Bits in words: place k of a list of words is bit k mod 64 of word k div 64.
 
 ghost use Rattle.std.specs.Prelude.{◌≡◌, ◌==◌, ◌&&◌, ℕ, ◌+◌, ◌*◌, ◌/◌, ◌^◌, ◌<◌, ◌≤◌, false, nat_lt, not, length, slice_index, bit_and, bit_or, MatchOption};
 ghost use Rattle.std.specs.List.{filter, range_with_len};
@@ -7,7 +7,7 @@ ghost use Rattle.vertex_set.specs.Side.{has_bit, IsNextBit, IsFirstDifference, I
 
 use std::cmp::Ordering;
 
-/// Adds the bits of other words.
+/// Sets the bits that are set in other words.
 pub(crate) fn join_words(words: &mut [u64], others: &[u64])
     requires { length words.old ≡ length others.now }
     ensures { (k : ℕ) → k < length words.old → slice_index words.new k ≡ bit_or (slice_index words.old k) (slice_index others.now k) }
@@ -17,7 +17,7 @@ pub(crate) fn join_words(words: &mut [u64], others: &[u64])
     }
 }
 
-/// Takes out the bits of other words.
+/// Clears the bits that are set in other words.
 pub(crate) fn clear_words(words: &mut [u64], others: &[u64])
     requires { length words.old ≡ length others.now }
     ensures fits { (k : ℕ) → slice_index others.now k < 2 ^ 64 }
@@ -28,7 +28,7 @@ pub(crate) fn clear_words(words: &mut [u64], others: &[u64])
     }
 }
 
-/// Turns each bit over.
+/// Flips each bit.
 fn flip_words(words: &mut [u64])
     ensures fits { (k : ℕ) → slice_index words.old k < 2 ^ 64 }
     ensures flipped { (k : ℕ) → k < length words.old → slice_index words.new k ≡ bit_not w64 (slice_index words.old k) }
@@ -38,7 +38,7 @@ fn flip_words(words: &mut [u64])
     }
 }
 
-/// Takes out one bit.
+/// Clears one bit.
 fn clear_bit(words: &mut [u64], place: usize)
     requires { place / 64 < length words.old }
     ensures { (k : ℕ) → has_bit words.new k ≡ has_bit words.old k && not (place == k) }
@@ -46,7 +46,7 @@ fn clear_bit(words: &mut [u64], place: usize)
     words[place / 64] &= !(1 << (place % 64));
 }
 
-/// Takes out the bits from a place of the last word on.
+/// Clears the bits from a place of the last word on.
 fn clear_from(words: &mut [u64], end: usize)
     requires { length words.old ≡ end / 64 + 1 }
     ensures { (k : ℕ) → has_bit words.new k ≡ has_bit words.old k && nat_lt k end }
@@ -54,7 +54,7 @@ fn clear_from(words: &mut [u64], end: usize)
     words[end / 64] &= !(u64::MAX << (end % 64));
 }
 
-/// Turns over the bits of the places from 1 up to one of the last word, and clears all others.
+/// Flips the bits of the places from 1 to one of the last word, and clears all others.
 pub(crate) fn flip_within(words: &mut [u64], end: usize)
     requires { length words.old ≡ end / 64 + 1 }
     ensures { (k : ℕ) → has_bit words.new k ≡ (not (has_bit words.old k) && not (0 == k)) && nat_lt k end }
@@ -84,7 +84,7 @@ pub(crate) fn is_set(words: &[u64], place: usize) -> bool
     words[place / 64] >> (place % 64) & 1 == 1
 }
 
-/// The least place from `from` on whose bit is set.
+/// The least place from `from` on whose bit is set, or none.
 pub(crate) fn next_bit(words: &[u64], from: usize) -> Option<usize>
     requires within { from / 64 < length words.now }
     requires few { length words.now ≤ 2 ^ 32 }
@@ -104,7 +104,7 @@ pub(crate) fn next_bit(words: &[u64], from: usize) -> Option<usize>
     None
 }
 
-/// The least place whose bit is set in one list of words and not in the other, as far as both go.
+/// The least place whose bits differ in two lists of words, as far as both go.
 pub(crate) fn first_difference(words: &[u64], others: &[u64]) -> Option<usize>
     requires few { length words.now ≤ 2 ^ 32 }
     ensures { MatchOption result
@@ -120,8 +120,9 @@ pub(crate) fn first_difference(words: &[u64], others: &[u64]) -> Option<usize>
     None
 }
 
-/// How a list that goes on with a place stands to the list of the set places, which agrees with it
-/// before the place and lacks it: before it, where some set place is left, and else after it.
+/// The order of a list of places that contains `place`, against the list of set places. They agree
+/// before `place`, and the second list lacks it. So the first list comes before the second if some
+/// later place is set, and otherwise after it.
 pub(crate) fn order_at(words: &[u64], place: usize) -> Ordering
     requires within { place / 64 < length words.now }
     requires few { length words.now ≤ 2 ^ 32 }

@@ -7,7 +7,7 @@ ghost use Rattle.vertex_classes.specs.Classes.{Respects};
 use crate::graph::Graph;
 use vertex_classes::Classes;
 
-/// Makes the ends of each edge one, where each vertex is alone.
+/// Joins the ends of each edge, starting from classes in which each vertex is alone.
 pub(crate) fn join_ends(graph: &Graph, classes: &mut Classes)
     requires long { length classes.old ≡ graph.now.vertices + 1 }
     requires alone { (s : VertexSet) → Respects classes.old s }

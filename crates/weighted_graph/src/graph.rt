@@ -35,8 +35,8 @@ pub struct Arc {
     pub weight: u64,
 }
 
-/// The weight of the arc to a vertex in an ascending row,
-/// or 0 where the row has none, by binary search.
+/// The weight of the arc to a vertex in an ascending row, or 0 if the row has no such arc. Binary
+/// search: O(log of the row's length).
 pub fn weight_to(row: &[Arc], v: u32) -> u64
     requires { AllPairs (λ (a b : Arc). a.to < b.to) row.now }
     ensures { result ≡ weight_in row.now v }
@@ -69,9 +69,10 @@ impl Model for Graph {
 }
 
 impl Graph {
-    /// The graph of a list of edges, in O(n + m). It is refused only where memory is wanting.
-    /// While it is built it takes 8 bytes more a vertex, and 1.5 an edge where a large graph's
-    /// edges lead far apart, before the edges are copied.
+    /// The graph of a list of edges, in O(n + m). It fails only if it runs out of memory.
+    ///
+    /// While it is built it takes 8 bytes more a vertex, before the edges are copied. If the edges
+    /// of a large graph lead far apart, it also takes 1.5 bytes more an edge.
     pub fn build(alloc: Global, list: &EdgeList) -> Result<Graph, NoMemory>
         ensures { IfOk result (λ g. g ≡ list.now) }
     {
@@ -81,8 +82,8 @@ impl Graph {
         Ok(Graph { list, rows })
     }
 
-    /// The graph of a list of edges, as `build` makes it, but that the list is taken over in place
-    /// of a copy, which saves 16 bytes an edge. Where it is refused the list is gone.
+    /// The graph of a list of edges, as from `build`. The list is taken over and not copied, which
+    /// saves 16 bytes an edge. If memory runs out, the list is dropped.
     pub fn from_list(alloc: Global, list: EdgeList) -> Result<Graph, NoMemory>
         ensures { IfOk result (λ g. g ≡ list) }
     {
@@ -90,8 +91,8 @@ impl Graph {
         Ok(Graph::from_rows(list, rows))
     }
 
-    /// The graph of a list of edges and of its rows, which whoever calls has made.
-    /// Both are taken over.
+    /// The graph of a list of edges and of its rows, which the caller has made. Both are taken
+    /// over.
     pub fn from_rows(list: EdgeList, rows: RowIndex) -> Graph
         requires { IsIndexed list rows.starts.items rows.arcs.items rows.degrees.items }
         ensures { result ≡ list }
@@ -123,7 +124,7 @@ impl Graph {
         self.list.edge(i)
     }
 
-    /// All edges, ascending by their ends, lent without a copy.
+    /// All edges, ascending by their ends, as a borrowed slice.
     pub fn edge_list(&self) -> &[Edge]
         ensures value { result.now ≡ self.now.edges }
         ensures edge_list { IsEdgeList self.now }
@@ -131,23 +132,23 @@ impl Graph {
         self.list.edges()
     }
 
-    /// The list of edges of which the graph was made, lent without a copy.
+    /// The list of edges of which the graph was made, borrowed.
     pub fn list(&self) -> &EdgeList
         ensures { result.now ≡ self.now }
     {
         &self.list
     }
 
-    /// The list of edges of which the graph was made, given back. The rows are dropped.
-    /// It takes no memory.
+    /// Returns the list of edges of which the graph was made, and drops the rows. It takes no
+    /// memory.
     pub fn into_list(self) -> EdgeList
         ensures { result ≡ self }
     {
         self.list
     }
 
-    /// The edges at a vertex, ascending by the other end, lent without a copy.
-    /// The row of 0 is empty.
+    /// The edges at a vertex, ascending by the other end, as a borrowed slice. The row of 0 is
+    /// empty.
     pub fn row(&self, v: u32) -> &[Arc]
         requires { v ≤ self.now.vertices }
         ensures value { result.now ≡ row_of self.now v }
@@ -159,7 +160,7 @@ impl Graph {
         &arcs[start..end]
     }
 
-    /// The sum of the weights of the edges at a vertex, which is kept.
+    /// The sum of the weights of the edges at a vertex, which is stored: O(1).
     pub fn degree(&self, v: u32) -> u64
         requires { v ≤ self.now.vertices }
         ensures { result ≡ weight self.now (single v) }
@@ -167,7 +168,7 @@ impl Graph {
         self.rows.degrees[v as usize]
     }
 
-    /// The least degree of a vertex, which is the weight of a cut. O(n).
+    /// The least degree of a vertex, which is the weight of some cut. O(n).
     pub fn least_degree(&self) -> u64
         requires { 2 ≤ self.now.vertices }
         ensures least { IsLeastDegree self.now result }
@@ -180,8 +181,8 @@ impl Graph {
         least
     }
 
-    /// The weight of the edge between two vertices, or 0 where there is none. It is searched for
-    /// in the shorter row, in the logarithm of its length.
+    /// The weight of the edge between two vertices, or 0 if there is no such edge. Binary search
+    /// in the shorter row: O(log of its length).
     pub fn weight(&self, u: u32, v: u32) -> u64
         requires { u ≤ self.now.vertices }
         ensures { result ≡ between self.now (single u) (single v) }
@@ -196,8 +197,8 @@ impl Graph {
         weight_to(row, v)
     }
 
-    /// The weight of a set of vertices of the same n: the sum of the weights of the edges with
-    /// exactly one end in it. It goes over all edges.
+    /// The weight of a set of vertices over the same n: the sum of the weights of the edges with
+    /// exactly one end in it. O(m).
     pub fn weight_of(&self, side: &Side) -> u64
         requires { side.now.vertices ≡ self.now.vertices }
         ensures { result ≡ weight self.now (has side.now.members) }
@@ -213,10 +214,11 @@ impl Graph {
         total
     }
 
-    /// The components as classes of the vertices: the ends of one edge after another are made one
-    /// by union-find (Galler and Fischer, 1964), in O(m log(n) + n) steps. The sets that have all
-    /// or none of each class are just those of weight 0. It takes 4 bytes a vertex, and is refused
-    /// only where memory is wanting.
+    /// The components as classes of the vertices. The ends of each edge are joined by union-find
+    /// (Galler and Fischer, 1964), in O(m log(n) + n) steps.
+    ///
+    /// The sets with all or none of each class are exactly those of weight 0. It takes 4 bytes a
+    /// vertex, and fails only if it runs out of memory.
     pub fn component_classes(&self, alloc: Global) -> Result<Classes, NoMemory>
         ensures long { IfOk result (λ c. length c ≡ self.now.vertices + 1) }
         ensures joined { IfOk result (λ c. (s : VertexSet) → Respects c s ↔ (weight self.now s ≡ 0)) }
@@ -227,8 +229,8 @@ impl Graph {
         Ok(classes)
     }
 
-    /// The number of components; 0 exactly where there is no vertex. It goes by the classes of
-    /// `component_classes`, and is refused only where memory is wanting.
+    /// The number of components; 0 exactly if there is no vertex. It counts the classes of
+    /// `component_classes`, at the same cost, and fails only if it runs out of memory.
     pub fn components(&self, alloc: Global) -> Result<u32, NoMemory>
         ensures counted { IfOk result (λ count. HasComponents self.now count) }
         ensures none { IfOk result (λ count. (count ≡ 0) ↔ (self.now.vertices ≡ 0)) }
@@ -237,9 +239,12 @@ impl Graph {
         Ok(classes.count())
     }
 
-    /// The graph on the classes of labels, one for each vertex: the weight between two classes is
-    /// the sum over the edges between their vertices, and edges inside a class are gone. The edges
-    /// between classes are sorted once, in O(m log m). It is refused only where memory is wanting.
+    /// The graph on the classes of labels, of which there is one for each vertex. The weight
+    /// between two classes is the sum over the edges between their vertices; edges inside a class
+    /// are dropped.
+    ///
+    /// The edges between classes are sorted once, in O(m log m). It fails only if it runs out of
+    /// memory.
     pub fn relabel(&self, alloc: Global, labels: &Labels) -> Result<Graph, NoMemory>
         requires { length labels.now ≡ self.now.vertices }
         ensures { IfOk result (λ g. g ≡ relabel self.now labels.now) }

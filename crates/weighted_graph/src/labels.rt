@@ -1,4 +1,4 @@
-//! Labels, which give each vertex a class: what a contraction makes one vertex of.
+//! Labels, which give each vertex a class; a contraction makes each class one vertex.
 
 ghost use Rattle.std.specs.Prelude.{◌≡◌, ℕ, ◌≤◌, IfOk, length, map};
 ghost use Rattle.cut_definitions.specs.Contraction.{label, classes, lift, IsLabels};
@@ -11,9 +11,9 @@ use std::marker::Model;
 use vertex_classes::Classes;
 use vertex_set::Side;
 
-/// A class of 1 to k for each of the vertices 1 to n, each class used, with vertex 1 in
-/// class 1. There are at most 4,194,304 vertices. Contracts see the list of the classes in
-/// the order of the vertices.
+/// A class of 1 to k for each of the vertices 1 to n. Each class is used, and vertex 1 is in class
+/// 1. There are at most 4,194,304 vertices. Contracts see the list of the classes in the order of
+/// the vertices.
 #[derive(Drop)]
 pub struct Labels {
     class_of: Vec<u32>,
@@ -32,8 +32,8 @@ impl Model for Labels {
 }
 
 impl Labels {
-    /// The labels of a list, which has one for each vertex and is taken over.
-    /// It takes no memory, and O(n) steps.
+    /// The labels in a list, which has one for each vertex and is taken over. It takes no memory,
+    /// and O(n) steps.
     pub fn from_list(list: Vec<u32>) -> Labels
         requires labels { IsLabels list.items }
         requires few { length list.items ≤ 4194304 }
@@ -49,8 +49,9 @@ impl Labels {
         }
     }
 
-    /// The labels that number classes of vertices in the order of their least vertices. 0 is in a
-    /// class alone. It takes 4 bytes a vertex, and is refused only where memory is wanting.
+    /// The labels that number classes of vertices in the order of their least vertices. The number
+    /// 0 is alone in its class. It takes 4 bytes a vertex, and fails only if it runs out of
+    /// memory.
     pub fn of_classes(alloc: Global, classes: &Classes) -> Result<Labels, NoMemory>
         requires { Respects classes.now no_vertex }
         ensures { IfOk result (AreNumbersOf classes.now) }
@@ -86,7 +87,7 @@ impl Labels {
         self.class_of.len() as u32
     }
 
-    /// The classes of the vertices 1 to n, in their order, lent without a copy.
+    /// The classes of the vertices 1 to n, in their order, as a borrowed slice.
     pub fn as_slice(&self) -> &[u32]
         ensures value { result.now ≡ self.now }
         ensures labels { IsLabels self.now }
@@ -94,8 +95,8 @@ impl Labels {
         &self.class_of
     }
 
-    /// First these labels, then `next` on their classes, of which it labels each, in O(n). It is
-    /// refused only where memory is wanting.
+    /// The composition: first these labels, then `next`, which has a label for each of their
+    /// classes. O(n). It fails only if it runs out of memory.
     pub fn compose(&self, alloc: Global, next: &Labels) -> Result<Labels, NoMemory>
         requires { length next.now ≡ classes self.now }
         ensures { IfOk result (λ l. l ≡ map (label next.now) self.now) }
@@ -110,8 +111,8 @@ impl Labels {
         Ok(Labels::from_list(composed))
     }
 
-    /// All vertices whose class is in a set of classes, in O(n).
-    /// It is refused only where memory is wanting.
+    /// All vertices whose class is in a set of classes, in O(n). It fails only if it runs out of
+    /// memory.
     pub fn lift(&self, alloc: Global, side: &Side) -> Result<Side, NoMemory>
         requires { side.now.vertices ≡ classes self.now }
         ensures { IfOk result (λ s. s ≡ record { vertices = length self.now; members = lift self.now side.now.members }) }

@@ -1,4 +1,4 @@
-//! Edges sorted by their ends, and those with the same ends made one.
+//! Edges sorted by their ends, with those that have the same ends merged.
 
 ghost use Rattle.std.specs.Prelude.{◌≡◌, ℕ, Bool, ◌↔◌, ◌≤◌, ◌^◌, All, IsTrue, length, take};
 ghost use Rattle.std.specs.List.{sum_by};
@@ -9,7 +9,7 @@ ghost use Rattle.weighted_graph.specs.Merging.{term, AreMergeable, AscendByEnds,
 
 use cut_definitions::{Edge, EdgeList};
 
-/// Sorts edges by their ends, in O(m log m).
+/// Sorts edges by their ends, in O(m log m). It takes no memory.
 pub fn sort_by_ends(edges: &mut [Edge])
     ensures permutation { IsPermutation edges.old edges.new }
     ensures sorted { IsSortedByEnds edges.new }
@@ -24,8 +24,8 @@ fn have_same_ends(d: Edge, e: Edge) -> bool
     d.u == e.u && d.v == e.v
 }
 
-/// Makes sorted edges with the same ends one, and answers how many there
-/// are then: they come first.
+/// Merges sorted edges with the same ends, and returns the number of merged edges, which come
+/// first.
 fn merge(edges: &mut [Edge]) -> usize
     requires ascending { AscendByEnds edges.old }
     requires few { length edges.old ≤ 16777216 }
@@ -54,9 +54,9 @@ fn merge(edges: &mut [Edge]) -> usize
     kept + 1
 }
 
-/// The graph of sorted edges on the vertices 1 to n, where edges with the same ends become one
-/// with the sum of their weights. The list is taken over and shortened, in O(m); the room that is
-/// left over is given back.
+/// The graph of sorted edges on the vertices 1 to n. Edges with the same ends become one, with the
+/// sum of their weights. The list is taken over and shortened, in O(m), and its spare room is
+/// freed.
 pub fn merged_list(n: u32, sorted: Vec<Edge>) -> EdgeList
     requires { AreMergeable n sorted.items }
     ensures vertices { result.vertices ≡ n }

@@ -11,7 +11,7 @@ use crate::merging::{merged_list, sort_by_ends};
 use cut_definitions::{Edge, EdgeList, NoMemory};
 use std::alloc::Global;
 
-/// The edges between the classes of their ends, but for those within a class.
+/// The edges between the classes of their ends, without those inside a class.
 fn class_edges(alloc: Global, edges: &[Edge], labels: &Labels) -> Result<Vec<Edge>, NoMemory>
     requires within { All (IsEdgeWithin (length labels.now)) edges.now }
     ensures { IfOk result (λ es. es.items ≡ flat_map (between_classes labels.now) edges.now) }
@@ -31,10 +31,12 @@ fn class_edges(alloc: Global, edges: &[Edge], labels: &Labels) -> Result<Vec<Edg
     Ok(between)
 }
 
-/// The edges of the graph on the classes of labels, one for each vertex: the weight between two
-/// classes is the sum over the edges between their vertices, and edges inside a class are gone.
-/// The edges between classes are copied and sorted once, in O(m log m). It is refused only
-/// where memory is wanting.
+/// The edges of the graph on the classes of labels, of which there is one for each vertex. The
+/// weight between two classes is the sum over the edges between their vertices; edges inside a
+/// class are dropped.
+///
+/// The edges between classes are copied and sorted once, in O(m log m). It fails only if it runs
+/// out of memory.
 pub fn relabel_list(alloc: Global, list: &EdgeList, labels: &Labels) -> Result<EdgeList, NoMemory>
     requires { length labels.now ≡ list.now.vertices }
     ensures { IfOk result (λ l. l ≡ relabel list.now labels.now) }
