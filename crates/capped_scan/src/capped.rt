@@ -14,8 +14,8 @@ use std::alloc::Global;
 use std::marker::Model;
 use weighted_graph::{Arc, Graph};
 
-/// A vertex that was scanned, the weight of the set of all vertices scanned by then,
-/// and whether that set is everything.
+/// A vertex that was scanned, the weight of the set of all vertices scanned so far, and whether
+/// that set has all vertices.
 #[derive(Clone, Copy, Debug, PartialEq, Eq)]
 pub struct Scanned {
     pub vertex: u32,
@@ -23,26 +23,26 @@ pub struct Scanned {
     pub all: bool,
 }
 
-/// A scan of a graph by maximum adjacency: it takes each time a vertex with the greatest weight to
-/// those taken before, where weights above the cap count as the cap.
+/// A scan of a graph by maximum adjacency, with a cap: CAPFOREST (Nagamochi, Ono and Ibaraki,
+/// 1994). In each turn it takes a vertex with the greatest weight to those taken before, where
+/// weights above the cap count as the cap.
 ///
-/// It keeps no copy of its graph, and takes all its memory when it is made. The greatest weight is
-/// found by a tree of maxima over the vertices, so a vertex of d neighbours costs
-/// O((d + 1) log n). Vertices can be dropped; a vertex that is dropped is as if it were not in the
-/// graph. The scan is that of CAPFOREST (Nagamochi, Ono and Ibaraki, 1994).
+/// It keeps no copy of its graph, and takes all its memory when it is made. A tree of maxima over
+/// the vertices finds the greatest weight, so a vertex with d neighbours costs O((d + 1) log n). A
+/// vertex that is dropped counts as not in the graph.
 #[derive(Drop)]
 pub struct Scan {
     n: u32,
     root: u32,
     cap: u64,
 
-    // a tree of maxima over the keys of all numbers below 2^height, a power of two above n: the
-    // key of a vertex that waits is one more than its link, all others are 0
+    // A tree of maxima over the keys of all numbers below 2^height, a power of two above n. The
+    // key of a waiting vertex is one more than its link, all others are 0.
     height: u32,
     size: usize,
     tree: Vec<u64>,
 
-    // a mark for each scanned vertex, and these vertices from the back, from `free` on
+    // a mark for each scanned vertex, and these vertices, latest first, from `free` on
     scanned: Vec<bool>,
     order: Vec<u32>,
     free: usize,
@@ -72,11 +72,11 @@ impl Model for Scan {
 impl Scan {
     ghost use Rattle.capped_scan.specs.Scan.{ScanState, StandsFor, IsChoice, IsStarted, IsWithout, IsNext, IsAbsorbed, IsRowOf, NoneWaits, waits, link_of, rank};
 
-    /// A scan of the graph that begins at vertex 1 with the cap 0;
-    /// where there is no vertex nothing waits.
+    /// A scan of the graph that begins at vertex 1 with the cap 0. Without a vertex, nothing
+    /// waits.
     ///
-    /// It takes time and memory O(n), and all the memory that the scan ever takes.
-    /// Want of memory is its only refusal.
+    /// It takes time and memory O(n), which is all the memory that the scan ever takes. It fails
+    /// only if it runs out of memory.
     pub fn new(alloc: Global, graph: &Graph) -> Result<Scan, NoMemory>
         ensures stands { IfOk result (λ s. StandsFor s graph.now) }
         ensures started { 1 ≤ graph.now.vertices → IfOk result (λ s. IsStarted s graph.now.vertices 1 0) }
@@ -105,8 +105,8 @@ impl Scan {
         Ok(scan)
     }
 
-    /// Forgets all: nothing is scanned or dropped, and the scan will begin at the root, a vertex
-    /// from 1 to n. With the cap 0 every link is 0.
+    /// Starts anew: nothing is scanned or dropped, and the scan begins at the root, a vertex of 1
+    /// to n. With the cap 0 every link is 0. O(n).
     pub fn start(&mut self, root: u32, cap: u64)
         requires root_from_one { 1 ≤ root }
         requires root_to_n { root ≤ self.old.vertices }
@@ -116,8 +116,8 @@ impl Scan {
         self.restart(root, cap);
     }
 
-    /// The vertex that `next` would scan; nothing changes.
-    /// None just where every vertex is scanned or dropped.
+    /// The vertex that `next` would scan; nothing changes. None exactly if every vertex is scanned
+    /// or dropped.
     pub fn peek(&mut self, graph: &Graph) -> Option<u32>
         requires { StandsFor self.old graph.now }
         ensures unchanged { self.new ≡ self.old }
@@ -127,8 +127,9 @@ impl Scan {
         self.choose()
     }
 
-    /// Scans a vertex: first the root, unless it was dropped, then each time one with the greatest
-    /// link, the least number among ties. None just where every vertex is scanned or dropped.
+    /// Scans a vertex: first the root, unless it was dropped, then in each turn one with the
+    /// greatest link, the least number among ties. None exactly if every vertex is scanned or
+    /// dropped.
     pub fn next(&mut self, graph: &Graph) -> Option<Scanned>
         requires { StandsFor self.old graph.now }
         ensures stands { StandsFor self.new graph.now }
@@ -146,9 +147,9 @@ impl Scan {
         })
     }
 
-    /// The lesser of the cap and the weight from the scanned vertices to a vertex from 1 to n; 0
-    /// where that is scanned or dropped or nothing is scanned. Every cut that parts the vertex
-    /// scanned last from it weighs at least that.
+    /// The lesser of the cap and the weight from the scanned vertices to a vertex of 1 to n. It is
+    /// 0 if that vertex is scanned or dropped, or nothing is scanned. Every cut that separates it
+    /// from the vertex scanned last weighs at least that.
     pub fn link(&self, graph: &Graph, y: u32) -> u64
         requires stands { StandsFor self.now graph.now }
         requires from_one { 1 ≤ y }
@@ -160,7 +161,7 @@ impl Scan {
         self.tree[self.size + y as usize].saturating_sub(1)
     }
 
-    /// Drops a vertex from 1 to n that is not scanned: it will not be.
+    /// Drops a vertex of 1 to n that is not scanned, so that it never will be. O(log n).
     pub fn drop_vertex(&mut self, y: u32)
         requires from_one { 1 ≤ y }
         requires to_n { y ≤ self.old.vertices }
@@ -172,7 +173,7 @@ impl Scan {
         write(self.tree.as_mut_slice(), self.size, leaf, 0);
     }
 
-    /// Forgets all.
+    /// Starts anew from a root with a cap.
     fn restart(&mut self, root: u32, cap: u64)
         requires { root ≤ self.old.vertices }
         ensures started { IsStarted self.new self.old.vertices root cap }
@@ -203,8 +204,8 @@ impl Scan {
         Some((leaf - self.size) as u32)
     }
 
-    /// Scans a vertex that waits, and raises the keys along its row. It answers the weight of the
-    /// row to the vertices scanned before.
+    /// Scans a waiting vertex, and raises the keys along its row. It returns the weight of the row
+    /// to the vertices scanned before.
     fn absorb(&mut self, row: &[Arc], x: u32) -> u64
         requires waiting { waits self.old x ≡ true }
         requires row { IsRowOf self.old.vertices row.now }

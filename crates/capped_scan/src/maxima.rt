@@ -1,11 +1,10 @@
-//! A tree of maxima over numbers, in one slice: node 1 is the root, the nodes 2 i and 2 i + 1
-//! stand below node i, and the numbers themselves are the second half, the leaves. It is also
-//! called a tournament tree.
+//! A tree of maxima over numbers, also called a tournament tree, in one slice. Node 1 is the root,
+//! the nodes 2 i and 2 i + 1 are below node i, and the numbers are the second half, the leaves.
 
 ghost use Rattle.std.specs.Prelude.{◌≡◌, ℕ, ◌+◌, ◌*◌, ◌<◌, ◌≤◌, ◌^◌, length, slice_index};
 ghost use Rattle.capped_scan.specs.Maxima.{IsMaxTree, IsWritten};
 
-/// Writes the inner nodes over the leaves that are there.
+/// Computes the inner nodes from the leaves.
 fn build(tree: &mut [u64], size: usize)
     requires long { length tree.old ≡ 2 * size }
     ensures tree { IsMaxTree size tree.new }
@@ -18,8 +17,8 @@ fn build(tree: &mut [u64], size: usize)
     }
 }
 
-/// Writes the number 1 into the leaves 1 to n, and the inner nodes;
-/// the leaf 0 and those after n stay.
+/// Writes the number 1 into the leaves 1 to n, and computes the inner nodes. Leaf 0 and those
+/// after n are unchanged. O(size).
 pub fn write_ones(tree: &mut [u64], size: usize, n: usize)
     requires long { length tree.old ≡ 2 * size }
     requires room { n < size }
@@ -34,7 +33,7 @@ pub fn write_ones(tree: &mut [u64], size: usize, n: usize)
     build(tree, size);
 }
 
-/// Writes a number into a leaf, and the nodes above it as far as they change.
+/// Writes a number into a leaf, and updates the nodes above it as far as they change. O(log size).
 pub fn write(tree: &mut [u64], size: usize, leaf: usize, number: u64)
     requires tree { IsMaxTree size tree.old }
     requires low { size ≤ leaf }
@@ -53,7 +52,7 @@ pub fn write(tree: &mut [u64], size: usize, leaf: usize, number: u64)
     }
 }
 
-/// The first leaf with the greatest number, of a tree of this height.
+/// The first leaf with the greatest number, in a tree of this height. O(height).
 pub fn first_greatest(tree: &[u64], height: u32) -> usize
     requires { IsMaxTree (2 ^ height) tree.now }
     ensures low { 2 ^ height ≤ result }

@@ -1,4 +1,4 @@
-//! Raising the keys of the vertices along a row.
+//! Raising the keys of vertices along a row.
 
 ghost use Rattle.std.specs.Prelude.{◌≡◌, ℕ, ◌+◌, ◌*◌, ◌<◌, ◌≤◌, ◌^◌, true, length, slice_index, if◌then◌else◌};
 ghost use Rattle.std.specs.List.{sum_by, All};
@@ -25,8 +25,8 @@ fn raise(tree: &mut [u64], size: usize, leaf: usize, weight: u64, cap: u64)
     }
 }
 
-/// Adds the weights of a row's arcs to the links of their ends, up to the cap, where these wait.
-/// It answers the weight of the arcs to marked vertices, which do not wait.
+/// Adds the weights of a row's arcs to the links of those ends that wait, up to the cap. It
+/// returns the weight of the arcs to marked vertices, which do not wait. O(d log size) for d arcs.
 pub fn raise_along(row: &[Arc], cap: u64, scanned: &[bool], tree: &mut [u64], size: usize) -> u64
     requires tree { IsMaxTree size tree.old }
     requires marks { length scanned.now ≤ size }

@@ -5,7 +5,7 @@ ghost use Rattle.std.specs.Prelude.{◌≡◌};
 
 use std::alloc::AllocError;
 
-/// Why a best cut is refused.
+/// Why a best cut was not computed.
 #[derive(Clone, Copy, Debug, PartialEq, Eq)]
 pub enum BestRefusal {
     /// The number of components times one more than the sum of all weights is above 2^32.
@@ -15,7 +15,7 @@ pub enum BestRefusal {
         /// The sum of all weights.
         total: u128,
     },
-    /// Memory was wanting.
+    /// The call ran out of memory.
     NoMemory,
 }
 

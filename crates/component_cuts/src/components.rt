@@ -18,7 +18,7 @@ use std::marker::Model;
 use vertex_set::Side;
 use weighted_graph::{Graph, Labels};
 
-// the most components whose number of unions is told
+// the most components for which the number of unions is returned
 const MOST_COUNTED: u32 = 127;
 
 // the most bits of the table of sums
@@ -44,16 +44,17 @@ impl Model for Components {
 }
 
 impl Components {
-    /// The components of a graph, by its list of edges, as `of_list`.
+    /// The components of a graph, from its list of edges, as `of_list`, at the same cost. It fails
+    /// only if it runs out of memory.
     pub fn of(alloc: Global, graph: &Graph) -> Result<Components, NoMemory>
         ensures { IfOk result (AreComponents graph.now) }
     {
         Components::of_list(alloc, graph.list())
     }
 
-    /// The components of a list of edges: the ends of one edge after another are made one by
-    /// union-find (Galler and Fischer, 1964), in O(m log(n) + n) steps. It takes 12 bytes a
-    /// vertex, of which 4 are kept, and is refused only where memory is wanting.
+    /// The components of a list of edges. The ends of each edge are joined by union-find (Galler
+    /// and Fischer, 1964), in O(m log(n) + n) steps. It takes 12 bytes a vertex, of which 4 are
+    /// kept, and fails only if it runs out of memory.
     pub fn of_list(alloc: Global, list: &EdgeList) -> Result<Components, NoMemory>
         ensures { IfOk result (AreComponents list.now) }
     {
@@ -65,7 +66,7 @@ impl Components {
         Ok(Components { n, count, part_of })
     }
 
-    /// The number c of components; 0 exactly where there is no vertex.
+    /// The number c of components; 0 exactly if there is no vertex.
     pub fn len(&self) -> u32
         ensures value { result ≡ length self.now.parts }
         ensures division { IsDivision self.now }
@@ -84,8 +85,8 @@ impl Components {
         self.part_of[v as usize]
     }
 
-    /// The number of the minimum cuts, 2^(c-1) - 1 with c components, of which there is at least
-    /// one; none exactly where c is above 127.
+    /// The number of minimum cuts, 2^(c-1) - 1 for c components. There must be at least one
+    /// component. The result is none exactly if c is above 127.
     pub fn count(&self) -> Option<u128>
         requires { 1 ≤ length self.now.parts }
         ensures { MatchOption result (127 < length self.now.parts) (IsNumberOfUnions self.now) }
@@ -96,7 +97,7 @@ impl Components {
         Some((1u128 << (self.count - 1)) - 1)
     }
 
-    /// All vertices of the component of a number.
+    /// All vertices of the component with this number.
     fn part_side(&self, alloc: Global, number: u32) -> Result<Side, NoMemory>
         requires { IsPart self.now number }
         ensures { IfOk result (λ s. s ≡ record { vertices = self.now.vertices; members = part_at self.now number }) }
@@ -111,12 +112,12 @@ impl Components {
     }
 
     /// All minimum cuts of a graph of c components, as the sides without vertex 1, in the order of
-    /// lists (a list that another begins with first). There are at least two components, and
-    /// (2^(c-1) - 1) * n is at most 2^30.
+    /// lists, in which a prefix comes first. There must be at least two components, and (2^(c-1) -
+    /// 1) * n at most 2^30.
     ///
     /// The list doubles with each component after the first, and is sorted at the end. With k
-    /// sides that takes n/64 steps a side, and at most n/64 a comparison, of which there are
-    /// O(k log k). It is refused only where memory is wanting.
+    /// sides that takes n/64 steps a side, and O(k log k) comparisons of at most n/64 steps each.
+    /// It fails only if it runs out of memory.
     pub fn sides(&self, alloc: Global) -> Result<Vec<Side>, NoMemory>
         requires two { 2 ≤ length self.now.parts }
         requires few { (2 ^ (length self.now.parts - 1) - 1) * self.now.vertices ≤ 2 ^ 30 }
@@ -132,13 +133,13 @@ impl Components {
         Ok(sides)
     }
 
-    /// A minimum cut of a graph of c components than which no other parts the weights more evenly:
-    /// the lesser of the sums of the weights of its two sides is greatest. There are at least two
+    /// A minimum cut of a graph of c components whose lesser side has the greatest sum of weights.
+    /// No other minimum cut divides the weights more evenly. There must be at least two
     /// components, and n weights.
     ///
-    /// By a table of the sums that the first components can make (Bellman, 1957), and a walk back
-    /// through it: O(n + c * T) steps and c * T / 8 bytes for the sum T of all weights. It is
-    /// refused where c * (T + 1) is above 2^32, or memory is wanting.
+    /// It fills a table of the sums that the first components can make (Bellman, 1957), and walks
+    /// back through it. With T the sum of all weights that is O(n + c * T) steps and c * T / 8
+    /// bytes. It fails if c * (T + 1) is above 2^32, or if it runs out of memory.
     pub fn best(&self, alloc: Global, weights: &VertexWeights) -> Result<Side, BestRefusal>
         requires two { 2 ≤ length self.now.parts }
         requires weights { length weights.now ≡ self.now.vertices }
@@ -156,7 +157,7 @@ impl Components {
         Ok(self.best_within(alloc, weights, total as u32)?)
     }
 
-    /// The best cut, where the table is small enough.
+    /// The best cut, if the table is small enough.
     fn best_within(
         &self,
         alloc: Global,

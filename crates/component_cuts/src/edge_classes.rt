@@ -1,4 +1,4 @@
-//! The components of a list of edges, as classes that its edges join, and how many they are.
+//! The components of a list of edges, as classes that its edges join, and their number.
 
 ghost use Rattle.std.specs.Prelude.{◌≡◌, ◌↔◌, ◌+◌, IfOk, length};
 ghost use Rattle.cut_definitions.specs.Components.{HasComponents};
@@ -9,7 +9,7 @@ use cut_definitions::{EdgeList, NoMemory};
 use std::alloc::Global;
 use vertex_classes::Classes;
 
-/// Makes the ends of each edge one, where each vertex is alone.
+/// Joins the ends of each edge, starting from classes in which each vertex is alone.
 fn join_ends(list: &EdgeList, classes: &mut Classes)
     requires long { length classes.old ≡ list.now.vertices + 1 }
     requires alone { (s : VertexSet) → Respects classes.old s }
@@ -23,9 +23,9 @@ fn join_ends(list: &EdgeList, classes: &mut Classes)
     }
 }
 
-/// The components as classes of the vertices: the ends of one edge after another are made one by
-/// union-find (Galler and Fischer, 1964), in O(m log(n) + n) steps. The sets that have all or none
-/// of each class are just those of weight 0.
+/// The components as classes of the vertices. The ends of each edge are joined by union-find
+/// (Galler and Fischer, 1964), in O(m log(n) + n) steps. The sets with all or none of each class
+/// are exactly those of weight 0.
 pub(crate) fn component_classes(alloc: Global, list: &EdgeList) -> Result<Classes, NoMemory>
     ensures long { IfOk result (λ c. length c ≡ list.now.vertices + 1) }
     ensures joined { IfOk result (λ c. (s : VertexSet) → Respects c s ↔ (weight list.now s ≡ 0)) }
@@ -36,9 +36,8 @@ pub(crate) fn component_classes(alloc: Global, list: &EdgeList) -> Result<Classe
     Ok(classes)
 }
 
-/// The number of components of a list of edges; 0 exactly where there is no vertex. It takes
-/// O(m log(n) + n) steps, and 4 bytes of memory a vertex, and is refused only where that is
-/// wanting. No rows are made.
+/// The number of components of a list of edges; 0 exactly if there is no vertex. It takes O(m
+/// log(n) + n) steps and 4 bytes a vertex, makes no rows, and fails only if it runs out of memory.
 pub fn count_components(alloc: Global, list: &EdgeList) -> Result<u32, NoMemory>
     ensures counted { IfOk result (λ count. HasComponents list.now count) }
     ensures none { IfOk result (λ count. (count ≡ 0) ↔ (list.now.vertices ≡ 0)) }

@@ -2,24 +2,24 @@
 
 ghost use Rattle.component_cuts.specs.Laws.{LawOfComponents, LawOfMinimumCuts, LawOfNumber, LawOfOneNumber};
 
-/// In a graph of two or more components the minimum cuts are the unions of
-/// components without vertex 1.
+/// The minimum cuts of a graph with two or more components are the unions of components without
+/// vertex 1.
 pub fn minimum_cuts()
     ensures { LawOfMinimumCuts }
 {}
 
-/// With c components there are 2^(c-1) - 1 of them.
+/// With c components there are 2^(c-1) - 1 such unions.
 pub fn number()
     ensures { LawOfNumber }
 {}
 
-/// The components are as many as the vertices that are joined to no lesser vertex:
-/// the least vertex of each.
+/// There are as many components as vertices that are joined to no lesser vertex, which are the
+/// least vertices of the components.
 pub fn components()
     ensures { LawOfComponents }
 {}
 
-/// A graph has one number of components.
+/// The number of components of a graph is unique.
 pub fn one_number()
     ensures { LawOfOneNumber }
 {}

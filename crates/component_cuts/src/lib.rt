@@ -1,7 +1,7 @@
-//! The minimum cuts of a graph in several components.
+//! The minimum cuts of a graph with several components.
 //!
-//! Such a graph has the value 0, and a set of vertices has the weight 0 just where it is a union
-//! of components. So its minimum cuts are the nonempty unions of the components without vertex 1.
+//! The value of such a graph is 0. A set of vertices has weight 0 exactly if it is a union of
+//! components. So the minimum cuts are the nonempty unions of the components without vertex 1.
 //! Contracts see n and the components as lists of vertices, in the order of their least vertices.
 #![tactic(auto)]
 

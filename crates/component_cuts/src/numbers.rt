@@ -6,7 +6,7 @@ use cut_definitions::NoMemory;
 use std::alloc::Global;
 use weighted_graph::Labels;
 
-/// The labels, each in the place of its vertex, behind a 0 in the place 0.
+/// A 0 at place 0, and the label of each vertex at the place of its number.
 pub(crate) fn numbers_of(alloc: Global, labels: &Labels) -> Result<Vec<u32>, NoMemory>
     ensures { IfOk result (λ numbers. numbers.items ≡ 0 ∷ labels.now) }
 {

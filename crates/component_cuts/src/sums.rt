@@ -1,7 +1,7 @@
-//! The sums that components can make, of which each is in or out.
+//! The sums that components can make, each of which is in or out.
 //!
-//! Row r has the sums of the components 2 to r + 1. Row 0 has the sum 0 alone, and the others
-//! stand one after another in a table of bits, each with a place for every number below the width.
+//! Row r has the sums of the components 2 to r + 1. Row 0 has only the sum 0. The other rows
+//! follow one another in a table of bits, each with a place for every number below the width.
 
 ghost use Rattle.std.specs.Prelude.{◌≡◌, ◌≢◌, ℕ, ◌+◌, ◌-◌, ◌*◌, ◌<◌, ◌≤◌, ◌^◌, true, false, IfOk, length, slice_index, slice_index_or};
 ghost use Rattle.cut_definitions.specs.Balance.{mass};
@@ -57,7 +57,7 @@ fn makes(table: &Side, width: u32, row: u32, sum: u32) -> bool
     table.has((row - 1) * width + sum + 1)
 }
 
-/// Whether a row has a sum, or that sum but for a weight.
+/// Whether a row has a sum, or the sum less a weight.
 fn makes_next(table: &Side, width: u32, row: u32, weight: u64, sum: u32) -> bool
     requires sum { sum < width }
     requires row { row * width ≤ table.now.vertices }
@@ -73,8 +73,8 @@ fn makes_next(table: &Side, width: u32, row: u32, weight: u64, sum: u32) -> bool
     makes(table, width, row, sum - weight as u32)
 }
 
-/// Fills the next row, which is empty: it has each sum of the row before it,
-/// with and without one weight more.
+/// Fills the next row, which is empty. It gets each sum of the row before it, with and without one
+/// more weight.
 fn add_row(table: &mut Side, width: u32, row: u32, weight: u64)
     requires row { (row + 1) * width ≤ table.old.vertices }
     requires few { table.old.vertices < 2 ^ 32 }
@@ -90,8 +90,7 @@ fn add_row(table: &mut Side, width: u32, row: u32, weight: u64)
     }
 }
 
-/// The table of the rows for weights of the numbers 0 to c,
-/// of which those of 0 and 1 do not count.
+/// The table of the rows for weights of the numbers 0 to c; the weights of 0 and 1 do not count.
 pub(crate) fn fill_rows(alloc: Global, width: u32, weights: &[u64]) -> Result<Side, NoMemory>
     requires some { 3 ≤ length weights.now }
     requires width { 1 ≤ width }
@@ -108,8 +107,8 @@ pub(crate) fn fill_rows(alloc: Global, width: u32, weights: &[u64]) -> Result<Si
     Ok(table)
 }
 
-/// A sum of a row that is as near to one half of the greatest,
-/// which is one less than the width, as any.
+/// A sum of a row that is as near as any to half of the greatest possible one, which is the width
+/// less 1.
 pub(crate) fn best_sum(table: &Side, width: u32, row: u32) -> u32
     requires width { 1 ≤ width }
     requires row { row * width ≤ table.now.vertices }
@@ -126,7 +125,7 @@ pub(crate) fn best_sum(table: &Side, width: u32, row: u32) -> u32
     best
 }
 
-/// Marks for the numbers below one, of which none is chosen.
+/// Marks for the numbers below `numbers`, with none chosen.
 fn none_chosen(alloc: Global, numbers: usize) -> Result<Vec<bool>, NoMemory>
     ensures long { IfOk result (λ chosen. length chosen.items ≡ numbers) }
     ensures none { IfOk result (λ chosen. (i : ℕ) → slice_index_or chosen.items i false ≡ false) }
@@ -134,8 +133,8 @@ fn none_chosen(alloc: Global, numbers: usize) -> Result<Vec<bool>, NoMemory>
     vec![in alloc; false; numbers]
 }
 
-/// Numbers whose weights make a sum of the last row, from the last one back: a number is chosen
-/// where the row before it lacks what is left of the sum.
+/// Numbers whose weights make a sum of the last row, found from the last one back. A number is
+/// chosen if the row before it lacks the rest of the sum.
 pub(crate) fn choose(
     alloc: Global,
     table: &Side,

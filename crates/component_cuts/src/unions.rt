@@ -1,4 +1,4 @@
-//! The unions of components, a list of which doubles with each further component.
+//! The unions of components, in a list that doubles with each further component.
 
 ghost use Rattle.std.specs.Prelude.{◌≡◌, ℕ, ◌↔◌, ◌+◌, ◌<◌, List, All, IfOk, length, slice_index};
 ghost use Rattle.std.specs.List.{Contains};
@@ -10,8 +10,7 @@ use cut_definitions::NoMemory;
 use std::alloc::Global;
 use vertex_set::Side;
 
-/// Puts the union of each side and one more set over the same n at the end of the
-/// list, and then that set.
+/// Appends the union of each side with one more set over the same n, and then that set.
 pub(crate) fn double(alloc: Global, sides: &mut Vec<Side>, part: Side) -> Result<(), NoMemory>
     requires { All (λ (s : VertexList). s.vertices ≡ part.vertices) sides.old.items }
     ensures { IfOk result (λ _. sides.new.items ≡ doubled part sides.old.items) }

@@ -1,11 +1,13 @@
-//! Local tests that show an edge safe to contract: no minimum cut below a bound parts its ends.
+//! Local tests that show an edge safe to contract: no minimum cut below a bound separates its
+//! ends.
 //!
 //! Contracts see a graph as its number of vertices and its list of edges. The limit of a test is
-//! the bound and the slack together: slack 0 keeps the value, slack 1 all minimum cuts where the
-//! bound is the weight of some cut. The tests are those of Padberg and Rinaldi (1990), in a strict
-//! form with conditions on the degrees. Each looks at the shorter of the rows of the edge's two
-//! ends, so all edges together cost no more than the sum of the lesser lengths, times the
-//! logarithm of the greater.
+//! bound plus slack. Slack 0 keeps the value; slack 1 keeps all minimum cuts if the bound is the
+//! weight of some cut.
+//!
+//! The tests are those of Padberg and Rinaldi (1990), in a strict form with conditions on the
+//! degrees. Each goes along the shorter row of the edge's two ends. So all edges together cost at
+//! most the sum of the lesser lengths, times the logarithm of the greater.
 #![tactic(auto)]
 
 mod closing;

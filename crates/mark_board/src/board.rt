@@ -1,4 +1,4 @@
-//! The shared board.
+//! The board that workers share.
 
 ghost use Rattle.std.specs.Prelude.{◌≡◌, ℕ, ◌+◌, ◌<◌, ◌≤◌, ◌∷◌, ◌++◌, min, true, false, length, Contains, IfOk, if◌then◌else◌};
 ghost use Rattle.cut_definitions.specs.Safe.{IsFair};
@@ -18,14 +18,16 @@ use std::marker::Model;
 use std::snapshot::Snapshot;
 use weighted_graph::Graph;
 
-/// A bound that falls, a mark for each edge of a graph and a flag for each vertex that is
-/// taken, which threads share.
+/// A bound that falls, a mark for each edge of a graph, and a flag for each vertex that is taken.
+/// Threads share it.
 ///
-/// Contracts see which board it is, its graph, its slack and the bound that it was opened with.
-/// The bound is always the weight of some cut, at most the opening one and at most what each seat
-/// saw; every mark is safe for it and the slack. Word 0 of the table is the bound; edge i is bit i
-/// mod 64 of mark word i div 64, and vertex v bit (v - 1) mod 64 of taken word (v - 1) div 64. The
-/// room for the marks at the close is kept beside it.
+/// Contracts see the identity of the board, its graph, its slack and its opening bound. The bound
+/// is always the weight of some cut, at most the opening one, and at most what each seat saw.
+/// Every mark is safe for the bound and the slack.
+///
+/// Word 0 of the table is the bound. Edge i is bit i mod 64 of mark word i div 64. Vertex v is bit
+/// (v - 1) mod 64 of taken word (v - 1) div 64. The room for the marks at the close is kept beside
+/// the table.
 #[derive(Drop)]
 pub struct Board {
     table: Table<(), View, Opened, Ruled, Global>,
@@ -47,8 +49,8 @@ impl Model for Board {
 
 impl Board {
     /// A board with no marks and no taken vertex, and a seat that has seen the bound, which is the
-    /// weight of some cut. It takes two bits of memory for each edge and one for each vertex, the
-    /// room for the marks at the close among them, and is refused only where these are wanting.
+    /// weight of some cut. It takes two bits of memory for each edge and one for each vertex, with
+    /// the room for the marks at the close. It fails only if it runs out of memory.
     pub fn open(
         alloc: Global,
         graph: &Graph,
@@ -59,8 +61,8 @@ impl Board {
         ensures board { IfOk result (λ r. (r.0.graph ≡ graph.now) × (r.0.slack ≡ slack) × (r.0.opening ≡ bound)) }
         ensures seat { IfOk result (λ r. r.1 ≡ fresh_seat r.0 bound) }
 
-        // No mark stands and no vertex is taken while this seat,
-        // which has done nothing, is the only one.
+        // Nothing is marked and no vertex is taken while this seat, which has done nothing, is the
+        // only one.
         ensures bare { IfOk result (λ r. IsBare (view_of r.1)) }
     {
         let edges = graph.edges();
@@ -77,9 +79,9 @@ impl Board {
         Ok((Board { table, marks }, BoardSeat { seat }))
     }
 
-    /// The last bound and all marks. The bound is the weight of some cut, at most the opening one
-    /// and at most what the seat saw; every mark is safe for it and the slack; every edge is
-    /// marked that the seat marked or took over by joins. 64 edges a step.
+    /// The last bound, and all marks. The bound is the weight of some cut, at most the opening one
+    /// and at most what the seat saw. Every mark is safe for it and the slack. Every edge that the
+    /// seat marked or took over by joins is marked. 64 edges a step.
     pub fn close(self, seat: BoardSeat) -> (u64, Marks)
         requires { seat.board ≡ self }
         ensures fair { IsFair self.graph result.0 }
@@ -97,8 +99,8 @@ impl Board {
         (bound, marks)
     }
 
-    /// The bound, which the seat has then seen. It is at most what the seat saw before.
-    /// One atomic load.
+    /// The bound, which the seat has then seen. It is at most what the seat saw before. One atomic
+    /// load.
     pub fn bound(&self, seat: &mut BoardSeat) -> u64
         requires { seat.old.board ≡ self.now }
         ensures seen { seat.new ≡ record seat.old { seen = result } }
@@ -112,7 +114,7 @@ impl Board {
         self.table.shared.load::<Load>(&mut seat.seat, 0)
     }
 
-    /// Lowers the bound to the weight of some cut, where that is less. Answers the bound after it,
+    /// Lowers the bound to the weight of some cut, if that is less. It returns the bound after it,
     /// which the seat has then seen. One atomic minimum.
     pub fn lower(&self, seat: &mut BoardSeat, weight: u64) -> u64
         requires seat { seat.old.board ≡ self.now }
@@ -130,10 +132,10 @@ impl Board {
         found.min(weight)
     }
 
-    /// Whether the edge is marked. True for an edge of the seat's own set. True means that
-    /// the edge is safe for some weight of a cut that is at most what the seat saw, the bound
-    /// at that moment. The answer, that bound and the step are those of one state of the
-    /// machine. One atomic load.
+    /// Whether the edge is marked, which is true for an edge of the seat's own set. If it is true,
+    /// the edge is safe for the bound at that moment, which is the weight of some cut and at most
+    /// what the seat saw. The result, that bound and the step belong to one state of the machine.
+    /// One atomic load.
     pub fn is_marked(&self, seat: &mut BoardSeat, edge: usize) -> bool
         requires seat { seat.old.board ≡ self.now }
         requires edge { edge < length self.now.graph.edges }
@@ -150,8 +152,8 @@ impl Board {
         (word >> (edge % 64)) & 1 == 1
     }
 
-    /// Marks an edge that is safe for the bound that the seat saw last. It is in the seat's own
-    /// set afterwards. One atomic or.
+    /// Marks an edge that is safe for the bound that the seat saw last. The edge is in the seat's
+    /// own set afterwards. One atomic or.
     pub fn mark(&self, seat: &mut BoardSeat, edge: usize)
         requires seat { seat.old.board ≡ self.now }
         requires edge { edge < length self.now.graph.edges }
@@ -165,7 +167,7 @@ impl Board {
             .fetch_or::<Mark>(&mut seat.seat, edge / 64 + 1, bit);
     }
 
-    /// Takes a vertex of 1 to n, and answers whether it was free; then the seat has won it. A
+    /// Takes a vertex of 1 to n, and returns whether it was free; if so, the seat has won it. A
     /// vertex that the seat won or knew before was not free. One atomic or.
     pub fn take(&self, seat: &mut BoardSeat, vertex: u32) -> bool
         requires seat { seat.old.board ≡ self.now }
@@ -184,9 +186,9 @@ impl Board {
         (found >> (flag % 64)) & 1 == 0
     }
 
-    /// The seat sees the bound, and a new seat has seen the same, marked nothing, won nothing
-    /// and knows no vertex. Two operations: a load of the bound, and then the splitting of the
-    /// seat, which costs a load too.
+    /// The seat sees the bound, and a new seat has seen the same, marked nothing, won nothing, and
+    /// knows no vertex. Two operations: a load of the bound, and the split of the seat, which also
+    /// costs a load.
     pub fn split(&self, seat: &mut BoardSeat) -> BoardSeat
         requires { seat.old.board ≡ self.now }
         ensures seat { seat.new ≡ record seat.old { seen = seat.new.seen } }
@@ -199,8 +201,9 @@ impl Board {
         self.fork(seat)
     }
 
-    /// The seat takes over the other's three sets, and sees the bound. No vertex was won by both.
-    /// Two operations: the joining of the seats, which costs a load, and then a load of the bound.
+    /// The seat takes over the three sets of the other one, and sees the bound. No vertex was won
+    /// by both. Two operations: the joining of the seats, which costs a load, and a load of the
+    /// bound.
     pub fn join(&self, seat: &mut BoardSeat, other: BoardSeat)
         requires seat { seat.old.board ≡ self.now }
         requires other { other.board ≡ self.now }
@@ -214,7 +217,7 @@ impl Board {
         self.bound(seat);
     }
 
-    /// A new seat, which has seen as much.
+    /// A new seat, which has seen the same bound.
     fn fork(&self, seat: &mut BoardSeat) -> BoardSeat
         requires { seat.old.board ≡ self.now }
         ensures same { seat.new ≡ seat.old }

@@ -2,10 +2,10 @@
 
 ghost use Rattle.mark_board.specs.Laws.{LawOfMarkedContraction};
 
-/// What contraction keeps where each two vertices of a class are joined by marks, and the marks
-/// are safe for a bound that is the weight of some cut. With slack 0 the value is the lesser of
-/// the bound and the contracted graph's value, or the bound where one class is left. With slack 1
-/// the value and all minimum cuts are kept.
+/// What contraction keeps if marks join each two vertices of a class, and are safe for a bound
+/// that is the weight of some cut. With slack 0 the value is the lesser of the bound and the
+/// contracted graph's value, or the bound if one class is left. With slack 1 the value and all
+/// minimum cuts are kept.
 pub fn marked_contraction()
     ensures { LawOfMarkedContraction }
 {}

@@ -1,5 +1,5 @@
-//! The rule over the words and the seats of a board, and what each atomic step tells.
-//! All of it is for proofs.
+//! The rule over the words and the seats of a board, and what each atomic step shows. All of it is
+//! for proofs.
 
 use atomic_table::{Join, Play, Split, TableRule};
 use std::collections::LinkedList;
@@ -7,7 +7,7 @@ use std::snapshot::Snapshot;
 use weighted_graph::Graph;
 
 /// What a seat knows: its board's graph, slack and opening bound, the bound that it saw last, and
-/// its edges and vertices. No value of it is made.
+/// its edges and vertices. No value of this type is ever made.
 pub struct View {
     pub live: bool,
     pub graph: Graph,

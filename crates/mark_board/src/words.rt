@@ -9,7 +9,7 @@ ghost use Rattle.mark_board.specs.Marks.{HasBit};
 use atomic_table::Closed;
 use std::alloc::Global;
 
-/// Takes over the words of a closed table behind its first one.
+/// Copies the words of a closed table after its first one.
 pub(crate) fn copy_words(words: &mut [u64], closed: &Closed<(), Global>)
     requires { (length words.old < slots_len closed.now.words) × IsFull closed.now.words }
     ensures { (k : ℕ) → k < length words.old → get_elem? (slots_items closed.now.words) (k + 1) ≡ some (slice_index words.new k) }

@@ -2,11 +2,13 @@
 
 ghost use Rattle.scan_core.specs.Laws.{LawOfSteps, LawOfKeeping, LawOfWinners, LawOfMarkers, LawOfFalling};
 
-/// From an opening state with a fair bound, after every list of steps by any number of seats:
-/// the bound is fair and at most the opening one; what a live seat saw is at least the bound;
-/// every mark is safe for the bound; every edge in the set of a live seat is marked, and every
-/// marked edge is in the set of some live seat; every vertex that a live seat won or knows is
-/// taken; each taken vertex was won by one live seat, once; a seat that has ended has marked
+/// After every list of steps by any number of seats, from an opening state with a fair bound,
+/// these facts hold.
+///
+/// The bound is fair and at most the opening one, and what a live seat saw is at least the bound.
+/// Every mark is safe for the bound. Every edge in the set of a live seat is marked, and every
+/// marked edge is in the set of some live seat. Every vertex that a live seat won or knows is
+/// taken, and each taken vertex was won by one live seat, once. A seat that has ended has marked
 /// nothing and won nothing.
 pub fn steps()
     ensures { LawOfSteps }
@@ -17,12 +19,12 @@ pub fn keeping()
     ensures { LawOfKeeping }
 {}
 
-/// Where the facts hold, each taken vertex was won once by one live seat, and by no other seat.
+/// If the facts hold, each taken vertex was won once by one live seat, and by no other seat.
 pub fn winners()
     ensures { LawOfWinners }
 {}
 
-/// Where the facts hold, each marked edge is in the set of some live seat.
+/// If the facts hold, each marked edge is in the set of some live seat.
 pub fn markers()
     ensures { LawOfMarkers }
 {}

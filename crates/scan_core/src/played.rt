@@ -1,4 +1,4 @@
-//! The machine as a value, which tests play.
+//! The machine as a value, which tests run.
 
 ghost use Rattle.std.specs.Prelude.{◌≡◌, ◌↔◌, ℕ, ◌+◌, ◌-◌, ◌<◌, ◌≤◌, length, take, IfOk, OnErr, IsTrue, MatchOption};
 ghost use Rattle.cut_definitions.specs.Safe.{IsFair};
@@ -24,9 +24,8 @@ pub struct CoreSeat {
 
 /// The machine of a board: a bound that falls, marked edges, taken vertices and up to 1,000 seats.
 ///
-/// A core stands for a machine: this is a relation over what it keeps. Opened, it stands for the
-/// opening state; an event that was allowed turns a core that stands for a state into one that
-/// stands for the state after it.
+/// A core shows a machine, which is a relation on what it keeps. When opened, it shows the opening
+/// state. An allowed event turns a core that shows a state into one that shows the state after it.
 #[derive(Drop)]
 pub struct Core {
     graph: Graph,
@@ -70,8 +69,9 @@ fn is_cut(side: &Side) -> bool
 
 impl Core {
     /// The opening state: no marks, no taken vertices, and seat 1, which has seen the bound. The
-    /// bound is the weight of some cut, the value that of the graph, and parted are the edges
-    /// that some minimum cut parts.
+    /// bound is the weight of some cut, `value` the value of the graph, and `parted` lists the
+    /// edges that some minimum cut separates. It takes O(n + m) steps and memory, and fails only
+    /// if it runs out of memory.
     pub fn open(
         alloc: Global,
         graph: &Graph,
@@ -107,10 +107,13 @@ impl Core {
         })
     }
 
-    /// Makes the step of an event where it is allowed, and answers whether it was. It is refused
-    /// exactly where a seat is not live, the side is no cut of the graph, the edge or the vertex
-    /// is not in range, the edge of a mark is not safe for the bound that the seat saw last, a
-    /// seat is to be joined into itself, or 1,000 seats were made; then nothing changes.
+    /// Makes the step of an event if it is allowed, and returns whether it was. If not, nothing
+    /// changes.
+    ///
+    /// It is not allowed exactly in these cases. A seat is not live, or would be joined into
+    /// itself. The side is no cut of the graph. The edge or the vertex is not in range. The edge
+    /// of a mark is not safe for the bound that the seat saw last. Or 1,000 seats were made. The
+    /// call fails only if it runs out of memory, and then changes nothing.
     pub fn step(&mut self, event: &Event) -> Result<bool, NoMemory>
         ensures answer { IfOk result (λ answer. IsAnswer self.old self.new event.now answer) }
         ensures refused { OnErr result (self.new ≡ self.old) }
@@ -126,8 +129,8 @@ impl Core {
         }
     }
 
-    /// Makes the steps of events, each in turn where it is allowed, and answers how many were.
-    /// Where memory is wanting, the state is that after some first part of the events.
+    /// Makes the steps of events in turn, those that are allowed, and returns how many were. If it
+    /// runs out of memory, the state is that after some prefix of the events.
     pub fn replay(&mut self, events: &[Event]) -> Result<u64, NoMemory>
         ensures ok { IfOk result (λ count. (m : Machine) → Shows self.old m → HasGone m events.now count self.new) }
         ensures refused { OnErr result ((m : Machine) → Shows self.old m → (k : ℕ) × (count : ℕ) × HasGone m (take k events.now) count self.new) }
@@ -164,7 +167,7 @@ impl Core {
         self.taken[v as usize]
     }
 
-    /// The bound that a seat saw last; none exactly where the seat is not live.
+    /// The bound that a seat saw last; none exactly if the seat is not live.
     pub fn seen(&self, seat: u32) -> Option<u64>
         ensures { (m : Machine) → Shows self.now m → MatchOption result (¬ IsLiveSeat m seat) (λ seen. IsLiveSeat m seat × (seen ≡ (seat_at m (seat - 1)).seen)) }
     {
@@ -186,7 +189,7 @@ impl Core {
     }
 
     /// Whether an edge in range is safe for the bound that a live seat saw last: no minimum cut
-    /// below it and the slack parts the edge.
+    /// that weighs less than bound plus slack separates its ends.
     fn is_safe(&self, seat: u32, edge: u32) -> bool
         requires live { IsShownLive self.now seat }
         requires edge { edge < length self.now.graph.edges }

@@ -9,8 +9,8 @@ use cut_definitions::NoMemory;
 use std::alloc::Global;
 use weighted_graph::Graph;
 
-/// The vertices that were found, in their order, and for each vertex its number in
-/// that order, from 1 on, or 0.
+/// The vertices that were found, in their order, and for each vertex its number in that order,
+/// from 1 on, or 0.
 #[derive(Drop)]
 pub struct Finding {
     pub order: Vec<u32>,
@@ -29,8 +29,8 @@ impl Finding {
         Ok(Finding { order, numbers })
     }
 
-    /// Gives a vertex the next number, unless it has one.
-    /// Where memory is wanting, part of that was done.
+    /// Gives a vertex the next number, unless it has one. If it runs out of memory, this may be
+    /// half done.
     fn find(&mut self, v: u32) -> Result<(), NoMemory>
         requires from_one { 1 ≤ v }
         requires to_n { v ≤ length self.old.numbers.items }
@@ -49,15 +49,15 @@ impl Finding {
         Ok(())
     }
 
-    /// How many vertices were found.
+    /// The number of vertices found.
     pub(crate) fn count(&self) -> usize
         ensures { result ≡ length self.now.order.items }
     {
         self.order.len()
     }
 
-    /// Gives numbers to the vertices beside the one at a place of the order. Where memory is
-    /// wanting, part of that was done.
+    /// Gives numbers to the vertices beside the one at a place of the order. If it runs out of
+    /// memory, this may be half done.
     pub(crate) fn find_beside(&mut self, graph: &Graph, place: usize) -> Result<(), NoMemory>
         requires place { place < length self.old.order.items }
         requires finding { IsFinding graph.now.vertices self.old }

@@ -9,16 +9,16 @@ use row_ranges::most_lead_far;
 use std::alloc::Global;
 use weighted_graph::{Graph, Labels};
 
-/// The arrays of so many vertices do not fit the nearer caches.
+/// The arrays of this many vertices do not fit the nearer caches.
 const FAR: u32 = 4_096;
 
-/// Where so large a part of the vertices waits at once, their order says little of who is near.
+/// If at least one in this many vertices waits at once, their order says little about who is near.
 const PART_WAITING: usize = 12;
 
 /// Labels by which neighbours are nearer to each other: the vertices in the order of a
-/// breadth-first search from vertex 1. None where most edges lead to a near vertex already,
-/// where there are fewer edges than vertices, where the search does not find all vertices, or
-/// where too many wait at once.
+/// breadth-first search from vertex 1. The result is none if most edges lead to a near vertex
+/// already, there are fewer edges than vertices, or the search is no use. It is no use if it does
+/// not find all vertices, or too many wait at once.
 pub(crate) fn nearer_order(alloc: Global, graph: &Graph) -> Result<Option<Labels>, NoMemory>
     ensures { IfOk result (λ found. IfSome found (IsNumbering graph.now.vertices)) }
 {

@@ -1,4 +1,4 @@
-//! The graph of a list, renumbered where that brings neighbours nearer.
+//! The graph of a list, renumbered if that brings neighbours nearer.
 
 ghost use Rattle.std.specs.Prelude.{◌≡◌, IfOk};
 ghost use Rattle.vertex_order.specs.Numbering.{IsNearGraph, graph_of};
@@ -8,8 +8,8 @@ use cut_definitions::{EdgeList, NoMemory};
 use weighted_graph::{Graph, Labels, relabel_list};
 use worker_team::Team;
 
-/// The graph of a list of edges: as the list numbers the vertices, or renumbered by labels, beside
-/// the list, which is given back.
+/// The graph of a list of edges, either with the numbers of the list, or renumbered by labels and
+/// beside the list.
 #[derive(Drop)]
 pub enum NearGraph {
     AsListed(Graph),
@@ -21,7 +21,7 @@ pub enum NearGraph {
 }
 
 impl NearGraph {
-    /// The graph alone. The rest is dropped.
+    /// The graph alone; the rest is dropped.
     pub fn into_graph(self) -> Graph
         ensures { result ≡ graph_of self }
     {
@@ -32,13 +32,13 @@ impl NearGraph {
     }
 }
 
-/// The graph of a list of edges, which is taken over. It is renumbered where the ends of most
-/// edges have numbers that are far from each other, and a breadth-first search from vertex 1
-/// brings them nearer (Cuthill and McKee, 1969). Whether it is renumbered, and how, is free. The
-/// rows are those of `Team::graph`.
+/// The graph of a list of edges, which is taken over. It is renumbered if the ends of most edges
+/// have numbers far from each other, and a breadth-first search from vertex 1 brings them nearer
+/// (Cuthill and McKee, 1969). The contract leaves free whether it is renumbered, and how. The rows
+/// are those of `Team::graph`.
 ///
-/// The search takes O(n + m) steps, the renumbering O(m log m), and memory is in proportion to
-/// n + m. It is refused only where that is wanting; the list is gone then.
+/// The search takes O(n + m) steps, the renumbering O(m log m), and memory is in proportion to n +
+/// m. It fails only if it runs out of memory; the list is dropped then.
 pub fn near_graph<T: Team>(team: &T, list: EdgeList) -> Result<NearGraph, NoMemory>
     requires { T.ready team.now }
     ensures { IfOk result (IsNearGraph list) }

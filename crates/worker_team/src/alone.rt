@@ -10,7 +10,7 @@ use round_workers::Threshold;
 use std::alloc::Global;
 use weighted_graph::{Graph, Labels};
 
-/// One worker, who is the caller, for whom no runtime is wanted.
+/// One worker, the calling thread, which needs no runtime.
 #[derive(Clone, Copy)]
 pub struct Alone {
     pub alloc: Global,

@@ -12,8 +12,8 @@ use mark_board::Marks;
 use round_contract::classes_of_marks;
 use weighted_graph::{Graph, Labels};
 
-/// The graph on the classes of labels, one for each vertex, with rows. It costs O(m log m), and is
-/// refused only where memory is wanting.
+/// The graph, with rows, on the classes of labels, of which there is one for each vertex. It takes
+/// O(m log m) steps, and fails only if it runs out of memory.
 pub fn contracted<T: Team>(team: &T, graph: &Graph, labels: &Labels) -> Result<Graph, NoMemory>
     requires ready { T.ready team.now }
     requires labels { length labels.now ≡ graph.now.vertices }
@@ -23,9 +23,9 @@ pub fn contracted<T: Team>(team: &T, graph: &Graph, labels: &Labels) -> Result<G
     team.graph(list)
 }
 
-/// The graph on the classes of vertices that marked edges join, and the class of each
-/// vertex, as `round_contract::contract` makes them. It costs O(m log m), and is refused
-/// only where memory is wanting.
+/// The graph on the classes of vertices that marked edges join, and the class of each vertex, as
+/// from `round_contract::contract`. It takes O(m log m) steps, and fails only if it runs out of
+/// memory.
 pub fn contract<T: Team>(
     team: &T,
     graph: &Graph,

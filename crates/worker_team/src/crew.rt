@@ -5,7 +5,7 @@ ghost use Rattle.std.specs.Prelude.{◌≡◌};
 use crate::threaded::Threaded;
 use std::alloc::Global;
 
-/// Threads of a runtime, and the gate that each of them passes before its first step of a round.
+/// Threads of a runtime, and the gate that each passes before its first step of a round.
 #[derive(Clone, Copy)]
 pub struct Crew<'a, R, G> {
     pub threads: Threaded<'a, R>,
@@ -13,7 +13,7 @@ pub struct Crew<'a, R, G> {
 }
 
 impl<'a, R, G> Crew<'a, R, G> {
-    /// A crew of so many threads of a runtime, with the gate that each passes.
+    /// A crew of `workers` threads of a runtime, with the gate that each passes.
     pub fn new(rt: &'a R, alloc: Global, workers: u32, gate: &'a G) -> Crew<'a, R, G>
         ensures runtime { result.threads.rt.now ≡ rt.now }
         ensures workers { result.threads.workers ≡ workers }

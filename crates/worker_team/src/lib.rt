@@ -1,9 +1,9 @@
 //! Who does the work of the solvers: the threads of a runtime, or the calling thread alone.
 //!
-//! The steps that several workers can share are calls of the trait `Team`, so a solver is
-//! written once for both, and each call takes one argument in place of a runtime, an allocator
-//! and a number of workers. Rounds, which pass a gate, take a `Crew`: they are for small
-//! graphs, and for threads alone.
+//! The steps that several workers can share are calls of the trait `Team`. So a solver is written
+//! once for both, and each call takes one argument in place of a runtime, an allocator and a
+//! number of workers. Rounds, which pass a gate, take a `Crew`; they are for small graphs, and for
+//! threads alone.
 #![tactic(auto)]
 
 mod alone;

@@ -12,35 +12,35 @@ use round_workers::Threshold;
 use std::alloc::Global;
 use weighted_graph::{Graph, Labels};
 
-/// Workers, and where they take their memory. What a call answers does not depend on who does it,
-/// but for what its contract leaves free. Each is refused only where memory is wanting.
+/// Workers, and the allocator that they use. What a call returns does not depend on who does it,
+/// except for what its contract leaves free. Each call fails only if it runs out of memory.
 pub trait Team {
     /// What the workers need: that threads may share the runtime.
     ghost ready: { Self → Type 0 };
 
-    /// Where memory is taken.
+    /// The allocator.
     fn alloc(&self) -> Global;
 
-    /// How many workers there are, 1 to 64.
+    /// The number of workers, 1 to 64.
     fn workers(&self) -> u32
         ensures { (1 ≤ result) × (result ≤ 64) };
 
-    /// The graph of a list of edges, which is taken over: `row_ranges::graph_of_list`.
+    /// The graph of a list of edges, which is taken over, as from `row_ranges::graph_of_list`.
     fn graph(&self, list: EdgeList) -> Result<Graph, NoMemory>
         requires { ready self.now }
         ensures { IfOk result (λ g. g ≡ list) };
 
-    /// The list of edges of the graph on the classes of labels, one for each vertex:
-    /// `round_contract::contracted_list`.
+    /// The list of edges of the graph on the classes of labels, of which there is one for each
+    /// vertex, as from `round_contract::contracted_list`.
     fn contracted_list(&self, graph: &Graph, labels: &Labels) -> Result<EdgeList, NoMemory>
         requires ready { ready self.now }
         requires labels { length labels.now ≡ graph.now.vertices }
         ensures { IfOk result (λ l. l ≡ relabel graph.now labels.now) };
 
-    /// Marks of so many of the workers, who scan side by side, opened with a weight of a cut:
-    /// `round_workers::scan_round`, with a gate that holds nobody. A number below 1 counts as
-    /// 1, and one above 64 as 64. The calling thread alone marks nothing here: what one
-    /// worker scans wants no board.
+    /// The last bound and the marks of `workers` workers, which scan in parallel and begin with
+    /// the weight of a cut, as from `round_workers::scan_round` with an open gate. A number below
+    /// 1 counts as 1, and one above 64 as 64. The calling thread alone marks nothing here and
+    /// keeps the bound, since one worker needs no board.
     fn scan_round(
         &self,
         graph: &Graph,

@@ -14,8 +14,8 @@ use std::alloc::Global;
 use std::thread::Threads;
 use weighted_graph::{Graph, Labels};
 
-/// Threads of a runtime, as many as there are workers. A number below 1 counts as 1, and one above
-/// 64 as 64.
+/// Threads of a runtime, one for each worker. A number below 1 counts as 1, and one above 64 as
+/// 64.
 #[derive(Clone, Copy)]
 pub struct Threaded<'a, R> {
     pub rt: &'a R,
