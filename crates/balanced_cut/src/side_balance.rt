@@ -1,4 +1,4 @@
-//! The balance of one side, vertex by vertex.
+//! The balance of one side, computed vertex by vertex.
 
 ghost use Rattle.std.specs.Prelude.{◌≡◌, length};
 ghost use Rattle.cut_definitions.specs.Balance.{balance};
@@ -8,7 +8,7 @@ use vertex_set::Side;
 
 /// The balance of a side: the lesser of its mass and that of all other vertices.
 ///
-/// One step for each vertex. It takes no memory.
+/// It takes one step for each vertex, and no memory.
 pub fn balance_of(side: &Side, weights: &VertexWeights) -> u128
     requires { length weights.now ≡ side.now.vertices }
     ensures { result ≡ balance weights.now side.now.members }

@@ -1,4 +1,4 @@
-//! The best of the cuts of a cactus, by two ends that move along the borders of its blocks.
+//! The best of the cuts of a cactus, found by two ends that move along the borders of its blocks.
 
 ghost use Rattle.std.specs.Prelude.{◌≡◌, ◌≢◌, ◌+◌, ◌<◌, ◌≤◌, [], IfOk, length};
 ghost use Rattle.std.specs.List.{Contains};
@@ -16,14 +16,14 @@ use rooted_cactus::Cactus;
 use std::alloc::Global;
 use vertex_set::Side;
 
-/// The best range so far, and the border at which a range first had half of all mass.
+/// The best range so far, and the border at which a range first had half of the total mass.
 #[derive(Clone, Copy)]
 struct Search {
     best: Span,
     end: usize,
 }
 
-/// The one of two ranges that has the greater balance; the first where they have the same.
+/// The range with the greater balance, the first if both have the same.
 fn better(ranges: &CutRanges, best: Span, contender: Span) -> Span
     requires best { IsRangeOf (length ranges.now.order.items) (range_of best) }
     requires contender { IsRangeOf (length ranges.now.order.items) (range_of contender) }
@@ -37,12 +37,12 @@ fn better(ranges: &CutRanges, best: Span, contender: Span) -> Span
     }
 }
 
-/// Weighs the ranges that begin at a border: the shortest that has half of all mass or more, and
-/// the next shorter one.
+/// Weighs two ranges that begin at a border: the shortest that has half of the total mass or more,
+/// and the next shorter one.
 ///
 /// No other has a greater balance: the longer ones leave no more than the first, and the shorter
-/// ones have no more mass than the second. From the next border on a range is shorter, so
-/// the end does not go back.
+/// ones have no more mass than the second. From the next border on a range is shorter, so the end
+/// does not go back.
 fn weigh_from(ranges: &CutRanges, start: usize, search: Search) -> Search
     requires start { start < length ranges.now.borders.items }
     requires search { IsBestBefore ranges.now start (range_of search.best) search.end }
@@ -80,11 +80,11 @@ fn best_span(ranges: &CutRanges) -> Span
     search.best
 }
 
-/// A side of a cut of the cactus whose balance by the masses of the vertices no other side of its
-/// cuts exceeds. Which of several such sides is free.
+/// A side of a cut of the cactus whose balance by the masses of the vertices is greatest among all
+/// its sides. The contract leaves free which of several such sides it is.
 ///
-/// One step for each vertex and each node of the cactus, in loops. It takes memory in proportion
-/// to these, and is refused only where that is wanting.
+/// It takes one step for each vertex and each node of the cactus, in loops, and memory in
+/// proportion to these. It fails only if it runs out of memory.
 pub fn best(alloc: Global, cactus: &Cactus, weights: &VertexWeights) -> Result<Side, NoMemory>
     requires some { blocks cactus.now.root ≢ [] }
     requires weights { length weights.now ≡ cactus.now.vertices }

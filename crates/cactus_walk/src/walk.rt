@@ -26,12 +26,12 @@ use std::alloc::Global;
 use std::marker::Model;
 use vertex_set::Side;
 
-/// The sides of the cuts of a cactus, one after another, in the order of the tree;
-/// of a normal cactus each side once.
+/// The sides of the cuts of a cactus, one after another, in the order of the tree. Each side of a
+/// normal cactus comes once.
 ///
-/// It borrows nothing: it keeps the vertices in the order in which the tree is entered,
-/// where each side is one range. Contracts see a walk as n and the list of the sides still
-/// to come, each an ascending list.
+/// It borrows nothing: it keeps the vertices in the order in which the tree is entered, so that
+/// each side is one range. Contracts see a walk as n and the list of the sides still to come, each
+/// an ascending list.
 #[derive(Drop)]
 pub struct Walk {
     n: u32,
@@ -39,17 +39,17 @@ pub struct Walk {
     order: Vec<u32>,
     /// The borders of all blocks, in the order of the tree, as places of `order`.
     borders: Vec<Border>,
-    /// For each border, whether the cut from it to the next one is left out,
-    /// since another cut has its side.
+    /// For each border, whether the cut from it to the next one is left out, since another cut has
+    /// its side.
     repeats: Vec<bool>,
     /// The border at which the next cut begins.
     first: usize,
-    /// How many of the borders behind that one have been passed;
-    /// the next cut ends at the one after these.
+    /// How many of the borders after that one have been passed; the next cut ends at the one after
+    /// these.
     passed: usize,
-    /// The places of the vertices of the last side that was given.
+    /// The places of the vertices of the last side that was returned.
     span: Span,
-    /// The last side that was given.
+    /// The last side that was returned.
     side: Side,
     /// All vertices, for clearing a room 64 at a step.
     all: Side,
@@ -83,14 +83,16 @@ impl Model for Walk {
 }
 
 impl Walk {
-    /// The walk over the sides of a cactus: it gives each of them, in no more steps than there are
-    /// cuts, and each once where the cactus is normal.
+    /// The walk over the sides of a cactus. It returns each of them, in no more steps than there
+    /// are cuts, and each once if the cactus is normal.
     ///
-    /// The cuts come in the order of the tree. Where a node has no vertex and one block below
-    /// it, a cycle, its cut alone in the block above it is left out, since that cycle has a cut
-    /// with the same side. One step for each node and vertex, in loops, so that a deep tree does
-    /// not run out of stack. It takes memory in proportion to the nodes and to n, and is refused
-    /// only where that is wanting.
+    /// The cuts come in the order of the tree. Some nodes have no vertex and one block below,
+    /// which is a cycle. The cut of such a node alone in the block above is left out, since the
+    /// cycle has a cut with the same side.
+    ///
+    /// It takes one step for each node and vertex, in loops, so that a deep tree does not overflow
+    /// the stack. It takes memory in proportion to the nodes and to n, and fails only if it runs
+    /// out of memory.
     pub fn new(alloc: Global, cactus: &Cactus) -> Result<Walk, NoMemory>
         ensures n { IfOk result (λ w. w.vertices ≡ cactus.now.vertices) }
         ensures sides { IfOk result (λ w. (side : List ℕ) → Contains w.to_come side ↔ Contains (sides_of cactus.now) side) }
@@ -117,10 +119,10 @@ impl Walk {
         })
     }
 
-    /// Takes the first of the sides still to come and puts it into the room, in place of what was
-    /// there; false exactly where there is none, and then the room and the walk stay as they were.
+    /// Takes the first of the sides still to come, and puts it into the room in place of what was
+    /// there. It returns false exactly if there is none; then the room and the walk are unchanged.
     ///
-    /// One step for each vertex that is in this side or in the one before it, but not in both, and
+    /// It takes one step for each vertex that is in just one of this side and the one before, and
     /// n/32 steps for the room. It takes no memory.
     pub fn next(&mut self, room: &mut Side) -> bool
         requires { room.old.vertices ≡ self.old.vertices }

@@ -1,20 +1,20 @@
 //! Listings of the sides of the cuts of a cactus: each different side once, in the order of lists.
 //!
-//! A `Lister` keeps a test beside the fact that it answers what is asked: all sides, those that
-//! part two vertices, or those of a least balance of masses. Contracts see a lister as n and what
-//! is asked, and a listing by `IsListing`: it ascends, so it has each side once, and it has the
-//! same members as the sides of the cuts that are let through.
+//! A `Lister` keeps a test of sides, with the fact that the test selects what is asked for. That
+//! is all sides, those that separate two vertices, or those with a least balance of masses.
+//! Contracts see a lister as n and what is asked. They see a listing by `IsListing`: it ascends,
+//! so it has each side once, and its members are the selected sides of the cuts.
 //!
 //! All sides are counted from the tree of the cactus, which is normal, and gathered by a walk that
-//! asks the test of each. Those of a least balance are bands of the borders of the blocks, which
-//! are counted and gathered by two moving ends, in steps for each node and vertex and for what is
-//! found. Those that part two vertices are the sides of a balance of at least 1, where these two
-//! alone have the mass 1. So no test is asked for these two, and `list_balanced` and
-//! `list_parting` are called without one. The number comes first: where it times n is above 2^30
-//! the listing is refused with it, before any side is gathered.
+//! runs the test on each. Those of a least balance are bands of the borders of the blocks. Two
+//! moving ends count and gather them, in steps for each node and vertex and for what is found.
+//! Those that separate two vertices are the sides with balance at least 1 when only these two have
+//! mass 1. So these two jobs need no test; `list_balanced` and `list_parting` are called without
+//! one. The number is found first. If it times n is above 2^30, the listing is refused with it,
+//! before any side is gathered.
 //!
-//! The module `laws` says that there is one listing of some sides, and that it is the list of the
-//! minimum cuts that are asked for, where the sides of the cactus are the minimum cuts of a graph.
+//! The module `laws` says that some sides have just one listing. It also says that this is the
+//! list of the selected minimum cuts, if the sides of the cactus are the minimum cuts of a graph.
 #![tactic(auto)]
 
 mod ask;

@@ -5,17 +5,17 @@ ghost use Rattle.std.specs.Prelude.{◌≡◌};
 
 use std::alloc::AllocError;
 
-/// Why a listing is refused.
+/// Why there is no listing.
 #[derive(Clone, Copy, Debug, PartialEq, Eq)]
 pub enum ListRefusal {
     /// The number of the different sides times n is above 2^30.
     TooLarge {
-        /// The number of the different sides that are let through.
+        /// The number of different sides that are selected.
         cuts: u64,
         /// The number of vertices.
         n: u32,
     },
-    /// Memory was wanting.
+    /// The call ran out of memory.
     NoMemory,
 }
 

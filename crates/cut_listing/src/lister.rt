@@ -1,4 +1,4 @@
-//! A test of sides, kept beside the fact that it answers what is asked.
+//! A test of sides, kept with the fact that it selects what is asked for.
 
 ghost use Rattle.std.specs.Prelude.{◌≡◌, ◌≤◌, ◌^◌, ◌++◌, ◌&&◌, ◌==◌, [], ◌∷◌, true, IfOk, IfErr};
 ghost use Rattle.std.specs.List.{All, filter};
@@ -21,11 +21,11 @@ use rooted_cactus::Cactus;
 use std::alloc::Global;
 use vertex_set::Side;
 
-/// A test of sides, as a closure in a box. A struct can keep a fact about such a test, and none
-/// yet about a closure whose type is a parameter.
+/// A test of sides, as a boxed closure. A struct can keep a fact about such a test, but not yet
+/// about a closure whose type is a parameter.
 pub type SideTest = Box<dyn Fn(&Side) -> bool>;
 
-/// A test of the sides over n, which says yes exactly where a side is asked for.
+/// A test of the sides over n, which returns true exactly if a side is asked for.
 #[derive(Drop)]
 pub struct Lister<'a> {
     n: u32,
@@ -37,8 +37,8 @@ pub struct Lister<'a> {
 }
 
 impl<'a> Lister<'a> {
-    /// A lister that keeps a test of the sides over n;
-    /// where a least balance is asked for, there are n weights.
+    /// A lister that keeps a test of the sides over n. If a least balance is asked for, there must
+    /// be n masses. It takes no memory.
     pub fn new(n: u32, ask: Ask<'a>, keep: SideTest) -> Lister<'a>
         requires callable { TakesSides (SideTest.pre keep) n }
         requires answers { AnswersAsk (SideTest.post keep) n ask }
@@ -64,7 +64,7 @@ impl<'a> Lister<'a> {
         side.n() == self.n && self.lets_through(side)
     }
 
-    /// Keeps a side where it is asked for, and hands back a room for the next one.
+    /// Keeps a side if it is asked for, and returns a room for the next one.
     fn keep(&self, alloc: Global, room: Side, found: &mut Vec<Side>) -> Result<Side, NoMemory>
         requires room { IsOver self.now.n room }
         requires found { All (λ s. s.vertices ≡ self.now.n) found.old.items }
@@ -79,7 +79,7 @@ impl<'a> Lister<'a> {
         Side::empty(alloc, self.n)
     }
 
-    /// The sides that a walk gives and that are asked for, in their order.
+    /// The sides of a walk that are asked for, in their order.
     fn asked_of(&self, alloc: Global, walk: &mut Walk) -> Result<Vec<Side>, NoMemory>
         requires walk { walk.old.vertices ≡ self.now.n }
         requires ascending { All (IsAscendingWithin 1 self.now.n) walk.old.to_come }
@@ -94,7 +94,7 @@ impl<'a> Lister<'a> {
         Ok(found)
     }
 
-    /// The sides of a walk that are asked for, in the order of the tree.
+    /// The sides of a cactus that are asked for, in the order of the tree.
     fn walked_sides(&self, alloc: Global, cactus: &Cactus) -> Result<Vec<Side>, NoMemory>
         requires n { cactus.now.vertices ≡ self.now.n }
         requires normal { is_normal cactus.now.root ≡ true }
@@ -106,7 +106,7 @@ impl<'a> Lister<'a> {
         self.asked_of(alloc, &mut walk)
     }
 
-    /// All different sides, in the order of lists, or their number where they are too many.
+    /// All different sides, in the order of lists, or their number if there are too many.
     fn list_all(&self, alloc: Global, cactus: &Cactus) -> Result<Vec<Side>, ListRefusal>
         requires all { self.now.ask ≡ Ask.All }
         requires n { cactus.now.vertices ≡ self.now.n }
@@ -125,17 +125,19 @@ impl<'a> Lister<'a> {
         Ok(sides)
     }
 
-    /// The different sides of the cuts of a cactus that are asked for, in the order of lists, a
-    /// side that another begins with first.
+    /// The different sides of the cuts of a cactus that are asked for, in the order of lists, in
+    /// which a prefix comes first.
     ///
     /// The cactus is normal and has at most 4,194,304 vertices. The listing is refused as too
-    /// large exactly where the number of these sides times n is above 2^30, with the two factors,
-    /// and for want of memory. The number is found first, from the tree, with one step for each
-    /// node and vertex; so where it is too large no side is gathered. Where all are asked for a
-    /// walk over the cactus gathers them, by the test; else they are listed as `list_parting` and
-    /// `list_balanced` list them, which ask no test. Then O(c log c) comparisons of n/64 steps,
-    /// for c sides. Memory: in proportion to the nodes and vertices, and n/8 bytes and a constant
-    /// for each of these sides.
+    /// large exactly if the number of these sides times n is above 2^30, with the two factors. It
+    /// is refused otherwise only if it runs out of memory.
+    ///
+    /// The number is found first, from the tree, with one step for each node and vertex, so no
+    /// side is gathered if it is too large. If all sides are asked for, a walk over the cactus
+    /// gathers them, by the test. Otherwise they are listed as by `list_parting` and
+    /// `list_balanced`, without the test. Then c sides take O(c log c) comparisons of n/64 steps.
+    /// It takes memory in proportion to the nodes and vertices, and n/8 bytes and a constant for
+    /// each of these sides.
     pub fn list(&self, alloc: Global, cactus: &Cactus) -> Result<Vec<Side>, ListRefusal>
         requires n { cactus.now.vertices ≡ self.now.n }
         requires normal { is_normal cactus.now.root ≡ true }
@@ -150,9 +152,9 @@ impl<'a> Lister<'a> {
         }
     }
 
-    /// Of some sides over n, the ones that are asked for, in their order.
+    /// The sides over n, among those passed, that are asked for, in their order.
     ///
-    /// One call of the test for each side, and one step. It takes no memory.
+    /// It takes one call of the test and one step for each side, and no memory.
     pub fn select(&self, mut sides: Vec<Side>) -> Vec<Side>
         requires { All (λ s. s.vertices ≡ self.now.n) sides.items }
         ensures over_n { All (λ s. s.vertices ≡ self.now.n) result.items }

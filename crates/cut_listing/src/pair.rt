@@ -1,5 +1,5 @@
-//! The sides of a cactus that part two vertices, by masses: where the two alone have the mass 1,
-//! these are the sides of a balance of at least 1.
+//! The sides of a cactus that separate two vertices, by masses. If only these two have mass 1,
+//! they are the sides with balance at least 1.
 
 ghost use Rattle.std.specs.Prelude.{◌≡◌, ◌≤◌, ◌^◌, true, IfErr, IfOk};
 ghost use Rattle.rooted_cactus.specs.Normal.{is_normal};
@@ -14,14 +14,14 @@ use rooted_cactus::Cactus;
 use std::alloc::Global;
 use vertex_set::Side;
 
-/// A vertex of 1 to n, and vertex 1 for a number that is none: neither is in a side.
+/// A vertex of 1 to n, or vertex 1 for a number that is no vertex: neither is in a side.
 fn vertex_or_one(n: u32, v: u32) -> u32
     ensures { result ≡ vertex_or_one n v }
 {
     if 1 <= v && v <= n { v } else { 1 }
 }
 
-/// The mass 1 for each of two vertices of 1 to n, and none for all others.
+/// Mass 1 for each of two vertices of 1 to n, and 0 for all others.
 fn pair_weights(alloc: Global, n: u32, first: u32, second: u32) -> Result<VertexWeights, NoMemory>
     requires few { n ≤ 4194304 }
     requires first_from_one { 1 ≤ first }
@@ -36,7 +36,8 @@ fn pair_weights(alloc: Global, n: u32, first: u32, second: u32) -> Result<Vertex
     Ok(VertexWeights::from_list(masses))
 }
 
-/// The masses by which the sides of a cactus that part two numbers have a balance of at least 1.
+/// The masses by which exactly the sides of a cactus that separate two numbers have a balance of
+/// at least 1.
 fn parting_weights(
     alloc: Global,
     cactus: &Cactus,
@@ -51,10 +52,10 @@ fn parting_weights(
 }
 
 /// The different sides of the cuts of a cactus that have exactly one of two vertices, in the order
-/// of lists; a number that is no vertex is in no side.
+/// of lists. A number that is no vertex is in no side.
 ///
-/// It is `list_balanced` with masses of 1 for the two vertices and 0 for all others, which take 8
-/// bytes for each vertex.
+/// It is `list_balanced` with mass 1 for the two vertices and 0 for all others, at the same cost
+/// and with the same refusals. The masses take 8 bytes for each vertex.
 pub fn list_parting(
     alloc: Global,
     cactus: &Cactus,

@@ -1,10 +1,10 @@
-//! The sides of a cactus whose balance by masses is at least a number, by two ends that move along
-//! the borders of its blocks.
+//! The sides of a cactus whose balance by masses is at least a number, found by two ends that move
+//! along the borders of its blocks.
 //!
-//! In the list of the vertices in the order of entering each side is a range, from one border of a
-//! block to a later one. As its end goes on its mass does not fall, so the ranges from one border
-//! on that are asked for end at borders that stand side by side: a band. From the next border on a
-//! range has no more mass, so neither end of the band goes back.
+//! In the list of the vertices in the order of entering, each side is a range from one border of a
+//! block to a later one. As the end moves on, the mass does not fall. So the selected ranges from
+//! one border end at adjacent borders, which are a band. From the next border on a range has no
+//! more mass, so neither end of the band goes back.
 
 ghost use Rattle.std.specs.Prelude.{◌≡◌, ◌+◌, ◌-◌, ◌<◌, ◌≤◌, ◌^◌, ◌++◌, true, IfErr, IfOk, OnOk, length, map, max};
 ghost use Rattle.std.specs.List.{All, filter};
@@ -33,7 +33,7 @@ struct Band {
 }
 
 impl Band {
-    /// The number of the borders.
+    /// The number of borders in the band.
     fn len(self) -> usize
         ensures { result ≡ self.to - self.from }
     {
@@ -55,7 +55,7 @@ fn move_ends(ranges: &CutRanges, least: u64, start: usize, ends: Band) -> Band
     }
 }
 
-/// A band without the border behind its own, where the cut to that one is left out.
+/// A band without the next border, if the cut to that one is left out.
 fn kept_band(repeats: &[bool], start: usize, ends: Band) -> Band
     requires { start < length repeats.now }
     ensures from { result.from ≡ max ends.from (start + 1 + passed_over (mark_at repeats.now start)) }
@@ -68,7 +68,7 @@ fn kept_band(repeats: &[bool], start: usize, ends: Band) -> Band
     }
 }
 
-/// The number of the ranges that have the least balance.
+/// The number of ranges that have the least balance or more.
 fn count_bands(ranges: &CutRanges, repeats: &[bool], least: u64) -> u64
     requires repeats { length repeats.now ≡ length ranges.now.borders.items }
     requires few { length (ranges_kept ranges.now.borders.items repeats.now) < 2 ^ 62 }
@@ -104,7 +104,7 @@ fn add_sides(
     Ok(())
 }
 
-/// The sides at the ranges that have the least balance.
+/// The sides at the ranges that have the least balance or more.
 fn gather_bands(
     alloc: Global,
     ranges: &CutRanges,
@@ -126,14 +126,17 @@ fn gather_bands(
 }
 
 /// The different sides of the cuts of a cactus whose balance is at least a number, in the order of
-/// lists, a side that another begins with first.
+/// lists, in which a prefix comes first.
 ///
-/// The cactus is normal. The listing is refused as too large exactly where the number of these
-/// sides times n is above 2^30, with the two factors, and for want of memory. The number is found
-/// first, with one step for each node and vertex; so where it is too large, or there is none, no
-/// side is gathered. Else time: one step more for each node and vertex, n/64 steps for each of the
-/// c sides and one for each of its vertices, and O(c log c) comparisons of n/64 steps. Memory: in
-/// proportion to the nodes and vertices, and n/8 bytes and a constant for each of these sides.
+/// The cactus is normal. The listing is refused as too large exactly if the number of these sides
+/// times n is above 2^30, with the two factors. It is refused otherwise only if it runs out of
+/// memory.
+///
+/// The number is found first, with one step for each node and vertex, so no side is gathered if it
+/// is too large or 0. Then c sides take one step more for each node and vertex, and n/64 steps for
+/// each side and one for each of its vertices. Sorting them takes O(c log c) comparisons of n/64
+/// steps. It takes memory in proportion to the nodes and vertices, and n/8 bytes and a constant
+/// for each of these sides.
 pub fn list_balanced(
     alloc: Global,
     cactus: &Cactus,

@@ -15,11 +15,11 @@ use weighted_graph::{merged_list, sort_by_ends};
 
 /// Why arrays give no graph.
 ///
-/// The lengths are tested first, then the number of vertices, the number of edges, and each place
-/// in turn, at each first the two ends and then the sum so far.
+/// The lengths are tested first, then the number of vertices and the number of edges. Then each
+/// place is tested in turn, first its two ends and then the sum so far.
 #[derive(Clone, Copy, Debug, PartialEq, Eq, Drop)]
 pub enum ArrayFault {
-    /// Memory is wanting.
+    /// The call ran out of memory.
     OutOfMemory,
     /// The arrays differ in length.
     BadLength,
@@ -29,7 +29,7 @@ pub enum ArrayFault {
     TooManyEdges,
     /// An end of an edge is n or more.
     BadVertex,
-    /// The edges that are no loops weigh more than 2^61 together.
+    /// The edges that are no loops weigh more than 2^61 in total.
     WeightSum,
 }
 
@@ -55,8 +55,8 @@ impl<T: Drop> From<AllocFailed<T>> for ArrayFault {
     }
 }
 
-/// Tests the lengths of the arrays, the number of vertices,
-/// and the number of edges, in this order.
+/// Tests the lengths of the arrays, the number of vertices, and the number of edges, in this
+/// order.
 fn check_limits(n: u32, us: &[u32], vs: &[u32], ws: &[u64]) -> Result<(), ArrayFault>
     ensures within { OnOk result (AreWithinLimits n us.now vs.now ws.now) }
     ensures fault { IfErr result (λ fault. Explains fault n us.now vs.now ws.now) }
@@ -73,12 +73,12 @@ fn check_limits(n: u32, us: &[u32], vs: &[u32], ws: &[u64]) -> Result<(), ArrayF
     Ok(())
 }
 
-/// The graph of `n` vertices whose edges the arrays give, place by place:
-/// two vertices of 0 to n - 1, and a weight.
+/// The graph of `n` vertices whose edges the arrays give: at each place two vertices of 0 to n -
+/// 1, and a weight. The result counts vertices from 1.
 ///
-/// Loops and edges of weight 0 are left out, and edges with the same ends are made one: each set
-/// of vertices weighs what it weighs by the arrays. The edges are sorted once, in O(m log m), in
-/// two lists of 16 bytes for each edge.
+/// Loops and edges of weight 0 are left out, and edges with the same ends are merged. Each set of
+/// vertices weighs what it weighs by the arrays. It fails with the first fault, or if it runs out
+/// of memory. The edges are sorted once, in O(m log m), in two lists of 16 bytes for each edge.
 pub fn list_of_arrays(
     alloc: Global,
     n: u32,
@@ -96,10 +96,12 @@ pub fn list_of_arrays(
     Ok(merged_list(n, edges))
 }
 
-/// The components of the graph of three arrays, as classes of its vertices: the ends of one edge
-/// after another are made one by union-find (Galler and Fischer, 1964), in O(m log(n) + n) steps
-/// and 4 bytes for each vertex. No edge is copied, and none is sorted. The sets that have all or
-/// none of each class are just those of weight 0.
+/// The components of the graph of three arrays, as classes of its vertices, counted from 1. The
+/// ends of each edge are joined by union-find (Galler and Fischer, 1964), in O(m log(n) + n) steps
+/// and 4 bytes for each vertex. No edge is copied or sorted.
+///
+/// The sets with all or none of each class are exactly those of weight 0. It fails with the first
+/// fault, or if it runs out of memory.
 pub fn classes_of_arrays(
     alloc: Global,
     n: u32,

@@ -1,4 +1,4 @@
-//! The edges of arrays that may cross a cut.
+//! The edges of arrays that can cross a cut.
 
 ghost use Rattle.std.specs.Prelude.{ℕ, ◌≡◌, ◌≢◌, ◌+◌, ◌<◌, ◌≤◌, ◌^◌, IfOk, IfErr, length};
 ghost use Rattle.std.specs.List.{All, sum_by};
@@ -40,9 +40,8 @@ fn edge_between(u: u32, v: u32, w: u64) -> Edge
     }
 }
 
-/// The edges of the arrays but for loops and those of weight 0, each with its lesser end
-/// first. The places are gone through in turn, and the first that gives no edge is the one
-/// that a refusal is about.
+/// The edges of the arrays without loops and those of weight 0, each with its lesser end first.
+/// The places are tested in turn, and the first one with a fault decides the refusal.
 pub(crate) fn collect(
     alloc: Global,
     n: u32,

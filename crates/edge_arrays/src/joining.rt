@@ -10,8 +10,8 @@ use crate::ArrayFault;
 use crate::sums::sum_with;
 use vertex_classes::Classes;
 
-/// Makes the ends of each edge of the arrays one that may cross a cut, where each vertex is alone.
-/// The places are gone through as where edges are collected.
+/// Joins the ends of each edge of the arrays that can cross a cut, starting from classes in which
+/// each vertex is alone. The places are tested in turn, as when edges are collected.
 pub(crate) fn join_ends(
     n: u32,
     us: &[u32],

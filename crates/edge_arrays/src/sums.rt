@@ -7,8 +7,8 @@ ghost use Rattle.edge_arrays.specs.Faults.{ExplainsEdge};
 use crate::ArrayFault;
 use cut_definitions::MOST_WEIGHT;
 
-/// The sum of weights with that of one more edge, where this is no loop.
-/// Its ends are looked at first.
+/// The sum of weights with that of one more edge, which counts unless it is a loop. Its ends are
+/// tested first.
 pub(crate) fn sum_with(total: u64, n: u32, u: u32, v: u32, w: u64) -> Result<u64, ArrayFault>
     requires { total ≤ 2 ^ 61 }
     ensures ends { IfOk result (λ sum. AreVertices n u v) }

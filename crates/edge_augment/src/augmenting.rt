@@ -22,8 +22,8 @@ fn edge_between(u: u32, v: u32) -> (u32, u32)
     (u.min(v), u.max(v))
 }
 
-/// The edges between opposite sets: each of the first half, rounded up,
-/// with the one half of their number further on.
+/// The edges between opposite sets. Each set of the first half, rounded up, is joined with the set
+/// half of their number further on.
 fn opposite_edges(alloc: Global, sets: &[VertexList]) -> Result<Vec<(u32, u32)>, NoMemory>
     requires { All (λ set. least set ≡ slice_index set 0) sets.now }
     ensures { IfOk result (λ v. v.items ≡ new_edges sets.now) }
@@ -54,19 +54,20 @@ fn sort_sets(sets: &mut Vec<VertexList>)
     sets.sort_unstable_by_key(|set| first_vertex(set));
 }
 
-/// The fewest unit edges that raise the value of a graph,
-/// where the cactus has the sides of all its minimum cuts.
+/// The fewest edges of weight 1 that raise the value of a graph, if the cactus has the sides of
+/// all its minimum cuts.
 ///
-/// The cactus is normal and has a block. The sets of the plan are the inclusion-minimal sets of
-/// vertices that are a side of the cactus or the rest of one: the vertices of the nodes that lie
-/// in exactly one block. They share no vertex, and an edge raises the value only where each of
-/// them has an end of some edge in it alone, so there are half as many edges as sets, rounded up,
-/// and fewer do not do. Of L end nodes, in the order in which the tree is entered, the one at each
-/// place i is joined with that at the place i + h, where h is half of L, rounded down.
+/// The cactus is normal and has a block. The sets of the plan are the inclusion-minimal sets that
+/// are a side of the cactus or the complement of one. They are the sets of vertices of the nodes
+/// that lie in exactly one block. They share no vertex, and edges raise the value only if each of
+/// these sets has exactly one end of some edge. So half as many edges as sets are needed, rounded
+/// up. The L end nodes are in the order in which the tree is entered. The one at each place i is
+/// joined with that at place i + h, with h half of L, rounded down.
 ///
 /// It reads the nodes, blocks and vertices of the tree once, in loops, and sorts the edges and the
-/// sets, of which there are at most n: time O(n log n). It takes memory in proportion to n, and is
-/// refused only where that is wanting.
+/// sets, of which there are at most n: O(n log n). It takes memory in proportion to n, and fails
+/// only if it runs out of memory. The bound is due to Eswaran and Tarjan (1976) for bridges, and
+/// to Naor, Gusfield and Martel (1997) for any value.
 pub fn augment(alloc: Global, cactus: &Cactus) -> Result<Plan, NoMemory>
     requires normal { is_normal cactus.now.root ≡ true }
     requires cuts { 1 ≤ length (blocks cactus.now.root) }

@@ -8,7 +8,7 @@ use cut_definitions::NoMemory;
 use rooted_cactus::{Node, VertexList, stack_blocks};
 use std::alloc::Global;
 
-/// Appends the vertices of a node where it is an end node.
+/// Appends the vertices of a node if it is an end node.
 fn push_end(
     alloc: Global,
     ends: &mut Vec<VertexList>,
@@ -26,9 +26,9 @@ fn push_end(
 
 /// The vertices of each end node of a cactus, in the order of entering.
 ///
-/// A node below a block is one where no block is below it, and the root where exactly one
-/// is. One step for each node, block and vertex, in a loop with a stack, so that a deep tree
-/// does not run out of stack.
+/// A node below a block is an end node if no block is below it, and the root if exactly one is. It
+/// takes one step for each node, block and vertex, in a loop with a stack, so that a deep tree
+/// does not overflow the call stack. It fails only if it runs out of memory.
 pub fn list_ends(alloc: Global, root: &Node) -> Result<Vec<VertexList>, NoMemory>
     ensures { IfOk result (λ v. v.items ≡ end_sets root.now) }
 {
@@ -43,8 +43,7 @@ pub fn list_ends(alloc: Global, root: &Node) -> Result<Vec<VertexList>, NoMemory
     Ok(ends)
 }
 
-/// The first vertex of a list, which is the least one of an ascending list,
-/// and 0 where there is none.
+/// The first vertex of a list, which is the least one of an ascending list, or 0 if it is empty.
 pub fn first_vertex(list: &VertexList) -> u32
     ensures { result ≡ slice_index list.now 0 }
 {

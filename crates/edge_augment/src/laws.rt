@@ -13,17 +13,18 @@ pub fn disjoint_sets()
     ensures { LawOfDisjointSets }
 {}
 
-/// The sets of the end nodes are the inclusion-minimal ones whose side is a side.
+/// The sets of the end nodes are the inclusion-minimal ones that are a side or the complement of
+/// one.
 pub fn end_sets()
     ensures { LawOfEndSets }
 {}
 
-/// How many pairs it takes at least to part every side.
+/// How many pairs are needed to separate every side.
 pub fn fewest()
     ensures { LawOfFewest }
 {}
 
-/// Pairs of opposite end nodes part every side.
+/// Pairs of opposite end nodes separate every side.
 pub fn pairing()
     ensures { LawOfPairing }
 {}
@@ -43,8 +44,8 @@ pub fn different()
     ensures { LawOfDifferent }
 {}
 
-/// The edges of a plan raise the value of a graph whose minimum cuts are the sides of the
-/// cactus, and no fewer do.
+/// The edges of a plan raise the value of a graph whose minimum cuts are the sides of the cactus,
+/// and fewer do not.
 pub fn augmentation()
     ensures { LawOfAugmentation }
 {}

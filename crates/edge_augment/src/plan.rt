@@ -1,12 +1,12 @@
-//! Augmentations as they are handed out.
+//! Augmentations as they are returned.
 
 ghost use Rattle.std.specs.Prelude.{◌≡◌, ◌<◌, Some, length, slice_get};
 
 use rooted_cactus::VertexList;
 use std::marker::Model;
 
-/// New edges of weight 1 that raise the value of a graph,
-/// and the sets that show that fewer do not.
+/// New edges of weight 1 that raise the value of a graph, and the sets that show that fewer do
+/// not.
 ///
 /// Contracts see the edges as pairs and the sets as lists.
 #[derive(Drop)]
@@ -31,8 +31,7 @@ impl Plan {
         Plan { edges, sets }
     }
 
-    /// The new edges, lent without a copy: each with its lesser vertex
-    /// first, ascending, each once.
+    /// The new edges as a borrowed slice, ascending: each once, with its lesser vertex first.
     pub fn edges(&self) -> &[(u32, u32)]
         ensures { result.now ≡ self.now.edges }
     {
@@ -46,8 +45,8 @@ impl Plan {
         self.sets.len()
     }
 
-    /// The vertices of a set, ascending, lent without a copy.
-    /// Sets are counted from 0, in the order of lists.
+    /// The vertices of a set, ascending, as a borrowed slice. Sets are counted from 0, in the
+    /// order of lists.
     pub fn set(&self, i: usize) -> &[u32]
         requires { i < length self.now.sets }
         ensures { slice_get self.now.sets i ≡ Some result.now }

@@ -10,9 +10,9 @@ use std::marker::Model;
 /// A cactus whose nodes are numbered from 0: the vertices of each node, the bridges as pairs of
 /// node numbers, and the cycles as lists of node numbers.
 ///
-/// It may be any such lists: what is built from a tree or read from a text is a cactus. The
-/// vertices of all nodes stand in one vector and the members of all cycles in another, each with a
-/// vector of the places where the lists begin.
+/// Its lists may be any; only what is built from a tree or read from a text is surely a cactus.
+/// The vertices of all nodes are in one vector, and the members of all cycles in another. Each has
+/// a vector of the places where the lists begin.
 #[derive(Drop)]
 pub struct FlatCactus {
     n: u32,
@@ -39,7 +39,7 @@ impl Model for FlatCactus {
     ghost invariant = { λ c. AreStarts c.node_starts.items (length c.vertices.items) × AreStarts c.cycle_starts.items (length c.members.items) × BeginsFirst c.node_starts.items (length c.vertices.items) × BeginsFirst c.cycle_starts.items (length c.members.items) };
 }
 
-/// The list of this number among the lists that begin at the places.
+/// The list with this number, among the lists that begin at the places.
 fn list_at<'a, T>(items: &'a [T], starts: &[usize], i: usize) -> &'a [T]
     requires starts { AreStarts starts.now (length items.now) }
     requires number { i < length starts.now }
@@ -52,8 +52,8 @@ fn list_at<'a, T>(items: &'a [T], starts: &[usize], i: usize) -> &'a [T]
 }
 
 impl FlatCactus {
-    /// The flat cactus without nodes, bridges and cycles, for vertices of 1 to n.
-    /// It takes no memory.
+    /// The flat cactus without nodes, bridges and cycles, for vertices of 1 to n. It takes no
+    /// memory.
     pub fn new(alloc: Global, n: u32) -> FlatCactus
         ensures { result ≡ record { vertices = n; nodes = []; bridges = []; cycles = [] } }
     {
@@ -67,8 +67,9 @@ impl FlatCactus {
         }
     }
 
-    /// The flat cactus without nodes, bridges and cycles, for vertices of 1 to n, with room for
-    /// all vertices, for so many nodes, and for as many bridges and members of cycles.
+    /// The flat cactus without nodes, bridges and cycles, for vertices of 1 to n. It has room for
+    /// all vertices, for `nodes` nodes, and for as many bridges and members of cycles. It fails
+    /// only if it runs out of memory.
     pub fn with_capacity(alloc: Global, n: u32, nodes: usize) -> Result<FlatCactus, NoMemory>
         ensures { IfOk result (λ f. f ≡ record { vertices = n; nodes = []; bridges = []; cycles = [] }) }
     {
@@ -86,7 +87,7 @@ impl FlatCactus {
         })
     }
 
-    /// Appends a node without vertices. Where memory is wanting the cactus stays as it was.
+    /// Appends a node without vertices. If it runs out of memory, the cactus is unchanged.
     pub fn push_node(&mut self) -> Result<(), NoMemory>
         ensures ok { OnOk result (self.new ≡ record self.old { nodes = self.old.nodes ++ [] ∷ [] }) }
         ensures err { OnErr result (self.new ≡ self.old) }
@@ -95,7 +96,7 @@ impl FlatCactus {
         Ok(())
     }
 
-    /// Appends a vertex to the last node. Where memory is wanting the cactus stays as it was.
+    /// Appends a vertex to the last node. If it runs out of memory, the cactus is unchanged.
     pub fn push_vertex(&mut self, v: u32) -> Result<(), NoMemory>
         requires { 0 < length self.old.nodes }
         ensures ok { OnOk result (self.new ≡ record self.old { nodes = appended_to_last self.old.nodes v }) }
@@ -105,8 +106,8 @@ impl FlatCactus {
         Ok(())
     }
 
-    /// Appends a bridge between the nodes of these numbers.
-    /// Where memory is wanting the cactus stays as it was.
+    /// Appends a bridge between the nodes with these numbers. If it runs out of memory, the cactus
+    /// is unchanged.
     pub fn push_bridge(&mut self, i: u64, j: u64) -> Result<(), NoMemory>
         ensures ok { OnOk result (self.new ≡ record self.old { bridges = self.old.bridges ++ (i, j) ∷ [] }) }
         ensures err { OnErr result (self.new ≡ self.old) }
@@ -115,7 +116,7 @@ impl FlatCactus {
         Ok(())
     }
 
-    /// Appends a cycle without nodes. Where memory is wanting the cactus stays as it was.
+    /// Appends a cycle without nodes. If it runs out of memory, the cactus is unchanged.
     pub fn push_cycle(&mut self) -> Result<(), NoMemory>
         ensures ok { OnOk result (self.new ≡ record self.old { cycles = self.old.cycles ++ [] ∷ [] }) }
         ensures err { OnErr result (self.new ≡ self.old) }
@@ -124,8 +125,8 @@ impl FlatCactus {
         Ok(())
     }
 
-    /// Appends the node of this number to the last cycle.
-    /// Where memory is wanting the cactus stays as it was.
+    /// Appends the node with this number to the last cycle. If it runs out of memory, the cactus
+    /// is unchanged.
     pub fn push_member(&mut self, node: u64) -> Result<(), NoMemory>
         requires { 0 < length self.old.cycles }
         ensures ok { OnOk result (self.new ≡ record self.old { cycles = appended_to_last self.old.cycles node }) }
@@ -149,7 +150,7 @@ impl FlatCactus {
         self.node_starts.len()
     }
 
-    /// The vertices of a node, whose number counts from 0, lent without a copy.
+    /// The vertices of a node, counted from 0, as a borrowed slice.
     pub fn node(&self, i: usize) -> &[u32]
         requires { i < length self.now.nodes }
         ensures { slice_get self.now.nodes i ≡ Some result.now }
@@ -157,8 +158,8 @@ impl FlatCactus {
         list_at(&self.vertices, &self.node_starts, i)
     }
 
-    /// Where the vertices of each node begin in one list of them all,
-    /// and that list, lent without a copy.
+    /// Where the vertices of each node begin in one list of them all, and that list, as borrowed
+    /// slices.
     pub fn node_lists(&self) -> (&[usize], &[u32])
         ensures cut { cut_at result.0.now result.1.now ≡ self.now.nodes }
         ensures total { length result.1.now ≡ items_in self.now.nodes }
@@ -166,8 +167,8 @@ impl FlatCactus {
         (&self.node_starts, &self.vertices)
     }
 
-    /// Where the members of each cycle begin in one list of them all,
-    /// and that list, lent without a copy.
+    /// Where the members of each cycle begin in one list of them all, and that list, as borrowed
+    /// slices.
     pub fn cycle_lists(&self) -> (&[usize], &[u64])
         ensures cut { cut_at result.0.now result.1.now ≡ self.now.cycles }
         ensures total { length result.1.now ≡ items_in self.now.cycles }
@@ -175,7 +176,7 @@ impl FlatCactus {
         (&self.cycle_starts, &self.members)
     }
 
-    /// All bridges, lent without a copy.
+    /// All bridges, as a borrowed slice of pairs of node numbers.
     pub fn bridges(&self) -> &[(u64, u64)]
         ensures { result.now ≡ self.now.bridges }
     {
@@ -189,7 +190,7 @@ impl FlatCactus {
         self.cycle_starts.len()
     }
 
-    /// The nodes of a cycle in their order, lent without a copy; cycles are counted from 0.
+    /// The nodes of a cycle, counted from 0, in their order, as a borrowed slice.
     pub fn cycle(&self, i: usize) -> &[u64]
         requires { i < length self.now.cycles }
         ensures { slice_get self.now.cycles i ≡ Some result.now }

@@ -1,5 +1,5 @@
-//! Flattening: the nodes of a cactus numbered in the order of entering,
-//! and its bridges and cycles by these numbers.
+//! Flattening: the nodes of a cactus are numbered in the order of entering, and its bridges and
+//! cycles use these numbers.
 
 ghost use Rattle.std.specs.Prelude.{◌≡◌, ℕ, List, ◌++◌, map, length, drop, OnOk, IfOk};
 ghost use Rattle.std.specs.List.{flat_map};
@@ -13,7 +13,7 @@ use cut_definitions::NoMemory;
 use rooted_cactus::{Block, Blocks, Cactus, Children, Node, subtree_sizes};
 use std::alloc::Global;
 
-/// What is still to be entered: a node of a cycle, or a block below the node of a number.
+/// What is still to be entered: a node of a cycle, or a block below the node with a number.
 #[derive(Drop)]
 enum Task<'a> {
     Enter(&'a Node),
@@ -32,7 +32,7 @@ fn stack_nodes<'a>(stack: &mut Vec<Task<'a>>, nodes: &'a Children) -> Result<(),
     Ok(())
 }
 
-/// Puts the blocks below the node of a number on the stack, the first on top.
+/// Puts the blocks below the node with a number on the stack, the first on top.
 fn stack_blocks<'a>(stack: &mut Vec<Task<'a>>, up: u64, items: &'a Blocks) -> Result<(), NoMemory>
     ensures { OnOk result (pendings stack.new.items ≡ map (block up) (blocks_in items.now) ++ pendings stack.old.items) }
 {
@@ -55,8 +55,8 @@ fn add_node(flat: &mut FlatCactus, item: &Node) -> Result<(), NoMemory>
     Ok(())
 }
 
-/// Appends the cycle through the node `up` and the roots of the trees,
-/// whose nodes have the next numbers.
+/// Appends the cycle through the node `up` and the roots of the trees, whose nodes have the next
+/// numbers.
 fn add_cycle(
     flat: &mut FlatCactus,
     up: u64,
@@ -118,7 +118,7 @@ fn enter_block<'a>(
     }
 }
 
-/// Enters what was taken off the stack.
+/// Enters what was taken from the stack.
 fn enter<'a>(
     flat: &mut FlatCactus,
     stack: &mut Vec<Task<'a>>,
@@ -141,13 +141,13 @@ fn enter<'a>(
     }
 }
 
-/// The flat cactus of a cactus: its nodes numbered from 0 in the order in which the tree is
-/// entered, a node before its children and children in order; its bridges ascending by the lower
-/// node, and its cycles ascending by the first child, each with the node above first.
+/// The flat cactus of a cactus. Its nodes are numbered from 0 in the order in which the tree is
+/// entered, a node before its children and children in order. Its bridges ascend by the lower
+/// node. Its cycles ascend by the first child, each with the node above first.
 ///
-/// One step for each node, block and vertex, in loops with a stack, so that a deep tree does
-/// not run out of stack. It takes memory in proportion to the nodes and to n, and is refused
-/// only where that is wanting.
+/// It takes one step for each node, block and vertex, in loops with a stack, so that a deep tree
+/// does not overflow the call stack. It takes memory in proportion to the nodes and to n, and
+/// fails only if it runs out of memory.
 pub fn flatten(alloc: Global, cactus: &Cactus) -> Result<FlatCactus, NoMemory>
     ensures { IfOk result (λ f. f ≡ flat_of cactus.now) }
 {

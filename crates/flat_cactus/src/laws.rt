@@ -7,15 +7,15 @@ pub fn flat_form()
     ensures { LawOfFlatForm }
 {}
 
-/// The bridges of the flat cactus of a cactus ascend by their second nodes,
-/// its cycles too, and so does each cycle.
+/// The bridges of the flat cactus of a cactus ascend by their second nodes. Its cycles do too, and
+/// each cycle ascends.
 pub fn flat_order()
     ensures { LawOfFlatOrder }
 {}
 
-/// The flat cactus of a cactus has the sides of the cactus: taking away one bridge, or two edges
-/// of one cycle, leaves just the nodes below the bridge, or below the children between the two
-/// edges, without a way to node 0.
+/// The flat cactus of a cactus has the sides of the cactus. Removing one bridge cuts off from node
+/// 0 exactly the nodes below the bridge. Removing two edges of one cycle cuts off exactly those
+/// below the children between the two edges.
 pub fn flat_sides()
     ensures { LawOfFlatSides }
 {}

@@ -1,10 +1,10 @@
-//! The flat cactus: a cactus whose nodes are numbered,
-//! with its bridges and cycles by these numbers.
+//! The flat cactus: a cactus whose nodes are numbered, with its bridges and cycles by these
+//! numbers.
 //!
 //! `flatten` numbers the nodes of a rooted cactus in the order of entering, in loops. The cuts of
-//! a `FlatCactus` are told by what node 0 still reaches once one bridge or two edges of a cycle
-//! are taken away, and have the sides of the tree: `laws::flat_sides`. It is well formed and in
-//! order: `laws::flat_form`, `laws::flat_order`.
+//! a `FlatCactus` remove one bridge or two edges of a cycle, and cut off what node 0 then no
+//! longer reaches. They have the sides of the tree (`laws::flat_sides`). It is well formed and in
+//! order (`laws::flat_form`, `laws::flat_order`).
 #![tactic(auto)]
 
 mod flat;

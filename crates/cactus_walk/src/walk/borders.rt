@@ -1,5 +1,5 @@
-//! The borders of the blocks of a tree: the places at which the nodes of a block begin, and the
-//! one at which the last ends.
+//! The borders of the blocks of a tree: the places where the nodes of a block begin, and where the
+//! last of them ends.
 
 ghost use Rattle.std.specs.Prelude.{◌≡◌, ℕ, ◌++◌, ◌<◌, ◌≤◌, length, drop, map, OnOk, IfOk};
 ghost use Rattle.rooted_cactus.specs.Outlines.{Hops};
@@ -9,7 +9,7 @@ use cut_definitions::NoMemory;
 use rooted_cactus::{Border, NodeOutline};
 use std::alloc::Global;
 
-/// Appends the borders of a block of so many nodes, whose first one has the number.
+/// Appends the borders of a block of some nodes, of which the first has the given number.
 fn add_block(
     borders: &mut Vec<Border>,
     places: &[usize],
@@ -40,8 +40,8 @@ fn add_block(
 
 /// The borders of all blocks of a tree, in the order of the tree.
 ///
-/// One step for each node and block. It takes memory in proportion to these,
-/// and is refused only where that is wanting.
+/// It takes one step for each node and block, and memory in proportion to these. It fails only if
+/// it runs out of memory.
 pub fn borders_of(
     alloc: Global,
     entries: &[NodeOutline],
@@ -63,8 +63,8 @@ pub fn borders_of(
     Ok(borders)
 }
 
-/// The first border from a place of the list on, counted from 0, which others of its block follow;
-/// the number of borders where there is none. One step for each border that is passed.
+/// The first border from a place of the list on, counted from 0, that others of its block follow.
+/// If there is none, it returns the number of borders. One step for each border that is passed.
 pub fn next_start(borders: &[Border], from: usize) -> usize
     requires { from ≤ length borders.now }
     ensures within { result ≤ length borders.now }

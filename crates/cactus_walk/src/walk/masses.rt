@@ -1,4 +1,4 @@
-//! The masses of the first vertices of a list, by which a range of it is weighed.
+//! The masses of the first vertices of a list, by which its ranges are weighed.
 
 ghost use Rattle.std.specs.Prelude.{◌≡◌, ℕ, ◌+◌, ◌≤◌, IfOk, get_or, length};
 ghost use Rattle.std.specs.List.{All};
@@ -8,10 +8,10 @@ ghost use Rattle.cactus_walk.specs.RangeMasses.{mass_before};
 use cut_definitions::{NoMemory, VertexWeights};
 use std::alloc::Global;
 
-/// For each place of a list of vertices, and last for its end, the mass of the vertices before it.
+/// For each place of a list of vertices, and finally for its end, the mass of the vertices before
+/// it.
 ///
-/// One step for each vertex. It takes 16 bytes for each,
-/// and is refused only where that is wanting.
+/// It takes one step and 16 bytes for each vertex, and fails only if it runs out of memory.
 pub fn masses_before(
     alloc: Global,
     order: &[u32],

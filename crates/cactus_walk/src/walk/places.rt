@@ -1,5 +1,5 @@
-//! The cuts of a cactus as ranges of one list:
-//! the vertices in the order of entering, and the borders of the blocks.
+//! The cuts of a cactus as ranges of one list: the vertices in the order of entering, and the
+//! borders of the blocks.
 
 ghost use Rattle.std.specs.Prelude.{◌≡◌, ◌↔◌, ◌≤◌, List, ℕ, IfOk, length, map, true};
 ghost use Rattle.std.specs.List.{All, Contains, concat};
@@ -38,13 +38,13 @@ pub struct KeptPlaces {
     pub order: Vec<u32>,
     /// The borders of all blocks, in the order of the tree, as places of `order`, counted from 0.
     pub borders: Vec<Border>,
-    /// For each border, whether the cut from it to the next one is left out,
-    /// since another cut has its side.
+    /// For each border, whether the cut from it to the next one is left out, since another cut has
+    /// its side.
     pub repeats: Vec<bool>,
 }
 
-/// A tree laid out in the order of entering:
-/// its vertices, its nodes, and the sizes of its subtrees.
+/// A tree laid out in the order of entering: its vertices, its nodes, and the sizes of its
+/// subtrees.
 #[derive(Drop)]
 struct Laid {
     listing: InOrder,
@@ -73,13 +73,14 @@ fn lay_out(alloc: Global, cactus: &Cactus) -> Result<Laid, NoMemory>
 
 /// The places of all cuts of a cactus.
 ///
-/// Each vertex of 1 to n stands in the list once. The borders of a block stand one after another
-/// and their places do not descend; the sides of the cactus, in the order of the tree, are those
-/// at the ranges from each border to each later one of its block. So a side has as many vertices
-/// as its range has places. A range may be empty, where nodes have no vertices.
+/// Each vertex of 1 to n is in the list once. The borders of a block follow one another, and their
+/// places do not descend. The sides of the cactus, in the order of the tree, are those at the
+/// ranges from each border to each later one of its block. So a side has as many vertices as its
+/// range has places. A range can be empty, if nodes have no vertices.
 ///
-/// One step for each node and vertex, in loops, so that a deep tree does not run out of stack. It
-/// takes memory in proportion to the nodes and to n, and is refused only where that is wanting.
+/// It takes one step for each node and vertex, in loops, so that a deep tree does not overflow the
+/// stack. It takes memory in proportion to the nodes and to n, and fails only if it runs out of
+/// memory.
 pub fn cut_places(alloc: Global, cactus: &Cactus) -> Result<CutPlaces, NoMemory>
     ensures order { IfOk result (λ p. p.order.items ≡ concat (entered cactus.now.root)) }
     ensures long { IfOk result (λ p. length p.order.items ≡ cactus.now.vertices) }
@@ -97,11 +98,11 @@ pub fn cut_places(alloc: Global, cactus: &Cactus) -> Result<CutPlaces, NoMemory>
     })
 }
 
-/// The places of the cuts that a walk gives:
-/// each side of the cactus, and where it is normal each once.
+/// The places of the cuts that a walk shows: each side of the cactus, and each once if it is
+/// normal.
 ///
-/// It takes the steps and the memory of `cut_places`,
-/// and one step and one byte more for each border.
+/// It takes the steps and the memory of `cut_places`, and one step and one byte more for each
+/// border. It fails only if it runs out of memory.
 pub fn kept_places(alloc: Global, cactus: &Cactus) -> Result<KeptPlaces, NoMemory>
     ensures order { IfOk result (λ p. p.order.items ≡ concat (entered cactus.now.root)) }
     ensures long { IfOk result (λ p. length p.order.items ≡ cactus.now.vertices) }

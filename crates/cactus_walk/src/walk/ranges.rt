@@ -1,4 +1,4 @@
-//! The cuts of a cactus as ranges between the borders of its blocks, which are weighed at once.
+//! The cuts of a cactus as ranges between the borders of its blocks, each weighed in one step.
 
 ghost use Rattle.std.specs.Prelude.{◌≡◌, ◌+◌, ◌≤◌, ◌<◌, ◌^◌, ℕ, length, slice_index};
 ghost use Rattle.std.specs.List.{All};
@@ -15,15 +15,15 @@ use vertex_set::Side;
 /// The cuts of a cactus whose vertices have masses, as ranges of one list.
 ///
 /// The side of each cut has the vertices from one border of a block to a later one of the same
-/// block. Its mass is that of all vertices before the later border without that of those before
-/// the earlier one, so it takes one step. As the end goes on the mass does not fall.
+/// block. Its mass is that of all vertices before the later border, less that of all before the
+/// earlier one, so it takes one step. As the end moves on, the mass does not fall.
 #[derive(Drop)]
 pub struct CutRanges {
     /// The vertices, in the order in which the tree is entered.
     pub order: Vec<u32>,
     /// The borders of all blocks, in the order of the tree, as places of `order`, counted from 0.
     pub borders: Vec<Border>,
-    /// For each place of `order`, and last for its end, the mass of the vertices before it.
+    /// For each place of `order`, and finally for its end, the mass of the vertices before it.
     pub sums: Vec<u128>,
     ghost few: { length order.items ≤ 4194304 },
     ghost vertices: { All (IsVertex (length order.items)) order.items },
@@ -42,7 +42,7 @@ impl CutRanges {
 
     /// The ranges between borders of a list of vertices, which are weighed by their masses.
     ///
-    /// One step and 16 bytes for each vertex. It is refused only where memory runs out.
+    /// It takes one step and 16 bytes for each vertex, and fails only if it runs out of memory.
     pub fn of(
         alloc: Global,
         order: Vec<u32>,
@@ -57,7 +57,7 @@ impl CutRanges {
         ensures borders { IfOk result (λ r. r.borders.items ≡ borders.items) }
         ensures sums { IfOk result (AreSumsOf weights.now) }
     {
-        // known by this call: each mass is below 2^64, and how many vertices there may be
+        // known by this call: each mass is below 2^64, and how many vertices there can be
         let _known = weights.len();
         let sums = masses_before(alloc, &order, weights)?;
         Ok(CutRanges {
@@ -122,11 +122,11 @@ impl CutRanges {
         self.sums[self.borders[border].place]
     }
 
-    /// The first border from one on up to which the range from another has a mass or more; the one
-    /// behind the block where none has.
+    /// The first border, from `from` on, up to which the range from `start` has at least this
+    /// mass. If there is none, it returns the border after the block.
     ///
-    /// One step for each border that is passed. From the next border on a range has no more mass,
-    /// so the end does not go back.
+    /// It takes one step for each border that is passed. From the next border on a range has no
+    /// more mass, so the end does not go back.
     pub fn first_end(&self, mass: u128, start: usize, from: usize) -> usize
         requires start { start < length self.now.borders.items }
         requires short { IsShort self.now mass start from }
@@ -143,7 +143,8 @@ impl CutRanges {
         end
     }
 
-    /// The side at a range. One step for each of its vertices, and n/8 bytes for n vertices.
+    /// The side at a range. It takes one step for each of its vertices and n/8 bytes, and fails
+    /// only if it runs out of memory.
     pub fn side(&self, alloc: Global, span: Span) -> Result<Side, NoMemory>
         requires { span.to ≤ length self.now.order.items }
         ensures n { IfOk result (λ s. s.vertices ≡ length self.now.order.items) }

@@ -1,8 +1,8 @@
 //! The cuts that a walk leaves out, since another cut has the same side.
 //!
-//! An empty node with one block below it, a cycle, is cut off alone by the block above it,
-//! and has the same vertices below it as all the nodes of that cycle. Of these two cuts the
-//! walk leaves out the first.
+//! An empty node with one block below it, a cycle, is cut off alone by the block above it. It has
+//! the same vertices below it as all the nodes of that cycle. Of these two cuts the walk leaves
+//! out the first.
 
 ghost use Rattle.std.specs.Prelude.{◌≡◌, ℕ, ◌+◌, ◌++◌, ◌<◌, ◌≤◌, length, drop, OnOk, IfOk};
 ghost use Rattle.rooted_cactus.specs.Outlines.{Hops};
@@ -26,7 +26,8 @@ fn is_between(entries: &[NodeOutline], places: &[usize], number: usize) -> bool
     entries[number + 1].head == children && places[number] == places[number + 1]
 }
 
-/// Appends the marks of the borders of a block of so many nodes, whose first one has the number.
+/// Appends the marks of the borders of a block of some nodes, of which the first has the given
+/// number.
 fn add_marks(
     repeats: &mut Vec<bool>,
     entries: &[NodeOutline],
@@ -54,8 +55,8 @@ fn add_marks(
 /// For each border of the blocks of a tree, in the order of the tree, whether the cut from it to
 /// the next one is left out.
 ///
-/// One step for each node and block. It takes a byte for each border,
-/// and is refused only where these are wanting.
+/// It takes one step for each node and block and a byte for each border, and fails only if it runs
+/// out of memory.
 pub fn repeats_of(
     alloc: Global,
     entries: &[NodeOutline],
@@ -77,8 +78,8 @@ pub fn repeats_of(
     Ok(repeats)
 }
 
-/// How many of the borders behind one are passed over:
-/// 1 where the cut to the next one is left out, and 0 elsewhere.
+/// How many of the borders after one are passed over: 1 if the cut to the next one is left out,
+/// and 0 otherwise.
 pub fn passed_over(repeats: &[bool], at: usize) -> usize
     ensures { result ≡ passed_over (mark_at repeats.now at) }
 {
@@ -90,7 +91,8 @@ pub fn passed_over(repeats: &[bool], at: usize) -> usize
 }
 
 /// The first border from a place of the list on, counted from 0, at which a cut begins that is not
-/// left out; the number of borders where there is none. One step for each border that is passed.
+/// left out. If there is none, it returns the number of borders. One step for each border that is
+/// passed.
 pub fn next_kept(borders: &[Border], repeats: &[bool], from: usize) -> usize
     requires from { from ≤ length borders.now }
     requires repeats { length repeats.now ≡ length borders.now }

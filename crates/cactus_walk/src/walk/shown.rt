@@ -1,5 +1,5 @@
-//! A side that has the vertices at the places of a range of a list,
-//! and its change to another range.
+//! A side that has the vertices at the places of a range of a list, and its change to another
+//! range.
 
 ghost use Rattle.std.specs.Prelude.{◌≡◌, ◌≤◌, length};
 ghost use Rattle.std.specs.List.{All};
@@ -12,16 +12,16 @@ ghost use Rattle.cut_definitions.specs.Graph.{IsVertex};
 
 use vertex_set::Side;
 
-/// The places of a list, counted from 0, from one on that are before another.
+/// The places of a list, counted from 0, from one place on that are before another.
 #[derive(Clone, Copy)]
 pub struct Span {
     /// The first place.
     pub from: usize,
-    /// The place behind the last one.
+    /// The place after the last one.
     pub to: usize,
 }
 
-/// Takes the vertices at the places of a range out of the side.
+/// Removes the vertices at the places of a range from the side.
 fn take_range(side: &mut Side, order: &[u32], from: usize, to: usize)
     requires vertices { All (IsVertex side.old.vertices) order.now }
     requires to { to ≤ length order.now }
@@ -35,10 +35,9 @@ fn take_range(side: &mut Side, order: &[u32], from: usize, to: usize)
     }
 }
 
-/// Puts the vertices at the places from `from` on that are before `to` into the
-/// side; what was there stays.
+/// Puts the vertices at the places from `from` to before `to` into the side; what was there stays.
 ///
-/// One step for each of them. It takes no memory.
+/// It takes one step for each of them, and no memory.
 pub fn put_range(side: &mut Side, order: &[u32], from: usize, to: usize)
     requires vertices { All (IsVertex side.old.vertices) order.now }
     requires to { to ≤ length order.now }
@@ -52,8 +51,8 @@ pub fn put_range(side: &mut Side, order: &[u32], from: usize, to: usize)
     }
 }
 
-/// Changes a side from the vertices of one range to those of another: one step for each vertex
-/// that is in one of them and not in the other.
+/// Changes a side from the vertices of one range to those of another. It takes one step for each
+/// vertex that is in just one of them, and no memory.
 pub fn change_side(side: &mut Side, order: &[u32], old: Span, new: Span)
     requires once { AreOnce side.old.vertices order.now }
     requires vertices { All (IsVertex side.old.vertices) order.now }
