@@ -11,7 +11,7 @@ use residual_chain::Run;
 use rooted_cactus::{Block, Blocks, Children, Node, VertexList};
 use std::alloc::Global;
 
-/// Hangs one more block below a node.
+/// Attaches one more block below a node.
 fn hang(node: Node, block: Block) -> Result<Node, NoMemory>
     ensures part { IfOk result (λ x. part x ≡ with_below (part node) (block_part block)) }
     ensures held { IfOk result (λ x. held x ≡ held node ++ block_held block) }
@@ -23,7 +23,7 @@ fn hang(node: Node, block: Block) -> Result<Node, NoMemory>
     Ok(node)
 }
 
-/// A bridge down to a node.
+/// A bridge to a node below it.
 fn bridge_to(alloc: Global, node: Node) -> Result<Block, NoMemory>
     ensures part { IfOk result (λ b. block_part b ≡ bridge_of (part node)) }
     ensures held { IfOk result (λ b. block_held b ≡ held node) }
@@ -33,8 +33,8 @@ fn bridge_to(alloc: Global, node: Node) -> Result<Block, NoMemory>
     Ok(Block::Bridge(child))
 }
 
-/// The node at the far end of a run: the one below a bridge,
-/// or else an empty one above the cycle of the next run.
+/// The node at the far end of a run: the one below a bridge, or otherwise an empty one above the
+/// cycle of the next run.
 fn far_end(alloc: Global, hanging: Block) -> Result<Node, NoMemory>
     ensures part { IfOk result (λ x. IsFarEnd (block_part hanging) (part x)) }
     ensures held { IfOk result (λ x. held x ≡ block_held hanging) }
@@ -87,14 +87,14 @@ fn bridge_down(
     Ok(hanging)
 }
 
-/// Joins the nodes of a chain into a tree: neighbours by bridges,
-/// and each run by a cycle with its two outer neighbours.
+/// Joins the nodes of a chain into a tree: neighbours by bridges, and each run by a cycle with its
+/// two outer neighbours.
 ///
-/// The cuts of the answer are, as sets, those of the chain, the intervals inside the runs, and the
+/// The cuts of the result are, as sets, those of the chain, the intervals inside the runs, and the
 /// cuts of the nodes. The tree is built from its far end, with one block that hangs below the
-/// nodes that are left; where two runs touch, an empty node stands between their cycles. It takes
-/// memory for each bridge, empty node and cycle, moves the nodes, and takes one step for each node
-/// and run. Where memory is wanting the nodes are dropped.
+/// nodes that are left. If two runs touch, an empty node is between their cycles. It takes memory
+/// for each bridge, empty node and cycle, moves the nodes, and takes one step for each node and
+/// run. If it runs out of memory, the nodes are dropped.
 pub fn join(alloc: Global, nodes: Children, runs: &[Run]) -> Result<Node, NoMemory>
     requires enough { 2 ≤ length (nodes_in nodes) }
     requires runs { IsRuns (length (nodes_in nodes)) runs.now }

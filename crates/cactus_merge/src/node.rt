@@ -16,8 +16,7 @@ use residual_chain::Chain;
 use rooted_cactus::{Node, VertexList, rename_node};
 use std::alloc::Global;
 
-/// The names of the vertices of a part's cactus:
-/// 1 stays, and j + 1 becomes the j-th vertex of the list.
+/// The names of the vertices of a part's cactus: 1 stays, and j + 1 becomes vertex j of the list.
 fn names_of(alloc: Global, own: &VertexList) -> Result<Vec<u32>, NoMemory>
     ensures { IfOk result (λ v. v.items ≡ names_by own.now) }
 {
@@ -59,7 +58,7 @@ fn smaller(list: &[u32], vertex: u32) -> usize
     place
 }
 
-/// The ascending list with one vertex more, in its place by size.
+/// The ascending list with one more vertex, inserted by size.
 fn with_vertex(alloc: Global, list: &VertexList, vertex: u32) -> Result<VertexList, NoMemory>
     ensures { IfOk result (λ l. l ≡ inserted vertex list.now) }
 {
@@ -71,8 +70,8 @@ fn with_vertex(alloc: Global, list: &VertexList, vertex: u32) -> Result<VertexLi
     Ok(VertexList::from_vec(out))
 }
 
-/// The root of the cactus of a part, with the vertices for which its
-/// vertices stand; vertex 1 stays.
+/// The root of the cactus of a part, with its vertices renamed to those that they represent;
+/// vertex 1 stays.
 fn renamed_root(alloc: Global, part: PartCactus) -> Result<Node, NoMemory>
     ensures names { IfOk result (λ x. entered x ≡ map (renamed (names_by part.own)) (entered part.cactus.root)) }
     ensures sides { IfOk result (λ x. (sets : List ℕ → VertexSet) → part_by sets x ≡ part_by (λ l. sets (renamed (names_by part.own) l)) part.cactus.root) }
@@ -85,8 +84,8 @@ fn renamed_root(alloc: Global, part: PartCactus) -> Result<Node, NoMemory>
     Ok(node)
 }
 
-/// The vertices at the top of the node of a part: those of the renamed root, with no vertex 1 but
-/// in the first part, and the chain's other end in the last.
+/// The vertices at the top of the node of a part. They are those of the renamed root, with vertex
+/// 1 only in the first part, and with the chain's other end in the last.
 fn top_vertices(
     alloc: Global,
     chain: &Chain,
@@ -107,8 +106,8 @@ fn top_vertices(
     with_vertex(alloc, &rest, chain.t())
 }
 
-/// The node of a part of a chain, from the root of its cactus:
-/// it has the vertices of the part, the chain's ends too.
+/// The node of a part of a chain, made of the root of its cactus: it has the vertices of the part,
+/// with the chain's ends.
 pub fn part_node(
     alloc: Global,
     chain: &Chain,

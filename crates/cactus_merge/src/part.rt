@@ -14,8 +14,8 @@ use residual_chain::Chain;
 use rooted_cactus::{Cactus, Children, VertexList};
 use std::alloc::Global;
 
-/// The cactus of a part of a chain, in which vertex 1 stands for all vertices that are not in the
-/// list, and vertex j + 1 for the j-th vertex of the list.
+/// The cactus of a part of a chain. Vertex 1 represents all vertices that are not in the list, and
+/// vertex j + 1 represents vertex j of the list.
 #[derive(Drop)]
 pub struct PartCactus {
     pub cactus: Cactus,
@@ -41,14 +41,16 @@ fn part_nodes(alloc: Global, chain: &Chain, parts: Vec<PartCactus>) -> Result<Ch
 
 /// The cactus of a chain from the cactuses of its parts, which are taken over.
 ///
-/// The chain goes from vertex 1, and there is one entry for each part, in order: its list has,
+/// The chain starts at vertex 1, and there is one entry for each part, in order. Its list has,
 /// ascending, the vertices of the part other than the chain's ends, and its cactus is over one
-/// vertex more. The sides of the answer are those of the cuts of the chain, the unions of the
-/// intervals of parts inside a run, and the sides of the cactuses of the parts, each lifted to the
-/// vertices for which its members stand. It takes memory in proportion to the nodes and vertices
-/// of the parts, and for each bridge, cycle and empty node that joins them; it is refused only
-/// where this is wanting, and the parts are dropped then. One step for each vertex, node and run,
-/// in loops, so that a deep cactus does not run out of stack.
+/// more vertex. The sides of the result are those of the cuts of the chain, and the unions of the
+/// intervals of parts inside a run. The others are the sides of the cactuses of the parts, lifted
+/// to the vertices that their members represent.
+///
+/// It takes memory in proportion to the nodes and vertices of the parts, and for each bridge,
+/// cycle and empty node that joins them. It fails only if it runs out of memory, and then drops
+/// the parts. It takes one step for each vertex, node and run, in loops, so that a deep cactus
+/// does not overflow the stack.
 pub fn assemble(alloc: Global, chain: &Chain, parts: Vec<PartCactus>) -> Result<Cactus, NoMemory>
     requires { ArePartsOf chain.now parts.items }
     ensures n { IfOk result (λ c. c.vertices ≡ length chain.now.numbers) }

@@ -1,8 +1,8 @@
 //! Beside the program: the text of a cactus, a line for each node, bridge and cycle.
 //!
 //! `read` reads such a text, and refuses exactly what states no cactus, with the number of the
-//! line; a law says that what was printed is read back (`laws`). `print` and `print_flat`
-//! write it, by way of a `Page`.
+//! line. A law says that what was printed is read back (`laws`). `print` and `print_flat` write
+//! it, by means of a `Page`.
 #![tactic(auto)]
 
 pub mod laws;

@@ -26,7 +26,7 @@ pub struct CactusFile {
 pub enum TextRefusal {
     /// The number, counted from 1, of the first line that breaks a rule.
     Malformed(u64),
-    /// Memory was wanting.
+    /// The call ran out of memory.
     NoMemory,
 }
 
@@ -67,7 +67,7 @@ struct Reader {
     counts: Counts,
     flat: FlatCactus,
     seen: Seen,
-    /// For each node the number, counted from 1, of the last cycle that has it; 0 where none has.
+    /// For each node the number, counted from 1, of the last cycle that has it, or 0 if none has.
     last_cycles: Vec<u64>,
 }
 
@@ -85,8 +85,8 @@ impl Reader {
         }
     }
 
-    /// Takes a line, whose numbers are put into the room; false where it breaks a rule, and the
-    /// reader is done with then.
+    /// Takes a line, whose numbers are put into the room. It returns false if the line breaks a
+    /// rule; the reader is then finished.
     fn take(&mut self, line: &[u8], room: &mut Vec<u64>) -> Result<bool, NoMemory>
         requires { IsReader self.old }
         ensures { Takes (with_line self.old.counts self.old.flat line.now) self.old self.new result }
@@ -171,8 +171,8 @@ impl Reader {
         Ok(self.has_different(room))
     }
 
-    /// Whether the last cycle has three or more different numbers of nodes,
-    /// the first of them the least.
+    /// Whether the last cycle has three or more different numbers of nodes, the first of them the
+    /// least.
     fn has_different(&mut self, cycle: &[u64]) -> bool
         requires some { 0 < length self.old.flat.cycles }
         requires one_each { length self.old.last_cycles.items ≡ length self.old.flat.nodes }
@@ -190,7 +190,7 @@ impl Reader {
         are_different(&mut self.last_cycles, self.flat.cycles() as u64, cycle)
     }
 
-    /// Whether no line is missing, and every vertex stands in some node.
+    /// Whether no line is missing, and every vertex is in some node.
     fn is_complete(&self) -> bool
         requires { IsReader self.now }
         ensures { result ≡ is_complete self.now.counts self.now.flat }
@@ -228,7 +228,7 @@ fn ascend(numbers: &[u64], high: u32) -> bool
     true
 }
 
-/// Whether the numbers are of `low` and below `end`.
+/// Whether the numbers are at least `low` and below `end`.
 fn are_within(numbers: &[u64], low: u64, end: u64) -> bool
     ensures { result ≡ list_all (λ i. nat_le low i && nat_lt i end) numbers.now }
 {
@@ -240,8 +240,8 @@ fn are_within(numbers: &[u64], low: u64, end: u64) -> bool
     true
 }
 
-/// Whether the nodes of a cycle are different.
-/// Marks each with the number of the cycle, which no node has yet.
+/// Whether the nodes of a cycle are different. Marks each with the number of the cycle, which no
+/// node has yet.
 fn are_different(marks: &mut [u64], cycle: u64, nodes: &[u64]) -> bool
     requires fresh { (i : ℕ) → slice_index marks.old i < cycle }
     requires below { All (λ i. i < length marks.old) nodes.now }
@@ -284,8 +284,8 @@ fn push_members(flat: &mut FlatCactus, nodes: &[u64]) -> Result<(), NoMemory>
     Ok(())
 }
 
-/// The flat cactus of the lines behind the first one,
-/// or the number of the first of them that breaks a rule.
+/// The flat cactus of the lines after the first one, or the number of the first of them that
+/// breaks a rule.
 fn read_rest(
     alloc: Global,
     counts: Counts,
@@ -312,11 +312,13 @@ fn read_rest(
 
 /// Reads the text of a cactus.
 ///
-/// It is refused exactly where it is not the text of a value and a cactus, with the number of the
-/// first line that breaks a rule of the text, counted from 1: a last line without line feed breaks
-/// it, a missing line has the number one past the last, a further line its own, and so one past
-/// the last where only the whole breaks a rule. No memory is taken by a number that only the first
-/// line names. Time in proportion to the text, and to the joins of its nodes.
+/// It is refused exactly if it is not the text of a value and a cactus. The refusal has the
+/// number, counted from 1, of the first line that breaks a rule. A last line without a line feed
+/// breaks a rule. A missing line has the number one past the last, and a further line has its own.
+/// If only the whole breaks a rule, the number is also one past the last.
+///
+/// A number that only the first line names takes no memory. It takes time in proportion to the
+/// text, and to the joins of its nodes. Otherwise it fails only if it runs out of memory.
 pub fn read(alloc: Global, text: &[u8]) -> Result<CactusFile, TextRefusal>
     ensures ok { IfOk result (λ f. file_of (lines text.now) ≡ Ok (record { value = f.value; flat = f.cactus })) }
     ensures malformed { (number : ℕ) → IsErrOf result (TextRefusal.Malformed number) → file_of (lines text.now) ≡ Err number }

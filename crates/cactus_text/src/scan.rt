@@ -45,7 +45,7 @@ impl<'a> Lines<'a> {
     }
 }
 
-/// How many bytes the first line has, its line feed among them.
+/// The number of bytes of the first line, with its line feed.
 fn line_length(text: &[u8]) -> usize
     requires { 0 < length text.now }
     ensures within { result ≤ length text.now }
@@ -58,7 +58,7 @@ fn line_length(text: &[u8]) -> usize
     if i < text.len() { i + 1 } else { i }
 }
 
-/// What stands behind a word at the front; none where another stands there.
+/// What follows a word at the front; none if the word is not there.
 fn behind<'a>(word: &[u8], bytes: &'a [u8]) -> Option<&'a [u8]>
     ensures { MatchOption result ((rest : List ℕ) → bytes.now ≢ word.now ++ rest) (λ r. bytes.now ≡ word.now ++ r.now) }
 {
@@ -73,7 +73,7 @@ fn behind<'a>(word: &[u8], bytes: &'a [u8]) -> Option<&'a [u8]>
 pub enum Item {
     /// A space and a number below 2^64 without leading zeros.
     Number(u64),
-    /// The line feed, and nothing behind it.
+    /// The line feed, with nothing after it.
     End,
     /// Anything else.
     Broken,
@@ -86,7 +86,7 @@ pub struct Items<'a> {
 }
 
 impl<'a> Items<'a> {
-    /// What stands behind the word at the front of the line; none where another stands there.
+    /// What follows the word at the front of the line; none if the word is not there.
     pub fn after(word: &[u8], line: &'a [u8]) -> Option<Items<'a>>
         ensures { MatchOption result ((rest : List ℕ) → line.now ≢ word.now ++ rest) (λ i. line.now ≡ word.now ++ i.rest.now) }
     {
@@ -95,7 +95,7 @@ impl<'a> Items<'a> {
         })
     }
 
-    /// What comes next, and takes it off the line. One step for each byte.
+    /// Returns what comes next, and removes it from the line. One step for each byte.
     pub fn next(&mut self) -> Item
         ensures number { (number : ℕ) → result ≡ Item.Number number → TakesNumber self.old.rest.now number self.new.rest.now }
         ensures ended { result ≡ Item.End → self.old.rest.now ≡ 10 ∷ [] }
@@ -116,7 +116,7 @@ impl<'a> Items<'a> {
         }
     }
 
-    /// The next number; none where something else comes.
+    /// The next number; none if something else comes.
     pub fn number(&mut self) -> Option<u64>
         ensures some { IfSome result (λ n. TakesNumber self.old.rest.now n self.new.rest.now) }
         ensures none { (number : ℕ) (numbers : List ℕ) → IsRest self.old.rest.now (number ∷ numbers) → IsSome result }
@@ -137,7 +137,7 @@ impl<'a> Items<'a> {
     }
 }
 
-/// The digit at a place, as a number; none where no digit stands there.
+/// The digit at a place, as a number; none if there is no digit.
 fn digit_at(text: &[u8], i: usize) -> Option<u8>
     ensures { MatchOption result (10 ≤ digit_value (slice_index text.now i)) (λ d. (i < length text.now) × (d < 10) × (d ≡ digit_value (slice_index text.now i))) }
 {
@@ -148,14 +148,14 @@ fn digit_at(text: &[u8], i: usize) -> Option<u8>
     }
 }
 
-/// A number with one more digit; none where it is 2^64 or more.
+/// A number with one more digit; none if it is 2^64 or more.
 fn with_digit(number: u64, digit: u8) -> Option<u64>
     ensures { SomeIff result (number * 10 + digit < 2 ^ 64) (number * 10 + digit) }
 {
     number.checked_mul(10)?.checked_add(u64::from(digit))
 }
 
-/// Whether so many digits at the front are some, and have no leading zero.
+/// Whether this many digits at the front are one or more, without a leading zero.
 fn is_plain(text: &[u8], count: usize) -> bool
     requires { count ≤ length text.now }
     ensures some { result ≡ true → 0 < count }
@@ -170,8 +170,8 @@ fn is_plain(text: &[u8], count: usize) -> bool
     }
 }
 
-/// The number that the digits at the front write, and how many these are; none where there is
-/// none, it has a leading zero, or it is 2^64 or more.
+/// The number that the digits at the front write, and how many they are. None if there is no
+/// digit, a leading zero, or the number is 2^64 or more.
 fn leading_number(text: &[u8]) -> Option<(u64, usize)>
     ensures some { IfSome result (λ r. IsLeading text.now r.0 r.1) }
     ensures none { (number count : ℕ) → IsLeading text.now number count → IsSome result }
@@ -189,7 +189,8 @@ fn leading_number(text: &[u8]) -> Option<(u64, usize)>
     }
 }
 
-/// Whether a line is a word and exactly so many numbers, which are put into the room.
+/// Whether a line is a word and exactly as many numbers as the room has places. If so, they are
+/// put into the room.
 pub fn read_numbers(word: &[u8], line: &[u8], room: &mut [u64]) -> bool
     requires { IsWord word.now }
     ensures all { result ≡ true → numbers_of word.now line.now ≡ Some room.new }
@@ -207,8 +208,8 @@ pub fn read_numbers(word: &[u8], line: &[u8], room: &mut [u64]) -> bool
     items.is_at_end()
 }
 
-/// Whether a line is a word and some numbers, which are put into the room in
-/// place of what was there.
+/// Whether a line is a word and some numbers. If so, they are put into the room in place of what
+/// was there.
 pub fn read_line(word: &[u8], line: &[u8], room: &mut Vec<u64>) -> Result<bool, NoMemory>
     requires { IsWord word.now }
     ensures all { IfOk result (λ b. b ≡ true → numbers_of word.now line.now ≡ Some room.new.items) }

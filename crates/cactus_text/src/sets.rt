@@ -11,7 +11,7 @@ use cut_definitions::NoMemory;
 use std::alloc::Global;
 use std::marker::Model;
 
-/// The vertices that stood in a line so far. It grows with the greatest of them.
+/// The vertices that were in a line so far. Its memory grows with the greatest of them.
 #[derive(Drop)]
 pub struct Seen {
     marks: Vec<bool>,
@@ -57,7 +57,7 @@ impl Seen {
         true
     }
 
-    /// Puts a vertex in.
+    /// Inserts a vertex.
     fn insert(&mut self, v: u64) -> Result<(), NoMemory>
         ensures { OnOk result ((u : ℕ) → slice_index_or self.new u false ≡ (v == u || slice_index_or self.old u false)) }
     {
@@ -69,7 +69,7 @@ impl Seen {
         Ok(())
     }
 
-    /// Puts vertices in.
+    /// Inserts vertices. It fails only if it runs out of memory.
     pub fn add(&mut self, vertices: &[u64]) -> Result<(), NoMemory>
         ensures { OnOk result ((u : ℕ) → slice_index_or self.new u false ≡ (has vertices.now u || slice_index_or self.old u false)) }
     {
@@ -98,9 +98,8 @@ impl Seen {
 
 /// Which nodes are joined so far: each node names a node of its set that has no greater number.
 ///
-/// It is union-find. The sets are trees by those names: a join puts the one root below the other,
-/// and a search halves the path that it goes (Tarjan and van Leeuwen, Worst-case Analysis of Set
-/// Union Algorithms, 1984).
+/// It is union-find. The sets are trees by those names. A join puts one root below the other, and
+/// a search halves its path (Tarjan and van Leeuwen, 1984).
 #[derive(Drop)]
 pub struct Joined {
     above: Vec<usize>,
@@ -108,7 +107,8 @@ pub struct Joined {
 }
 
 impl Joined {
-    /// Sets of one node each, for so many nodes: no two are joined.
+    /// Sets of one node each, for `count` nodes, no two of which are joined. It takes 8 bytes a
+    /// node, and fails only if it runs out of memory.
     pub fn new(alloc: Global, count: usize) -> Result<Joined, NoMemory>
         ensures count { IfOk result (λ j. length j.above.items ≡ count) }
         ensures labels { IfOk result (λ j. IsLabelled j.above.items (range_with_len 0 count)) }
@@ -120,7 +120,7 @@ impl Joined {
         Ok(Joined { above })
     }
 
-    /// The least node of a set, by a node of it.
+    /// The least node of a set, from one of its nodes.
     fn least(&mut self, node: usize) -> usize
         requires { node < length self.old.above.items }
         ensures within { result < length self.old.above.items }
@@ -164,7 +164,7 @@ impl Joined {
         self.join(cycle[cycle.len() - 1] as usize, cycle[0] as usize);
     }
 
-    /// Whether all nodes are joined: none but the first is the least of its set.
+    /// Whether all nodes are joined, so that only the first is the least of its set.
     pub fn is_one(&self) -> bool
         ensures { (labels : List ℕ) → IsLabelled self.now.above.items labels → result ≡ list_all (λ l. l == slice_index labels 0) labels }
     {

@@ -1,4 +1,4 @@
-//! Whether bridges and cycles join all nodes, and by no more edges than that takes.
+//! Whether bridges and cycles join all nodes, with no more edges than that takes.
 
 ghost use Rattle.std.specs.Prelude.{◌≡◌, ◌<◌, ◌+◌, ◌-◌, ◌==◌, ℕ, List, IfOk, length};
 ghost use Rattle.std.specs.List.{All, fold, sum_by};
@@ -11,8 +11,8 @@ use cut_definitions::NoMemory;
 use flat_cactus::FlatCactus;
 use std::alloc::Global;
 
-/// Whether the nodes are one more than the edges that a tree of them takes: the bridges, and the
-/// edges of each cycle but one.
+/// Whether there is one node more than a tree of them has edges: the bridges, and the edges of
+/// each cycle but one.
 fn has_edges_of_tree(flat: &FlatCactus) -> bool
     requires { JoinsNodes flat.now }
     ensures { result ≡ (length flat.now.nodes == 1 + length flat.now.bridges + sum_by (λ c. length c - 1) flat.now.cycles) }
@@ -49,8 +49,9 @@ fn is_joined(alloc: Global, flat: &FlatCactus) -> Result<bool, NoMemory>
     Ok(joined.is_one())
 }
 
-/// Whether bridges and cycles join all nodes, and by no more edges than that takes. Time in
-/// proportion to the nodes and the edges, times the logarithm of the nodes at most.
+/// Whether bridges and cycles join all nodes, with no more edges than that takes. It takes time in
+/// proportion to the nodes and edges, times at most the logarithm of the nodes. It fails only if
+/// it runs out of memory.
 pub fn is_tree(alloc: Global, flat: &FlatCactus) -> Result<bool, NoMemory>
     requires { JoinsNodes flat.now }
     ensures { IfOk result (λ b. b ≡ is_tree flat.now) }

@@ -22,24 +22,25 @@ use std::marker::Model;
 use vertex_set::Side;
 use weighted_graph::Graph;
 
-/// A flow between two vertices of a graph, and the memory to look for one.
+/// A flow between two vertices of a graph, with the memory for its searches.
 ///
-/// It keeps no copy of its graph. It stands for a graph where it has that graph's sizes and where
-/// what it keeps of the last run, if that answered `Best`, is true of that graph.
+/// It keeps no copy of its graph. It fits a graph that has its sizes, and for which what it keeps
+/// of the last run is true, if that run returned `Best`.
 #[derive(Drop)]
 pub struct Flow {
     n: u32,
 
-    // for each edge what is left toward its greater end
+    // for each edge the residual toward its greater end
     toward: Vec<u64>,
 
-    // what is left on the arcs of all rows, and where each row begins; written at the end of a run
+    // the residuals of the arcs of all rows, and where each row begins; written at the end of a
+    // run
     residuals: Vec<u64>,
     starts: Vec<usize>,
     source: Side,
     best: Option<BestRun>,
 
-    // the memory of a search: no vertex is marked between two
+    // the memory of a search; between searches no vertex is marked
     marks: Vec<u32>,
     steps: Vec<Step>,
 }
@@ -64,10 +65,10 @@ impl Model for Flow {
 impl Flow {
     ghost use Rattle.max_flow.specs.Flow.{HasSizesOf, StandsFor, ShowsLeastCuts, residuals_at};
 
-    /// A flow that stands for the graph, before any run.
+    /// A flow for the graph, before any run.
     ///
-    /// It takes time and memory O(n + m), and all the memory that the flow ever takes. Want of
-    /// memory is its only refusal.
+    /// It takes time and memory O(n + m), which is all the memory that the flow ever takes. It
+    /// fails only if it runs out of memory.
     pub fn new(alloc: Global, graph: &Graph) -> Result<Flow, NoMemory>
         ensures stands { IfOk result (λ f. StandsFor f graph.now) }
         ensures no_run { IfOk result (λ f. f.best ≡ None) }
@@ -101,13 +102,13 @@ impl Flow {
 
     /// The least weight of a cut between `s` and `t`, if it is below the stop.
     ///
-    /// The two are different vertices from 1 to n, and the stop is at least 1. `AtLeast` comes
-    /// just where every cut between them weighs at least the stop. After `Best` the source side
+    /// The two are different vertices of 1 to n, and the stop is at least 1. It returns `AtLeast`
+    /// exactly if every cut between them weighs at least the stop. After `Best` the source side
     /// and the rows show all cuts of least weight. Earlier runs are forgotten.
     ///
     /// Each turn augments the flow by the bottleneck of a path of fewest arcs (Edmonds and Karp,
-    /// 1972). So there are at most O(n m) turns, and at most as many as the stop, each of one
-    /// search in O(n + m). It takes no memory.
+    /// 1972). So there are O(n m) turns, at most as many as the stop, each with one search in O(n
+    /// + m). It takes no memory.
     pub fn run(&mut self, graph: &Graph, s: u32, t: u32, stop: u64) -> Outcome
         requires stands { StandsFor self.old graph.now }
         requires s_from_one { 1 ≤ s }
@@ -135,11 +136,11 @@ impl Flow {
         Outcome::AtLeast
     }
 
-    /// The vertices that arcs with something left reach from `s` of the last run, which answered
-    /// `Best`; lent without a copy.
+    /// The vertices that residual arcs reach from `s` after a last run that returned `Best`,
+    /// borrowed.
     ///
-    /// It is the least of the sets with `s` and without `t` whose weight is least.
-    /// It may have vertex 1 or not.
+    /// It is the least of the sets with `s` and without `t` whose weight is least. It can have
+    /// vertex 1 or not.
     pub fn source_side(&self) -> &Side
         requires { IsSome self.now.best }
         ensures { result.now ≡ self.now.source }
@@ -147,12 +148,12 @@ impl Flow {
         &self.source
     }
 
-    /// What each arc of the row of a vertex from 1 to n can still carry after the last run, which
-    /// answered `Best`; lent without a copy, in the order of the graph's row.
+    /// The residual of each arc of the row of a vertex, from 0 to n, after a last run that
+    /// returned `Best`. It is a borrowed slice, in the order of the graph's row.
     ///
-    /// On the two arcs of an edge these numbers add up to twice its weight. A set with
-    /// `s` and without `t` that no arc with a number above 0 leaves is just a cut of
-    /// least weight between them.
+    /// The residuals of the two arcs of an edge add up to twice its weight. A set with `s` and
+    /// without `t` is a cut of least weight between them exactly if no arc with a residual above 0
+    /// leaves it.
     pub fn residual_row(&self, v: u32) -> &[u64]
         requires to_n { v ≤ self.now.vertices }
         requires best { IsSome self.now.best }
@@ -163,7 +164,7 @@ impl Flow {
         &self.residuals[start..end]
     }
 
-    /// Forgets the last run: nothing flows.
+    /// Forgets the last run, so that nothing flows.
     fn reset(&mut self, graph: &Graph)
         requires sizes { HasSizesOf self.old graph.now }
         ensures edge_list { IsEdgeList graph.now }
@@ -175,8 +176,8 @@ impl Flow {
         self.best = None;
     }
 
-    /// Augments the flow along one path from `s` to `t`, by its bottleneck, which is answered; 0
-    /// where there is no path, and the source side is then what can be reached from `s`.
+    /// Augments the flow along one path from `s` to `t` by its bottleneck, and returns it. If
+    /// there is no path, it returns 0, and the source side is then what can be reached from `s`.
     fn augment(&mut self, graph: &Graph, ends: Ends) -> u64
         requires edge_list { IsEdgeList graph.now }
         requires sizes { HasSizesOf self.old graph.now }
@@ -207,7 +208,7 @@ impl Flow {
         amount
     }
 
-    /// Writes what is left on the arcs of all rows, at the end of a run that answers `Best`.
+    /// Writes the residuals of the arcs of all rows, at the end of a run that returns `Best`.
     fn finish(&mut self, graph: &Graph, run: BestRun)
         requires sizes { HasSizesOf self.old graph.now }
         requires residual { IsResidual graph.now self.old.toward }

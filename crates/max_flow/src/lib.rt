@@ -1,22 +1,22 @@
 //! Beside the program: the least weight of a cut between two vertices, and all cuts of that
-//! weight, by a greatest flow.
+//! weight, by a maximum flow.
 //!
 //! A [`Flow`] is made once for a graph and then run between any two vertices, each time up to a
 //! stop. A run augments the flow along paths of fewest arcs (Edmonds and Karp, 1972) until it
-//! reaches the stop or no path is left. In the second case the flow is greatest, and its amount
-//! is the least weight of a cut between the two vertices (Ford and Fulkerson, 1956). The cuts of
-//! that weight are then just the sets with the first vertex and without the second that no arc
-//! with something left leaves.
+//! reaches the stop or no path is left. If no path is left, the flow is maximum, and its amount is
+//! the least weight of a cut between the two vertices (Ford and Fulkerson, 1956). The cuts of that
+//! weight are then exactly the sets with the first vertex and without the second that no residual
+//! arc leaves.
 //!
-//! Contracts see a flow as a `FlowState`: what is left on each edge and on each arc of each row,
-//! the side of the first vertex, and the last run if it answered `Best`. What such a run shows is
-//! the record `ShowsLeastCuts`. It says for every set of vertices, also for one with both ends or
-//! with neither: what is left on the arcs that leave the set adds up to the weight of the set,
-//! less the flow where it has the first vertex, and more the flow where it has the second.
+//! Contracts see a flow as a `FlowState`. It has the residual of each edge and of each arc of each
+//! row, the side of the first vertex, and the last run if it returned `Best`. The record
+//! `ShowsLeastCuts` says what such a run shows. It holds for every set of vertices, even with both
+//! ends or neither. The residuals of the arcs that leave the set add up to its weight. From that
+//! the flow is subtracted if the set has the first vertex, and added if it has the second.
 //!
-//! In a graph of n vertices and m edges a search takes time O(n + m) at most, and only over what
-//! it reaches. A run makes O(n m) searches at most, whatever the weights. Only `new` takes memory:
-//! 8 bytes for each edge, 8 for each arc and about 36 for each vertex.
+//! In a graph of n vertices and m edges a search takes at most O(n + m), and only for what it
+//! reaches. A run makes at most O(n m) searches, whatever the weights. Only `new` takes memory: 8
+//! bytes for each edge, 8 for each arc and about 36 for each vertex.
 #![tactic(auto)]
 
 pub mod flow;

@@ -1,4 +1,4 @@
-//! What is left on the arcs of each row, one row after another.
+//! The residuals of the arcs of each row, one row after another.
 
 ghost use Rattle.std.specs.Prelude.{◌≡◌, ℕ, ◌+◌, ◌≤◌, length, map, slice_index, IfOk};
 ghost use Rattle.weighted_graph.specs.Rows.{row_of};
@@ -11,7 +11,8 @@ use region_flow::residual::residual_on;
 use std::alloc::Global;
 use weighted_graph::Graph;
 
-/// Where the row of each vertex from 0 to n begins, and where the last ends.
+/// Where the row of each vertex from 0 to n begins, and where the last ends. It takes 8 bytes a
+/// vertex, and fails only if it runs out of memory.
 pub fn starts_of(alloc: Global, graph: &Graph) -> Result<Vec<usize>, NoMemory>
     ensures { IfOk result (λ starts. AreStarts graph.now starts.items) }
 {
@@ -25,7 +26,7 @@ pub fn starts_of(alloc: Global, graph: &Graph) -> Result<Vec<usize>, NoMemory>
     Ok(starts)
 }
 
-/// Writes what is left on each arc of one row.
+/// Writes the residual of each arc of one row.
 fn fill_row(graph: &Graph, v: u32, toward: &[u64], residuals: &mut [u64])
     requires residual { IsResidual graph.now toward.now }
     requires v_to_n { v ≤ graph.now.vertices }
@@ -38,7 +39,7 @@ fn fill_row(graph: &Graph, v: u32, toward: &[u64], residuals: &mut [u64])
     }
 }
 
-/// Writes what is left on each arc of all rows.
+/// Writes the residual of each arc of all rows.
 pub fn fill(graph: &Graph, toward: &[u64], starts: &[usize], residuals: &mut [u64])
     requires residual { IsResidual graph.now toward.now }
     requires starts { AreStarts graph.now starts.now }

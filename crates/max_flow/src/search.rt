@@ -1,7 +1,7 @@
-//! Searches along the arcs that can still carry something.
+//! Searches along residual arcs.
 //!
-//! A search goes by breadth, so the path that it finds to a vertex has as few arcs as any. It
-//! touches only what it reaches: the marks that it leaves are taken away along its own steps.
+//! A search is breadth-first, so the path that it finds to a vertex has as few arcs as any. It
+//! touches only what it reaches: it clears the marks that it leaves along its own steps.
 
 ghost use Rattle.std.specs.Prelude.{◌≡◌, ◌*◌, ◌<◌, ◌≤◌, ◌^◌, length, min, slice_index};
 ghost use Rattle.cut_definitions.specs.Graph.{IsEdgeList};
@@ -20,7 +20,7 @@ pub struct Ends {
     pub t: u32,
 }
 
-/// A vertex that a search reached: from which place of the order, along which edge, and the
+/// A vertex that a search reached: from which place of the order, along which edge, and with which
 /// bottleneck of the whole path.
 #[derive(Clone, Copy, Debug)]
 pub struct Step {
@@ -30,8 +30,8 @@ pub struct Step {
     pub bottleneck: u64,
 }
 
-/// The bottleneck of a path that goes on along an arc to a vertex that was not
-/// reached before; 0 where it was.
+/// The bottleneck of a path extended by an arc to a vertex that was not reached before, or 0 if it
+/// was.
 fn bottleneck_along(arc: &Arc, from: Step, toward: &[u64], marks: &[u32]) -> u64
     requires edge { arc.now.edge < length toward.now }
     requires bounded { slice_index toward.now arc.now.edge ≤ 2 * arc.now.weight }
@@ -47,7 +47,7 @@ fn bottleneck_along(arc: &Arc, from: Step, toward: &[u64], marks: &[u32]) -> u64
     residual_on(arc, from.vertex, toward).min(from.bottleneck)
 }
 
-/// Puts the step at the end of the order, unless nothing can be carried there.
+/// Appends the step to the order, unless its bottleneck is 0.
 fn reach(marks: &mut [u32], steps: &mut [Step], count: u32, step: Step) -> u32
     requires vertex { step.vertex < length marks.old }
     requires new { 1 ≤ step.bottleneck → order_mark marks.old step.vertex ≡ 0 }
@@ -123,7 +123,7 @@ pub fn search(
     count
 }
 
-/// Takes the marks of all steps away.
+/// Clears the marks of all steps.
 pub fn clear(marks: &mut [u32], steps: &[Step], count: u32)
     requires { IsListed marks.old steps.now count }
     ensures { IsAllUnmarked marks.new }

@@ -7,7 +7,7 @@ ghost use Rattle.max_flow.specs.Tree.{seen};
 
 use vertex_set::Side;
 
-/// Puts a vertex in, or takes it out.
+/// Inserts a vertex, or removes it.
 fn set(side: &mut Side, v: u32, is_in: bool)
     requires from_one { 1 ≤ v }
     requires to_n { v ≤ side.old.vertices }

@@ -22,7 +22,7 @@ pub enum Job {
     Cactus,
     /// The list of all minimum cuts.
     Cuts,
-    /// The list of those that part two vertices.
+    /// The list of those that separate two vertices.
     Part(u64, u64),
     /// The number of all minimum cuts.
     Count,
@@ -37,7 +37,7 @@ pub enum Job {
 }
 
 /// A job, the number of workers, 1 to 64, and for the job `cuts` the least balance of the cuts
-/// that are listed, where one is named.
+/// that are listed, if one is given.
 #[derive(Debug, Drop)]
 pub struct Command {
     pub job: Job,
@@ -135,7 +135,7 @@ fn read_insertions(alloc: Global, values: &[&str]) -> Result<Option<Insertions>,
     }
 }
 
-/// The job of 3 to 3,000 values.
+/// The job `grow` with 3 to 3,000 values.
 fn read_grow(alloc: Global, values: &[&str]) -> Result<Option<Job>, NoMemory>
     ensures { IfOk result (λ job. job ≡ grow_of (map (λ v. v.now) values.now)) }
 {
@@ -148,7 +148,7 @@ fn read_grow(alloc: Global, values: &[&str]) -> Result<Option<Job>, NoMemory>
     }
 }
 
-/// The job of a name and one value.
+/// The job with a name and one value.
 fn single_job(name: &str, number: &str) -> Option<Job>
     ensures { result ≡ job_of name.now (number.now ∷ []) }
 {
@@ -159,7 +159,7 @@ fn single_job(name: &str, number: &str) -> Option<Job>
     }
 }
 
-/// The job of a name and two values.
+/// The job with a name and two values.
 fn pair_job(name: &str, first: &str, second: &str) -> Option<Job>
     ensures { result ≡ job_of name.now (first.now ∷ second.now ∷ []) }
 {
@@ -170,7 +170,7 @@ fn pair_job(name: &str, first: &str, second: &str) -> Option<Job>
     }
 }
 
-/// The job of a name and three values or more.
+/// The job with a name and three or more values.
 fn long_job(alloc: Global, name: &str, values: &[&str]) -> Result<Option<Job>, NoMemory>
     ensures { IfOk result (λ job. job ≡ long_job_of name.now (map (λ v. v.now) values.now)) }
 {
@@ -192,7 +192,7 @@ fn read_job(alloc: Global, name: &str, values: &[&str]) -> Result<Option<Job>, N
     }
 }
 
-/// A command with a least balance, which the job `cuts` alone takes.
+/// A command with a least balance, which only the job `cuts` takes.
 fn read_least(command: Command, least: &str) -> Option<Command>
     ensures value { result ≡ with_least (Some least.now) command }
     ensures workers { IfSome result (λ asked. asked.workers ≡ command.workers) }
@@ -233,7 +233,7 @@ fn read_command(job: Option<Job>, workers: Option<&str>, least: Option<&str>) ->
     }
 }
 
-/// The job of a name, where there is one, and of its further values.
+/// The job with a name, if there is one, and its further values.
 fn named_job(alloc: Global, name: Option<&str>, values: &[&str]) -> Result<Option<Job>, NoMemory>
     ensures { IfOk result (λ job. job ≡ named_job_of (option_map (λ s. s.now) name.entry) (map (λ v. v.now) values.now)) }
 {
@@ -243,7 +243,7 @@ fn named_job(alloc: Global, name: Option<&str>, values: &[&str]) -> Result<Optio
     }
 }
 
-/// The command that the matches ask for, if they keep the rules.
+/// The command that the matches ask for, if they follow the rules.
 fn read_matches(alloc: Global, matches: &ArgMatches) -> Result<Option<Command>, NoMemory>
     ensures value { IfOk result (λ command. command ≡ command_in (rows_of (found_of matches.now))) }
     ensures workers { IfOk result (λ o. IfSome o (λ command. (1 ≤ command.workers) × (command.workers ≤ 64))) }
@@ -253,7 +253,7 @@ fn read_matches(alloc: Global, matches: &ArgMatches) -> Result<Option<Command>, 
     Ok(read_command(job, matches.get_str("workers"), matches.get_str("least")))
 }
 
-/// Words are bad where they are refused for another cause than memory.
+/// The refusal of words: they are bad unless they were refused for lack of memory.
 fn refusal_of(error: &clap::Error) -> WordsRefusal
     ensures { result ≡ WordsRefusal.BadWords → ¬ (kind_of error.now ≡ ErrorKind.OutOfMemory) }
 {
@@ -263,7 +263,9 @@ fn refusal_of(error: &clap::Error) -> WordsRefusal
     }
 }
 
-/// The command of the words after the program's name, or `BadWords` where they have none.
+/// The command of the words after the program's name. It fails with `BadWords` only if they give
+/// no command, and otherwise only if it runs out of memory. It takes time and memory in proportion
+/// to the words.
 pub fn read_words(alloc: Global, words: &[String]) -> Result<Command, WordsRefusal>
     ensures ok { IfOk result (λ command. command_of (texts words.now) ≡ Some command) }
     ensures workers { IfOk result (λ command. (1 ≤ command.workers) × (command.workers ≤ 64)) }

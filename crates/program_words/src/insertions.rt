@@ -24,7 +24,7 @@ impl Model for Insertions {
 impl Insertions {
     ghost use Rattle.std.specs.Prelude.{◌≡◌, ◌<◌, ◌∷◌, ◌++◌, [], Some, OnOk, length, slice_get};
 
-    /// No insertion. It takes no memory.
+    /// No insertions. It takes no memory.
     pub fn new(alloc: Global) -> Insertions
         ensures { result ≡ [] }
     {
@@ -33,7 +33,7 @@ impl Insertions {
         }
     }
 
-    /// Appends an insertion: two vertices and a weight.
+    /// Appends an insertion: two vertices and a weight. It fails only if it runs out of memory.
     pub fn push(&mut self, insertion: (u64, u64, u64)) -> Result<(), NoMemory>
         ensures { OnOk result (self.new ≡ self.old ++ insertion ∷ []) }
     {

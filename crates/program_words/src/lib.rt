@@ -1,8 +1,8 @@
-//! The words of the program `mincut`: which command they ask for,
-//! and the notices that it gives for help and version.
+//! The words of the program `mincut`: which command they ask for, and its notices for help and
+//! version.
 //!
-//! `read_words` reads a command by way of `clap`, and `notice_of` finds the notice.
-//! Nothing here knows a graph.
+//! `read_words` reads a command by means of `clap`, and `notice_of` finds the notice. This crate
+//! knows nothing of graphs.
 #![tactic(auto)]
 
 mod command;

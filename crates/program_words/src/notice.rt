@@ -1,4 +1,4 @@
-//! What the program tells of itself.
+//! What the program says about itself.
 
 ghost use Rattle.std.specs.Prelude.{◌≡◌};
 ghost use Rattle.program_words.specs.Notices.{notice_named, notice_of};
@@ -33,7 +33,7 @@ impl Notice {
     ghost use Rattle.std.specs.Prelude.{◌≡◌};
     ghost use Rattle.program_words.specs.Notices.{text_of};
 
-    /// The whole text.
+    /// The whole text, with a line feed at its end.
     pub fn text(&self) -> &'static str
         ensures { result.now ≡ text_of self.now }
     {
@@ -54,7 +54,7 @@ fn notice_named(word: &str) -> Option<Notice>
     }
 }
 
-/// The notice that the words ask for, where they are the one word that names it.
+/// The notice that the words ask for, if they are the one word that names it.
 pub fn notice_of(words: &[String]) -> Option<Notice>
     ensures { result ≡ notice_of (texts words.now) }
 {

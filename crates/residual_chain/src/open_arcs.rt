@@ -12,7 +12,7 @@ use arc_search::{Direction, StepArcs};
 use max_flow::Flow;
 use weighted_graph::{Arc, Graph};
 
-/// The arcs of a graph that can still carry something under a flow, taken along or against them.
+/// The residual arcs of a graph under a flow, taken along or against them.
 #[derive(Clone, Copy)]
 pub struct OpenArcs<'a> {
     pub graph: &'a Graph,

@@ -19,7 +19,8 @@ use std::alloc::Global;
 use vertex_set::Side;
 use weighted_graph::Graph;
 
-/// The first part, which is the source side of the flow; the other vertices have no part yet.
+/// The first part, which is the source side of the flow; the other vertices have no part yet. It
+/// takes 4 bytes a vertex, and fails only if it runs out of memory.
 pub fn source_part(alloc: Global, source: &Side) -> Result<Vec<u32>, NoMemory>
     ensures { IfOk result (λ r. IsSourcePart source.now.vertices source.now.members r.items) }
 {
@@ -31,7 +32,7 @@ pub fn source_part(alloc: Global, source: &Side) -> Result<Vec<u32>, NoMemory>
     Ok(part_of)
 }
 
-/// Puts all vertices without a part into one.
+/// Puts all vertices without a part into one part.
 fn fill_rest(part_of: &mut [u32], number: u32)
     ensures { IsFilled number part_of.old part_of.new }
 {
@@ -42,8 +43,8 @@ fn fill_rest(part_of: &mut [u32], number: u32)
     }
 }
 
-/// Marks what leads to `t` through vertices without a mark.
-/// The memory that it takes is given back at its end.
+/// Marks what leads to `t` through vertices without a mark. The memory that it takes is freed at
+/// its end.
 fn mark_last(
     alloc: Global,
     graph: &Graph,
@@ -68,11 +69,11 @@ fn mark_last(
     Ok(())
 }
 
-/// Finds the parts after the first, and says how many there are in all.
+/// Finds the parts after the first, and returns the number of all parts.
 ///
 /// The last part is what leads to `t`. No open arc leads to it from the other vertices without a
-/// part, and these are divided by path-based searches. It takes O(n + m), and memory for five
-/// numbers a vertex, which it gives back; want of it is the only refusal.
+/// part, and path-based searches divide these. It takes O(n + m), and memory for five numbers a
+/// vertex, which it frees. It fails only if it runs out of memory.
 pub fn find_parts(
     alloc: Global,
     graph: &Graph,

@@ -9,11 +9,12 @@ ghost use Rattle.residual_chain.specs.Split.{IsSplit};
 use crate::open_arcs::OpenArcs;
 use arc_search::{PathMemory, walk};
 
-/// Divides the vertices without a mark into parts, and answers the number of the last part.
+/// Divides the vertices without a mark into parts, and returns the number of the last part.
 ///
-/// A set is closed where no open arc leaves it. The vertices that have a part are closed, and so
-/// are they with those without a mark. Each new part with all before it is closed, and a closed
-/// set that has a vertex of a new part has all of the part. It takes O(n + m).
+/// A set is closed if no open arc leaves it. The vertices that have a part are closed, and so are
+/// they together with those without a mark. Each new part with all before it is closed. A closed
+/// set that has a vertex of a new part has all of the part. It takes O(n + m), by path-based
+/// search (Gabow, 2000).
 pub fn split(
     arcs: OpenArcs<'_>,
     parts: u32,

@@ -1,9 +1,9 @@
 //! Beside the program: scans of a graph that take in each turn the vertex with the greatest weight
-//! to those before it, and what they show: the last two vertices of a scan, and by phases the
-//! value of the graph. A capped scan of a graph, of the crate `capped_scan`, shows lower bounds of
-//! cuts, and tells the weight of each set that it scanned.
+//! to those before it. They show the last two vertices of a scan, and by phases the value of the
+//! graph. The scans of the crate `capped_scan` show lower bounds of cuts, and return the weight of
+//! each set that they scanned.
 //!
-//! The order of such a scan is a maximum adjacency order (Nagamochi and Ibaraki, 1992); the phases
+//! The order of such a scan is a maximum adjacency order (Nagamochi and Ibaraki, 1992). The phases
 //! are the algorithm of Stoer and Wagner (1997).
 #![tactic(auto)]
 

@@ -1,7 +1,7 @@
-//! Why a run of the program `mincut` has no answer:
-//! the line that it tells then, and the status with which it ends.
+//! Why a run of the program `mincut` has no result: the line that it then writes to standard
+//! error, and the status with which it ends.
 //!
-//! A line has room for the longest, and takes no memory.
+//! A line has room for the longest text, and takes no memory.
 #![tactic(auto)]
 
 mod status;

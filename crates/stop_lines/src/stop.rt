@@ -16,7 +16,7 @@ const READ_FAILED_LINE: &str = "read failed\n";
 
 const OUT_OF_MEMORY_LINE: &str = "out of memory\n";
 
-/// A line for `err`. It has room for the longest, and takes no memory.
+/// A line for `err`. It has room for the longest text, and takes no memory.
 pub type Line = ArrayString<128>;
 
 /// Why there is nothing to write to `out`.
@@ -28,16 +28,16 @@ pub enum Stop {
     NoMemory,
     /// The job names a vertex that is not of 1 to n.
     BadVertex { vertex: u64, n: u32 },
-    /// The list has so many cuts that their number times n is above 2^30.
+    /// The list has too many cuts: their number times n is above 2^30.
     TooLarge { cuts: u64, n: u32 },
-    /// The graph has so many components that the number of its minimum cuts times n is above 2^30.
+    /// The graph has too many components: the number of its minimum cuts times n is above 2^30.
     TooManyUnions { components: u32, n: u32 },
     /// The graph has more than 127 components.
     CountTooLarge { components: u32 },
-    /// The number of components times the sum of all masses and 1 is above 2^32.
+    /// The number of components times one more than the sum of all masses is above 2^32.
     BalanceTooLarge { components: u32, total: u128 },
-    /// The graph is too large after the insertion of this number,
-    /// counted from 1, and after none before.
+    /// After the insertion with this number, counted from 1, the graph exceeds the limits for the
+    /// first time.
     GrowTooLarge { number: usize },
 }
 
@@ -60,7 +60,7 @@ impl From<AllocError> for Stop {
     }
 }
 
-/// A line of one text.
+/// A line with one text.
 fn plain_line(text: &str) -> Line
     requires { length text.now ≤ 128 }
     ensures { result.bytes ≡ text.now }
@@ -70,7 +70,7 @@ fn plain_line(text: &str) -> Line
     line
 }
 
-/// Puts a number in decimal.
+/// Appends a number in decimal.
 fn put_number<I: Integer>(line: &mut Line, number: I)
     requires room { array_string_len line.old + 40 ≤ 128 }
     ensures bytes { line.new.bytes ≡ line.old.bytes ++ I.text number }
@@ -119,7 +119,7 @@ fn too_large_text(cuts: u64, n: u32) -> Line
     line
 }
 
-/// The line that says that all minimum cuts of so many components are too many for a list.
+/// The line that says that this many components have too many minimum cuts for a list.
 fn too_many_unions_text(components: u32, n: u32) -> Line
     ensures { result.bytes ≡ too_many_unions_line components n }
 {
@@ -132,7 +132,7 @@ fn too_many_unions_text(components: u32, n: u32) -> Line
     line
 }
 
-/// The line that says that the number of minimum cuts of so many components is not told.
+/// The line that says that this many components have too many minimum cuts to count.
 fn count_too_large_text(components: u32) -> Line
     ensures { result.bytes ≡ count_too_large_line components }
 {
@@ -143,7 +143,8 @@ fn count_too_large_text(components: u32) -> Line
     line
 }
 
-/// The line that says that no best cut of so many components of such a mass is sought.
+/// The line that says that components with this total mass are too large for a search of the best
+/// cut.
 fn balance_too_large_text(components: u32, total: u128) -> Line
     ensures { result.bytes ≡ balance_too_large_line components total }
 {
@@ -167,7 +168,7 @@ fn grow_too_large_text(number: usize) -> Line
     line
 }
 
-/// The line that tells of a stop. It takes no memory.
+/// The line that reports a stop. It takes no memory.
 pub fn line_for(stop: Stop) -> Line
     ensures { result.bytes ≡ line_of stop }
 {
@@ -185,7 +186,7 @@ pub fn line_for(stop: Stop) -> Line
     }
 }
 
-/// The status with which a run that stopped ends, where its line was taken.
+/// The status with which a stopped run ends, if its line was written.
 pub fn status_for(stop: Stop) -> Status
     ensures { result ≡ status_of stop }
 {
