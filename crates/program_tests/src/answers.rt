@@ -206,7 +206,7 @@ fn a_list_that_is_too_large_is_told(rt: HostRuntime) -> Result<(), Fail> {
     Ok(())
 }
 
-/// 899 times 901 of the cuts of the ring part the two vertices.
+/// 899 times 901 of the cuts of the ring separate the two vertices.
 #[test]
 fn a_list_of_parting_cuts_may_be_too_large(rt: HostRuntime) -> Result<(), Fail> {
     let text = ring_of(rt.alloc(), 1800)?;
@@ -245,7 +245,7 @@ fn reads_may_be_cut_anywhere(rt: HostRuntime) -> Result<(), Fail> {
 
 const TWELVE: &str = "vertices 12\nedges 15\nvalue 4\ncount 9\nbalance 4\n";
 
-// 160 rings of four and as many edges between them: few enough edges for a value by rounds.
+// 160 rings of four, and as many edges between them: few enough edges for a value by rounds.
 const RINGS: &str = "vertices 640\nedges 800\nvalue 4\ncount 13040\nbalance 320\n";
 
 const THOUSAND: &str = "vertices 1000\nedges 1250\nvalue 4\ncount 31625\nbalance 500\n";
@@ -282,8 +282,8 @@ fn trials_are_printed_unread(rt: HostRuntime) -> Result<(), Fail> {
     Ok(())
 }
 
-/// The cactus is made by `reduce`, which runs a round of its own after those of the value. What it
-/// answers has fewer vertices.
+/// The cactus is made by `reduce`, which runs a round of its own after those of the value. Its
+/// result has fewer vertices.
 #[test]
 fn a_kernel_is_made(rt: HostRuntime) -> Result<(), Fail> {
     let value = passes_of(&rt, rt.alloc(), &["value", "--workers", "1"], TWO_CYCLES)?;

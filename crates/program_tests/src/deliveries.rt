@@ -1,5 +1,5 @@
-//! Reads and writes that fail one after the other, files that end early,
-//! and a sink that takes one byte at a time.
+//! Reads and writes that fail in turn, files that end early, and a sink that takes one byte at a
+//! time.
 
 use crate::graphs::{COMPLETE, HEAVY_PAIR, ONE_EDGE, PATH, SQUARE, TRIANGLE, TWO_CYCLES};
 use crate::runs::{
@@ -14,7 +14,7 @@ const SINGLE: &[usize] = &[1; 16];
 
 const CUTS: &str = "value 2\ncuts 3\n2\n2 3\n3\n";
 
-/// The triangle byte by byte, where the read of this number fails.
+/// The triangle, byte by byte, with a failure of the read with this number.
 fn fails_at<'a>(read: &'a [u64]) -> Script<'a> {
     Script {
         cuts: SINGLE,
@@ -23,7 +23,7 @@ fn fails_at<'a>(read: &'a [u64]) -> Script<'a> {
     }
 }
 
-/// Sixteen bytes and the end of the input are seventeen reads.
+/// Sixteen bytes and the end of the input take seventeen reads.
 #[test]
 fn each_read_may_fail(rt: HostRuntime) -> Result<(), Fail> {
     for k in 0..17u64 {
@@ -50,8 +50,8 @@ fn each_read_may_fail(rt: HostRuntime) -> Result<(), Fail> {
     Ok(())
 }
 
-/// The number of the first write of a run that does not fail where it should, of the first
-/// hundred: there is no such write.
+/// The number of the first write of a run, among the first hundred, that does not fail although it
+/// should. There must be no such write.
 fn first_unmade<R: Threads + Sync>(rt: &R, alloc: Global) -> Result<u64, Fail> {
     for k in 0..100u64 {
         if !writes_part(rt, alloc, &["cuts"], TRIANGLE, CUTS, k)? {
@@ -78,7 +78,7 @@ fn each_write_may_fail(rt: HostRuntime) -> Result<(), Fail> {
     Ok(())
 }
 
-// A file, and up to which number of its first bytes the program says what.
+// A file, and what the program says for its first bytes, up to which number of them.
 const ENDS: &[(&[u8], &[(usize, &str)])] = &[
     (
         TRIANGLE,
@@ -126,7 +126,7 @@ const ENDS: &[(&[u8], &[(usize, &str)])] = &[
     ),
 ];
 
-/// Whether the program says this of so many first bytes of a file.
+/// Whether the program says this for this many first bytes of a file.
 fn says<R: Threads + Sync>(
     rt: &R,
     alloc: Global,
@@ -143,7 +143,7 @@ fn says<R: Threads + Sync>(
     tells(rt, alloc, &["value"], first, Status::Refused, text)
 }
 
-/// Whether the program says of each number of first bytes what the table has.
+/// Whether the program says for each number of first bytes what the table has.
 fn says_all<R: Threads + Sync>(
     rt: &R,
     alloc: Global,

@@ -40,7 +40,7 @@ const READ_FAILED: Wanted = Wanted {
 
 const BROKEN: &[u8] = b"3 x3\n2 3\n";
 
-/// The second read fails, behind this many bytes.
+/// The second read fails, after this many bytes.
 fn second_fails<'a>(cut: &'a [usize]) -> Script<'a> {
     Script {
         cuts: cut,

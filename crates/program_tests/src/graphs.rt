@@ -10,11 +10,11 @@ pub const COMPLETE: &[u8] = b"4 6\n2 3 4\n1 3 4\n1 2 4\n1 2 3\n";
 
 pub const HEAVY_PAIR: &[u8] = b"3 3 1\n2 5 3 1\n1 5 3 4\n1 1 2 4\n";
 
-/// A path whose first vertex has the mass 9, and the others 1.
+/// A path whose first vertex has mass 9, and the others mass 1.
 pub const HEAVY_END: &[u8] = b"4 3 10\n9 2\n1 1 3\n1 2 4\n1 3\n";
 
-/// One edge of weight 3 between two vertices of the masses 7 and 4, with comments,
-/// a tab and carriage returns.
+/// One edge of weight 3 between two vertices of masses 7 and 4, with comments, a tab and carriage
+/// returns.
 pub const COMMENTED: &[u8] = b"% made by hand\r\n2\t1 011\r\n% first vertex\r\n7 2 3\r\n4 1 3";
 
 pub const ONE_EDGE: &[u8] = b"2 1 1\n2 7\n1 7\n";

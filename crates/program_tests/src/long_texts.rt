@@ -5,8 +5,8 @@ use std::alloc::Global;
 use std::test::Fail;
 use std::thread::Threads;
 
-/// A ring whose edges have one weight, and one more vertex,
-/// which hangs from vertex 1 by an edge of weight 2.
+/// A ring whose edges have one weight, and one more vertex, which an edge of weight 2 joins to
+/// vertex 1.
 fn hung_ring(alloc: Global, n: u32, weight: u32) -> Result<String, Fail> {
     let all = n.saturating_add(1);
     let mut text = format!(in alloc; "{all} {all} 1\n2 {weight} {n} {weight} {all} 2\n")?;
@@ -22,7 +22,7 @@ fn hung_ring(alloc: Global, n: u32, weight: u32) -> Result<String, Fail> {
     Ok(text)
 }
 
-/// Whether one worker and three print the same text of such a graph, and one of some length.
+/// Whether one worker and three print the same long text of such a graph.
 fn is_one_text<R: Threads + Sync>(
     rt: &R,
     alloc: Global,

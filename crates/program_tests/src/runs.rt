@@ -31,7 +31,7 @@ pub const UNREADABLE: Script = Script {
     tells: &[],
 };
 
-/// What a run must answer, and write to `out` and to `err`.
+/// What a run must return, and write to `out` and to `err`.
 #[derive(Clone, Copy)]
 pub struct Wanted<'a> {
     pub status: Status,
@@ -51,7 +51,7 @@ impl Gate for CountingGate {
     }
 }
 
-// For so many turns the first pass of worker 0 waits for worker 1.
+// For this many turns the first pass of worker 0 waits for worker 1.
 const TURNS: u32 = 1_000_000_000;
 
 // A gate that holds worker 0 at its first pass until worker 1 has passed.
@@ -79,7 +79,7 @@ impl Gate for MeetingGate {
     }
 }
 
-/// Words as the program gets them.
+/// Words as they are passed to the program.
 pub(crate) fn strings_of(alloc: Global, words: &[&str]) -> Result<Vec<String>, Fail> {
     let mut strings = Vec::new(alloc);
     for word in words {
@@ -99,7 +99,7 @@ fn sink_of(alloc: Global, room: usize, failing: &[u64]) -> Result<MemorySink, Fa
     Ok(sink)
 }
 
-/// What a run is given, and where it tells what is wrong.
+/// What a run is given, and its sinks.
 #[derive(Drop)]
 struct Stage {
     words: Vec<String>,
@@ -113,7 +113,7 @@ impl Stage {
         Stage::over(alloc, words, source, script.tells)
     }
 
-    /// What a run over this source is given; of what it tells, the writes with these numbers fail.
+    /// What a run over this source is given; the writes with these numbers to its `err` fail.
     fn over(
         alloc: Global,
         words: &[&str],
@@ -147,7 +147,7 @@ impl Stage {
     }
 }
 
-/// Whether a run by this script answers and writes just what is wanted.
+/// Whether a run by this script returns and writes exactly what it must.
 pub(crate) fn gives<R: Threads + Sync>(
     rt: &R,
     alloc: Global,
@@ -166,7 +166,7 @@ pub(crate) fn gives<R: Threads + Sync>(
     )
 }
 
-/// What an honest run writes to a sink with room for 8,000,000 bytes.
+/// What a run without failures writes to a sink with room for 8,000,000 bytes.
 pub(crate) fn printed<R: Threads + Sync>(
     rt: &R,
     alloc: Global,
@@ -179,7 +179,7 @@ pub(crate) fn printed<R: Threads + Sync>(
     Ok(out.taken().to_vec(alloc)?)
 }
 
-/// Whether an honest run answers `Ok`, writes this text, and tells nothing.
+/// Whether a run without failures returns `Ok`, writes this text, and nothing to `err`.
 pub(crate) fn answers<R: Threads + Sync>(
     rt: &R,
     alloc: Global,
@@ -195,7 +195,8 @@ pub(crate) fn answers<R: Threads + Sync>(
     gives(rt, alloc, words, text, &HONEST, &wanted)
 }
 
-/// Whether an honest run answers this status, writes nothing, and tells this line.
+/// Whether a run without failures returns this status, writes nothing to `out`, and this line to
+/// `err`.
 pub(crate) fn tells<R: Threads + Sync>(
     rt: &R,
     alloc: Global,
@@ -212,7 +213,7 @@ pub(crate) fn tells<R: Threads + Sync>(
     gives(rt, alloc, words, text, &HONEST, &wanted)
 }
 
-/// Whether worker 0 waits at the gate in an honest run, and worker 1 passes it meanwhile.
+/// Whether worker 0 waits at the gate in a run without failures, and worker 1 passes it meanwhile.
 pub(crate) fn meets<R: Threads + Sync>(
     rt: &R,
     alloc: Global,
@@ -230,7 +231,7 @@ pub(crate) fn meets<R: Threads + Sync>(
     Ok(status == Status::Ok && gate.met.load(Ordering::SeqCst) == 1)
 }
 
-/// How often a worker passes the gate in an honest run.
+/// How often a worker passes the gate in a run without failures.
 pub(crate) fn passes_of<R: Threads + Sync>(
     rt: &R,
     alloc: Global,
@@ -246,8 +247,8 @@ pub(crate) fn passes_of<R: Threads + Sync>(
     Ok(gate.passes.load(Ordering::SeqCst))
 }
 
-/// Whether a run whose read of this number fails says so, writes nothing, and reads no further.
-/// The read behind the failed one fails too, and is made here.
+/// Whether a run whose read with this number fails says so, writes nothing, and reads no further.
+/// The read after the failed one fails too, and is made here.
 pub(crate) fn reads_no_more<R: Threads + Sync>(
     rt: &R,
     alloc: Global,
@@ -271,8 +272,8 @@ pub(crate) fn reads_no_more<R: Threads + Sync>(
     )
 }
 
-/// Whether a run whose write of this number fails says so by its status alone,
-/// with a first part of the text written.
+/// Whether a run whose write with this number fails says so by its status alone, with a prefix of
+/// the text written.
 pub(crate) fn writes_part<R: Threads + Sync>(
     rt: &R,
     alloc: Global,
@@ -314,7 +315,8 @@ impl Sink for ByteSink {
     }
 }
 
-/// What an honest run writes to a sink that takes one byte at each write, if it answers `Ok`.
+/// What a run without failures writes to a sink that takes one byte at each write, if it returns
+/// `Ok`.
 fn printed_by_bytes<R: Threads + Sync>(
     rt: &R,
     alloc: Global,
@@ -330,8 +332,8 @@ fn printed_by_bytes<R: Threads + Sync>(
     Ok((status == Status::Ok).then_some(out.bytes))
 }
 
-/// Whether a run whose sink takes one byte at each write answers `Ok`, and writes what it writes
-/// to a sink that takes all.
+/// Whether a run whose sink takes one byte at each write returns `Ok`, and writes the same as to a
+/// sink that takes all.
 pub(crate) fn answers_by_bytes<R: Threads + Sync>(
     rt: &R,
     alloc: Global,

@@ -1,4 +1,4 @@
-//! Graphs in several components, whose minimum cuts are the unions of these.
+//! Graphs with several components, whose minimum cuts are the unions of these.
 
 use crate::graphs::TWO_PIECES;
 use crate::runs::{answers, tells};
@@ -34,7 +34,7 @@ fn unions_are_printed(rt: HostRuntime) -> Result<(), Fail> {
     Ok(())
 }
 
-/// The text of a graph of so many vertices and no edge.
+/// The text of a graph with this many vertices and no edge.
 fn edgeless(alloc: Global, n: u32) -> Result<Vec<u8>, Fail> {
     let mut text = Vec::new(alloc);
     let header = format!(in alloc; "{n} 0\n")?;
@@ -45,8 +45,8 @@ fn edgeless(alloc: Global, n: u32) -> Result<Vec<u8>, Fail> {
     Ok(text)
 }
 
-/// The sets of components without that of vertex 1 are 2 to the 126th power,
-/// and one of them is empty.
+/// There are 2 to the 126th power sets of components without that of vertex 1, and one of them is
+/// empty.
 #[test]
 fn the_number_of_127_components_is_told(rt: HostRuntime) -> Result<(), Fail> {
     let text = edgeless(rt.alloc(), 127)?;

@@ -109,7 +109,7 @@ fn notices_are_printed_unread(rt: HostRuntime) -> Result<(), Fail> {
     Ok(())
 }
 
-/// Whether these words are the job that parts these two vertices.
+/// Whether these words are the job that separates these two vertices.
 fn are_part(alloc: Global, words: &[&str], u: u64, v: u64) -> Result<bool, Fail> {
     let strings = strings_of(alloc, words)?;
     let Ok(command) = read_words(alloc, &strings) else {

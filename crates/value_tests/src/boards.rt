@@ -21,8 +21,8 @@ pub(crate) fn degree_of(graph: &Graph, v: u32) -> u64
     graph.degree(v)
 }
 
-/// Lowers the bound by the degree of vertex 3, and marks edge 0 twice. Whether the bound is 5
-/// then, and edge 0 was not marked before and is now.
+/// Lowers the bound by the degree of vertex 3, and marks edge 0 twice. Whether the bound is then
+/// 5, and edge 0 was not marked before and is now.
 fn marks_the_heavy_edge(graph: &Graph, board: &Board, seat: &mut BoardSeat) -> bool
     requires seat { seat.old.board ≡ board.now }
     requires graph { board.now.graph ≡ graph.now }
@@ -51,7 +51,7 @@ fn finds_the_mark(board: &Board, seat: &mut BoardSeat) -> bool
     board.is_marked(&mut other, 0)
 }
 
-/// Whether just the first of three edges is marked.
+/// Whether only the first of three edges is marked.
 fn has_first_alone(marks: &Marks) -> bool
     requires { marks.now.edges ≡ 3 }
 {
@@ -69,7 +69,7 @@ fn a_mark_is_found_and_kept_at_the_close(rt: HostRuntime) -> Result<(), NoMemory
     Ok(())
 }
 
-/// Whether vertex 2 is won by one of two seats alone, and vertex 3 by the other.
+/// Whether one of two seats alone wins vertex 2, and the other wins vertex 3.
 fn is_won_once(board: &Board, seat: &mut BoardSeat) -> bool
     requires seat { seat.old.board ≡ board.now }
     requires vertices { 3 ≤ board.now.graph.vertices }

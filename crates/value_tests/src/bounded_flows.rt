@@ -28,8 +28,8 @@ fn digits(side: &Side) -> u32
     digits
 }
 
-/// Whether a run that stops past the amount finds it with this source side,
-/// and one that stops there is stopped.
+/// Whether a run whose stop is greater than the amount finds it with this source side, and one
+/// with the amount as its stop is stopped.
 fn agrees(flow: &mut Flow, graph: &Graph, s: u32, t: u32, amount: u64, source: u32) -> bool
     requires stands { StandsFor flow.old graph.now }
     requires few { graph.now.vertices ≤ 9 }
@@ -100,8 +100,9 @@ fn residuals_of_a_triangle(rt: HostRuntime) -> Result<(), NoMemory> {
     Ok(())
 }
 
-// Files and runs: a triangle; two triangles that one edge joins, and a vertex that has no edge;
-// and a ring whose weights add up to the greatest total, with a vertex that has no edge.
+// Files and runs. The first is a triangle. The second is two triangles joined by one edge, and a
+// vertex with no edge. The third is a ring whose weights add up to the greatest total, and a
+// vertex with no edge.
 const RUNS: [(&str, &[Run]); 3] = [
     (
         "3 3 1\n2 5 3 1\n1 5 3 4\n1 1 2 4\n",

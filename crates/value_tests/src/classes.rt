@@ -5,8 +5,8 @@ use std::alloc::Global;
 use vertex_classes::Classes;
 use weighted_graph::Labels;
 
-/// Whether 1 and 3 are joined, as 4 and 5 are, and no others,
-/// and the labels come up in the order of the vertices.
+/// Whether 1 and 3 are joined, and 4 and 5, and no others, and the labels are in the order of the
+/// vertices.
 fn are_as_joined(alloc: Global) -> Result<bool, NoMemory> {
     let mut classes = Classes::new(alloc, 5)?;
     classes.join(4, 5);

@@ -59,7 +59,7 @@ fn are_two_pairs(alloc: Global, parts: &Components) -> Result<bool, NoMemory>
     Ok(halves && parts.len() == 2 && parts.part(2) == 1 && parts.part(4) == 2)
 }
 
-/// Whether the graph of two pairs falls into these, and has one minimum cut.
+/// Whether the graph of two pairs has these components, and one minimum cut.
 fn fall_into_pairs(alloc: Global) -> bool {
     let Some(graph) = graph_of(alloc, "4 2\n2\n1\n4\n3\n") else {
         return false;

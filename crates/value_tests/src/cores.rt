@@ -12,7 +12,7 @@ use vertex_set::Side;
 use weighted_graph::Graph;
 
 /// The machine on the uneven triangle, opened with the weight 6 of vertex 1. Its value is 5, and
-/// the cut around vertex 3 parts the edges 1 and 2.
+/// the cut around vertex 3 separates the ends of the edges 1 and 2.
 fn open_triangle(alloc: Global, graph: &Graph) -> Result<Core, NoMemory>
     requires { graph.now ≡ record { vertices = 3; edges = record { u = 1; v = 2; w = 5 } ∷ record { u = 1; v = 3; w = 1 } ∷ record { u = 2; v = 3; w = 4 } ∷ [] } }
     ensures { IfOk result (λ core. Shows core (opening_machine graph.now 0 6)) }
@@ -31,11 +31,11 @@ enum Turn {
     Take(u32, u32),
 }
 
-/// A turn, whether it is allowed, the bound after it, and what its seat has seen then.
+/// A step, whether it is allowed, the bound after it, and what its seat has then seen.
 type Step = (Turn, bool, u64, Option<u64>);
 
-// The first mark of edge 2 by seat 2 is refused, since it saw 6 and the cut around vertex 3, of
-// weight 5, parts the edge. There is no seat 7, and no vertex 4.
+// The first mark of edge 2 by seat 2 is refused. The seat saw 6, and the cut around vertex 3, of
+// weight 5, separates the ends of the edge. There is no seat 7, and no vertex 4.
 const STALE: [Step; 10] = [
     (Turn::Split(1), true, 6, Some(6)),
     (Turn::Load(2), true, 6, Some(6)),
@@ -49,8 +49,8 @@ const STALE: [Step; 10] = [
     (Turn::Take(1, 3), true, 5, Some(5)),
 ];
 
-// Refused are a mark of an edge that the lowered cut parts, a step of a seat that was joined away,
-// a seat joined to itself, and a vertex that is not there.
+// A mark of an edge whose ends the lowered cut separates is refused. So are a step of a seat that
+// was joined into another, a seat joined to itself, and a vertex that does not exist.
 const JOINED: [Step; 11] = [
     (Turn::Split(1), true, 6, Some(6)),
     (Turn::Split(1), true, 6, Some(6)),
@@ -102,7 +102,7 @@ fn seat_of(turn: Turn) -> u32 {
     }
 }
 
-/// Whether the next step is as told.
+/// Whether the next step does what the table says.
 fn is_step(alloc: Global, core: &mut Core, step: &Step) -> bool {
     let (turn, allowed, bound, seen) = *step;
     let Ok(event) = event_of(alloc, turn) else {
@@ -112,7 +112,7 @@ fn is_step(alloc: Global, core: &mut Core, step: &Step) -> bool {
     answer == Ok(allowed) && core.bound() == bound && core.seen(seat_of(turn)) == seen
 }
 
-/// Whether the machine goes through the steps as told.
+/// Whether the steps of the machine do what the table says.
 fn goes(alloc: Global, core: &mut Core, steps: &[Step]) -> bool {
     for step in steps {
         if !is_step(alloc, core, step) {
@@ -131,7 +131,7 @@ fn events_of(alloc: Global, steps: &[Step]) -> Result<Vec<Event>, NoMemory> {
     Ok(events)
 }
 
-/// Plays events on the machine as it was opened, and answers how many were allowed.
+/// Replays events on the machine as it was opened, and returns how many were allowed.
 fn replayed(core: &mut Core, graph: &Graph, events: &[Event]) -> Result<u64, NoMemory>
     requires { Shows core.old (opening_machine graph.now 0 6) }
     ensures { IfOk result (λ _. core.new.graph ≡ graph.now) }
@@ -140,8 +140,9 @@ fn replayed(core: &mut Core, graph: &Graph, events: &[Event]) -> Result<u64, NoM
     Ok(allowed)
 }
 
-/// Steps from the opening, how many of their events are replayed, and what is left of these: how
-/// many were allowed, which edges are marked, whether vertex 2 is taken, and what seat 2 saw last.
+/// Steps from the opening, how many of their events are replayed, and the state after these. It
+/// has the number of allowed events, the marked edges, whether vertex 2 is taken, and what seat 2
+/// saw last.
 struct Told {
     steps: &'static [Step],
     replayed: usize,
@@ -151,7 +152,7 @@ struct Told {
     seen: u64,
 }
 
-/// Whether this is left on the machine, and the bound is 5.
+/// Whether this is the state of the machine, and the bound is 5.
 fn has_left(core: &Core, told: &Told) -> bool
     requires vertices { core.now.graph.vertices ≡ 3 }
     requires edges { length core.now.graph.edges ≡ 3 }
@@ -163,7 +164,7 @@ fn has_left(core: &Core, told: &Told) -> bool
         && core.is_taken(2) == told.taken
 }
 
-/// Whether this is left of the first events.
+/// Whether this is the state after the first events.
 fn leaves(alloc: Global, graph: &Graph, told: &Told) -> Result<bool, NoMemory>
     requires { graph.now ≡ record { vertices = 3; edges = record { u = 1; v = 2; w = 5 } ∷ record { u = 1; v = 3; w = 1 } ∷ record { u = 2; v = 3; w = 4 } ∷ [] } }
 {
@@ -176,7 +177,8 @@ fn leaves(alloc: Global, graph: &Graph, told: &Told) -> Result<bool, NoMemory>
     Ok(allowed == told.allowed && has_left(&core, told))
 }
 
-/// Whether the machine goes through the steps as told, and this is left of the first events.
+/// Whether the steps of the machine do what the table says, and this is the state after the first
+/// events.
 fn plays(alloc: Global, graph: &Graph, told: &Told) -> Result<bool, NoMemory>
     requires { graph.now ≡ record { vertices = 3; edges = record { u = 1; v = 2; w = 5 } ∷ record { u = 1; v = 3; w = 1 } ∷ record { u = 2; v = 3; w = 4 } ∷ [] } }
 {

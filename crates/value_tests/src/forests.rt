@@ -10,9 +10,9 @@ use min_value::lesser_of_list;
 use std::alloc::Global;
 use worker_team::Alone;
 
-// Files, bounds, and the classes that are tied for these: the complete graph of four vertices,
-// where the last edge alone finds its ends joined twice before; two components; a triangle
-// with the weights 5, 1 and 4.
+// Files, bounds, and the classes that are tied for these. The first is the complete graph of four
+// vertices, where the ends of the last edge alone are joined twice before. The others are two
+// components, and a triangle with the weights 5, 1 and 4.
 const TIED: [(&str, u64, &[u32]); 4] = [
     ("4 6\n2 3 4\n1 3 4\n1 2 4\n1 2 3\n", 3, &[1, 2, 3, 3]),
     ("4 6\n2 3 4\n1 3 4\n1 2 4\n1 2 3\n", 4, &[1, 2, 3, 4]),
@@ -83,7 +83,7 @@ fn wheel(alloc: Global) -> Option<EdgeList> {
     edges_in(reader)
 }
 
-/// Whether contraction leaves this bound and so many vertices.
+/// Whether contraction leaves this bound and this number of vertices.
 fn leaves(alloc: Global, list: &EdgeList, bound: u64, vertices: Option<u32>) -> bool
     requires { 2 ≤ list.now.vertices }
 {
@@ -97,8 +97,8 @@ fn leaves(alloc: Global, list: &EdgeList, bound: u64, vertices: Option<u32>) -> 
     left.bound == bound && count == vertices
 }
 
-/// Whether contraction leaves this bound and so many vertices,
-/// and whether the list tells this value.
+/// Whether contraction leaves this bound and this number of vertices, and the value found from the
+/// list is this.
 fn is_contracted(
     alloc: Global,
     list: Option<EdgeList>,

@@ -87,7 +87,7 @@ fn has_one_edge(list: &EdgeList) -> bool {
     list.n() == 2 && list.len() == 1 && list.edge(0) == edge
 }
 
-/// Whether the triangle becomes one edge of weight 5 by these labels, with rows or as a list.
+/// Whether these labels make of the triangle one edge of weight 5, with rows or as a list.
 fn is_relabelled(alloc: Global, graph: &Graph, labels: &Labels) -> bool
     requires { length labels.now ≡ graph.now.vertices }
 {
@@ -110,12 +110,12 @@ fn two_vertices_become_one(rt: HostRuntime) -> Result<(), NoMemory> {
     Ok(())
 }
 
-/// Whether they label three vertices with so many classes, the third with this one.
+/// Whether they label three vertices with this number of classes, and the third with this one.
 fn has_labels(labels: &Labels, classes: u32, third: u32) -> bool {
     labels.n() == 3 && labels.classes() == classes && labels.label(3) == third
 }
 
-/// Whether all three vertices come into one class, once the two classes do.
+/// Whether all three vertices are in one class, once the two classes are.
 fn are_composed(alloc: Global, labels: &Labels) -> bool
     requires { labels.now ≡ 1 ∷ 1 ∷ 2 ∷ [] }
 {

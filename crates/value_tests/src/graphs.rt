@@ -35,7 +35,7 @@ pub fn uneven_triangle(alloc: Global) -> Result<Graph, NoMemory>
     Ok(graph)
 }
 
-/// The edges of what a reader was fed, if that is the file of a graph.
+/// The edges of what was fed to a reader, if that is the file of a graph.
 pub(crate) fn edges_in(reader: Reader) -> Option<EdgeList> {
     match reader.finish() {
         Ok(graph) => Some(graph.edges),

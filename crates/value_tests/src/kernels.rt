@@ -12,8 +12,8 @@ use std::thread::Threads;
 use weighted_graph::Graph;
 use worker_team::Crew;
 
-// Two blocks, in each of which four vertices are joined to each of four others, and two edges from
-// block to block. All edges weigh 1, so the value is 2.
+// Two blocks and two edges between them. In each block each of four vertices is joined to each of
+// four others. All edges weigh 1, so the value is 2.
 const TWO_BLOCKS: &str =
     "16 34\n5 6 7 8 9\n5 6 7 8 10\n5 6 7 8\n5 6 7 8\n1 2 3 4\n1 2 3 4\n1 2 3 4\n1 2 3 4\n\
     1 13 14 15 16\n2 13 14 15 16\n13 14 15 16\n13 14 15 16\n9 10 11 12\n9 10 11 12\n9 10 11 12\n9 10 11 12\n";

@@ -1,6 +1,7 @@
-//! Tests of the crates up to the value, through their public calls and over small graphs whose
-//! answers are known by hand: sets of vertices, lists of edges, sources and sinks; the reader of
-//! METIS files; graphs, flows and scans; the shared board and its machine; and the value.
+//! Tests of the crates up to the value, through their public calls and on small graphs whose
+//! results are known by hand. They cover sets of vertices, lists of edges, sources and sinks; the
+//! reader of METIS files; graphs, flows and scans; the shared board and its machine; and the
+//! value.
 #![tactic(auto)]
 
 #[cfg(test)]

@@ -11,10 +11,10 @@ use std::thread::Threads;
 use weighted_graph::Graph;
 use worker_team::{Alone, Team, Threaded};
 
-// Two halves, of so many vertices each.
+// Two halves, with this many vertices each.
 const HALF: u32 = 40;
 
-/// The weight of the edge between two vertices, counted from 0, or 0 where there is none.
+/// The weight of the edge between two vertices, counted from 0, or 0 if there is none.
 fn weight_between(u: u32, v: u32) -> u32
     requires u { u < 80 }
     requires v { v < 80 }
@@ -60,7 +60,7 @@ fn parts_halves(kernel: Option<Kernel>) -> bool {
     kernel.value == 320 && kernel.graph.n() < 2 * HALF && labels.first() != labels.last()
 }
 
-/// Whether a team finds the value of a graph, 320, and a kernel that parts the halves.
+/// Whether a team finds the value 320 of a graph, and a kernel that separates the halves.
 fn comes_with_kernel<T: Team>(team: &T, graph: &Graph) -> bool
     requires ready { T.ready team.now }
     requires enough { 2 ≤ graph.now.vertices }
@@ -91,7 +91,7 @@ fn has_kernel<R: Threads + Sync>(rt: &R, alloc: Global) -> bool {
     by_one && comes_with_kernel(&four, &graph)
 }
 
-/// Flows look far on a dense graph with weights, and so scans contract it.
+/// On a dense graph with weights flows read many arcs, so scans contract it.
 #[test]
 fn a_value_comes_with_a_kernel(rt: HostRuntime) {
     assert!(rt; has_kernel(&rt, rt.alloc()));

@@ -4,7 +4,7 @@ use cut_definitions::Edge;
 use metis_reader::{Fault, FaultKind, MetisGraph, ReadRefusal, Reader};
 use std::alloc::Global;
 
-/// What the reader answers of a text that comes in pieces of this length.
+/// What the reader returns for a text that comes in pieces of this length.
 pub(crate) fn graph(alloc: Global, text: &[u8], length: usize) -> Result<MetisGraph, ReadRefusal> {
     let mut reader = Reader::new(alloc);
     for piece in text.chunks(length.max(1)) {
@@ -13,12 +13,12 @@ pub(crate) fn graph(alloc: Global, text: &[u8], length: usize) -> Result<MetisGr
     reader.finish()
 }
 
-/// Whether a text that comes in pieces of this length is refused so.
+/// Whether a text that comes in pieces of this length is refused with this fault.
 pub(crate) fn is_refused(alloc: Global, text: &[u8], length: usize, fault: Fault) -> bool {
     graph(alloc, text, length).err() == Some(ReadRefusal::Fault(fault))
 }
 
-/// Whether a text that comes in pieces of this length has just these edges.
+/// Whether a text that comes in pieces of this length has exactly these edges.
 pub(crate) fn has_edges(alloc: Global, text: &[u8], length: usize, edges: &[Edge]) -> bool {
     match graph(alloc, text, length) {
         Ok(graph) => graph.edges.edges() == edges,
@@ -26,7 +26,7 @@ pub(crate) fn has_edges(alloc: Global, text: &[u8], length: usize, edges: &[Edge
     }
 }
 
-/// Whether each of these pieces, fed one after the other, is taken or told the fault.
+/// Whether each of these pieces, fed in turn, is taken or refused with the fault.
 fn tells_from_second(reader: &mut Reader, fault: Fault) -> bool {
     let told = Err(ReadRefusal::Fault(fault));
     let first = reader.feed(b"2 1\nx") == Ok(());

@@ -44,7 +44,8 @@ fn is_contracted(graph: &Graph, labels: &Labels) -> bool {
         && graph.edge_list() == [Edge { u: 1, v: 2, w: 5 }].as_slice()
 }
 
-/// Whether the first of three edges is contracted alone where it alone is marked.
+/// Whether contraction joins the ends of the first of three edges only, if only that edge is
+/// marked.
 fn first_is_contracted<R: Threads + Sync>(
     rt: &R,
     alloc: Global,
@@ -65,8 +66,8 @@ fn the_first_edge_of_a_triangle_is_contracted(rt: HostRuntime) -> Result<(), NoM
     Ok(())
 }
 
-/// A graph, the vertex whose degree opens the bound, the slack, the bound that is answered, and of
-/// each edge whether it is marked.
+/// A graph, the vertex whose degree opens the bound, the slack, the bound that is returned, and
+/// for each edge whether it is marked.
 struct Forced {
     text: &'static str,
     opener: u32,
@@ -77,10 +78,9 @@ struct Forced {
 
 const UNEVEN: &str = "3 3 1\n2 5 3 1\n1 5 3 4\n1 1 2 4\n";
 
-// The bound is the value, and each edge is certified or parted by a minimum cut. In the
-// triangle edge 0 is certified, and the cut around vertex 3 parts the ends of both
-// others. In the other graph vertex 1 hangs by an edge of weight 2 at six vertices that
-// are joined by edges of weight 3.
+// The bound is the value, and each edge is certified, or a minimum cut separates its ends. In the
+// triangle edge 0 is certified, and the cut around vertex 3 separates the ends of both others. In
+// the other graph an edge of weight 2 joins vertex 1 to six vertices that edges of weight 3 join.
 const FORCED: [Forced; 2] = [
     Forced {
         text: UNEVEN,
@@ -102,7 +102,7 @@ const FORCED: [Forced; 2] = [
     },
 ];
 
-/// Whether just these edges are marked.
+/// Whether exactly these edges are marked.
 fn are_marked(graph: &Graph, marks: &Marks, marked: &[bool]) -> bool
     requires { marks.now.edges ≡ length graph.now.edges }
 {
@@ -114,7 +114,7 @@ fn are_marked(graph: &Graph, marks: &Marks, marked: &[bool]) -> bool
     graph.edges() == marked.len()
 }
 
-/// Whether a round by so many workers answers the bound and the marks.
+/// Whether a round by this many workers returns the bound and the marks.
 fn is_forced<R: Threads + Sync>(rt: &R, alloc: Global, forced: &Forced, workers: u32) -> bool
     requires { (1 ≤ workers) × (workers ≤ 64) }
 {
@@ -142,7 +142,7 @@ fn certified_edges_are_marked_and_no_others(rt: HostRuntime) {
     }
 }
 
-/// The bound that is answered by a round with slack 0 which is opened with the degree of vertex 1.
+/// The bound that is returned by a round with slack 0 that opens with the degree of vertex 1.
 fn bound_after<R: Threads + Sync>(rt: &R, alloc: Global, text: &str, workers: u32) -> Option<u64>
     requires { (1 ≤ workers) × (workers ≤ 64) }
 {
@@ -168,9 +168,9 @@ fn the_bound_falls_to_a_prefix(rt: HostRuntime) {
 // Each of 1, 2, 3 joined to each of 4, 5, 6.
 const THREE_BY_THREE: &str = "6 9\n4 5 6\n4 5 6\n4 5 6\n1 2 3\n1 2 3\n1 2 3\n";
 
-/// Whether no edge passes a certificate at 3 and yet a round that is opened with the degree of
-/// vertex 1 keeps this bound, 3, and one worker marks an edge. Of several each may have scanned so
-/// little before the others took the rest that no link reaches the bound.
+/// Whether no edge passes a certificate at 3, and yet a round that opens with the degree of vertex
+/// 1 keeps this bound, 3, and one worker marks an edge. Of several workers, each may scan so
+/// little before the others take the rest that no link reaches the bound.
 fn marks_by_links<R: Threads + Sync>(rt: &R, alloc: Global, workers: u32) -> bool
     requires { (1 ≤ workers) × (workers ≤ 64) }
 {

@@ -1,4 +1,4 @@
-//! Rows of several entries, cut into pieces at every place: what is read of them is the same.
+//! Rows of several entries, cut into pieces at every place: the reader takes the same from them.
 
 use crate::pieces::has_edges;
 use cut_definitions::Edge;

@@ -16,7 +16,7 @@ fn scanned(vertex: u32, prefix_weight: u64, all: bool) -> Scanned {
     }
 }
 
-/// Whether this is what the scan answers next.
+/// Whether this is what the scan returns next.
 fn is_next(graph: &Graph, scan: &mut Scan, wanted: Option<Scanned>) -> bool
     requires { StandsFor scan.old graph.now }
     ensures { StandsFor scan.new graph.now }

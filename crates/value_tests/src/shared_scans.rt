@@ -14,14 +14,14 @@ use std::test::Fail;
 use std::thread::Threads;
 use weighted_graph::Graph;
 
-// For so many turns a worker waits for the other.
+// For this many turns a worker waits for the other.
 const TURNS: u32 = 1_000_000_000;
 
 // The vertices of a block, which are joined to each other.
 const SIZE: u32 = 24;
 
-// The vertices of the graph: four blocks, of which an edge joins the first two,
-// and another one the last two.
+// The vertices of the graph: four blocks, with an edge between the first two, and another one
+// between the last two.
 const VERTICES: u32 = 96;
 
 // A gate that holds each of two workers until both are there, and counts those who saw the other.
@@ -73,8 +73,7 @@ fn two_pairs_of_blocks(alloc: Global) -> Result<String, NoMemory> {
     Ok(text)
 }
 
-/// Whether an edge is marked between two vertices above a number of them,
-/// and at most so many further ones.
+/// Whether an edge is marked whose ends have numbers above `after`, and at most `until`.
 fn marks_between(graph: &Graph, marks: &Marks, after: u32, until: u32) -> bool
     requires { marks.now.edges ≡ length graph.now.edges }
 {
@@ -88,7 +87,7 @@ fn marks_between(graph: &Graph, marks: &Marks, after: u32, until: u32) -> bool
 }
 
 /// Whether two workers scan at the same time, and an edge is marked in each pair of blocks.
-/// Neither reaches the pair of the other, so both have marked one.
+/// Neither reaches the pair of the other, so both have marked an edge.
 fn marks_both_pairs<R: Threads + Sync>(
     rt: &R,
     alloc: Global,

@@ -14,7 +14,7 @@ use std::thread;
 use std::thread::{Promise, Threads};
 use weighted_graph::Graph;
 
-/// The seat that a thread gives back is of the board of the seat that it was given.
+/// The seat that a thread returns is of the board of the seat that it was given.
 #[derive(Drop)]
 struct SameBoard {
     was: Snapshot<BoardSeat>,
@@ -24,7 +24,7 @@ impl Promise<BoardSeat> for SameBoard {
     ghost kept_by = { λ p r. r.board ≡ p.was.value.board };
 }
 
-/// Marks an edge that weighs 5, where the seat sees the bound 5.
+/// Marks an edge that weighs 5, if the seat sees the bound 5.
 fn mark_heavy(board: &Board, graph: &Graph, mut seat: BoardSeat, edge: usize) -> BoardSeat
     requires seat { seat.board ≡ board.now }
     requires graph { board.now.graph ≡ graph.now }
@@ -39,8 +39,7 @@ fn mark_heavy(board: &Board, graph: &Graph, mut seat: BoardSeat, edge: usize) ->
     seat
 }
 
-/// Four threads mark an edge each, and their seats are joined;
-/// none where a thread cannot be started.
+/// Four threads mark an edge each, and their seats are joined; none if a thread cannot be started.
 fn four_threads<R: Threads + Wait + Sync>(
     rt: &R,
     board: &Board,

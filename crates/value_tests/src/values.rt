@@ -42,7 +42,7 @@ fn values_of_a_triangle(rt: HostRuntime) -> Result<(), NoMemory> {
 const FOUR: &str = "4 6\n2 3 4\n1 3 4\n1 2 4\n1 2 3\n";
 
 // The complete graph of four vertices with one edge of weight 2, so that the least degree is not
-// at once known to be the value.
+// known at once to be the value.
 const UNEVEN_FOUR: &str = "4 6 1\n2 2 3 1 4 1\n1 2 3 1 4 1\n1 1 2 1 4 1\n1 1 2 1 3 1\n";
 
 // Two vertices with no edge.
@@ -51,7 +51,7 @@ const APART: &str = "2 0\n\n\n";
 // Two vertices with an edge of weight 7.
 const PAIR: &str = "2 1 1\n2 7\n1 7\n";
 
-/// Whether a sweep is whole within many arcs, and answers this within none.
+/// Whether a sweep is whole within 1,000 arcs, and returns this within none.
 fn keeps_its_limit(alloc: Global, text: &str, within_none: Swept) -> bool {
     let Some(graph) = graph_of(alloc, text) else {
         return false;
@@ -71,10 +71,11 @@ fn a_sweep_is_cut_short(rt: HostRuntime) {
     assert!(rt; keeps_its_limit(rt.alloc(), FOUR, Swept::Whole(3)));
 }
 
-// Files, what `value_of_dense` tells of their graphs, and the least degrees: the complete graph of
-// five vertices; one of four where vertex 4 has the least degree, 12, and four times the heaviest
-// edge is twice that; the same with an edge of weight 7; one of four where an edge of weight 2 is
-// too heavy for the least degree, 3; a ring of eight; two vertices with an edge, and without one.
+// Files, what `value_of_dense` returns for their graphs, and the least degrees. The first is the
+// complete graph of five vertices. Then come three complete graphs of four. In the first of these
+// vertex 4 has the least degree, 12, and four times the heaviest edge is twice that. The second is
+// the same with an edge of weight 7. In the third an edge of weight 2 is too heavy for the least
+// degree, 3. The last are a ring of eight, and two vertices with an edge and without one.
 const DENSE: [(&str, Option<u64>, u64); 7] = [
     (
         "5 10\n2 3 4 5\n1 3 4 5\n1 2 4 5\n1 2 3 5\n1 2 3 4\n",
@@ -97,7 +98,7 @@ const DENSE: [(&str, Option<u64>, u64); 7] = [
     (APART, Some(0), 0),
 ];
 
-/// Whether this is told of a list of edges alone, and this is the least degree.
+/// Whether this is found from a list of edges alone, and this is the least degree.
 fn is_told(alloc: Global, text: &str, known: Option<u64>, degree: u64) -> bool {
     let Some(list) = edges_of(alloc, text) else {
         return false;
@@ -117,8 +118,8 @@ fn values_of_dense_graphs(rt: HostRuntime) {
     }
 }
 
-// Files of two to six vertices, one of them with a vertex that has no edge,
-// and the values of their graphs.
+// Files of two to six vertices, one of them with a vertex that has no edge, and the values of
+// their graphs.
 const FILES: [(&str, u64); 9] = [
     ("3 3\n2 3\n1 3\n1 2\n", 2),
     ("3 3 1\n2 5 3 1\n1 5 3 4\n1 1 2 4\n", 5),
@@ -134,7 +135,7 @@ const FILES: [(&str, u64); 9] = [
     ),
 ];
 
-/// Whether the value by phases, by a sweep, and by all means is what is known.
+/// Whether the value by phases, by a sweep, and by all means is the known one.
 fn is_value<R: Threads + Sync>(crew: &Crew<R, OpenGate>, list: &EdgeList, known: u64) -> bool
     requires { 2 ≤ list.now.vertices }
 {
@@ -147,7 +148,7 @@ fn is_value<R: Threads + Sync>(crew: &Crew<R, OpenGate>, list: &EdgeList, known:
     phases && sweep && value(crew, &graph) == Ok(known)
 }
 
-/// Whether the value of a file is known, also by all means of a list that is taken over.
+/// Whether the value of a file is the known one, also by all means from a list that is taken over.
 fn has_value<R: Threads + Sync>(crew: &Crew<R, OpenGate>, text: &str, known: u64) -> bool {
     let Some(list) = edges_of(crew.threads.alloc, text) else {
         return false;

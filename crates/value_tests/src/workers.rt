@@ -1,4 +1,4 @@
-//! Workers who scan a large graph side by side.
+//! Workers that scan a large graph in parallel.
 
 ghost use Rattle.std.specs.Prelude.{◌≡◌, ◌≤◌, length, IfSome};
 
@@ -18,7 +18,7 @@ use std::thread::Threads;
 use weighted_graph::Graph;
 use worker_team::Crew;
 
-// For so many turns worker 0 waits for worker 1.
+// For this many turns worker 0 waits for worker 1.
 const TURNS: u32 = 1_000_000_000;
 
 // A gate that holds worker 0 until worker 1 has passed, and keeps whether it came.
@@ -52,7 +52,7 @@ fn meeting_gate() -> MeetingGate {
     }
 }
 
-/// Feeds the row of a vertex, counted from 0, which is joined to all others of its block; the last
+/// Feeds the row of a vertex, counted from 0, which is joined to all others of its block. The last
 /// vertex of a block is joined to the first of the next one.
 fn feed_row(reader: &mut Reader, vertex: u32, blocks: u32, size: u32)
     requires vertex { vertex ≤ 100000 }
@@ -75,7 +75,7 @@ fn feed_row(reader: &mut Reader, vertex: u32, blocks: u32, size: u32)
     feed_line(reader, &[]);
 }
 
-/// A chain of complete blocks, of which one edge leads to the next: its value is 1.
+/// A chain of complete blocks, each joined to the next by one edge: its value is 1.
 fn chain_of_blocks(alloc: Global, blocks: u32, size: u32) -> Option<EdgeList>
     requires blocks { (1 ≤ blocks) × (blocks ≤ 100) }
     requires size { (2 ≤ size) × (size ≤ 400) }
@@ -108,8 +108,8 @@ fn marked_blocks(graph: &Graph, marks: &Marks) -> u32
 }
 
 /// Whether two workers run at the same time, lower the bound to 2 at most, and mark an edge in
-/// each of the 64 blocks. A block is scanned by one of them, or half of it at least by one of them
-/// once the bound has fallen.
+/// each of the 64 blocks. One of them scans a block, or at least half of it once the bound has
+/// fallen.
 fn marks_each_block<R: Threads + Sync>(rt: &R, alloc: Global, graph: &Graph) -> bool
     requires { 2 ≤ graph.now.vertices }
 {
@@ -126,7 +126,7 @@ fn marks_each_block<R: Threads + Sync>(rt: &R, alloc: Global, graph: &Graph) -> 
     met && opening.bound == 7 && bound <= 2 && marked_blocks(graph, &marks) == 64
 }
 
-/// Whether two workers reduce a chain of 100 blocks to a vertex for each.
+/// Whether two workers reduce a chain of 100 blocks to one vertex for each.
 fn is_reduced_by_two<R: Threads + Sync>(rt: &R, alloc: Global, graph: &Graph) -> bool
     requires { 2 ≤ graph.now.vertices }
 {
@@ -141,7 +141,7 @@ fn is_reduced_by_two<R: Threads + Sync>(rt: &R, alloc: Global, graph: &Graph) ->
     reduced && weight == 1
 }
 
-/// The graph of a list of so many edges.
+/// The graph of a list with this many edges.
 fn long_graph(alloc: Global, list: Option<EdgeList>, edges: usize) -> Option<Graph>
     ensures { IfSome result (λ g. 2 ≤ g.vertices) }
 {
