@@ -1,4 +1,5 @@
 pub mod Beside
+pub mod Entering
 pub mod Fronts
 pub mod Listed
 pub mod Newest

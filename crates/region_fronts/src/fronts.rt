@@ -1,4 +1,5 @@
-//! For each region a list of its open vertices: those that an edge joins to another label.
+//! For each region a list of its open vertices, which are those that an edge joins to another
+//! label.
 
 ghost use Rattle.std.specs.Prelude.{◌≡◌, ◌≢◌, ◌↔◌, ◌+◌, ◌-◌, ◌<◌, ◌≤◌, ◌^◌, ◌++◌, ◌∷◌, [], ℕ, None, IfOk, IfSome, OnOk, OnErr, IsTrue, IsFalse, length, take, slice_get, slice_index, slice_set};
 ghost use Rattle.std.specs.List.{All, Contains};
@@ -17,8 +18,8 @@ use std::alloc::Global;
 use std::marker::Model;
 use weighted_graph::{Arc, Graph};
 
-/// For each label the vertices that were found open under it. A vertex whose label has changed
-/// since may stand there still.
+/// For each label, the vertices that were found open under it. A vertex whose label has changed
+/// since then may still be in the list.
 ///
 /// It takes 28 bytes for each vertex at first, and memory for entries as vertices are put.
 #[derive(Drop)]
@@ -26,15 +27,15 @@ pub struct Fronts {
     n: u32,
     lists: Vec<Vec<u32>>,
 
-    // for each vertex the label under whose list it was put last,
-    // and 0 where it stands there no more
+    // for each vertex, the label under whose list it was put last, or 0 if it is no longer in that
+    // list
     standing: Vec<u32>,
 
-    // each label whose list is not empty, the list that was filled last on top
+    // each label whose list is not empty, with the list that was filled last on top
     stack: Vec<u32>,
 
-    // which entry of a list is looked at next;
-    // of the oldest first, all before this place are of a later turn
+    // which entry of a list is looked at next; if the oldest enter first, all entries before this
+    // place belong to a later turn
     order: Order,
     turn: usize,
 }
@@ -77,13 +78,13 @@ fn is_open(graph: &Graph, labels: &[u32], v: u32) -> bool
     false
 }
 
-/// How long the rows may be that are looked at for an open vertex beside another.
+/// The greatest length of a row that is searched for an open vertex beside another.
 const LONG_ROW: usize = 32;
 
-/// How many of the newest entries of a list are looked at for an open vertex other than one.
+/// How many of the newest entries of a list are searched for another open vertex.
 const LATE: usize = 4;
 
-/// Whether an arc leads to an open vertex of a region, and to no long row.
+/// Whether an arc leads to an open vertex of a region whose row is not long.
 fn leads_to_open(graph: &Graph, labels: &[u32], region: u32, to: u32) -> bool
     requires to_n { to ≤ graph.now.vertices }
     requires labels { length labels.now ≡ graph.now.vertices + 1 }
@@ -95,11 +96,11 @@ fn leads_to_open(graph: &Graph, labels: &[u32], region: u32, to: u32) -> bool
     is_open(graph, labels, to)
 }
 
-/// The first arc of a vertex to an open vertex of its region, where that has a row of at most 32
-/// arcs and the vertex has one itself; none exactly where there is none.
+/// The first arc of a vertex to an open vertex of its region, if both have rows of at most 32
+/// arcs. The result is none exactly if there is no such arc.
 ///
-/// It takes a step for each arc of the row, and for each arc of a row beside it,
-/// so some thousand at most.
+/// It takes a step for each arc of the row, and for each arc of the rows that these lead to: about
+/// a thousand at most.
 pub fn open_beside(graph: &Graph, labels: &[u32], v: u32) -> Option<Arc>
     requires to_n { v ≤ graph.now.vertices }
     requires labels { length labels.now ≡ graph.now.vertices + 1 }
@@ -135,7 +136,7 @@ fn is_another(graph: &Graph, labels: &[u32], t: u32, v: u32) -> bool
     is_open(graph, labels, v)
 }
 
-/// Lists without an entry.
+/// Lists without entries.
 fn empty_lists(alloc: Global, count: usize) -> Result<Vec<Vec<u32>>, NoMemory>
     ensures count { IfOk result (λ lists. length (lists_of lists.items) ≡ count) }
     ensures empty { IfOk result (λ lists. (region : ℕ) → list_at (lists_of lists.items) region ≡ []) }
@@ -147,7 +148,7 @@ fn empty_lists(alloc: Global, count: usize) -> Result<Vec<Vec<u32>>, NoMemory>
     Ok(lists)
 }
 
-/// Puts a vertex at the end of the list of a region.
+/// Appends a vertex to the list of a region.
 fn append(lists: &mut Vec<Vec<u32>>, region: u32, v: u32) -> Result<(), NoMemory>
     requires { region < length lists.old.items }
     ensures ok { OnOk result (lists_of lists.new.items ≡ slice_set (lists_of lists.old.items) region (list_at (lists_of lists.old.items) region ++ v ∷ [])) }
@@ -157,7 +158,7 @@ fn append(lists: &mut Vec<Vec<u32>>, region: u32, v: u32) -> Result<(), NoMemory
     Ok(())
 }
 
-/// Puts a label on top, if its list is empty.
+/// Puts a label on top of the stack, if its list is empty.
 fn put_on_top(stack: &mut Vec<u32>, lists: &[Vec<u32>], region: u32) -> Result<(), NoMemory>
     requires { region < length lists.now }
     ensures kept { (label : ℕ) → Contains stack.old.items label → Contains stack.new.items label }
@@ -170,7 +171,8 @@ fn put_on_top(stack: &mut Vec<u32>, lists: &[Vec<u32>], region: u32) -> Result<(
     Ok(())
 }
 
-/// The first label from the top whose list is not empty; those above it are taken from the stack.
+/// The first label from the top whose list is not empty; those above it are removed from the
+/// stack.
 fn first_filled(stack: &mut Vec<u32>, lists: &[Vec<u32>]) -> Option<u32>
     requires stacked { (region : ℕ) → 1 ≤ length (list_at (lists_of lists.now) region) → Contains stack.old.items region }
     requires labels { (region : ℕ) → Contains stack.old.items region → region < length lists.now }
@@ -190,10 +192,10 @@ fn first_filled(stack: &mut Vec<u32>, lists: &[Vec<u32>]) -> Option<u32>
 }
 
 impl Fronts {
-    /// Empty lists, for vertices 1 to n and labels 0 to n + 1.
-    /// Of a list the next entry is that which this order tells.
+    /// Empty lists, for vertices 1 to n and labels 0 to n + 1. The order says which entry of a
+    /// list comes next.
     ///
-    /// Want of memory is its only refusal.
+    /// It takes O(n) steps and memory, and fails only if it runs out of memory.
     pub fn new(alloc: Global, n: u32, order: Order) -> Result<Fronts, NoMemory>
         ensures vertices { IfOk result (λ f. f.vertices ≡ n) }
         ensures empty { IfOk result (λ f. (region : ℕ) → list_at f.lists region ≡ []) }
@@ -211,7 +213,7 @@ impl Fronts {
         })
     }
 
-    /// How many entries the list of a region has.
+    /// The number of entries in the list of a region.
     fn count(&self, region: u32) -> usize
         ensures { result ≡ length (list_at self.now.lists region) }
     {
@@ -230,7 +232,7 @@ impl Fronts {
         self.lists[region as usize][place]
     }
 
-    /// Takes out the entry at a place of the list of a region. The last one takes its place.
+    /// Removes the entry at a place of the list of a region. The last entry takes its place.
     fn take_out(&mut self, region: u32, place: usize)
         requires { place < length (list_at self.old.lists region) }
         ensures { self.new ≡ taken_out self.old region place }
@@ -241,7 +243,7 @@ impl Fronts {
         }
     }
 
-    /// The label on top of those whose lists are not empty.
+    /// The label on top among those whose lists are not empty.
     fn top(&mut self) -> Option<u32>
         ensures same { self.new ≡ self.old }
         ensures some { IfSome result (λ region. 1 ≤ length (list_at self.old.lists region)) }
@@ -250,7 +252,7 @@ impl Fronts {
         first_filled(&mut self.stack, self.lists.as_slice())
     }
 
-    /// The place in the list of a region that is looked at next for the vertex to enter.
+    /// The place in the list of a region at which the search for the next vertex continues.
     fn place_in_turn(&self, region: u32) -> usize
         requires { 1 ≤ length (list_at self.now.lists region) }
         ensures { result < length (list_at self.now.lists region) }
@@ -262,8 +264,8 @@ impl Fronts {
         }
     }
 
-    /// Takes out the entry at a place of the list of a region, and goes on behind the place: what
-    /// stands there now is newer than all entries from there on.
+    /// Removes the entry at a place of the list of a region, and moves on past the place. The
+    /// entry that is there now is newer than all after it.
     fn pass_over(&mut self, region: u32, place: usize)
         requires { place < length (list_at self.old.lists region) }
         ensures { self.new ≡ taken_out self.old region place }
@@ -272,7 +274,7 @@ impl Fronts {
         self.turn = place.saturating_add(1);
     }
 
-    /// Puts a vertex of a region into the list of the region, unless it stands there.
+    /// Puts a vertex of a region into the list of the region, unless it is there already.
     fn put(&mut self, region: u32, v: u32) -> Result<(), NoMemory>
         requires region { region ≤ self.old.vertices + 1 }
         requires outside { 1 ≤ region }
@@ -290,7 +292,7 @@ impl Fronts {
         Ok(())
     }
 
-    /// Puts a vertex into the list of its label, unless it has entered.
+    /// Puts a vertex into the list of its label, unless it has entered the source.
     fn put_labelled(&mut self, labels: &[u32], v: u32) -> Result<(), NoMemory>
         requires to_n { v ≤ self.old.vertices }
         requires labels { length labels.now ≡ self.old.vertices + 1 }
@@ -306,7 +308,7 @@ impl Fronts {
         self.put(region, v)
     }
 
-    /// Puts both ends of an edge into the lists of their labels, where these differ.
+    /// Puts both ends of an edge into the lists of their labels, if these differ.
     fn put_apart(&mut self, labels: &[u32], v: u32, to: u32) -> Result<(), NoMemory>
         requires v_to_n { v ≤ self.old.vertices }
         requires to_to_n { to ≤ self.old.vertices }
@@ -323,11 +325,12 @@ impl Fronts {
         self.put_labelled(labels, to)
     }
 
-    /// Puts a vertex of a region that an edge joins to another label into the list of its label,
-    /// and so each vertex of a region that an edge joins to it from another label. What stands
+    /// Puts a vertex of a region into the list of its label if an edge joins it to another label.
+    /// It does the same for each vertex of a region at the other end of such an edge. What is
     /// there already is not put again.
     ///
-    /// It goes once along the row of the vertex. Where memory is wanting, what was put stays.
+    /// It goes once along the row of the vertex. If it runs out of memory, what was put so far
+    /// stays.
     pub fn put_ends(&mut self, graph: &Graph, labels: &[u32], v: u32) -> Result<(), NoMemory>
         requires to_n { v ≤ graph.now.vertices }
         requires labels { length labels.now ≡ graph.now.vertices + 1 }
@@ -344,7 +347,8 @@ impl Fronts {
         Ok(())
     }
 
-    /// Puts the ends of several vertices, each as `put_ends` does, in O(their rows).
+    /// Puts the ends of several vertices, each as `put_ends` does. One step for each arc of their
+    /// rows.
     pub fn put_all_ends(
         &mut self,
         graph: &Graph,
@@ -365,12 +369,11 @@ impl Fronts {
         Ok(())
     }
 
-    /// The vertex at a place of the list of a region, counted from 0;
-    /// none where the list is no longer than the place.
+    /// The vertex at a place of the list of a region, counted from 0; none if the list ends before
+    /// the place.
     ///
-    /// Entries that come to stand at the place and have another label by now are taken out first,
-    /// the last entry taking the place of each. So the list never grows, and what stands before
-    /// the place does not change.
+    /// Entries at the place that have another label by now are removed first; the last entry takes
+    /// the place of each. So the list never grows, and nothing before the place changes.
     pub fn read(&mut self, labels: &[u32], region: u32, place: usize) -> Option<u32>
         requires { length labels.now ≡ self.old.vertices + 1 }
         ensures vertices { self.new.vertices ≡ self.old.vertices }
@@ -394,12 +397,12 @@ impl Fronts {
         None
     }
 
-    /// An open vertex in the list of the label on top; none where all vertices have entered.
-    /// Which one is free: it is the last of the list, or, where the oldest enter first, one of
-    /// those that were put earliest.
+    /// An open vertex in the list of the label on top, or none if all vertices have entered. If
+    /// the newest enter first, it is the last of the list, and otherwise one of those put
+    /// earliest. The contract leaves this choice free.
     ///
-    /// Entries that have another label by now, or are open no more, are taken out first. The
-    /// vertex itself stays in its list. Each entry is taken out once, and a look at a vertex goes
+    /// Entries that have another label by now, or are no longer open, are removed first. The
+    /// vertex itself stays in its list. Each entry is removed once, and a look at a vertex goes
     /// along its row up to the first arc to another label.
     pub fn next(&mut self, graph: &Graph, labels: &[u32]) -> Option<u32>
         requires connected { IsConnected graph.now }
@@ -425,7 +428,8 @@ impl Fronts {
     }
 
     /// The last entry in the list of the region of `t` that is another open vertex of that region,
-    /// if it is one of the last four; none exactly where none of these is.
+    /// if it is one of the last four. The result is none exactly if none of these is such a
+    /// vertex.
     ///
     /// A look at an entry goes along its row up to the first arc to another label.
     pub fn newest_but(&self, graph: &Graph, labels: &[u32], t: u32) -> Option<u32>

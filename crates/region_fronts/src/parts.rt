@@ -17,13 +17,13 @@ struct Placed {
 
 /// The parts of a region, all of them or all but one, each with the list of its vertices.
 ///
-/// Vertices are put one after another, in any order; the lists are made when that is finished.
+/// Vertices are put one at a time, in any order; `finish` makes the lists.
 #[derive(Drop)]
 pub struct Parts {
     count: u32,
-    // the number of the part that is not listed, 0 where all are
+    // the number of the part that is not listed, or 0 if all are
     unlisted: u32,
-    // for each vertex the number of its part, 0 where it is not listed
+    // for each vertex the number of its part, or 0 if it is not listed
     numbers: Vec<u32>,
     // the vertices that were put
     placed: Vec<Placed>,
@@ -50,7 +50,7 @@ impl Model for Parts {
     ghost invariant = { λ p. AreKept p.count p.numbers.items p.placed.items p.list.items p.starts.items p.ends.items };
 }
 
-/// Forgets the numbers of the vertices that were put.
+/// Clears the numbers of the vertices that were put.
 fn clear_numbers(numbers: &mut [u32], placed: &[Placed])
     requires { AreAllPlaced numbers.old placed.now }
     ensures { (v : ℕ) → slice_index numbers.new v ≡ 0 }
@@ -95,7 +95,7 @@ fn list_vertices(placed: &[Placed], list: &mut Vec<u32>) -> Result<(), NoMemory>
     Ok(())
 }
 
-/// Where the vertices with a number end, from a place on.
+/// The place where the vertices with a number end, starting at a place.
 fn end_of(placed: &[Placed], start: usize, number: u32) -> usize
     requires { start ≤ length placed.now }
     ensures ordered { start ≤ result }
@@ -136,7 +136,8 @@ fn lay_out(
 }
 
 impl Parts {
-    /// No parts, for vertices 1 to n. It takes memory for a number for each vertex.
+    /// No parts, for vertices 1 to n. It takes memory for a number for each vertex, in O(n) steps,
+    /// and fails only if it runs out of memory.
     pub fn new(alloc: Global, n: u32) -> Result<Parts, NoMemory>
         ensures numbers { IfOk result (λ p. p.numbers ≡ replicate (n + 1) 0) }
         ensures count { IfOk result (λ p. p.count ≡ 0) }
@@ -156,7 +157,7 @@ impl Parts {
         })
     }
 
-    /// Forgets all parts, and keeps the memory. It takes a step for each vertex that was put.
+    /// Clears all parts, and keeps the memory. It takes a step for each vertex that was put.
     pub fn begin(&mut self)
         ensures none { (v : ℕ) → slice_index self.new.numbers v ≡ 0 }
         ensures long { length self.new.numbers ≡ length self.old.numbers }
@@ -170,8 +171,8 @@ impl Parts {
         self.unlisted = 0;
     }
 
-    /// Puts a vertex into a part, by the number of that, from 1 on.
-    /// Nothing changes where there is no memory.
+    /// Puts a vertex that is not listed into a part, by its number, from 1 on. If it runs out of
+    /// memory, nothing changes.
     pub fn put(&mut self, v: u32, number: u32) -> Result<(), NoMemory>
         requires from_one { 1 ≤ number }
         requires within { v < length self.old.numbers }
@@ -186,9 +187,9 @@ impl Parts {
 
     /// Makes the lists of the parts 1 to `count` from the vertices that were put.
     ///
-    /// With m vertices it takes m log m + `count` steps, m + `count` where they were put in the
-    /// order of their numbers, and memory only where it had not so much before. Where there is
-    /// none, the numbers are kept, and no part has a list.
+    /// With m vertices it takes O(m log m + `count`) steps, or O(m + `count`) if they were put in
+    /// the order of their numbers. It takes memory only if it did not have as much before. If it
+    /// runs out of memory, the numbers are kept, and no part has a list.
     pub fn finish(&mut self, count: u32, unlisted: u32) -> Result<(), NoMemory>
         requires from_one { 1 ≤ count }
         requires to_count { (v : ℕ) → slice_index self.old.numbers v ≤ count }
@@ -207,21 +208,21 @@ impl Parts {
         Ok(())
     }
 
-    /// How many parts there are.
+    /// The number of parts.
     pub fn count(&self) -> u32
         ensures { result ≡ self.now.count }
     {
         self.count
     }
 
-    /// The number of the part that is not listed, 0 where all are.
+    /// The number of the part that is not listed, or 0 if all are.
     pub fn unlisted(&self) -> u32
         ensures { result ≡ self.now.unlisted }
     {
         self.unlisted
     }
 
-    /// The number of the part of a vertex, 0 where it is not listed.
+    /// The number of the part of a vertex, or 0 if it is not listed.
     pub fn number(&self, v: u32) -> u32
         requires { v < length self.now.numbers }
         ensures { result ≡ slice_index self.now.numbers v }
@@ -229,7 +230,7 @@ impl Parts {
         self.numbers[v as usize]
     }
 
-    /// The vertices of a part, each once; none of the part that is not listed.
+    /// The vertices of a part, each once. The part that is not listed has none.
     pub fn part(&self, i: u32) -> &[u32]
         requires { i ≤ self.now.count }
         ensures { result.now ≡ part_list self.now i }
