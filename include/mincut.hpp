@@ -64,7 +64,7 @@ private:
 };
 #endif
 
-/* Why a call has no answer. */
+/* Why a call has no result. */
 class Error : public std::runtime_error {
 public:
     explicit Error(mincut_status status) : std::runtime_error(mincut_status_text(status)), status_(status) {}
@@ -88,7 +88,7 @@ inline void check(mincut_status status) {
     if (status != MINCUT_OK) throw Error(status);
 }
 
-/* A graph that is lent for a call: edge i joins u[i] and v[i] and weighs w[i]; all three have the same length. */
+/* A graph that a call borrows: edge i joins u[i] and v[i] and weighs w[i]; all three have the same length. */
 struct Graph {
     std::uint32_t vertices = 0;
     Span<const std::uint32_t> u, v;

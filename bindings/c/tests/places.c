@@ -49,7 +49,7 @@ static void add_node(size_t cycle) {
     }
 }
 
-/* Numbers a node, and then all below it, one block after another; answers the next number. */
+/* Numbers a node, and then all below it, one block after another; returns the next number. */
 static uint64_t enter(uint64_t node, uint64_t next, uint64_t *numbers) {
     numbers[node] = next++;
     for (size_t k = 0; k < sizes.bridges; ++k)
@@ -81,7 +81,7 @@ static void grow(void) {
     put_vertices();
 }
 
-/* The nodes that node 0 reaches, where a bridge (cycle: BLOCKS) or the edges i and j of a cycle are taken away. */
+/* The nodes that node 0 reaches if a bridge (cycle: BLOCKS) or the edges i and j of a cycle are removed. */
 static void reach(size_t bridge, size_t cycle, size_t i, size_t j, int *reached) {
     for (size_t k = 0; k < sizes.nodes; ++k) reached[k] = k == 0;
     for (size_t round = 0; round < sizes.nodes; ++round) {

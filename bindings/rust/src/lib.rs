@@ -1,9 +1,9 @@
 //! Minimum cuts of a weighted undirected graph: their value, one of them, their number, a cactus of all of them, a most balanced one,
 //! lists of their sides, and the fewest new edges that raise the value; and the components of a graph that is not connected.
 //!
-//! A graph has `n` vertices, 0 to n - 1; edge i joins `u[i]` and `v[i]` and weighs `w[i]`. Edges with the same ends are as one of
+//! A graph has `n` vertices, 0 to n - 1; edge i joins `u[i]` and `v[i]` and weighs `w[i]`. Edges with the same ends count as one with
 //! the sum of their weights; loops and edges of weight 0 count for nothing. All limits are checked; an [`Error`] says what is wrong.
-//! The calls stand on proved exports of C, start no thread, and keep nothing. The place of each node in a cactus, and its sides, are
+//! The calls use proved exports of C, start no thread, and keep nothing. The place of each node in a cactus, and its sides, are
 //! in [`Cactus::places`].
 //!
 //! ```
@@ -18,7 +18,7 @@
 
 use std::fmt;
 
-/// Why a call has no answer. A later version may have further reasons.
+/// Why a call has no result. A later version may have further reasons.
 #[derive(Clone, Copy, Debug, PartialEq, Eq)]
 #[non_exhaustive]
 pub enum Error {
@@ -42,7 +42,7 @@ pub enum Error {
     MassSum,
     /// n times the number of sides, which is given here, is above 2^30.
     TooManySides(u64),
-    /// The library answered a status that this crate does not know: it is of another version.
+    /// The library returned a status that this crate does not know: it is of another version.
     Unknown(u32),
 }
 
@@ -139,7 +139,7 @@ impl Cactus {
         lists(&self.cycle_starts, &self.members)
     }
 
-    /// Where each node hangs, and the sides of the minimum cuts, lent without a copy.
+    /// Where each node hangs, and the sides of the minimum cuts, borrowed.
     ///
     /// ```
     /// // a path of three vertices: vertex 0 with a bridge to vertex 1, and that with one to vertex 2
@@ -159,7 +159,7 @@ impl Cactus {
             members: self.members.len(),
         };
         let mut places = vec![Place::default(); sizes.nodes];
-        // SAFETY: the vectors are those that the library filled, cut to the sizes that it told; there is a place for each node.
+        // SAFETY: the vectors are those that the library filled, cut to the sizes that it reported; there is a place for each node.
         unsafe {
             mincut_places(
                 &sizes, self.node_starts.as_ptr(), self.bridges.as_ptr(), self.cycle_starts.as_ptr(), self.members.as_ptr(),
@@ -293,7 +293,7 @@ pub struct Components {
     pub component_of: Vec<u32>,
 }
 
-/// Lists sides by a call that takes a room: first by a small one, since the call tells how many they are.
+/// Lists sides by a call that takes a room: first by a small one, since the call reports how many there are.
 fn listed(n: u32, mut call: impl FnMut(&mut Listing, &mut [u8]) -> u32) -> Result<Sides, Error> {
     let mut listing = Listing::default();
     let mut bytes = vec![0; 1 << 16];
@@ -319,7 +319,7 @@ pub struct Cut {
     pub in_side: Vec<bool>,
 }
 
-/// The length of an array for all vertices; none above the limit, where the graph is refused whatever the room.
+/// The length of an array for all vertices; 0 above the limit, since such a graph is refused whatever the room.
 fn room_of(n: u32) -> usize {
     if n > 4_194_304 { 0 } else { n as usize }
 }
@@ -393,7 +393,7 @@ extern "C" {
 /// The least weight of a cut; 0 if the graph is not connected.
 pub fn value(n: u32, u: &[u32], v: &[u32], w: &[u64]) -> Result<u64, Error> {
     let mut least = 0;
-    // SAFETY: the slices are lent for the call, and the export checks all that they say.
+    // SAFETY: the slices are borrowed for the call, and the export checks all that they say.
     let status = unsafe { mincut_raw_value(n, u.as_ptr(), u.len(), v.as_ptr(), v.len(), w.as_ptr(), w.len(), &mut least) };
     told(status).map(|()| least)
 }
@@ -547,7 +547,7 @@ pub fn sides(n: u32, u: &[u32], v: &[u32], w: &[u64]) -> Result<Sides, Error> {
 /// ```
 pub fn sides_balanced(n: u32, u: &[u32], v: &[u32], w: &[u64], masses: &[u64], least: u64) -> Result<Sides, Error> {
     listed(n, |listing, bytes| {
-        // SAFETY: the slices are lent for the call, and the export checks all that they say.
+        // SAFETY: the slices are borrowed for the call, and the export checks all that they say.
         unsafe {
             mincut_raw_sides(
                 n, u.as_ptr(), u.len(), v.as_ptr(), v.len(), w.as_ptr(), w.len(), masses.as_ptr(), masses.len(), least, listing,
