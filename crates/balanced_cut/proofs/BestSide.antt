@@ -11,7 +11,7 @@ use Rattle.cactus_walk.specs.declared.walk.ranges.CutRanges.{CutRanges}
 use Rattle.cactus_walk.proofs.Weighing.{same_balance}
 use Rattle.balanced_cut.specs.Ends.{NoneGreater}
 
--- where no range has a balance above a bound, no side at one of them has
+-- if no range has a balance above a bound, no side at one of them has
 none_better : (n high : ℕ) (masses : List ℕ) (c : CutRanges) (ranges : List Range) → IsWeighed n masses c → All (IsRangeOf n) ranges → All (λ r. range_balance c r ≤ high) ranges →
     All (λ r. balance masses (side_at n c.order.items r) ≤ high) ranges
 none_better n high masses c [] is fit h = All-nil (λ r. balance masses (side_at n c.order.items r) ≤ high)

@@ -126,7 +126,7 @@ none_past [] (suc k) h = refl
 none_past (x ∷ xs) zero h = absurd (omega (arith, h))
 none_past (x ∷ xs) (suc k) h = none_past xs k (omega (arith, h))
 
--- where there is a range, a border that others follow is found
+-- if there is a range, a border that others follow is found
 pub first_there : (bs : List Border) (first : ℕ) → ranges_between bs ≢ [] → ranges_between (drop first bs) ≡ ranges_between (drop 0 bs) → first < length bs
 first_there bs first some same = elim (cases_lt first (length bs)) [
   | inl there ↦ there

@@ -27,7 +27,7 @@ side_between c first last = set_list (length c.numbers) (parts_between (mark_of 
 abbrev pub chain_sides : ChainView → List (List ℕ)
 chain_sides c = map (λ first. side_between c first c.parts) (range_with_len 2 (c.parts - 1))
 
--- the unions of the intervals of the parts from `first` on, so many
+-- the unions of the intervals of the parts from `first` on, this many
 abbrev pub interval_sides : ChainView → ℕ → ℕ → List (List ℕ)
 interval_sides c first count = flat_map (λ a. map (λ b. side_between c a b) (range_with_len a (first + count - a))) (range_with_len first count)
 
@@ -35,11 +35,11 @@ interval_sides c first count = flat_map (λ a. map (λ b. side_between c a b) (r
 abbrev pub run_sides : ChainView → Run → List (List ℕ)
 run_sides c r = interval_sides c r.first (r.last + 1 - r.first)
 
--- whether a vertex of a part's cactus stands for a vertex: 1 for each that is not in the list, j + 1 for the j-th of it
+-- whether a vertex of a part's cactus represents a vertex: 1 each that is not in the list, j + 1 vertex j of it
 abbrev pub stands_for : List ℕ → ℕ → ℕ → Bool
 stands_for own u v = if u == 1 then not (has own v) else slice_index_or own (u - 2) 0 == v
 
--- the vertices of 1 to n for which the vertices of a side stand
+-- the vertices of 1 to n that the vertices of a side represent
 abbrev pub lifted_side : ℕ → List ℕ → List ℕ → List ℕ
 lifted_side n own side = set_list n (λ v. list_any (λ u. stands_for own u v) side)
 

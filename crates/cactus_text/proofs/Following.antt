@@ -76,7 +76,7 @@ follows_end word bytes start numbers w e f =
     let such : bytes ≡ line word numbers = e ∙ ap (λ (l : List ℕ). word ++ l) all.parts ∙ sym (append_assoc word (spaced numbers) (10 ∷ [])) in
     ap (numbers_of word) such ∙ numbers_line word numbers w all.small
 
--- the numbers of a line stand behind its word
+-- the numbers of a line are after its word
 pub rest_of : (word bytes start all : List ℕ) → bytes ≡ word ++ start → numbers_of word bytes ≡ Some all → IsRest start all
 rest_of word bytes start all e h =
     let (such, small) = numbers_some word bytes all h in
@@ -94,7 +94,7 @@ nothing_more : (count : ℕ) (rest more : List ℕ) → ((n : ℕ) (ms : List �
 nothing_more count rest [] none l = omega arith
 nothing_more count rest (n ∷ ms) none l = absurd (none n ms l)
 
--- where no number comes next the line has those that were taken, or none
+-- if no number comes next the line has those that were taken, or none
 pub no_more : (word bytes start numbers rest all : List ℕ) → bytes ≡ word ++ start → Follows start numbers rest
     → ((n : ℕ) (ms : List ℕ) → IsRest rest (n ∷ ms) → ⊥) → numbers_of word bytes ≡ Some all → length all ≡ length numbers
 no_more word bytes start numbers rest all e f none h =
@@ -105,14 +105,14 @@ something_more : (count : ℕ) (rest more : List ℕ) → rest ≢ 10 ∷ [] →
 something_more count rest [] e l = absurd (e l.parts)
 something_more count rest (n ∷ ms) e l = omega arith
 
--- where the line does not end it has more numbers, or none
+-- if the line does not end it has more numbers, or none
 pub some_more : (word bytes start numbers rest all : List ℕ) → bytes ≡ word ++ start → Follows start numbers rest → rest ≢ 10 ∷ []
     → numbers_of word bytes ≡ Some all → length numbers < length all
 some_more word bytes start numbers rest all e f open_ h =
     let (more, is, last) = f.back all (rest_of word bytes start all e h) in
     omega (arith, ap (length {A = ℕ}) is, length-append numbers more, something_more (length numbers) rest more open_ last)
 
--- where no rest of a line stands behind the numbers that were taken the line states none
+-- if no rest of a line follows the numbers that were taken, the line states none
 pub broken_off : (word bytes start numbers rest all : List ℕ) → bytes ≡ word ++ start → Follows start numbers rest
     → ((ms : List ℕ) → IsRest rest ms → ⊥) → numbers_of word bytes ≡ Some all → ⊥
 broken_off word bytes start numbers rest all e f none h = let (more, is, last) = f.back all (rest_of word bytes start all e h) in none more last

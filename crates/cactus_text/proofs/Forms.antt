@@ -31,7 +31,7 @@ ascends_are_small : (low high : ℕ) (vs : List ℕ) → IsAscendingWithin low h
 ascends_are_small low high [] h g = tt
 ascends_are_small low high (v ∷ vs) h g = (omega (arith, h.1, g), ascends_are_small (v + 1) high vs h.2 g)
 
--- one entry that passes leaves none before it where one passes in all
+-- one entry that passes leaves none before it if one passes in all
 filter_some : (p : List ℕ → Bool) (front : List (List ℕ)) (x : List ℕ) (more : List (List ℕ)) → p x ≡ true → 1 ≤ length (filter p (front ++ x ∷ more))
 filter_some p [] x more h = let e = ap (λ (b : Bool). length (cond b (x ∷ filter p more) (filter p more))) h in omega (arith, e)
 filter_some p (y ∷ front) x more h =

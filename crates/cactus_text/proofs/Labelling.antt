@@ -45,7 +45,7 @@ map_same : (f : ℕ → ℕ) (ls : List ℕ) → ((l : ℕ) → f l ≡ l) → m
 map_same f [] h = refl
 map_same f (l ∷ ls) h = ap (λ k. k ∷ map f ls) (h l) ∙ ap (λ ks. l ∷ ks) (map_same f ls h)
 
--- nothing changes where both ends have one label
+-- nothing changes if both ends have one label
 unchanged : (labels : List ℕ) (i j : ℕ) → slice_index labels i ≡ slice_index labels j → relabelled labels (i, j) ≡ labels
 unchanged labels i j e = map_same (new_label labels i j) labels (λ l. same_label (slice_index labels i) (slice_index labels j) l e)
 
@@ -159,7 +159,7 @@ initial above n size down own =
       apart = λ r s h g is also same. sym (at r (omega (arith, h, size))) ∙ same ∙ at s (omega (arith, g, size));
     }
 
--- where no node but the first names itself all have its label
+-- if no node but the first names itself all have its label
 to_first : (above labels : List ℕ) → IsLabelled above labels → ((k : ℕ) → 1 ≤ k → k < length above → slice_index above k ≢ k) → (bound k : ℕ) → k < bound → k < length above
     → slice_index labels k ≡ slice_index labels 0
 to_first above labels h none zero k low within = absurd (omega (arith, low))
@@ -185,7 +185,7 @@ more_sets above labels k h some within own =
     let unlike : slice_index labels k ≢ slice_index labels 0 = λ e. omega (arith, h.apart k 0 within (omega (arith, within)) own first e, some) in
     list_all_at (λ l. l == slice_index labels 0) labels k 0 (omega (arith, within, h.count)) (ne_eqb (slice_index labels k) (slice_index labels 0) unlike)
 
--- a node that names itself still does where another one's name is changed
+-- a node that names itself still does if another one's name is changed
 pub still_own : (above : List ℕ) (at next r : ℕ) → slice_index above at < at → slice_index above r ≡ r → slice_index (set above at next) r ≡ r
 still_own above at next r lower own = elim (cases_eq r at) [
   | inl e ↦ absurd (omega (arith, ap (slice_index above) e, own, lower, e))

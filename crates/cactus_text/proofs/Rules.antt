@@ -1,4 +1,4 @@
--- What the numbers of a line are where they are not as many as the line is due.
+-- What the numbers of a line are if they are not as many as the line should have.
 use Rattle.std.proofs.Common.{◌≡◌, ◌≢◌, ◌≤◌, ◌<◌, ◌+◌, ◌==◌, ◌&&◌, ℕ, zero, suc, Bool, true, false, List, [], ◌∷◌, ◌++◌, length, get_or, take, drop, append-nil, slice_index_or, ap, sym, ◌∙◌, refl, arith, add-one, ne_eqb}
 use Rattle.std.specs.Prelude.{nat_le, nat_lt, Option, Some, None, Result, Ok, Err, if◌then◌else◌}
 use Rattle.std.specs.List.{list_all, range_with_len}
@@ -29,7 +29,7 @@ bridge_none flat (Some (a ∷ [])) h = refl
 bridge_none flat (Some (a ∷ b ∷ [])) h = absurd (h (a ∷ b ∷ []) refl refl)
 bridge_none flat (Some (a ∷ b ∷ c ∷ ns)) h = refl
 
--- where the list is too short for n not all of 1 to n are there
+-- if the list is too short for n not all of 1 to n are there
 pub lacks_last : (marks : List Bool) (n : ℕ) → length marks ≤ n → list_all (λ v. slice_index_or marks v false) (range_with_len 1 n) ≡ (n == 0)
 lacks_last marks zero h = refl
 lacks_last marks (suc m) h =

@@ -32,7 +32,7 @@ leads_far text n k i h w d =
     omega (arith, h.ends, here) in
     omega (arith, inside)
 
--- where no digit follows these they are the whole number
+-- if no digit follows these they are the whole number
 pub leads_here : (text : List ℕ) (n k i : ℕ) → IsLeading text n k → 10 ≤ digit_value (slice_index text i) → k ≤ i
 leads_here text n k i h e =
     let inside : i < k → ⊥ = λ (l : i < k).
@@ -90,7 +90,7 @@ after_number : (numbers : List ℕ) → 10 ≤ digit_value (slice_index (spaced 
 after_number [] = lit≤ tt
 after_number (n ∷ ns) = lit≤ tt
 
--- the first number of the rest of a line stands at its front
+-- the first number of the rest of a line is at its front
 pub rest_leads : (text : List ℕ) (n : ℕ) (ns : List ℕ) → n < 2 ^ 64 → text ≡ decimal n ++ (spaced ns ++ 10 ∷ []) → IsLeading text n (length (decimal n))
 rest_leads text n ns small e =
     let tail = spaced ns ++ 10 ∷ [] in
@@ -108,7 +108,7 @@ rest_leads text n ns small e =
 pub rest_apart : (bytes : List ℕ) (n : ℕ) (ns : List ℕ) → IsRest bytes (n ∷ ns) → bytes ≡ 32 ∷ (decimal n ++ (spaced ns ++ 10 ∷ []))
 rest_apart bytes n ns h = h.parts ∙ ap (λ (t : List ℕ). 32 ∷ t) (append_assoc (decimal n) (spaced ns) (10 ∷ []))
 
--- where neither a line feed nor a space and a number come next, it is no rest of a line
+-- if neither a line feed nor a space and a number come next, it is no rest of a line
 pub no_space_next : (bytes : List ℕ) → bytes ≢ 10 ∷ [] → ((rest : List ℕ) → bytes ≢ 32 ∷ rest) → (numbers : List ℕ) → IsRest bytes numbers → ⊥
 no_space_next bytes e s [] h = e h.parts
 no_space_next bytes e s (n ∷ ns) h = s (decimal n ++ (spaced ns ++ 10 ∷ [])) (rest_apart bytes n ns h)

@@ -1,4 +1,4 @@
--- An answer for a list, by that for what is still to come of it.
+-- A result for a list, from that for what is still to come of it.
 use Rattle.std.proofs.Common.{◌≡◌, ◌≤◌, ◌<◌, ◌+◌, ◌-◌, ◌^◌, ◌⊎◌, inl, inr, ◌&&◌, ◌==◌, ℕ, zero, suc, Bool, true, false, List, [], ◌∷◌, length, get_or, take, drop, ◌++◌, ap, sym, ◌∙◌, refl, arith}
 use Rattle.std.specs.Prelude.{nat_le, nat_lt, not, slice_index}
 use Rattle.std.specs.List.{list_all, sum_by, All}
@@ -62,7 +62,7 @@ distinct_from (x ∷ xs) (suc i) h = and_right (not (has xs x)) (distinct xs) (d
 pub twice : (x : ℕ) (xs : List ℕ) → has xs x ≡ true → distinct (x ∷ xs) ≡ false
 twice x xs h = ap (λ (b : Bool). not b && distinct xs) h
 
--- a node that is marked stood in the list before
+-- a node that is marked was in the list before
 pub repeated : (marks nodes : List ℕ) (cycle i : ℕ) → 0 < i → i ≤ length nodes → ((k : ℕ) → k < length marks → (slice_index marks k == cycle) ≡ has (drop i nodes) k)
     → slice_index nodes (i - 1) < length marks → slice_index marks (slice_index nodes (i - 1)) ≡ cycle → distinct nodes ≡ false
 repeated marks nodes cycle i some within marked small is =

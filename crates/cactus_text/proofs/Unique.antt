@@ -46,7 +46,7 @@ record InTurn (counts : Counts) (flat : Flat) : Type 0 where
   pub nodes : length flat.nodes < counts.nodes → (flat.bridges ≡ []) × (flat.cycles ≡ [])
   pub bridges : length flat.bridges < counts.bridges → flat.cycles ≡ []
 
--- a line is taken: it stands behind those before it
+-- a line is taken: it comes after those before it
 record Follows1 (counts : Counts) (flat next : Flat) (bytes : List ℕ) : Type 0 where
   pub turn : InTurn counts next
   pub text : lines_of next ≡ lines_of flat ++ bytes

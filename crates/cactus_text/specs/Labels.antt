@@ -1,7 +1,7 @@
 -- Sets of nodes, held by naming a node of the set at each node, against labels that are equal exactly within a set.
 use Rattle.std.specs.Prelude.{◌≡◌, ◌≤◌, ◌<◌, ℕ, List, length, slice_index}
 
--- each node names one of its label and no greater number, and of the nodes of a label just one names itself
+-- each node names one of its label and no greater number, and of the nodes of a label exactly one names itself
 pub record IsLabelled (above labels : List ℕ) : Type 0 where
   pub count : length labels ≡ length above
   pub down : (i : ℕ) → slice_index above i ≤ i

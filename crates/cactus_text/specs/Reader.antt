@@ -18,7 +18,7 @@ pub record IsReader (r : Reader) : Type 0 where
   pub earlier : (i : ℕ) → slice_index r.last_cycles.items i ≤ length r.flat.cycles
   pub joins : JoinsNodes r.flat
 
--- the flat cactus is the wanted one, or the line breaks a rule and there is none
+-- the flat cactus is the right one, or the line breaks a rule and there is none
 pub record Takes {E : Type 0} (wanted : Option Flat) (old new : Reader) (result : Result Bool E) : Type 0 where
   pub taken : IfOk result (λ b. b ≡ true → wanted ≡ Some new.flat)
   pub broken : IfOk result (λ b. b ≡ false → wanted ≡ None)

@@ -18,7 +18,7 @@ abbrev pub lines : List ℕ → List (List ℕ)
 lines [] = []
 lines (b ∷ bytes) = if b == 10 then (b ∷ []) ∷ lines bytes else with_front b (lines bytes)
 
--- the words of a line that are parted by single spaces
+-- the words of a line that single spaces separate
 abbrev pub words : List ℕ → List (List ℕ)
 words [] = [] ∷ []
 words (b ∷ bytes) = if b == 32 then [] ∷ words bytes else with_front b (words bytes)
@@ -46,7 +46,7 @@ ascends low high (v ∷ vs) = nat_le low v && nat_le v high && ascends (v + 1) h
 abbrev pub is_placed : Flat → ℕ → Bool
 is_placed flat v = list_any (λ l. has l v) flat.nodes
 
--- the number of the node is the next one; its vertices ascend, are of 1 to n and stand in no earlier node, and node 0 has vertex 1
+-- the number of the node is the next one; its vertices ascend, are of 1 to n and in no earlier node, and node 0 has vertex 1
 abbrev pub is_node : Flat → ℕ → List ℕ → Bool
 is_node flat i vertices =
     i == length flat.nodes && ascends 1 flat.vertices vertices && list_all (λ v. not (is_placed flat v)) vertices && (nat_lt 0 i || has vertices 1)
@@ -60,7 +60,7 @@ abbrev pub is_cycle : ℕ → List ℕ → Bool
 is_cycle count nodes =
     nat_le 3 (length nodes) && list_all (λ i. nat_le (slice_index nodes 0) i && nat_lt i count) nodes && distinct nodes
 
--- the flat cactus with a node, bridge or cycle more, where these are the numbers of such a line
+-- the flat cactus with one more node, bridge or cycle, if these are the numbers of such a line
 abbrev pub with_node : Flat → Option (List ℕ) → Option Flat
 with_node flat (Some (i ∷ vertices)) = if is_node flat i vertices then Some (record flat { nodes = flat.nodes ++ vertices ∷ [] }) else None
 with_node flat _ = None
@@ -89,7 +89,7 @@ is_joined flat =
     let labels = fold relabelled (range_with_len 0 (length flat.nodes)) (all_edges flat) in
     list_all (λ l. l == slice_index labels 0) labels
 
--- no line is missing, and every vertex stands in some node
+-- no line is missing, and every vertex is in some node
 abbrev pub is_complete : Counts → Flat → Bool
 is_complete counts flat =
     length flat.nodes == counts.nodes && length flat.bridges == counts.bridges && length flat.cycles == counts.cycles
@@ -102,7 +102,7 @@ is_tree flat = length flat.nodes == 1 + length flat.bridges + sum_by (λ c. leng
 abbrev pub is_whole : Counts → Flat → Bool
 is_whole counts flat = is_complete counts flat && is_tree flat
 
--- the flat cactus of lines behind others, or the number of the first line that breaks a rule: one past the last where a line is missing, or the whole breaks one
+-- the flat cactus of lines after others, or the number of the first line that breaks a rule: one past the last if a line is missing, or the whole breaks one
 abbrev pub stated : ℕ → Counts → Flat → List (List ℕ) → Result Flat ℕ
 stated number counts flat [] = if is_whole counts flat then Ok flat else Err number
 stated number counts flat (bytes ∷ more) = elim (with_line counts flat bytes) [ None ↦ Err number | Some next ↦ stated (suc number) counts next more ]

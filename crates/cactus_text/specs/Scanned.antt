@@ -15,7 +15,7 @@ pub record IsRest (bytes numbers : List ℕ) : Type 0 where
   pub parts : bytes ≡ spaced numbers ++ 10 ∷ []
   pub small : AreSmall numbers
 
--- a number stands at the front in so many digits, and no digit follows
+-- a number is at the front in this many digits, and no digit follows
 pub record IsLeading (text : List ℕ) (number count : ℕ) : Type 0 where
   pub small : number < 2 ^ 64
   pub within : count ≤ length text
@@ -28,17 +28,17 @@ pub record TakesNumber (bytes : List ℕ) (number : ℕ) (rest : List ℕ) : Typ
   pub small : number < 2 ^ 64
   pub ends : 10 ≤ digit_value (slice_index rest 0)
 
--- no line feed stands in the bytes
+-- there is no line feed in the bytes
 abbrev pub IsPlain : List ℕ → Type 0
 IsPlain [] = ⊤
 IsPlain (b ∷ bytes) = (b ≢ 10) × IsPlain bytes
 
--- a line's rest is these numbers and then a further rest: it states what that one states, behind them
+-- a line's rest is these numbers and then a further rest: it states what that one states, after them
 pub record Follows (start numbers rest : List ℕ) : Type 0 where
   pub forward : (more : List ℕ) → IsRest rest more → IsRest start (numbers ++ more)
   pub back : (all : List ℕ) → IsRest start all → (more : List ℕ) × (all ≡ numbers ++ more) × IsRest rest more
 
--- a word without a space: it stands alone, and before a space
+-- a word without a space, which can be alone or before a space
 pub record IsWord (word : List ℕ) : Type 0 where
   pub alone : words word ≡ word ∷ []
   pub apart : (rest : List ℕ) → words (word ++ 32 ∷ rest) ≡ word ∷ words rest

@@ -34,7 +34,7 @@ from_drop (suc d) (y ∷ xs) x h = Contains-there y xs x (from_drop d xs x h)
 abbrev pub range : ℕ → ℕ → Range
 range from to = record { from = from; to = to }
 
--- the ends of so many subtrees, one after another, from a number on
+-- the ends of this many subtrees, one after another, from a number on
 abbrev pub ends : List ℕ → ℕ → ℕ → List ℕ
 ends s zero k = []
 ends s (suc m) k = (k + slice_index s k) ∷ ends s m (k + slice_index s k)
@@ -42,7 +42,7 @@ ends s (suc m) k = (k + slice_index s k) ∷ ends s m (k + slice_index s k)
 abbrev pub all_to : ℕ → List ℕ → List Range
 all_to from = map (range from)
 
--- the ranges of a block of so many nodes, but of each marked node not the one of it alone
+-- the ranges of a block of this many nodes, but of each marked node not the one of it alone
 abbrev pub along : (ℕ → Bool) → List ℕ → ℕ → ℕ → List Range
 along f s zero k = []
 along f s (suc m) k = all_to k (drop (passed_over (f k)) (ends s (suc m) k)) ++ along f s m (k + slice_index s k)

@@ -40,7 +40,7 @@ sums_more masses order sums more count total sum long l so_far next is h k le =
     (λ (ne : k ≢ count + 1). get_or_append_left sums (sum ∷ []) 0 k (omega arith) ∙ h k (omega arith))
     (cases_eq k (count + 1))
 
--- the mass of the elements at so many places
+-- the mass of the elements at this many places
 elements_mass : (n : ℕ) (masses order : List ℕ) → length masses ≡ n → AreOnce n order → All (IsVertex n) order → (from count : ℕ) → from + count ≤ length order →
     mass masses (has (elements_at order (range from (from + count)))) + mass_before masses order from ≡ mass_before masses order (from + count)
 elements_mass n masses order long once all from zero h =

@@ -52,7 +52,7 @@ start_left (b ∷ bs) (m ∷ ms) (suc i) same = start_left bs ms i (omega (arith
 pub starts : (n : ℕ) (order : List ℕ) (bs : List Border) (ms : List Bool) (i passed : ℕ) → length ms ≡ length bs → passed ≡ passed_over (mark_at ms i) → sides_left n order bs ms i passed ≡ map (side_at n order) (ranges_kept (drop i bs) (drop i ms))
 starts n order bs ms i passed same e = ap (λ k. sides_left n order bs ms i k) e ∙ ap (map (side_at n order)) (start_left bs ms i same)
 
--- where a new walk stands, along lists that were lent
+-- where a new walk stands, along borrowed lists
 pub starts_at : (bs bs' : List Border) (ms ms' ms'' : List Bool) (first passed : ℕ) → bs' ≡ bs → ms' ≡ ms → ms'' ≡ ms → (first < length bs' → passed_over (mark_at ms' first) < (border_at bs' first).following) → passed ≡ passed_over (mark_at ms'' first) →
     IsStart bs first passed
 starts_at bs bs' ms ms' ms'' first passed b m m' h p = λ w.

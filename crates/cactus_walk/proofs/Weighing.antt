@@ -17,7 +17,7 @@ use Rattle.cactus_walk.proofs.Chains.{next_at, no_less}
 use Rattle.cactus_walk.proofs.RangeMasses.{before_bound, side_balance}
 use Rattle.cactus_walk.proofs.Stepping.{place_within}
 
--- the masses of so many vertices are small
+-- the masses of this many vertices are small
 pub sums_small : (masses order : List ℕ) → AreMasses masses → All (IsVertex (length masses)) order → length order ≡ length masses → mass_before masses order (length order) < 2 ^ 86
 sums_small masses order are all same = omega (arith, before_bound masses order (length order) are all (omega arith), are.few, same)
 

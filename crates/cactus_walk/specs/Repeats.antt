@@ -1,4 +1,4 @@
--- The cuts of a tree that a walk leaves out: each cuts off one node with all below it, where that node has no vertex and one block below it, a cycle, which has a cut with the same side.
+-- The cuts of a tree that a walk leaves out: each cuts off one node with all below it. That node has no vertex and one block below it, a cycle, which has a cut with the same side.
 use Rattle.std.specs.Prelude.{ℕ, zero, suc, ◌+◌, ◌&&◌, ◌==◌, nat_le, Bool, true, false, List, [], ◌∷◌, ◌++◌, take, drop, slice_index, slice_index_or}
 use Rattle.rooted_cactus.specs.CutRanges.{Range}
 use Rattle.rooted_cactus.specs.Borders.{ranges_to}
@@ -13,12 +13,12 @@ entry_at es i = slice_index_or es i record { children = 0; head = 0 }
 abbrev pub is_between : List ℕ → List NodeOutline → ℕ → Bool
 is_between places es i = nat_le 2 (entry_at es i).children && ((entry_at es (i + 1)).head == (entry_at es i).children && (slice_index places i == slice_index places (i + 1)))
 
--- the marks of the borders of so many subtrees, one after another, from a number on; the last border has none
+-- the marks of the borders of this many subtrees, one after another, from a number on; the last border has none
 abbrev pub marks_along : (ℕ → Bool) → List ℕ → ℕ → ℕ → List Bool
 marks_along marked sizes zero from = false ∷ []
 marks_along marked sizes (suc count) from = marked from ∷ marks_along marked sizes count (from + slice_index sizes from)
 
--- the marks of the borders of a block of so many nodes; a node that is the first of no block has none
+-- the marks of the borders of a block of this many nodes; a node that is the first of no block has none
 abbrev pub marks_at : (ℕ → Bool) → List ℕ → ℕ → ℕ → List Bool
 marks_at marked sizes zero first = []
 marks_at marked sizes (suc count) first = marks_along marked sizes (suc count) first
@@ -43,7 +43,7 @@ ranges_kept [] ms = []
 ranges_kept (b ∷ bs) [] = []
 ranges_kept (b ∷ bs) (m ∷ ms) = ranges_to b.place (drop (passed_over m) (take b.following bs)) ++ ranges_kept bs ms
 
--- the ranges of `ranges_kept`, but from the first border only to those behind the first so many that follow it
+-- the ranges of `ranges_kept`, but from the first border only to those after a number of the first that follow it
 abbrev pub ranges_left : List Border → List Bool → ℕ → List Range
 ranges_left [] ms passed = []
 ranges_left (b ∷ bs) [] passed = []

@@ -7,12 +7,12 @@ use Rattle.cactus_walk.specs.Repeats.{ranges_left}
 use Rattle.rooted_cactus.specs.Places.{side_at}
 use Rattle.rooted_cactus.specs.declared.tree.border.Border.{Border}
 
--- the borders stand at places of a list so long, and those that follow each in its block follow it
+-- the borders are at places of a list of this length, and those that follow each in its block follow it
 abbrev pub AreBorders : ℕ → List Border → Type 0
 AreBorders long [] = ⊤
 AreBorders long (b ∷ bs) = (b.place ≤ long) × (b.following ≤ length bs) × AreBorders long bs
 
--- each border but the last of its block is followed by the next one of the block, which stands at no lesser place
+-- each border except the last of its block is followed by the next one of the block, which is at no lesser place
 abbrev pub AreChained : List Border → Type 0
 AreChained [] = ⊤
 AreChained (b ∷ bs) = (0 < b.following → (b.place ≤ (border_at bs 0).place) × (b.following ≡ (border_at bs 0).following + 1)) × AreChained bs
@@ -26,7 +26,7 @@ pub AreChained-prop : (bs : List Border) → IsProp (AreChained bs)
 AreChained-prop [] = Unit-prop
 AreChained-prop (b ∷ bs) = ×_prop (Π_prop (λ h. ×_prop le_prop (Coded-set coded_ℕ b.following ((border_at bs 0).following + 1)))) (AreChained-prop bs)
 
--- the sides from a border on, without those of its cuts that end at the first borders behind it, which were passed
+-- the sides from a border on, without those of its cuts that end at the first borders after it, which were passed
 abbrev pub sides_left : ℕ → List ℕ → List Border → List Bool → ℕ → ℕ → List (List ℕ)
 sides_left n order borders repeats first passed = map (side_at n order) (ranges_left (drop first borders) (drop first repeats) passed)
 

@@ -1,4 +1,4 @@
--- What a walk over the cuts of a cactus has still to give.
+-- What a walk over the cuts of a cactus has still to return.
 use Rattle.std.specs.Prelude.{ℕ, List}
 
 -- a list of sides still to come, of vertices of 1 to `vertices`

@@ -82,7 +82,7 @@ module _ (n root cap prefix size height free : ℕ) (tree order : List ℕ) (mar
   pub free_within : free ≤ n + 1
   free_within = omega (arith, h.free_is, h.marks_long, count_by-le-length not marks)
 
-  -- where the root is not scanned first
+  -- if the root is not scanned first
   pub not_at_root : (get_or tree (size + root) 0 ≡ 0) ⊎ (free ≢ n + 1) → IsAtRoot (state n root cap prefix size free tree order) → ⊥
   not_at_root c at =
       ⊎_elim
@@ -125,7 +125,7 @@ module _ (n root cap prefix size height free : ℕ) (tree order : List ℕ) (mar
             (cases_lt (size + y) leaf);
       }
 
-  -- where the greatest key is 0 none waits
+  -- if the greatest key is 0 none waits
   pub none_waits : (leaf : ℕ) → get_or tree leaf 0 ≡ 0 → ((j : ℕ) → size ≤ j → j < 2 * size → get_or tree j 0 ≤ get_or tree leaf 0) →
       NoneWaits (state n root cap prefix size free tree order)
   none_waits leaf zero_is greatest v =

@@ -1,4 +1,4 @@
--- What a scan stands for, over its steps.
+-- Which graph a scan fits, over its steps.
 use Rattle.std.proofs.Common.{◌≡◌, ℕ, ◌+◌, ◌-◌, ◌*◌, ◌^◌, ◌≤◌, ⊎_elim, Bool, true, false, ◌||◌, eqb, ltb, List, [], ◌∷◌, get_or, min, inl, inr, refl, sym, ◌∙◌, subst, ap, arith}
 use Rattle.std.specs.Prelude.{◌≢◌, ◌⊎◌}
 use Rattle.std.proofs.lemmas.Bool.{cases_eq, cases_Bool, eq-eqb, ne_eqb, false≢true, or_left, or_right, both_ways, or_from}
@@ -29,7 +29,7 @@ use Rattle.capped_scan.proofs.Raised.{raised-some}
 
 -- ---- orders of scanning
 
--- an order stays one where fewer vertices are live, but all that were scanned
+-- an order stays one if fewer vertices are live, but all that were scanned
 pub IsScanned-fewer : (g : Graph) (cap : ℕ) (live fewer : VertexSet) (order : List ℕ) → ((v : ℕ) → has order v ≡ true → fewer v ≡ true) → ((v : ℕ) → fewer v ≡ true → live v ≡ true) →
     IsScanned g cap live order → IsScanned g cap fewer order
 IsScanned-fewer g cap live fewer [] all sub h = tt

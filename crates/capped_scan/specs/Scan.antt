@@ -1,4 +1,4 @@
--- What contracts see of a capped scan, and what it stands for.
+-- What contracts see of a capped scan, and which graph it fits.
 use Rattle.std.specs.Prelude.{ℕ, Bool, ◌≡◌, ◌≢◌, ◌↔◌, ◌+◌, ◌-◌, ◌^◌, ◌<◌, ◌≤◌, ◌||◌, true, false, not, nat_lt, List, [], ◌∷◌, length, min, drop, slice_index, slice_index_or, if◌then◌else◌, IsTrue}
 use Rattle.std.specs.List.{sum_by, All, count_by}
 use Rattle.cut_definitions.specs.Graph.{Graph, IsGraph}
@@ -28,7 +28,7 @@ key s v = slice_index s.keys v
 abbrev pub waits : ScanState → VertexSet
 waits s v = nat_lt 0 (key s v)
 
--- what is kept as the link of a vertex, 0 where it does not wait
+-- what is kept as the link of a vertex, or 0 if it does not wait
 abbrev pub link_of : ScanState → ℕ → ℕ
 link_of s v = key s v - 1
 
@@ -44,7 +44,7 @@ NoneWaits s = (v : ℕ) → waits s v ≡ false
 abbrev pub rank : Graph → ScanState → ℕ → ℕ
 rank g s v = min s.cap (weight_to g v (has s.order))
 
--- a scan stands for a graph: it is over its vertices, the vertices were scanned in an order of greatest ranks among
+-- a scan fits a graph: it is over its vertices, the vertices were scanned in an order of greatest ranks among
 -- those that are not dropped, and the prefix weight and the links are those of the scanned vertices
 pub record StandsFor (s : ScanState) (g : Graph) : Type 0 where
   pub vertices : s.vertices ≡ g.vertices
@@ -58,7 +58,7 @@ pub record StandsFor (s : ScanState) (g : Graph) : Type 0 where
 abbrev pub IsAtRoot : ScanState → Type 0
 IsAtRoot s = (s.order ≡ []) × (waits s s.root ≡ true)
 
--- the vertex that is scanned next: the root where it is the first and not dropped, else one with the greatest link, the
+-- the vertex that is scanned next: the root if it is the first and not dropped, else one with the greatest link, the
 -- least number among ties
 pub record IsChoice (s : ScanState) (x : ℕ) : Type 0 where
   pub waiting : waits s x ≡ true
@@ -85,8 +85,8 @@ pub record IsWithout (old new : ScanState) (y : ℕ) : Type 0 where
   pub dropped : waits new y ≡ false
   pub others : (v : ℕ) → v ≢ y → key new v ≡ key old v
 
--- a vertex of the graph that waited was scanned, with the greatest rank of all that waited. The weight that is told is
--- that of all scanned vertices, and it is told whether these are all vertices of the graph
+-- a vertex of the graph that waited was scanned, with the greatest rank of all that waited. The weight that is returned is
+-- that of all scanned vertices, and the result says whether these are all vertices of the graph
 pub record IsNext (g : Graph) (old new : ScanState) (vertex prefix_weight : ℕ) (all : Bool) : Type 0 where
   pub choice : IsChoice old vertex
   pub from_one : 1 ≤ vertex
@@ -107,7 +107,7 @@ abbrev pub is_marked : List Bool → VertexSet
 is_marked marks v = slice_index_or marks v false
 
 -- the memory of a scan: a tree of maxima over the keys of all numbers below a power of two, a mark for each scanned
--- vertex, and room for one vertex more than there are, in which the scanned ones stand from the place `free` on
+-- vertex, and room for one vertex more than there are, in which the scanned ones are from the place `free` on
 pub record IsLaidOut (n root size height free : ℕ) (tree order : List ℕ) (scanned : List Bool) : Type 0 where
   pub few : n ≤ 4194304
   pub root_in : root ≤ n
@@ -142,11 +142,11 @@ pub record IsAbsorbed (old new : ScanState) (x : ℕ) (row : List Arc) : Type 0 
   pub here : key new x ≡ 0
   pub others : (v : ℕ) → v ≢ x → key new v ≡ raised old.cap (key old v) (weight_in row v)
 
--- the next vertex is determined, so what `peek` answers is what `next` scans
+-- the next vertex is determined, so what `peek` returns is what `next` scans
 abbrev pub LawOfChoice : Type 0
 LawOfChoice = (s : ScanState) (x y : ℕ) → IsChoice s x → IsChoice s y → x ≡ y
 
--- the set of scanned vertices is a cut unless it is everything, so the weight that is told is a fair bound
+-- the set of scanned vertices is a cut unless it is everything, so the weight that is returned is a fair bound
 abbrev pub LawOfPrefixes : Type 0
 LawOfPrefixes = (g : Graph) → IsGraph g → (old new : ScanState) (x weight : ℕ) (all : Bool) → IsNext g old new x weight all → all ≡ false → IsFair g weight
 

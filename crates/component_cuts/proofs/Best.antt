@@ -136,7 +136,7 @@ second_is_union n count part_of h two =
       inside = λ i v js a b. let e : i ≡ 2 = d.apart i 2 v js is a b in (omega arith, js.1);
     })
 
--- the chosen parts are a union, where their mass is not 0
+-- the chosen parts are a union, if their mass is not 0
 pub chosen_is_union : (n count : ℕ) (part_of masses : List ℕ) (chosen : List Bool) (s : VertexList) → IsNumbering n count part_of → 2 ≤ count → length masses ≡ n → get_or chosen 1 false ≡ false → s ≡ listed n (chosen_vertices part_of chosen) →
     1 ≤ mass masses (has s.members) → Contains (unions (divided n count part_of)) s.members
 chosen_is_union n count part_of masses chosen s h two long first e some =

@@ -64,7 +64,7 @@ different_map f (x ∷ xs) one h = (
 
 -- ---- as many
 
--- what stands before and after a member
+-- what is before and after a member
 record IsAround (ys : Lists) (x : List ℕ) : Type 0 where
   before : Lists
   after : Lists

@@ -83,7 +83,7 @@ old_side part old items i d l e at = at ∙ (ap (λ (xs : List VertexList). get_
 pub side_over : (part : VertexList) (old : List VertexList) (i : ℕ) (d : VertexList) → i < length old → All (λ (s : VertexList). s.vertices ≡ part.vertices) old → d ≡ get_or old i d → d.vertices ≡ part.vertices
 side_over part old i d l over at = ap (λ (s : VertexList). s.vertices) at ∙ All-get_or (λ (s : VertexList). s.vertices ≡ part.vertices) old i d l over
 
--- all sides are joined, and the part stands last
+-- all sides are joined, and the part is last
 pub all_doubled : (part : VertexList) (old items : List VertexList) (i : ℕ) → length old ≤ i → items ≡ old ++ map (joined_with part) (take i old) → items ++ part ∷ [] ≡ doubled part old
 all_doubled part old items i le e =
     ap (λ (xs : List VertexList). xs ++ part ∷ []) (e ∙ ap (λ (xs : List VertexList). old ++ map (joined_with part) xs) (take_all i old le)) ∙ append_assoc old (map (joined_with part) old) (part ∷ [])

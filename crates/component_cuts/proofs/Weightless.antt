@@ -38,7 +38,7 @@ keeps_two side part u v h a b =
     not-true (has side u) (all_at (λ w. not (has side w)) part u none a) ∙ sym (not-true (has side v) (all_at (λ w. not (has side w)) part v none b)))
     (cases_Bool (list_all (has side) part))
 
--- a side keeps a part where one member tells of all
+-- a side keeps a part if one member decides for all
 pub keeps_from : (side part : List ℕ) (u : ℕ) → ((v : ℕ) → has part v ≡ true → has side v ≡ has side u) → keeps side part ≡ true
 keeps_from side part u same =
     ⊎_elim

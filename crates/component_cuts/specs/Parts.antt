@@ -26,7 +26,7 @@ pub record IsDivision (p : Parts) : Type 0 where
   pub apart : (i j v : ℕ) → IsPart p i → IsPart p j → has (part_at p i) v ≡ true → has (part_at p j) v ≡ true → i ≡ j
   pub in_order : (i j : ℕ) → IsPart p i → IsPart p j → i < j → least (part_at p i) < least (part_at p j)
 
--- the vertices of a graph, divided so that two are in one part exactly where they are joined
+-- the vertices of a graph, divided so that two are in one part exactly if they are joined
 pub record AreComponents (g : Graph) (p : Parts) : Type 0 where
   pub same_vertices : p.vertices ≡ g.vertices
   pub division : IsDivision p
@@ -45,7 +45,7 @@ pub record IsNumberOfUnions (p : Parts) (number : ℕ) : Type 0 where
   pub few : length p.parts ≤ 127
   pub is : number ≡ 2 ^ (length p.parts - 1) - 1
 
--- the vertices of a number, where each vertex has the number of its part
+-- the vertices with a number, if each vertex has the number of its part
 abbrev pub numbered : ℕ → List ℕ → ℕ → List ℕ
 numbered n part_of i = filter (λ v. slice_index part_of v == i) (range_with_len 1 n)
 

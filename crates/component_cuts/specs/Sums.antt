@@ -11,7 +11,7 @@ use Rattle.component_cuts.specs.Parts.{Parts}
 abbrev pub mass_of_number : List ℕ → List ℕ → ℕ → ℕ
 mass_of_number masses part_of i = mass masses (λ v. slice_index part_of v == i)
 
--- whether a row has a sum: row 0 has 0 alone, and the others stand one after another in the table
+-- whether a row has a sum: row 0 has 0 alone, and the others follow one another in the table
 abbrev pub has_sum : VertexList → ℕ → ℕ → ℕ → Bool
 has_sum table width row sum = if row == 0 then sum == 0 else has table.members ((row - 1) * width + sum + 1)
 
@@ -38,7 +38,7 @@ pub record IsBestSum (table : VertexList) (width row sum : ℕ) : Type 0 where
 abbrev pub IsSmall : Parts → List ℕ → Type 0
 IsSmall p masses = length p.parts * (mass masses (λ v. true) + 1) ≤ 2 ^ 32
 
--- a refusal names the number of components and the sum of all weights, where the table is too large; or memory was wanting
+-- a refusal names the number of components and the sum of all weights, if the table is too large; or it was out of memory
 abbrev pub IsBestRefusal : Parts → List ℕ → BestRefusal → Type 0
 IsBestRefusal p masses (TooLarge components total) =
     (components ≡ length p.parts) × (total ≡ mass masses (λ v. true)) × (2 ^ 32 < length p.parts * (mass masses (λ v. true) + 1))

@@ -35,7 +35,7 @@ pub from_not_and : (a : Bool) → (not a && true) ≡ false → a ≡ true
 from_not_and true h = refl
 from_not_and false h = absurd (false≢true (sym h))
 
--- a set parts two vertices where it has one of them and not the other
+-- a set separates two vertices if it has one of them and not the other
 pub parts_from_same : (a b : Bool) → a ≡ b → (if a then not b else b) ≡ false
 parts_from_same a b e = grind arith
 
@@ -96,7 +96,7 @@ no_left a b e = grind arith
 pub no_right : (a b : Bool) → (a || b) ≡ false → b ≡ false
 no_right a b e = grind arith
 
--- where one test fails, either test is the other
+-- if one test fails, either test is the other
 pub nothing_or : (a b : Bool) → a ≡ false → (a || b) ≡ b
 nothing_or a b h = grind arith
 
@@ -131,7 +131,7 @@ four_and a b c d = grind arith
 pub second_in : (a b c : Bool) → a ≡ (b || c) → c ≡ true → a ≡ true
 second_in a b c h k = grind arith
 
--- of two vertices that a set parts, it parts one from any third
+-- of two vertices that a set separates, it separates one from any third
 pub parts_one_of : (a b c : Bool) → a ≡ true → not b ≡ true → ((if c then not a else a) ≡ true) ⊎ ((if c then not b else b) ≡ true)
 parts_one_of a b true h k = inr k
 parts_one_of a b false h k = inl h
@@ -165,7 +165,7 @@ fails x q h = grind arith
 pub peel : (x c p q r : Bool) → (c && not x) ≡ p → (x || c) ≡ q → r ≡ not p → x ≡ (r && q)
 peel x c p q r h k m = grind arith
 
--- a term counted where a test says so
+-- a term counted if a test says so
 pub counted_in : (b : Bool) (m : ℕ) → b ≡ true → (if b then m else 0) ≡ m
 counted_in b m h = grind arith
 

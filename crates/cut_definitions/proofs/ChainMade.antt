@@ -53,7 +53,7 @@ placed n s t set entries count part pair a x xt =
 
 -- ---- one more set divides the part in which it ends
 
--- the part of a vertex, one more where the set does not have it
+-- the part of a vertex, one more if the set does not have it
 abbrev raised : (ℕ → ℕ) → VertexSet → ℕ → ℕ
 raised part x v = if x v then part v else part v + 1
 

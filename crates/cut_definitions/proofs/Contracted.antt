@@ -27,7 +27,7 @@ sum_by-flat_map f h [] = refl
 sum_by-flat_map f h (x ∷ xs) =
     omega (arith, sum_by-append f (h x) (flat_map h xs), sum_by-cons (λ z. sum_by f (h z)) x xs, sum_by-flat_map f h xs)
 
--- what is left out of a filter adds nothing where its term is 0
+-- what is left out of a filter adds nothing if its term is 0
 pub sum_by-filter : {X : Type 0} (f : X → ℕ) (p : X → Bool) → ((x : X) → p x ≡ false → f x ≡ 0) → (xs : List X) → sum_by f (filter p xs) ≡ sum_by f xs
 sum_by-filter f p h [] = refl
 sum_by-filter f p h (x ∷ xs) =
@@ -99,7 +99,7 @@ cut_of-sum a b f xs =
     elim (if a then not b else b) as (λ c. (if c then sum_by f xs else 0) ≡ sum_by (λ x. if c then f x else 0) xs)
     [ true ↦ refl | false ↦ sym (sum_by-none (λ x. 0) (λ x. refl) xs) ]
 
--- what an edge whose ends have the classes a and b adds to the weight between the classes i and j, where a set has these or not
+-- what an edge whose ends have the classes a and b adds to the weight between the classes i and j, if a set has these or not
 abbrev class_term : VertexSet → ℕ → ℕ → ℕ → ℕ × ℕ → ℕ
 class_term s a b w p = cut_of (s p.0) (s p.1) (join_of (eqb a p.0) (eqb b p.0) (eqb a p.1) (eqb b p.1) w)
 

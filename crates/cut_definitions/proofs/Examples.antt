@@ -108,7 +108,7 @@ mincuts-one : mincuts (record { vertices = 1; edges = [] }) ≡ []
 unfolding mincuts value sides
 mincuts-one = refl
 
--- no minimum cut parts the vertices 1 and 2, and one parts 2 and 3
+-- no minimum cut separates the vertices 1 and 2, and one separates 2 and 3
 unparted : list_all (λ side. not (parts (has side) 1 2)) (mincuts weighted) ≡ true
 unfolding mincuts value sides
 unparted = refl

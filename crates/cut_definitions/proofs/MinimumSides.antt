@@ -1,4 +1,4 @@
--- A cut is a minimum cut just where its side is one of the list.
+-- A cut is a minimum cut exactly if its side is one of the list.
 use Rattle.std.proofs.Common.{◌∙◌, sym}
 use Rattle.cut_definitions.specs.Cuts.{side_of}
 use Rattle.cut_definitions.specs.Laws.{LawOfMinimumSides}

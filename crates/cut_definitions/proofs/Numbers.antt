@@ -16,7 +16,7 @@ upto_none k j h = grind (arith, nat_tests)
 pub none_upto : (k : ℕ) → (ltb 0 k && leb k 0) ≡ false
 none_upto k = grind (arith, nat_tests)
 
--- tests that no number, or the other order, tells apart
+-- tests that agree on each number, or in the other order
 pub later_same : (l m : ℕ) → l ≢ m + 1 → leb l m ≡ leb l (m + 1)
 later_same l m ne = grind arith
 

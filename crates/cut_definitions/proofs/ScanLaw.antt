@@ -14,7 +14,7 @@ use Rattle.cut_definitions.proofs.WeightLaws.{cut_of, cut_term, join_of, join_te
 use Rattle.cut_definitions.proofs.Bools.{parts_flip}
 use Rattle.cut_definitions.proofs.Singles.{out_at}
 
--- what an edge adds to the weight within a set that another set parts
+-- what an edge adds to the weight within a set that another set divides
 abbrev pub within_of : Bool → Bool → Bool → Bool → ℕ → ℕ
 within_of p q a b w = if (p && q) && (if a then not b else b) then w else 0
 
@@ -64,7 +64,7 @@ parted_at s x y u v h a b =
 join_none : (a b : Bool) (w : ℕ) → join_of a b false false w ≡ 0
 join_none a b w = grind arith
 
--- where a set does not part z and x, but x and y, it parts z and y
+-- if a set does not separate z and x, but x and y, it separates z and y
 parts_along : (a b c : Bool) → (if a then not b else b) ≡ false → (if b then not c else c) ≡ true → (if a then not c else c) ≡ true
 parts_along a b c h k = grind arith
 
@@ -161,7 +161,7 @@ edge-degree a b c d w e f h k = grind arith
 in_at : (y v : ℕ) → eqb y v ≡ false → v ≢ y
 in_at y v h e = let same : eqb y v ≡ true = eq-eqb y v (sym e) in false≢true (sym h ∙ same)
 
--- where the other ends of all edges at y are in p, the weight from y to p is the degree of y
+-- if the other ends of all edges at y are in p, the weight from y to p is the degree of y
 pub weight_to_ends : (g : Graph) (y : ℕ) (p : VertexSet) → p y ≡ false →
     All (λ (e : Edge). (e.u ≢ y → p e.u ≡ true) × (e.v ≢ y → p e.v ≡ true)) g.edges → weight_to g y p ≡ weight g (single y)
 weight_to_ends g y p yp ends =
@@ -180,7 +180,7 @@ weight_to_all g ok y p yp rest =
     (λ e h. (rest e.u h.0 (omega (arith, h.1, h.2)), rest e.v (omega (arith, h.0, h.1)) h.2))
     g.edges ok.in_range)
 
--- where all vertices but y were scanned, no cut that parts y from the one before it weighs less than the degree of y
+-- if all vertices but y were scanned, no cut that separates y from the one before it weighs less than the degree of y
 pub last_pair_law : (g : Graph) → IsGraph g → (cap : ℕ) (live : VertexSet) (x : ℕ) (before : List ℕ) → IsScanned g cap live (x ∷ before) →
     (y : ℕ) → IsTrue (live y) → has (x ∷ before) y ≡ false → ((v : ℕ) → 1 ≤ v → v ≤ g.vertices → v ≢ y → has (x ∷ before) v ≡ true) →
     weight g (single y) ≤ cap → (s : VertexSet) → parts s x y ≡ true → weight g (single y) ≤ weight g s

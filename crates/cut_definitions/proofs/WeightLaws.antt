@@ -82,7 +82,7 @@ weight-minus-minus g s t =
       sum_by-same (λ e. f e + h e) (λ e. (p e + q e) + 2 * j e) each g.edges,
     )
 
--- a set has a vertex where it has all that another has
+-- a set has a vertex if it has all that another has
 pub HasVertex-more : (n : ℕ) (s t : VertexSet) → ((v : ℕ) → s v ≡ true → t v ≡ true) → HasVertex n s → HasVertex n t
 HasVertex-more n s t sub h = record { vertex = h.vertex; from_one = h.from_one; to_n = h.to_n; is_in = sub h.vertex h.is_in }
 

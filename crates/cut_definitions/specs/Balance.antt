@@ -1,4 +1,4 @@
--- Balance: how evenly a side parts the vertices, each of which has a mass.
+-- Balance: how evenly a side divides the vertices, each of which has a mass.
 use Rattle.std.specs.Prelude.{ℕ, ◌-◌, ◌≤◌, ◌<◌, ◌^◌, if◌then◌else◌, List, get_or, length, min}
 use Rattle.std.specs.List.{All, Contains, range_with_len, sum_by}
 use Rattle.cut_definitions.specs.Weight.{VertexSet, complement}

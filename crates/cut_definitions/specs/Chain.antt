@@ -42,7 +42,7 @@ pub record IsFirstParts (n count : ℕ) (part : ℕ → ℕ) (x : VertexSet) : T
   pub below_count : last < count
   pub same : SameOn n x (first_parts part last)
 
--- the first i parts, for i from 1 to one less than the number of parts, are exactly the minimum cuts that part s from t, as sets with s
+-- the first i parts, for i from 1 to one less than the number of parts, are exactly the minimum cuts that separate s from t, as sets with s
 pub record IsChain (g : Graph) (s t count : ℕ) (part : ℕ → ℕ) : Type 0 where
   pub numbered : IsNumbered g.vertices s t count part
   pub all_minimum : (i : ℕ) → 1 ≤ i → i < count → IsMinimumCut g (first_parts part i)
@@ -102,6 +102,6 @@ pub record IsFirstList (n count : ℕ) (part : ℕ → ℕ) (x : List ℕ) : Typ
   pub below_count : last < count
   pub same : x ≡ first_list n part last
 
--- the vertices of the parts that were listed up to one; 0 stands for a vertex that is not listed
+-- the vertices of the parts that were listed up to one; 0 means that a vertex is not listed
 abbrev pub listed_upto : (ℕ → ℕ) → ℕ → VertexSet
 listed_upto turn j v = nat_lt 0 (turn v) && nat_le (turn v) j

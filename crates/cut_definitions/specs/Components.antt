@@ -9,7 +9,7 @@ pub record IsConnected (g : Graph) : Type 0 where
   pub some_vertex : 1 ≤ g.vertices
   pub each_cut : (s : VertexSet) → IsCut g.vertices s → 1 ≤ weight g s
 
--- no set of weight 0 parts two vertices
+-- no set of weight 0 separates two vertices
 abbrev pub AreJoined : Graph → ℕ → ℕ → Type 0
 AreJoined g u v = (s : VertexSet) → weight g s ≡ 0 → s u ≡ s v
 

@@ -7,7 +7,7 @@ use Rattle.cut_definitions.specs.Weight.{VertexSet, weight, between, IsMinimumCu
 use Rattle.cut_definitions.specs.Cuts.{has, value}
 use Rattle.cut_definitions.specs.Chain.{SameOn}
 
--- the class of a vertex: the labels stand in the order of the vertices
+-- the class of a vertex: the labels are in the order of the vertices
 abbrev pub label : List ℕ → ℕ → ℕ
 label labels v = slice_index labels (v - 1)
 

@@ -20,7 +20,7 @@ IsBefore d e = (d.u < e.u) ⊎ ((d.u ≡ e.u) × (d.v < e.v))
 abbrev pub IsEdgeWithin : ℕ → Edge → Type 0
 IsEdgeWithin n e = (1 ≤ e.u) × (e.u < e.v) × (e.v ≤ n) × (1 ≤ e.w)
 
--- the edges ascend by their ends, so no pair stands twice, and their weights add up to at most 2^61
+-- the edges ascend by their ends, so no pair occurs twice, and their weights add up to at most 2^61
 pub record IsGraph (g : Graph) : Type 0 where
   pub in_range : All (IsEdgeWithin g.vertices) g.edges
   pub ascending : AllPairs IsBefore g.edges

@@ -7,7 +7,7 @@ use Rattle.cut_definitions.specs.Cuts.{mincuts, side_of}
 use Rattle.cut_definitions.specs.Contraction.{IsLabels, RespectsClasses, KeepsMinimumCuts}
 use Rattle.cut_definitions.specs.Chain.{IsWithin, IsChain, IsFirstList, sets_across, IsInnerInterval, IsInOnePart, IsMinimumInterval, IsJoined, chain_of, first_list}
 
--- two cuts cross where each of the four corners has a vertex
+-- two cuts cross if each of the four corners has a vertex
 pub record Cross (n : ℕ) (s t : VertexSet) : Type 0 where
   pub inside : HasVertex n (both s t)
   pub first : HasVertex n (minus s t)
@@ -23,7 +23,7 @@ pub record CornersAreMinimum (g : Graph) (s t : VertexSet) : Type 0 where
   pub none_joins_sides : between g (minus s t) (minus t s) ≡ 0
   pub none_joins_ends : between g (both s t) (neither s t) ≡ 0
 
--- a cut is a minimum cut just where its side is in the list of the minimum cuts
+-- a cut is a minimum cut exactly if its side is in the list of the minimum cuts
 abbrev pub LawOfMinimumSides : Type 0
 LawOfMinimumSides = (g : Graph) → IsGraph g → (s : VertexSet) → IsCut g.vertices s → IsMinimumCut g s ↔ Contains (mincuts g) (side_of g.vertices s)
 
@@ -48,7 +48,7 @@ LawOfNesting = (g : Graph) (s t : ℕ) → IsGraph g → IsJoined g s t → (x y
     IsMinimumCut g x → IsMinimumCut g y → IsTrue (x s) → IsTrue (y s) → x t ≡ false → y t ≡ false →
     IsWithin g.vertices x y ⊎ IsWithin g.vertices y x
 
--- where an edge joins s and t and some minimum cut parts them, those that do are the first parts of a numbering of the vertices
+-- if an edge joins s and t and some minimum cut separates them, those that do are the first parts of a numbering of the vertices
 abbrev pub LawOfChainAcross : Type 0
 LawOfChainAcross = (g : Graph) (s t : ℕ) → IsGraph g → IsJoined g s t → (x : VertexSet) → IsMinimumCut g x → IsTrue (x s) → x t ≡ false →
     (count : ℕ) × (part : ℕ → ℕ) × IsChain g s t count part
@@ -76,18 +76,18 @@ LawOfJoinedIntervals = (g : Graph) (s t count : ℕ) (part : ℕ → ℕ) → Is
     (a b c d : ℕ) → IsMinimumInterval g count part a b → IsMinimumInterval g count part c d → a ≤ c → c ≤ b → b ≤ d →
     IsMinimumInterval g count part a d
 
--- an interval of two or more inner parts is a minimum cut exactly where each pair of neighbours in it is one
+-- an interval of two or more inner parts is a minimum cut exactly if each pair of neighbours in it is one
 abbrev pub LawOfNeighbours : Type 0
 LawOfNeighbours = (g : Graph) (s t count : ℕ) (part : ℕ → ℕ) → IsGraph g → IsChain g s t count part →
     (a b : ℕ) → 2 ≤ a → a < b → b < count →
     IsMinimumInterval g count part a b ↔ ((i : ℕ) → a ≤ i → i < b → IsMinimumInterval g count part i (i + 1))
 
--- where no minimum cut parts two vertices of a class, the minimum cuts of the contracted graph, lifted, are those of the graph
+-- if no minimum cut separates two vertices of a class, the minimum cuts of the contracted graph, lifted, are those of the graph
 abbrev pub LawOfContraction : Type 0
 LawOfContraction = (g : Graph) (labels : List ℕ) → IsGraph g → IsLabels labels → length labels ≡ g.vertices →
     ((x : VertexSet) → IsMinimumCut g x → RespectsClasses g.vertices labels x) → KeepsMinimumCuts g labels
 
--- the lists of the first parts of a chain are exactly the minimum cuts that part its ends, as sets with s
+-- the lists of the first parts of a chain are exactly the minimum cuts that separate its ends, as sets with s
 abbrev pub LawOfMembers : Type 0
 LawOfMembers = (g : Graph) (s t count : ℕ) (part : ℕ → ℕ) → IsGraph g → IsChain g s t count part → (x : List ℕ) →
     Contains (sets_across g s t) x ↔ IsFirstList g.vertices count part x

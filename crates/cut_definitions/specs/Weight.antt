@@ -7,7 +7,7 @@ use Rattle.cut_definitions.specs.Graph.{Graph}
 abbrev pub VertexSet : Type 0
 VertexSet = ℕ → Bool
 
--- a set parts two vertices where it has exactly one of them
+-- a set separates two vertices if it has exactly one of them
 abbrev pub parts : VertexSet → ℕ → ℕ → Bool
 parts s u v = if s u then not (s v) else s v
 
@@ -15,7 +15,7 @@ parts s u v = if s u then not (s v) else s v
 abbrev pub weight : Graph → VertexSet → ℕ
 weight g s = sum_by (λ (e : Edge). if parts s e.u e.v then e.w else 0) g.edges
 
--- two sets join two vertices where one of these is in the one set and the other in the other
+-- two sets join two vertices if one of these is in one set and the other in the other
 abbrev pub joins : VertexSet → VertexSet → ℕ → ℕ → Bool
 joins s t u v = s u && t v || t u && s v
 

@@ -98,7 +98,7 @@ weighed c masses order bs r ms cactus normal many entered_is long once sides dif
       different = subst AreDifferent (sym same) differ;
     }
 
--- a side at a range has the least balance where the range has
+-- a side at a range has the least balance if the range has
 same_answer : (c : Rooted) (masses : List ℕ) (r : CutRanges) (ms : List Bool) (least : ℕ) → AreWeighed c masses r ms → (q : Range) → IsRangeOf c.vertices q → is_balanced masses least (side_at c.vertices r.order.items q) ≡ is_heavy r least q
 same_answer c masses r ms least w q fits = ap (nat_le least) (same_balance c.vertices masses r q w.weighed fits)
 

@@ -114,7 +114,7 @@ keep_band p (x ∷ bs) (suc f) (suc a) (suc b) l w h =
     rw (h.before 0 (omega arith) (omega arith) (omega arith)) (rest ∙ ap (λ k. take k (drop a bs)) (let e : b - a ≡ suc b - suc a = omega arith in e))
 
 -- ---- the band of one border
--- of the ranges from a border, without the first where that is left out, those of its band have the least balance
+-- of the ranges from a border, without the first if that is left out, those of its band have the least balance
 band_here : (q : Range → Bool) (n : ℕ) (bs : List Border) (start passed from to kept : ℕ) → AreBorders n bs → start < length bs → kept ≡ max from (start + 1 + passed) → to ≤ start + (border_at bs start).following + 1 →
     IsInside (λ e. q (range_between bs start e)) (start + 1) (start + (border_at bs start).following + 1) from to →
     filter q (ranges_to (border_at bs start).place (drop passed (take (border_at bs start).following (drop (start + 1) bs)))) ≡ ranges_of bs start kept to

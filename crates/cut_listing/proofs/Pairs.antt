@@ -1,4 +1,4 @@
--- Where two vertices alone have the mass 1, the sides of a balance of at least 1 are those that part them.
+-- If only two vertices have mass 1, the sides with balance at least 1 are those that separate them.
 use Rattle.std.proofs.Common.{ne_eqb, ◌≡◌, ℕ, zero, suc, ◌+◌, ◌-◌, ◌≤◌, ◌<◌, min, inl, inr, Bool, true, false, not, ◌&&◌, ◌||◌, ◌==◌, List, [], ◌∷◌, ◌++◌, length, get_or, ap, ◌∙◌, sym, refl, subst, arith, true≢false}
 use Rattle.std.specs.Prelude.{if◌then◌else◌, nat_le}
 use Rattle.std.specs.List.{Contains, concat, filter, flat_map, range_with_len, sum_by}
@@ -61,7 +61,7 @@ no_mass masses s none =
     ])
 
 module _ (n u v : ℕ) (masses : List ℕ) (are : ArePairMasses n u v masses) (u_from : 1 ≤ u) (u_to : u ≤ n) (v_from : 1 ≤ v) (v_to : v ≤ n) where
-  -- a set has a mass where it has one of the two
+  -- a set has a mass if it has one of the two
   some_mass : (s : VertexSet) → nat_le 1 (mass masses s) ≡ (s u || s v)
   some_mass s = elim (cases_Bool (s u)) [
     | inl held ↦

@@ -64,7 +64,7 @@ pub kept_one : (q : List ℕ → Bool) (found new : List VertexList) (room : Ver
 kept_one q found new room e is =
     ap members_of e ∙ map-append (λ (s : VertexList). s.members) found (room ∷ []) ∙ ap (λ l. members_of found ++ l) (sym (kept_single q room.members is))
 
--- what holds whatever a call answers
+-- what holds whatever a call returns
 pub whatever : {T E P : Type 0} (r : Result T E) → P → IfOk r (λ _. P)
 whatever (Ok x) p = p
 whatever (Err e) p = tt
@@ -98,7 +98,7 @@ has_a_vertex n root is =
 pub decided : (b : Bool) (P Q : Type 0) → (b ≡ true → P) → (b ≡ false → Q) → MatchBool b P Q
 decided b P Q holds fails = elim (cases_Bool b) [ inl is ↦ rw is (holds is) | inr out ↦ rw out (fails out) ]
 
--- all that are asked for, in order, where they are not too many
+-- all that are asked for, in order, if they are not too many
 pub listed : (n : ℕ) (ask : Ask) (c : Rooted) (cuts : ℕ) (list : List VertexList) → cuts ≡ length (different (asked_sides ask c)) → cuts * n ≤ 2 ^ 30 →
     All (λ (s : VertexList). s.vertices ≡ n) list → members_of list ≡ different (asked_sides ask c) → IsList (2 ^ 30) n ask c list
 listed n ask c cuts list counted few over is =
@@ -110,7 +110,7 @@ listed n ask c cuts list counted few over is =
       not_too_large = subst (λ k. k * n ≤ 2 ^ 30) many few;
     }
 
--- their number, where they are too many
+-- their number, if they are too many
 pub too_many : (n size : ℕ) (ask : Ask) (c : Rooted) (cuts : ℕ) → cuts ≡ length (different (asked_sides ask c)) → size ≡ n → 2 ^ 30 < cuts * size → IsRefusal (2 ^ 30) n ask c (TooLarge cuts size)
 too_many n size ask c cuts counted same large = (
   record { listing = different (asked_sides ask c); is_listing = different_is_listing (asked_sides ask c); counted = counted },
@@ -118,7 +118,7 @@ too_many n size ask c cuts counted same large = (
   subst (λ k. 2 ^ 30 < cuts * k) same large,
 )
 
--- where none is asked for, the empty list is the listing
+-- if none is asked for, the empty list is the listing
 pub none_listed : (n : ℕ) (ask : Ask) (c : Rooted) (list : List VertexList) → 0 ≡ length (different (asked_sides ask c)) → list ≡ [] → IsList (2 ^ 30) n ask c list
 none_listed n ask c list none empty =
     subst (IsList (2 ^ 30) n ask c) (sym empty)

@@ -1,4 +1,4 @@
--- Sides over one n, sorted, are their listing, where they are different.
+-- Sides over one n, sorted, are their listing, if they are different.
 use Rattle.std.proofs.Common.{◌≡◌, ℕ, suc, ◌≤◌, Bool, cond, inl, inr, List, [], ◌∷◌, length, get_or, refl, sym, ◌∙◌, ap, subst, arith}
 use Rattle.std.specs.declared.cmp.Ordering.TheVariants.{Less, Equal}
 use Rattle.std.specs.Ordering.{nat_cmp, eq_by_cmp}

@@ -1,4 +1,4 @@
--- What is asked of a side, and tests that answer it.
+-- What is asked of a side, and tests that decide it.
 use Rattle.std.specs.Prelude.{ℕ, Bool, ◌≡◌, ◌≤◌, nat_le, true, List, length}
 use Rattle.std.specs.Borrow.{Bor}
 use Rattle.std.specs.Coded.{Coded-set, Unit-prop, coded_ℕ}
@@ -25,7 +25,7 @@ IsAskWithin n All = Unit {0}
 IsAskWithin n (Parting u v) = (1 ≤ u) × (u ≤ n) × (1 ≤ v) × (v ≤ n)
 IsAskWithin n (Least least weights) = length weights.now ≡ n
 
--- where a least balance is asked for, there is a mass for each of n vertices
+-- if a least balance is asked for, there is a mass for each of n vertices
 abbrev pub HasMasses : ℕ → Ask → Type 0
 HasMasses n All = Unit {0}
 HasMasses n (Parting u v) = Unit {0}
@@ -40,11 +40,11 @@ pub record IsOver (n : ℕ) (side : VertexList) : Type 0 where
 abbrev pub TakesSides : (Bor VertexList → Type 0) → ℕ → Type 0
 TakesSides takes n = (side : Bor VertexList) → IsOver n side.now → takes side
 
--- a test, by the answers that it may give: on a side over n it says yes exactly where the ask lets the side through
+-- a test, by the results that it can have: on a side over n it returns true exactly if the side is asked for
 abbrev pub AnswersAsk : (Bor VertexList → Bool → Type 0) → ℕ → Ask → Type 0
 AnswersAsk gives n ask = (side : Bor VertexList) (answer : Bool) → IsOver n side.now → gives side answer → answer ≡ lets ask side.now.members
 
--- that an ask has the masses that it needs is one fact, which no two proofs tell apart
+-- that an ask has the masses that it needs is one fact, of which any two proofs are equal
 pub has_masses-prop : (n : ℕ) (ask : Ask) → IsProp (HasMasses n ask)
 has_masses-prop n All = Unit-prop
 has_masses-prop n (Parting u v) = Unit-prop

@@ -18,7 +18,7 @@ pub record IsListing (sides listing : List (List ℕ)) : Type 0 where
   pub ascending : IsAscending listing
   pub same : (side : List ℕ) → Contains listing side ↔ Contains sides side
 
--- so many of some sides are different: their listing is as long
+-- this many of some sides are different: their listing is as long
 pub record HaveDifferent (sides : List (List ℕ)) (count : ℕ) : Type 0 where
   pub listing : List (List ℕ)
   pub is_listing : IsListing sides listing
@@ -28,19 +28,19 @@ pub record HaveDifferent (sides : List (List ℕ)) (count : ℕ) : Type 0 where
 abbrev pub asked_sides : Ask → Rooted → List (List ℕ)
 asked_sides ask cactus = filter (lets ask) (sides_of cactus)
 
--- a listing of so many sides over n as it is handed out: no larger than allowed, as sides over n
+-- a listing of this many sides over n as it is returned: no larger than allowed, as sides over n
 pub record IsList (largest n : ℕ) (ask : Ask) (cactus : Rooted) (list : List VertexList) : Type 0 where
   pub over_n : All (λ (s : VertexList). s.vertices ≡ n) list
   pub listing : IsListing (asked_sides ask cactus) (members_of list)
   pub not_too_large : length list * n ≤ largest
 
--- a refusal names the number of the different sides and n, whose product is larger than allowed; or memory was wanting
+-- a refusal names the number of the different sides and n, whose product is larger than allowed; or it was out of memory
 abbrev pub IsRefusal : ℕ → ℕ → Ask → Rooted → ListRefusal → Type 0
 IsRefusal largest n ask cactus (TooLarge cuts vertices) =
     HaveDifferent (asked_sides ask cactus) cuts × (vertices ≡ n) × (largest < cuts * n)
 IsRefusal largest n ask cactus NoMemory = Unit {0}
 
--- a list put into a listing, where it is not there yet
+-- a list put into a listing, if it is not there yet
 abbrev pub put_by : Ordering → List ℕ → List ℕ → List (List ℕ) → List (List ℕ) → List (List ℕ)
 put_by Less x y ys more = x ∷ (y ∷ ys)
 put_by Equal x y ys more = y ∷ ys

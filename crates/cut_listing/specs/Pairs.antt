@@ -1,4 +1,4 @@
--- Two vertices as masses: what lies on either side of a cut that parts them has a mass of 1.
+-- Two vertices as masses: what lies on either side of a cut that separates them has a mass of 1.
 use Rattle.std.specs.Prelude.{ℕ, ◌≡◌, ◌≤◌, ◌==◌, ◌&&◌, ◌||◌, nat_le, if◌then◌else◌, List, length}
 use Rattle.cut_definitions.specs.Balance.{mass_of}
 

@@ -48,7 +48,7 @@ collected_push n us vs ws count edges longer total sum e h is within more same s
   summed = summed;
 })
 
--- where all places were collected
+-- once all places were collected
 pub all_places : (n : ℕ) (us vs ws : List ℕ) (count : ℕ) (edges : List Edge) (total : ℕ) → IsCollected n us vs ws count edges total → count ≡ length us →
     (s : VertexSet) → sum_by (term (parts s)) edges ≡ weight (given n us vs ws) s
 all_places n us vs ws count edges total h e s = h.weights s ∙ ap (λ k. sum_by (term (parts s)) (map (entry us vs ws) (range_with_len 0 k))) e

@@ -17,7 +17,7 @@ AreJoinedBy us vs ws count parents = (s : VertexSet) → Respects parents s ↔ 
 pub by_none : (us vs ws parents : List ℕ) → ((s : VertexSet) → Respects parents s) → AreJoinedBy us vs ws 0 parents
 by_none us vs ws parents alone s = (λ r. refl, λ none. alone s)
 
--- an edge that no set parts joins nothing
+-- an edge whose ends no set separates joins nothing
 pub by_skip : (us vs ws : List ℕ) (count : ℕ) (parents : List ℕ) → AreJoinedBy us vs ws count parents → ((s : VertexSet) → term (parts s) (entry us vs ws count) ≡ 0) → AreJoinedBy us vs ws (count + 1) parents
 by_skip us vs ws count parents h none s =
     let more = sum_by-map-range_with_len_more (term (parts s)) (entry us vs ws) 0 count count (omega arith) in
@@ -45,7 +45,7 @@ by_one us vs ws count old new h some joined s =
       λ nothing. (joined.respected s).1 ((h s).1 (omega (arith, more, nothing)), not_parting a b w some (omega (arith, more, nothing))),
     )
 
--- where all places were gone through
+-- once all places were visited
 pub by_all : (n : ℕ) (us vs ws : List ℕ) (count : ℕ) (parents : List ℕ) → AreJoinedBy us vs ws count parents → count ≡ length us → (s : VertexSet) → Respects parents s ↔ (weight (given n us vs ws) s ≡ 0)
 by_all n us vs ws count parents h all s = subst (λ (k : ℕ). Respects parents s ↔ (sum_by (term (parts s)) (map (entry us vs ws) (range_with_len 0 k)) ≡ 0)) all (h s)
 

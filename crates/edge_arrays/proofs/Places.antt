@@ -106,6 +106,6 @@ none_either false w e = e
 pub light_is_free : (u v w : ℕ) → w ≡ 0 → free_weight (record { u = u + 1; v = v + 1; w = w }) ≡ 0
 light_is_free u v w e = none_either (eqb (u + 1) (v + 1)) w e
 
--- an edge that is no loop weighs what stands at its place
+-- an edge that is no loop weighs what is at its place
 pub plain_weight : (u v w : ℕ) → u ≢ v → free_weight (record { u = u + 1; v = v + 1; w = w }) ≡ w
 plain_weight u v w ne = rw (ne_eqb (u + 1) (v + 1) (λ e. ne (omega (arith, e)))) refl

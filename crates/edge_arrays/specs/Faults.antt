@@ -14,7 +14,7 @@ pub record AreWithinLimits (n : ℕ) (us vs ws : List ℕ) : Type 0 where
   pub few_vertices : n ≤ 4194304
   pub few_edges : length us ≤ 16777216
 
--- no place before this one gives a fault: the ends there are vertices, and all edges but loops weigh at most 2^61 together
+-- no place before this one gives a fault: the ends there are vertices, and all edges but loops weigh at most 2^61 in total
 pub record IsFineBefore (n : ℕ) (us vs ws : List ℕ) (place : ℕ) : Type 0 where
   pub ends : (i : ℕ) → i < place → HasEnds n us vs i
   pub total : weight_before us vs ws place ≤ 2 ^ 61
@@ -35,7 +35,7 @@ pub record IsTooHeavy (n : ℕ) (us vs ws : List ℕ) : Type 0 where
   pub heavy : 2 ^ 61 < weight_before us vs ws (place + 1)
   pub total : 2 ^ 61 < total_weight us vs ws
 
--- when each fault is told: one that there is reason for, and none before it; where memory is wanting may be anywhere
+-- when each fault is reported: one that there is reason for, and none before it; out of memory can come anywhere
 abbrev pub Explains : ArrayFault → ℕ → List ℕ → List ℕ → List ℕ → Type 0
 Explains OutOfMemory n us vs ws = ⊤
 Explains BadLength n us vs ws = ¬ HaveOneLength us vs ws
@@ -44,14 +44,14 @@ Explains TooManyEdges n us vs ws = HaveOneLength us vs ws × (n ≤ 4194304) × 
 Explains BadVertex n us vs ws = AreWithinLimits n us vs ws × HasBadVertex n us vs ws
 Explains WeightSum n us vs ws = AreWithinLimits n us vs ws × IsTooHeavy n us vs ws
 
--- when each fault is told after lengths and limits were tested
+-- when each fault is reported after lengths and limits were tested
 abbrev pub ExplainsEntry : ArrayFault → ℕ → List ℕ → List ℕ → List ℕ → Type 0
 ExplainsEntry OutOfMemory n us vs ws = ⊤
 ExplainsEntry BadVertex n us vs ws = HasBadVertex n us vs ws
 ExplainsEntry WeightSum n us vs ws = IsTooHeavy n us vs ws
 ExplainsEntry _ n us vs ws = ⊥
 
--- when each fault of one edge is told, after others that weigh so much together
+-- when each fault of one edge is reported, after others that weigh this much in total
 abbrev pub ExplainsEdge : ArrayFault → ℕ → ℕ → ℕ → ℕ → ℕ → Type 0
 ExplainsEdge BadVertex total n u v w = ¬ AreVertices n u v
 ExplainsEdge WeightSum total n u v w = AreVertices n u v × (2 ^ 61 < total + free_weight (edge_of u v w))

@@ -1,4 +1,4 @@
--- The graph that three arrays give, and when another graph stands for it.
+-- The graph that three arrays give, and when another graph weighs the same.
 use Rattle.std.specs.Prelude.{ℕ, ◌≡◌, ◌==◌, ◌+◌, ◌<◌, ◌≤◌, ◌^◌, List, map, length, slice_index, if◌then◌else◌}
 use Rattle.std.specs.List.{range_with_len, sum_by}
 use Rattle.cut_definitions.specs.declared.edge_list.Edge.{Edge}
@@ -13,7 +13,7 @@ edge_of u v w = record { u = u + 1; v = v + 1; w = w }
 abbrev pub entry : List ℕ → List ℕ → List ℕ → ℕ → Edge
 entry us vs ws i = edge_of (slice_index us i) (slice_index vs i) (slice_index ws i)
 
--- the graph of the arrays: each edge as it stands there, loops and repeated edges too
+-- the graph of the arrays: each edge as it is there, loops and repeated edges too
 abbrev pub given : ℕ → List ℕ → List ℕ → List ℕ → Graph
 given n us vs ws = record { vertices = n; edges = map (entry us vs ws) (range_with_len 0 (length us)) }
 
@@ -42,7 +42,7 @@ AreVertices n u v = (u < n) × (v < n)
 abbrev pub HasEnds : ℕ → List ℕ → List ℕ → ℕ → Type 0
 HasEnds n us vs i = AreVertices n (slice_index us i) (slice_index vs i)
 
--- three arrays give a graph of n vertices: they are of one length and within the limits, the ends are vertices of 0 to n - 1, and all edges but loops weigh at most 2^61 together
+-- three arrays give a graph of n vertices: they are of one length and within the limits, the ends are vertices of 0 to n - 1, and all edges but loops weigh at most 2^61 in total
 pub record IsGiven (n : ℕ) (us vs ws : List ℕ) : Type 0 where
   pub as_many_ends : length vs ≡ length us
   pub as_many_weights : length ws ≡ length us

@@ -38,7 +38,7 @@ AreFine bs = list_all (λ b. (block_shape b).fine) bs ≡ true
 abbrev pub IsFull : List (List ℕ) → Type 0
 IsFull ls = (l : List ℕ) → Contains ls l → HasOne (has l)
 
--- what is shown of a node: a leaf below it, one in each cut, and none empty where it is well placed
+-- what is shown of a node: a leaf below it, one in each cut, and none empty if it is well placed
 pub record IsRich (p : Part) (ls : List (List ℕ)) : Type 0 where
   pub some : HasInside ls p.below
   pub each_cut : (s : VertexSet) → Contains p.cuts s → HasInside ls s

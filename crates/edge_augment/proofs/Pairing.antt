@@ -1,4 +1,4 @@
--- The end nodes inside a cut stand together in the order of entering, so the pairs of opposite ones part it.
+-- The end nodes inside a cut are together in the order of entering, so the pairs of opposite ones separate it.
 use Rattle.std.proofs.Common.{◌≡◌, ℕ, zero, suc, ◌+◌, ◌-◌, ◌*◌, ◌/◌, ◌<◌, ◌≤◌, ◌⊎◌, inl, inr, ⊎_elim, Bool, true, false, not, List, [], ◌∷◌, ◌++◌, length, get_or, refl, ap, ◌∙◌, sym, subst, arith, length-append}
 use Rattle.std.specs.Prelude.{if◌then◌else◌}
 use Rattle.std.specs.List.{Contains, filter, concat, range_with_len}

@@ -36,14 +36,14 @@ ends_by_blocks own (b ∷ (c ∷ cs)) =
     let more : (length (b ∷ (c ∷ cs)) == 1) ≡ false = grind (arith, nat_tests) in
     in_order_map block_leaves (b ∷ (c ∷ cs)) ∙ sym (left_out (length (b ∷ (c ∷ cs)) == 1) own (flat_map block_leaves (b ∷ (c ∷ cs))) more)
 
--- the root is taken where it has one block, and what is below it is put on the empty stack
+-- the root is taken if it has one block, and what is below it is put on the empty stack
 pub begun : (root : Node) (ends : Lists) (after : List Node) → ends ≡ [] ++ alone_if (length (blocks root) == 1) (vertices root) → after ≡ flat_map nodes_of (blocks root) ++ [] → ends ++ flat_map leaves after ≡ end_sets root
 begun root ends after e a =
     let below = read_stacked leaves block_leaves leaves_nodes (blocks root) after [] a in
     ap (λ l. l ++ flat_map leaves after) e ∙ ap (λ l. alone_if (length (blocks root) == 1) (vertices root) ++ l) (below ∙ append-nil (flat_map block_leaves (blocks root)))
     ∙ sym (ends_by_blocks (vertices root) (blocks root))
 
--- a node is taken off the stack, it is kept where it is a leaf, and what is below it put there
+-- a node is taken from the stack, it is kept if it is a leaf, and what is below it put there
 pub passed : (x : Node) (kept more : Lists) (before after rest : List Node) → before ≡ x ∷ rest → after ≡ flat_map nodes_of (blocks x) ++ rest → more ≡ kept ++ alone_if (length (blocks x) == 0) (vertices x) →
     more ++ flat_map leaves after ≡ kept ++ flat_map leaves before
 passed x kept more before after rest b a m =

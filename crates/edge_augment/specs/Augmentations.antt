@@ -37,7 +37,7 @@ pub record IsLeast (cactus : Rooted) (a : Augmentation) : Type 0 where
   pub fewest : (pairs : List (ℕ × ℕ)) → All (λ p. IsVertex cactus.vertices p.0 × IsVertex cactus.vertices p.1) pairs →
       ((side : List ℕ) → Contains (sides_of cactus) side → IsParted pairs (has side)) → length a.edges ≤ length pairs
 
--- where the sides of a cactus are the minimum cuts of a graph, the edges of a least augmentation raise the value, and no fewer unit edges between its vertices do
+-- if the sides of a cactus are the minimum cuts of a graph, the edges of a least augmentation raise the value, and no fewer unit edges between its vertices do
 abbrev pub LawOfAugmentation : Type 0
 LawOfAugmentation = (g : Graph) (cactus : Rooted) (a : Augmentation) → 2 ≤ g.vertices → cactus.vertices ≡ g.vertices →
     ((side : List ℕ) → Contains (mincuts g) side ↔ Contains (sides_of cactus) side) → IsLeast cactus a →

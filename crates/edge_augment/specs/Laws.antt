@@ -10,7 +10,7 @@ use Rattle.rooted_cactus.specs.declared.tree.Node.{Node}
 use Rattle.edge_augment.specs.Ends.{end_sets}
 use Rattle.edge_augment.specs.NewEdges.{with_unit_edges, IsParted, opposite_pairs, new_edges}
 
--- a list of unit edges raises the value exactly where every minimum cut has exactly one end of one of them
+-- a list of unit edges raises the value exactly if every minimum cut has exactly one end of one of them
 abbrev pub LawOfRaising : Type 0
 LawOfRaising = (g : Graph) (pairs : List (ℕ × ℕ)) → 2 ≤ g.vertices →
     (value g < value (with_unit_edges g pairs)) ↔ ((side : List ℕ) → Contains (mincuts g) side → IsParted pairs (has side))

@@ -24,7 +24,7 @@ pub closed_right : (xs ys : Edges) (set : ℕ → Bool) → IsClosed (xs ++ ys) 
 closed_right [] ys set h = h
 closed_right (x ∷ xs) ys set h = closed_right xs ys set h.1
 
--- a set is closed for some edges just where it is closed for each of two lists of edges
+-- a set is closed for some edges exactly if it is closed for each of two lists of edges
 pub record Splits (whole one two : Edges) : Type 0 where
   pub first : (set : ℕ → Bool) → IsClosed whole set → IsClosed one set
   pub second : (set : ℕ → Bool) → IsClosed whole set → IsClosed two set

@@ -68,7 +68,7 @@ start_within starts count i h = get_or_default starts i (count + 1) count h
 start_past : (starts : List ℕ) (count : ℕ) (i : ℕ) → length starts ≤ i → start_of starts (count + 1) i ≡ count + 1
 start_past starts count i h = get_or_past starts i (count + 1) h
 
--- the places stay right where the items become more
+-- the places stay right if the items become more
 pub starts_item : (starts : List ℕ) (count : ℕ) → AreStarts starts count → AreStarts starts (count + 1)
 starts_item starts count h =
     let within : (i : ℕ) → start_of starts (count + 1) i ≤ count + 1 = λ i.
@@ -131,7 +131,7 @@ appended_from_last : (first : List ℕ) (front : List (List ℕ)) (last : List �
 appended_from_last first [] last x = refl
 appended_from_last first (l ∷ front) last x = ap (λ (ls : List (List ℕ)). first ∷ ls) (appended_from_last l front last x)
 
--- what is appended, where the last list is known
+-- what is appended, if the last list is known
 pub appended_last : (front : List (List ℕ)) (last : List ℕ) (x : ℕ) → appended_to_last (front ++ last ∷ []) x ≡ front ++ (last ++ x ∷ []) ∷ []
 appended_last [] last x = refl
 appended_last (l ∷ front) last x = appended_from_last l front last x

@@ -40,7 +40,7 @@ size_more : (ts : List TreeJoins) (t : TreeJoins) → trees_size (ts ++ t ∷ []
 size_more [] t = omega arith
 size_more (s ∷ ts) t = omega (arith, size_more ts t)
 
--- where the sizes from a place on begin with those of a tree
+-- if the sizes from a place on begin with those of a tree
 record IsAt (table : List ℕ) (root : ℕ) (x : Node) (more : List ℕ) : Type 0 where
   within : root < length table
   size : get_or table root 0 ≡ (tree_joins x).size

@@ -56,7 +56,7 @@ drop_twice (suc m) zero [] = let e : suc m + 0 ≡ suc m = omega arith in ap (λ
 drop_twice (suc m) (suc n) [] = let e : suc m + suc n ≡ suc (m + suc n) = omega arith in ap (λ k. drop k []) e
 drop_twice (suc m) n (x ∷ xs) = let e : suc m + n ≡ suc (m + n) = omega arith in ap (λ k. drop k (x ∷ xs)) e ∙ drop_twice m n xs
 
--- what follows in a list where it is known from a place on
+-- what follows in a list if it is known from a place on
 pub rest_after : (table front rest : Numbers) (n : ℕ) → drop n table ≡ front ++ rest → drop (n + length front) table ≡ rest
 rest_after table front rest n h = drop_twice n (length front) table ∙ ap (drop (length front)) h ∙ drop_front front rest
 

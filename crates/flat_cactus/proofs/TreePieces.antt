@@ -19,13 +19,13 @@ use Rattle.flat_cactus.proofs.Pieces.{inside, before_range, behind_range, IsCutO
 use Rattle.flat_cactus.proofs.Hanging.{bridge_piece, sizes, AreLinked, no_trees, more_trees, roots_each}
 use Rattle.flat_cactus.proofs.Rounds.{cycle_piece}
 
--- a tree, where its root has whatever number
+-- a tree, whatever number its root has
 pub record IsTree (q : Layout) (t : TreeJoins) : Type 0 where
   pub size : q.size ≡ t.size
   pub some : 0 < t.size
   pub piece : (k : ℕ) → IsPiece (k ∷ []) k t.size (q.ranges k) (t.joins k)
 
--- a block, where its upper node and the first node below have whatever numbers
+-- a block, whatever numbers its upper node and the first node below have
 pub record IsHung (q : Layout) (b : BlockJoins) : Type 0 where
   pub size : q.size ≡ b.size
   pub piece : (up first : ℕ) → up < first → IsPiece (up ∷ []) first b.size (q.ranges first) (b.joins up first)

@@ -29,7 +29,7 @@ abbrev pub cut_at : List ℕ → List ℕ → List (List ℕ)
 cut_at [] items = []
 cut_at (start ∷ more) items = cut_from start more items
 
--- where the list of a number begins among `count` items; at the end where there is none
+-- where the list with a number begins among `count` items; at the end if there is none
 abbrev pub start_of : List ℕ → ℕ → ℕ → ℕ
 start_of starts count i = slice_index_or starts i count
 
@@ -42,6 +42,6 @@ pub record AreStarts (starts : List ℕ) (count : ℕ) : Type 0 where
   pub ascend : (i : ℕ) → start_of starts count i ≤ start_of starts count (i + 1)
   pub within : (i : ℕ) → start_of starts count i ≤ count
 
--- the first list begins with the first item, and where there is no list there is no item
+-- the first list begins with the first item, and if there is no list there is no item
 abbrev pub BeginsFirst : List ℕ → ℕ → Type 0
 BeginsFirst starts count = start_of starts count 0 ≡ 0

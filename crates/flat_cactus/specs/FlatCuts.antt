@@ -1,4 +1,4 @@
--- The cuts of a flat cactus, by what node 0 still reaches where the edges of a cut are taken away; and when a flat cactus is well formed.
+-- The cuts of a flat cactus, by what node 0 still reaches if the edges of a cut are removed; and when a flat cactus is well formed.
 use Rattle.std.specs.Prelude.{ℕ, Bool, true, ⊤, ◌≡◌, ◌≢◌, ◌<◌, ◌≤◌, ◌+◌, ◌-◌, ◌↔◌, List, [], ◌∷◌, ◌++◌, map, length, slice_index, slice_index_or}
 use Rattle.std.specs.List.{All, AllPairs, Contains, filter, flat_map, sum_by}
 use Rattle.cut_definitions.specs.Cuts.{has, IsAscendingWithin}
@@ -33,7 +33,7 @@ without_two_of_one (c ∷ cs) = map (λ left. left ++ flat_map cycle_edges cs) (
 abbrev pub all_edges : Flat → List (ℕ × ℕ)
 all_edges flat = flat.bridges ++ flat_map cycle_edges flat.cycles
 
--- the edges that are left where those of a cut are taken away, for each cut: one bridge, or two edges of one cycle
+-- the edges that are left if those of a cut are removed, for each cut: one bridge, or two edges of one cycle
 abbrev pub edges_left : Flat → List (List (ℕ × ℕ))
 edges_left flat = map (λ left. left ++ flat_map cycle_edges flat.cycles) (without_one flat.bridges) ++ map (λ left. flat.bridges ++ left) (without_two_of_one flat.cycles)
 

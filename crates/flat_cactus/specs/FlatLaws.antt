@@ -11,6 +11,6 @@ LawOfFlatForm = (n : ℕ) (root : Node) → IsCactus n root → IsWellFormed (fl
 abbrev pub LawOfFlatOrder : Type 0
 LawOfFlatOrder = (n : ℕ) (root : Node) → IsCactus n root → IsInOrder (flat_of record { vertices = n; root = root })
 
--- what node 0 does not reach where the edges of a cut are taken away: the same sides as those of subtrees and runs of children
+-- what node 0 does not reach if the edges of a cut are removed: the same sides as those of subtrees and runs of children
 abbrev pub LawOfFlatSides : Type 0
 LawOfFlatSides = (n : ℕ) (root : Node) → IsCactus n root → (let c : Rooted = record { vertices = n; root = root } in HasSides (flat_of c) (sides_of c))

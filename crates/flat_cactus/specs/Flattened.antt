@@ -19,12 +19,12 @@ no_joins = record { bridges = []; cycles = [] }
 abbrev pub beside : Joins → Joins → Joins
 beside a b = record { bridges = a.bridges ++ b.bridges; cycles = a.cycles ++ b.cycles }
 
--- a tree: the number of its nodes, and what joins them where they are numbered from a number on
+-- a tree: the number of its nodes, and what joins them if they are numbered from a number on
 pub record TreeJoins : Type 0 where
   pub size : ℕ
   pub joins : ℕ → Joins
 
--- a block: the number of its nodes below the upper one, and what joins them where that one has a number and they are numbered from another on
+-- a block: the number of its nodes below the upper one, and what joins them if that one has a number and they are numbered from another on
 pub record BlockJoins : Type 0 where
   pub size : ℕ
   pub joins : ℕ → ℕ → Joins
@@ -90,10 +90,10 @@ tree_joins = fold-Node BlockJoins (List BlockJoins) (List TreeJoins) TreeJoins j
 unfoldable pub block_joins : Block → BlockJoins
 block_joins = fold-Block BlockJoins (List BlockJoins) (List TreeJoins) TreeJoins joins_block_step joins_blocks_step joins_children_step joins_node_step
 
--- what joins the nodes of a tree where its root has the number 0
+-- what joins the nodes of a tree if its root has the number 0
 abbrev pub joins_of : Node → Joins
 joins_of root = (tree_joins root).joins 0
 
--- the flat cactus of a rooted one: a bridge stands before those below it, and so does a cycle, with the node above first
+-- the flat cactus of a rooted one: a bridge comes before those below it, and so does a cycle, with the node above first
 abbrev pub flat_of : Rooted → Flat
 flat_of c = record { vertices = c.vertices; nodes = entered c.root; bridges = (joins_of c.root).bridges; cycles = (joins_of c.root).cycles }

@@ -135,7 +135,7 @@ in_first rings ring d h = Contains-append_left (at_first rings ring) (behind_fir
 in_others : (rings ring : ℕ) (d : Edge) → Contains (behind_first rings ring) d → Contains (ring_edges rings ring) d
 in_others rings ring d h = Contains-append_right (at_first rings ring) (behind_first rings ring) d h
 
--- the link from the last ring stands in ring 0
+-- the link from the last ring is in ring 0
 has_back : (rings : ℕ) → Contains (at_first rings 0) (double 1 (4 * rings - 1))
 has_back rings = (2, omega arith, refl)
 

@@ -13,7 +13,7 @@ double u v = record { u = u; v = v; w = 2 }
 abbrev pub at_first : ℕ → ℕ → List Edge
 at_first rings ring = double (4 * ring + 1) (4 * ring + 2) ∷ double (4 * ring + 1) (4 * ring + 4) ∷ (if ring == 0 then double 1 (4 * rings - 1) ∷ [] else [])
 
--- the edges that a ring adds behind its first vertex: two round the ring, and but in the last ring the link to the next one
+-- the edges that a ring adds behind its first vertex: two round the ring, and except in the last ring the link to the next one
 abbrev pub behind_first : ℕ → ℕ → List Edge
 behind_first rings ring = double (4 * ring + 2) (4 * ring + 3) ∷ double (4 * ring + 3) (4 * ring + 4) ∷ (if nat_lt (ring + 1) rings then double (4 * ring + 3) (4 * ring + 5) ∷ [] else [])
 

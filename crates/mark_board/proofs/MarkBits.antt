@@ -23,7 +23,7 @@ pub marked-same : (n : ℕ) (s t : ℕ → Bool) → ((v : ℕ) → v < n → s 
 marked-same n s t same =
     ap (λ (xs : List ℕ). let r : MarkList = record { edges = n; marked = xs } in r) (filter-range n 0 s t (λ v l u. same v (omega arith)))
 
--- an edge is marked just where its test says so
+-- an edge is marked exactly if its test says so
 pub has-marked : (n : ℕ) (s : ℕ → Bool) (v : ℕ) → v < n → has (marked_within n s).marked v ≡ s v
 has-marked n s v l = has_within n 0 v s (omega arith) (omega arith)
 
@@ -68,14 +68,14 @@ mark-marks n words old e ok view lt =
 all_zero : (n v : ℕ) → n ≡ 0 → bit_of n v ≡ false
 all_zero n v e = ap (λ (x : ℕ). bit_of x v) e ∙ has_bit-zeros 0 v
 
--- where each word is 0 no edge is marked
+-- if each word is 0 no edge is marked
 pub nothing_marked : (n : ℕ) (words : List ℕ) → ((k : ℕ) → k < length words → get_or words k 0 ≡ 0) → (marked_within n (has_bit words)).marked ≡ []
 nothing_marked n words none = filter-none n 0 (has_bit words) (λ v. ⊎_elim
     (λ (l : v / 64 < length words). all_zero (get_or words (v / 64) 0) v (none (v / 64) l))
     (λ (g : length words ≤ v / 64). has_bit-past words v (omega arith))
     (cases_lt (v / 64) (length words)))
 
--- where some bit is set some edge is marked
+-- if some bit is set some edge is marked
 pub something_marked : (n : ℕ) (words : List ℕ) → AreMarkWords n words → HasBit words → (marked_within n (has_bit words)).marked ≡ [] → ⊥
 something_marked n words ok there none =
     let e : ℕ = there.0 in
@@ -90,7 +90,7 @@ some_bit words at pos fits =
     let low = bit_at-trailing_zeros w64 word pos fits in
     (at * 64 + trailing_zeros w64 word, has_bit_at words at (trailing_zeros w64 word) low.0 low.1)
 
--- what a walk along the words answers
+-- what a walk along the words returns
 pub is_empty_says : (n : ℕ) (words : List ℕ) (old : MarkList) (answer : Bool) → marked_within n (has_bit words) ≡ old → AreMarkWords n words →
     (answer ≡ true → (k : ℕ) → k < length words → get_or words k 0 ≡ 0) → (answer ≡ false → HasBit words) → IsTrue answer ↔ (old.marked ≡ [])
 is_empty_says n words old true view ok none there = (λ yes. ap (λ (m : MarkList). m.marked) (sym view) ∙ nothing_marked n words (none refl), λ e. refl)

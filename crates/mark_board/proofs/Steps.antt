@@ -85,7 +85,7 @@ module _ (key : Opened) where
         next = subst (λ (l : List Knows). get_elem? l id ≡ some (knows w)) (sym seats) (set_here (map knows s.views) id (knows w) inside);
       }
 
-  -- the machine where the bound's word and one view change
+  -- the machine if the bound's word and one view change
   bound_machine : (s : St) (id n : ℕ) (me : Sat) (w : View) → 0 < length s.words
       → M (stepped s 0 n id me.1 w keeps) ≡ record (M s) { bound = n; seats = set (map knows s.views) id (knows w) }
   bound_machine s id n me w some_word =

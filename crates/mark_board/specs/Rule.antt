@@ -1,4 +1,4 @@
--- The rule of a board's table, and what its steps tell.
+-- The rule of a board's table, and what its steps show.
 --
 -- The words of the table and the views of its seats show one state of the machine of scan_core, and the rule is that this
 -- state meets the facts that each step keeps, that all live views agree on the graph, the slack and the opening bound, and
@@ -32,7 +32,7 @@ machine_of key s = record {
   seats = map knows s.views;
 }
 
--- a live view tells of this board
+-- a live view is of this board
 pub record Agrees (key : Opened) (v : View) : Type 0 where
   pub graph : v.graph ≡ key.graph.value
   pub slack : v.slack ≡ key.slack
@@ -83,7 +83,7 @@ pub record IsStep (move : ℕ → Move) (v w : View) : Type 0 where
   pub before : get_elem? machine.seats seat ≡ some (knows v)
   pub next : get_elem? (after machine (move seat)).seats seat ≡ some (knows w)
 
--- a look at an edge answered so: the step, and what the machine shows at that moment, where its bound is fair, is no more
+-- a look at an edge returned this: the step, and what the machine shows at that moment, when its bound is fair, is no more
 -- than what the seat saw, and the edge is safe for it if it is marked
 pub record IsLook (v w : View) (edge : ℕ) (answer : Bool) : Type 0 where
   pub step : IsStep (λ k. looks k edge) v w

@@ -1,4 +1,4 @@
--- Where the bit of an edge or of a vertex stands in the words of a board.
+-- Where the bit of an edge or of a vertex is in the words of a board.
 use Rattle.std.specs.Prelude.{ℕ, zero, suc, ◌+◌, ◌*◌, ◌/◌, ◌%◌, ◌^◌, Bool, false, ◌==◌, if◌then◌else◌, nat_lt, List, slice_index}
 use Rattle.std.specs.Int.{bit_at}
 
@@ -15,7 +15,7 @@ bit_of n f = bit_at n (f % 64) == 1
 abbrev pub is_flagged : List ℕ → ℕ → Bool
 is_flagged words f = bit_of (slice_index words (word_of f)) f
 
--- edge e is flag e, and vertex v flag v - 1 from the first word behind the mark words on
+-- edge e is flag e, and vertex v flag v - 1 from the first word after the mark words on
 abbrev pub mark_words : ℕ → ℕ
 mark_words edges = edges / 64 + 1
 

@@ -1,4 +1,4 @@
--- A flow after one more path, and where no path is left.
+-- A flow after one more path, and when no path is left.
 use Rattle.std.proofs.Common.{◌≡◌, ℕ, ◌+◌, ◌^◌, ◌<◌, ◌≤◌, true, false, List, length, refl, sym, ◌∙◌, arith}
 use Rattle.std.specs.Prelude.{◌≢◌}
 use Rattle.std.proofs.lemmas.Bool.{eq-eqb, ne_eqb}
@@ -42,7 +42,7 @@ flow_small g ok s t total toward apart h =
 
 -- ---- no path is left
 
--- where t was not reached, the vertices that were seen are the source side
+-- if t was not reached, the vertices that were seen are the source side
 pub source_side : (g : Graph) → IsGraph g → (toward : List ℕ) (s t : ℕ) (marks : List ℕ) (steps : List Step) (count : ℕ) →
     length toward ≡ length g.edges → IsSearched g toward s t marks steps count → order_mark marks t ≡ 0 →
     IsSourceSide g toward s t (seen marks)
@@ -64,9 +64,9 @@ IsSourceSide-same g toward s t side other same h = record {
   least = λ third closed has v in'. h.least third closed has v (sym (same v) ∙ in');
 }
 
--- ---- what is answered
+-- ---- what is returned
 
--- where no path is left, the flow is the least weight between its ends
+-- if no path is left, the flow is the least weight between its ends
 pub least_between : (g : Graph) → IsGraph g → (s t total : ℕ) (toward : List ℕ) (side : VertexSet) → IsFlow g s t total toward →
     IsSourceSide g toward s t side → IsLeastBetween g s t total
 least_between g ok s t total toward side h source =

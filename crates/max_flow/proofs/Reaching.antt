@@ -28,7 +28,7 @@ pub bottleneck_some : (g : Graph) (toward marks : List ℕ) (steps : List Step) 
 bottleneck_some g toward marks steps count j h l =
     ⊎_elim (λ (e : j < 1). let z : j ≡ 0 = omega arith in rw z h.wide) (λ (p : 1 ≤ j). (h.reached j p l).some) (cases_lt j 1)
 
--- less can be carried along where more can
+-- less can be carried along if more can
 narrower : (e : Edge) (toward v a b bottleneck residual : ℕ) → bottleneck ≤ residual → v ≡ a → IsAlong e toward v b residual → IsAlong e toward a b bottleneck
 narrower e toward v a b bottleneck residual h is along =
     ⊎_elim
@@ -36,7 +36,7 @@ narrower e toward v a b bottleneck residual h is along =
     (λ (p : (e.u ≡ b) × (e.v ≡ v) × (residual ≤ 2 * e.w - toward)). inr (p.0, p.1 ∙ is, omega (arith, p.2)))
     along
 
--- the tree after an arc: it goes on from the one before, and has the arc's other end where anything can be carried there
+-- the tree after an arc: it goes on from the one before, and has the arc's other end if anything can be carried there
 pub record Follows (g : Graph) (toward marks0 : List ℕ) (steps0 : List Step) (count0 : ℕ) (marks marks' : List ℕ) (steps' : List Step) (count' to bottleneck : ℕ) : Type 0 where
   pub extends : Extends g toward marks0 steps0 count0 marks' steps' count'
   pub kept : (v : ℕ) → 0 < order_mark marks v → 0 < order_mark marks' v

@@ -100,12 +100,12 @@ one_more g toward marks steps count st h one to_n z early some narrows inside al
 
 -- ---- closed sets
 
--- where an edge lets out nothing but can carry something, its lesser end brings in its greater
+-- if an edge lets out nothing but can carry something, its lesser end brings in its greater
 along_leaves : (a b : Bool) (x w bottleneck : ℕ) → (if a then (if b then 0 else x) else (if b then 2 * w - x else 0)) ≡ 0 →
     1 ≤ bottleneck → bottleneck ≤ x → a ≡ true → b ≡ true
 along_leaves a b x w bottleneck z p l h = grind arith
 
--- where an edge lets out nothing but can carry something, its greater end brings in its lesser
+-- if an edge lets out nothing but can carry something, its greater end brings in its lesser
 along_leaves_back : (a b : Bool) (x w bottleneck : ℕ) → (if a then (if b then 0 else x) else (if b then 2 * w - x else 0)) ≡ 0 →
     1 ≤ bottleneck → bottleneck ≤ 2 * w - x → b ≡ true → a ≡ true
 along_leaves_back a b x w bottleneck z p l h = grind arith
@@ -140,7 +140,7 @@ seen_least g ok toward marks steps count h n side closed first v s =
     rw (← at) (reached_below g toward marks steps count h n side (out_none-from_closed g ok toward n side closed) first
     (order_mark marks v) (order_mark marks v - 1) (omega arith) (omega arith))
 
--- where every vertex was expanded, the vertices that were seen are closed
+-- if every vertex was expanded, the vertices that were seen are closed
 pub seen_closed : (g : Graph) (toward marks : List ℕ) (steps : List Step) (count : ℕ) → IsTree g toward marks steps count →
     ((j : ℕ) → j < count → IsExpanded g toward marks (step_at steps j).vertex) → IsClosed g toward (seen marks)
 seen_closed g toward marks steps count h done v one to_n s =

@@ -10,7 +10,7 @@ use Rattle.region_flow.specs.Residual.{out, edge_of, HasFirst, IsFlow, IsLeastBe
 use Rattle.region_flow.specs.Closed.{residual_on, AddsUp}
 
 -- for each edge what is left toward its greater end, for each vertex what is left on the arcs of its row,
--- the side of the first vertex, and the last run where it answered `Best`
+-- the side of the first vertex, and the last run if it returned `Best`
 pub record FlowState : Type 0 where
   pub vertices : ℕ
   pub toward : List ℕ
@@ -27,7 +27,7 @@ abbrev pub IsShut : Graph → (ℕ → List ℕ) → VertexSet → Type 0
 IsShut g residuals side = (v : ℕ) → 1 ≤ v → v ≤ g.vertices → IsTrue (side v) →
     (k : ℕ) → k < length (row_of g v) → 0 < slice_index (residuals v) k → IsTrue (side (arc_at (row_of g v) k).to)
 
--- the least set with s that no arc with something left leaves, where t is not in it
+-- the least set with s that no arc with something left leaves, if t is not in it
 pub record IsShutSource (g : Graph) (residuals : ℕ → List ℕ) (s t : ℕ) (side : VertexSet) : Type 0 where
   pub first : HasFirst s t side
   pub shut : IsShut g residuals side
@@ -35,7 +35,7 @@ pub record IsShutSource (g : Graph) (residuals : ℕ → List ℕ) (s t : ℕ) (
 
 -- a greatest flow from s to t: its amount is the least weight between them, its rows show all sets of that weight,
 -- and its source side is the least of these. `flow` and `shut` speak of all sets, also of those with both s and t, or
--- with neither: no arc with something left leaves such a set exactly where it weighs 0
+-- with neither: no arc with something left leaves such a set exactly if it weighs 0
 pub record ShowsLeastCuts (g : Graph) (s t amount : ℕ) (f : FlowState) : Type 0 where
   pub least : IsLeastBetween g s t amount
   pub flow : IsFlow g s t amount f.toward
@@ -54,7 +54,7 @@ pub record HasSizesOf (f : FlowState) (g : Graph) : Type 0 where
   pub rows : (v : ℕ) → v ≤ g.vertices → length (residuals_at f v) ≡ length (row_of g v)
   pub source : f.source.vertices ≡ g.vertices
 
--- a flow stands for a graph: it has its sizes, and what it keeps of a run that answered `Best` is true of that graph
+-- a flow fits a graph: it has its sizes, and what it keeps of a run that returned `Best` is true of that graph
 pub record StandsFor (f : FlowState) (g : Graph) : Type 0 where
   pub sizes : HasSizesOf f g
   pub shown : IfSome f.best (λ run. ShowsLeastCuts g run.s run.t run.amount f)

@@ -75,7 +75,7 @@ pub record Extends (g : Graph) (toward marks : List ℕ) (steps : List Step) (co
   pub steps_kept : (j : ℕ) → j < count → step_at steps' j ≡ step_at steps j
   pub marks_kept : (v : ℕ) → 0 < order_mark marks v → 0 < order_mark marks' v
 
--- the tree has its first vertex, and every arc is followed where t is not reached
+-- the tree has its first vertex, and every arc is followed if t is not reached
 pub record IsSearched (g : Graph) (toward : List ℕ) (s t : ℕ) (marks : List ℕ) (steps : List Step) (count : ℕ) : Type 0 where
   pub tree : IsTree g toward marks steps count
   pub first : (step_at steps 0).vertex ≡ s

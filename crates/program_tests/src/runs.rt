@@ -16,6 +16,7 @@ pub struct Script<'a> {
     pub tells: &'a [u64],
 }
 
+/// No read or write fails, and each read gives all that it can.
 pub const HONEST: Script = Script {
     cuts: &[],
     reads: &[],

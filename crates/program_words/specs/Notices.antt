@@ -1,4 +1,4 @@
--- What the program tells of itself.
+-- What the program says about itself.
 use Rattle.std.specs.Prelude.{◌||◌, ◌++◌, ◌∷◌, ℕ, List, [], Option, Some, None, codes, if◌then◌else◌}
 use Rattle.std.specs.Str.{bytes_eq}
 use Rattle.program_words.specs.Texts.{line}

@@ -95,7 +95,7 @@ abbrev pub taken_with : Option Text → Option Command → Option Command
 taken_with least None = None
 taken_with least (Some command) = with_least least command
 
--- the job of a name, where there is one
+-- the job with a name, if there is one
 abbrev pub named_job_of : Option Text → List Text → Option Job
 named_job_of None values = None
 named_job_of (Some name) values = job_of name values

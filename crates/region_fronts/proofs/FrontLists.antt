@@ -114,7 +114,7 @@ grown_laid_out n lists standing stack region v h within to_n there =
 
 -- ---- one entry less
 
--- there is a list where an entry stands
+-- there is a list where there is an entry
 pub listed_region : (lists : List (List ℕ)) (region place : ℕ) → place < length (list_at lists region) → region < length lists
 listed_region lists region place l =
     ⊎_elim
@@ -166,7 +166,7 @@ shrunk_here lists region place l = get_or-set_same lists region (swap_remove (li
 pub shrunk_other : (lists : List (List ℕ)) (region place other : ℕ) → other ≢ region → list_at (shrunk lists region place) other ≡ list_at lists other
 shrunk_other lists region place other ne = get_or-set_other lists region other (swap_remove (list_at lists region) place 0) [] ne
 
--- what stands elsewhere than where an entry is taken out stays
+-- what is elsewhere than where an entry is removed stays
 pub shrunk_keeps : (lists : List (List ℕ)) (region place : ℕ) → place < length (list_at lists region) → (r u : ℕ) → Contains (list_at lists r) u →
     (r ≡ region → u ≢ get_or (list_at lists region) place 0) → Contains (list_at (shrunk lists region place) r) u
 shrunk_keeps lists region place l r u h apart =
@@ -188,7 +188,7 @@ shrunk_within lists region place l r u h =
     (λ (ne : r ≢ region). subst (λ (xs : List ℕ). Contains xs u) (shrunk_other lists region place r ne) h)
     (cases_eq r region)
 
--- of each vertex the label where it stands is kept, but for the one that was taken out there
+-- of each vertex the label whose list has it is kept, except for the one that was removed there
 pub shrunk_laid_out : (n : ℕ) (lists : List (List ℕ)) (standing standing' stack : List ℕ) (region place : ℕ) → IsLaidOut n lists standing stack → place < length (list_at lists region) →
     length standing' ≡ length standing →
     ((u : ℕ) → 1 ≤ get_or standing' u 0 → (get_or standing' u 0 ≡ get_or standing u 0) × (get_or standing' u 0 ≡ region → u ≢ get_or (list_at lists region) place 0)) →
@@ -220,7 +220,7 @@ pub entry_within : (n : ℕ) (lists : List (List ℕ)) (standing stack : List �
     get_or (list_at lists region) place 0 ≤ n
 entry_within n lists standing stack region place h l = h.to_n region (get_or (list_at lists region) place 0) (Contains-get_or (list_at lists region) place 0 l)
 
--- the entry that was taken out stood in its list last of all
+-- the entry that was removed was the last of its list
 pub unset_laid_out : (n : ℕ) (lists : List (List ℕ)) (standing stack : List ℕ) (region place v : ℕ) → IsLaidOut n lists standing stack → place < length (list_at lists region) →
     v ≡ get_or (list_at lists region) place 0 → IsLaidOut n (shrunk lists region place) (set standing v 0) stack
 unset_laid_out n lists standing stack region place v h l is =
@@ -252,7 +252,7 @@ shut_covered g ok labels f region place l covered shut u h =
     shrunk_keeps f.lists region place l (get_or labels u 0) u (covered u h)
     (λ at e. open_not_shut g ok labels u h (subst (IsShutAt g labels) (sym e) (shut (ap (λ (k : ℕ). get_or labels k 0) (sym e) ∙ at))))
 
--- where the lists are empty no vertex is open
+-- if the lists are empty no vertex is open
 pub none_open : (g : Graph) (labels : List ℕ) (f : FrontsState) → IsCovered g labels f → ((region : ℕ) → length (list_at f.lists region) ≡ 0) → (v : ℕ) → IsOpenAt g labels v → ⊥
 none_open g labels f covered empty v h = let c = covered v h in omega (arith, c.1, empty (get_or labels v 0))
 
@@ -274,7 +274,7 @@ ends_of_row g ok labels f v each = record {
       (k' (λ e. ne (sym e))).1 one;
 }
 
--- what stands in the lists stays there
+-- what is in the lists stays there
 pub ends_kept : (g : Graph) (labels : List ℕ) (f f' : FrontsState) (v : ℕ) → KeepsAll f f' → HasEnds g labels f v → HasEnds g labels f' v
 ends_kept g labels f f' v keeps h = record {
   itself = λ opened. keeps (get_or labels v 0) v (h.itself opened);

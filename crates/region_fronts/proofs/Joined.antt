@@ -46,7 +46,7 @@ open_not_shut g ok labels v h shut =
     let same : get_or labels arc.0.to 0 ≡ get_or labels v 0 = All-contains (λ (a : Arc). get_or labels a.to 0 ≡ get_or labels v 0) (row_of g v) arc.0 (shut h.outside) arc.1 in
     h.apart (ap (λ (k : ℕ). get_or labels k 0) (sym arc.2) ∙ same)
 
--- where none is open, all are shut
+-- if none is open, all are shut
 pub none_open_shut : (g : Graph) (labels : List ℕ) → ((v : ℕ) → IsOpenAt g labels v → ⊥) → (v : ℕ) → v ≤ g.vertices → IsShutAt g labels v
 none_open_shut g labels none v to_n = λ one.
     All-weaker (IsArcAt g v) (λ (a : Arc). get_or labels a.to 0 ≡ get_or labels v 0)

@@ -1,4 +1,4 @@
--- The vertices that were put, and where their numbers stand once they are sorted.
+-- The vertices that were put, and where their numbers are once they are sorted.
 use Rattle.std.proofs.Common.{◌≡◌, ℕ, ◌<◌, ◌≤◌, ⊎_elim, Bool, eqb, List, [], ◌∷◌, ◌++◌, length, take, drop, set, get_or, sym, ◌∙◌, ap, subst, arith}
 use Rattle.std.specs.Prelude.{◌≢◌}
 use Rattle.std.specs.List.{All, Contains}

@@ -1,4 +1,4 @@
--- Where each number stands among vertices that are sorted by number.
+-- If each number is among vertices that are sorted by number.
 use Rattle.std.proofs.Common.{◌≡◌, ℕ, ◌+◌, ◌-◌, ◌<◌, ◌≤◌, ⊎_elim, eqb, List, [], ◌∷◌, ◌++◌, length, map, get_or, sym, ◌∙◌, ap, subst, arith}
 use Rattle.std.specs.Prelude.{◌≢◌}
 use Rattle.std.specs.List.{slice_range}
@@ -14,7 +14,7 @@ use Rattle.region_fronts.specs.Listed.{AreAllPlaced, IsPartList, IsRun, AreRuns,
 
 -- ---- one number after another
 
--- the numbers up to one of them stand before a place, and where the two lists say
+-- the numbers up to one of them are before a place, and where the two lists say
 pub record AreRunsBefore (placed : List Placed) (before place : ℕ) (starts ends : List ℕ) : Type 0 where
   pub within : place ≤ length placed
   pub below : (k : ℕ) (d : Placed) → k < place → (get_or placed k d).number ≤ before
@@ -38,7 +38,7 @@ zero_ends starts ends end h = record {
   end = get_or_append_left ends (end ∷ []) 0 0 h.ends_length ∙ h.end;
 }
 
--- the next number ends where another one stands
+-- the next number ends where another one is
 pub record IsEndOf (placed : List Placed) (place number end : ℕ) : Type 0 where
   pub ordered : place ≤ end
   pub within : end ≤ length placed

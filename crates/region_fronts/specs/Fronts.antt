@@ -11,27 +11,27 @@ pub record FrontsState : Type 0 where
   pub vertices : ℕ
   pub lists : List (List ℕ)
 
--- the list of a region, which has no vertex where there is none
+-- the list of a region, which is empty if there is none
 abbrev pub list_at : List (List ℕ) → ℕ → List ℕ
 list_at lists region = slice_index_or lists region []
 
--- a vertex stands in the list of its label
+-- a vertex is in the list of its label
 abbrev pub IsAtFront : List ℕ → FrontsState → ℕ → Type 0
 IsAtFront labels f v = Contains (list_at f.lists (slice_index labels v)) v
 
--- each open vertex stands in the list of its label, where others may stand too
+-- each open vertex is in the list of its label, and others can be there too
 abbrev pub IsCovered : Graph → List ℕ → FrontsState → Type 0
 IsCovered g labels f = (v : ℕ) → IsOpenAt g labels v → IsAtFront labels f v
 
--- what stands in a list stays in it
+-- what is in a list stays in it
 abbrev pub KeepsAll : FrontsState → FrontsState → Type 0
 KeepsAll f f' = (region v : ℕ) → Contains (list_at f.lists region) v → Contains (list_at f'.lists region) v
 
--- what stands in the list of its label stays in it
+-- what is in the list of its label stays in it
 abbrev pub KeepsFronts : List ℕ → FrontsState → FrontsState → Type 0
 KeepsFronts labels f f' = (v : ℕ) → IsAtFront labels f v → IsAtFront labels f' v
 
--- a vertex stands in the list of its label if it is open, and so does each vertex of a region that an edge joins to it from
+-- a vertex is in the list of its label if it is open, and so does each vertex of a region that an edge joins to it from
 -- another label
 pub record HasEnds (g : Graph) (labels : List ℕ) (f : FrontsState) (v : ℕ) : Type 0 where
   pub itself : IsOpenAt g labels v → IsAtFront labels f v
@@ -41,12 +41,12 @@ pub record HasEnds (g : Graph) (labels : List ℕ) (f : FrontsState) (v : ℕ) :
 abbrev pub AreFew : ℕ → List ℕ → Type 0
 AreFew n labels = (v : ℕ) → slice_index labels v ≤ n + 1
 
--- of two vertices with different labels each that is in a region stands in the list of its label
+-- of two vertices with different labels each that is in a region is in the list of its label
 abbrev pub AreApart : List ℕ → FrontsState → ℕ → ℕ → Type 0
 AreApart labels f v u = slice_index labels v ≢ slice_index labels u →
     (1 ≤ slice_index labels v → IsAtFront labels f v) × (1 ≤ slice_index labels u → IsAtFront labels f u)
 
--- the entry at a place of the list of a region is taken out, and the last one stands in its place
+-- the entry at a place of the list of a region is removed, and the last one takes its place
 abbrev pub taken_out : FrontsState → ℕ → ℕ → FrontsState
 taken_out f region place = record {
   vertices = f.vertices;
@@ -57,7 +57,7 @@ taken_out f region place = record {
 abbrev pub lists_of : List (Vec ℕ) → List (List ℕ)
 lists_of lists = map (λ (l : Vec ℕ). l.items) lists
 
--- a list for each label; for each vertex a label in whose list it stands, or 0; and a stack of labels, which has each label
+-- a list for each label; for each vertex a label in whose list it is, or 0; and a stack of labels, which has each label
 -- whose list is not empty
 pub record IsLaidOut (n : ℕ) (lists : List (List ℕ)) (standing stack : List ℕ) : Type 0 where
   pub lists_length : length lists ≡ n + 2

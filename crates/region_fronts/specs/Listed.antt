@@ -4,8 +4,8 @@ use Rattle.std.specs.List.{All, AllPairs, Contains}
 use Rattle.cut_definitions.specs.Cuts.{has}
 use Rattle.region_fronts.specs.declared.parts.Placed.{Placed}
 
--- how many parts there are; the number of the part that is not listed, 0 where all are; for each vertex from 0 on the number of
--- its part, 0 where it is not listed; the listed vertices, and for each number where the list of that part starts and ends in them
+-- how many parts there are; the number of the part that is not listed, or 0 if all are; for each vertex from 0 on the number of
+-- its part, or 0 if it is not listed; the listed vertices, and for each number where the list of that part starts and ends in them
 pub record PartsState : Type 0 where
   pub count : ℕ
   pub unlisted : ℕ
@@ -38,7 +38,7 @@ pub record AreListed (n : ℕ) (labels : List ℕ) (region : ℕ) (p : PartsStat
   pub inside : (v : ℕ) → 1 ≤ slice_index p.numbers v → slice_index labels v ≡ region
   pub lists : (i : ℕ) → 1 ≤ i → i ≤ p.count → IsPartList p.numbers i (part_list p i)
 
--- the lists of the parts lie in one list
+-- the lists of the parts are in one list
 pub record AreLaidOut (count : ℕ) (list starts ends : List ℕ) : Type 0 where
   pub starts_length : count < length starts
   pub ends_length : count < length ends
@@ -52,14 +52,14 @@ pub record AreAllPlaced (numbers : List ℕ) (placed : List Placed) : Type 0 whe
   pub every : (v : ℕ) → 1 ≤ slice_index numbers v → Contains placed (record { number = slice_index numbers v; vertex = v })
   pub once : AllPairs (λ (p q : Placed). p.vertex ≢ q.vertex) placed
 
--- a number stands at the places from `start` to before `end`, and at no others
+-- a number is at the places from `start` to before `end`, and at no others
 pub record IsRun (placed : List Placed) (number start end : ℕ) : Type 0 where
   pub ordered : start ≤ end
   pub within : end ≤ length placed
   pub inside : (k : ℕ) (d : Placed) → start ≤ k → k < end → (slice_index_or placed k d).number ≡ number
   pub outside : (k : ℕ) (d : Placed) → k < length placed → (slice_index_or placed k d).number ≡ number → (start ≤ k) × (k < end)
 
--- the numbers 1 to `count` stand where the two lists say
+-- the numbers 1 to `count` are where the two lists say
 pub record AreRuns (placed : List Placed) (count : ℕ) (starts ends : List ℕ) : Type 0 where
   pub starts_length : length starts ≡ count + 1
   pub ends_length : length ends ≡ count + 1

@@ -1,4 +1,4 @@
--- A set of vertices divided into parts that closed sets do not part.
+-- A set of vertices divided into parts that closed sets do not separate.
 use Rattle.std.specs.Prelude.{ℕ, Bool, ◌≡◌, ◌≢◌, ◌+◌, ◌<◌, ◌≤◌, List, length, IsTrue}
 use Rattle.cut_definitions.specs.Weight.{VertexSet, HasVertex}
 use Rattle.cut_definitions.specs.Chain.{one_part}

@@ -48,7 +48,7 @@ one_skipped m events k count old new e gone lt is answer =
       shows = subst (λ (v : CoreView). Shows v n) (sym told.1) gone.shows;
     }
 
--- what is told of any answer is told of an error
+-- what holds of any result holds of an error
 pub on_err : {A B : Type 0} (r : Result A B) (P : Type 0) → P → OnErr r P
 on_err (Ok x) P p = tt
 on_err (Err e) P p = p

@@ -132,7 +132,7 @@ kept_lowers m k x kept allowed =
 pub kept_looks : (m : Machine) (k e : ℕ) → IsKept m → IsAllowed m (looks k e) → IsKept (after m (looks k e))
 kept_looks m k e kept allowed = kept
 
--- an edge is marked after a mark where it was before, or is the one
+-- an edge is marked after a mark if it was before, or is the one
 marked_after : (m : Machine) (k e i : ℕ) → ((after m (marks k e)).is_marked i ≡ true) → (i ≡ e) ⊎ (m.is_marked i ≡ true)
 marked_after m k e i is = dite (ℕ_discrete i e) (λ same. inl same) (λ apart. inr (subst (λ b. (if b then true else m.is_marked i) ≡ true) (ne_eqb i e apart) is))
 

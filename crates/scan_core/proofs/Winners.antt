@@ -11,13 +11,13 @@ use Rattle.scan_core.specs.Laws.{LawOfWinners, LawOfMarkers}
 use Rattle.scan_core.proofs.Keeps.{at_or, or_at}
 
 module _ (f : Knows → ℕ) (none : f ended ≡ 0) where
-  -- where the sum is 0, each is 0
+  -- if the sum is 0, each is 0
   all_none : (l : List Knows) → sum_by f l ≡ 0 → (j : ℕ) → f (get_or l j ended) ≡ 0
   all_none l sum j = dite (dec_le (length l) j)
       (λ past. ap f (get_or_past l j ended past) ∙ none)
       (λ within. let le = get_or-le-sum_by f l j ended (omega arith) in omega arith)
 
-  -- where the sum is 1, one is 1 and all others are 0
+  -- if the sum is 1, one is 1 and all others are 0
   only_one : (l : List Knows) → sum_by f l ≡ 1 → (k : ℕ) × (k < length l) × (f (get_or l k ended) ≡ 1) × ((j : ℕ) → j ≢ k → f (get_or l j ended) ≡ 0)
   only_one [] sum = absurd (omega arith)
   only_one (x ∷ xs) sum = first (f x) refl (λ rest. only_one xs rest)

@@ -66,11 +66,11 @@ gains s e = record s { own = e ∷ s.own }
 abbrev pub both : Knows → Knows → Knows
 both s t = record { live = s.live; seen = min s.seen t.seen; own = s.own ++ t.own; won = s.won ++ t.won; known = s.known ++ t.known }
 
--- the vertex is known, and won where it was not taken before
+-- the vertex is known, and won if it was not taken before
 abbrev pub learns : Knows → ℕ → Bool → Knows
 learns s v was = record s { won = if was then s.won else (v ∷ s.won); known = v ∷ s.known }
 
--- how often a vertex stands in a list
+-- how often a vertex is in a list
 abbrev pub times : ℕ → List ℕ → ℕ
 times v xs = count_by (λ x. x == v) xs
 

@@ -1,4 +1,4 @@
--- The machine as a value: what it shows, the events, and what an answer says.
+-- The machine as a value: what it shows, the events, and what a result says.
 use Rattle.std.specs.Prelude.{ℕ, ◌≡◌, ◌≢◌, ◌-◌, ◌<◌, ◌≤◌, ◌↔◌, ◌⊎◌, Bool, true, false, List, [], ◌∷◌, map, length, suc, IsTrue, slice_index_or}
 use Rattle.std.specs.List.{Any}
 use Rattle.cut_definitions.specs.Graph.{Graph}
@@ -10,11 +10,11 @@ use Rattle.scan_core.specs.declared.event.Event.{Event}
 use Rattle.scan_core.specs.declared.event.Event.TheVariants.{Load, Lower, IsMarked, Mark, Split, Join, Take}
 use Rattle.scan_core.specs.Machine.{IsSafeEdge, Knows, Machine, Move, loads, lowers, looks, marks, splits, joins, takes, IsLive, IsAllowed, after, seat_at}
 
--- some minimum cut parts the edge at a place
+-- some minimum cut separates the ends of the edge at a place
 abbrev pub IsParted : Graph → ℕ → Type 0
 IsParted g e = Any (λ side. IsTrue (parts (has side) (edge_at g e).u (edge_at g e).v)) (mincuts g)
 
--- a list of just the edges that some minimum cut parts
+-- a list of exactly the edges whose ends some minimum cut separates
 abbrev pub ArePartedEdges : Graph → List ℕ → Type 0
 ArePartedEdges g edges = (e : ℕ) → e < length g.edges → IsTrue (has edges e) ↔ IsParted g e
 
@@ -30,7 +30,7 @@ pub record CoreView : Type 0 where
 abbrev pub seat_shown : Knows → CoreSeat
 seat_shown s = record { live = s.live; seen = s.seen }
 
--- a core stands for a machine: all is the same but for the three sets of each seat and the opening bound, which it does not keep
+-- a core shows a machine: all is the same except for the three sets of each seat and the opening bound, which it does not keep
 pub record Shows (c : CoreView) (m : Machine) : Type 0 where
   pub graph : c.graph ≡ m.graph
   pub slack : c.slack ≡ m.slack
@@ -53,8 +53,8 @@ move_of g (Split seat) = splits (seat - 1)
 move_of g (Join seat other) = joins (seat - 1) (other - 1)
 move_of g (Take seat vertex) = takes (seat - 1) vertex
 
--- an event is allowed where its seats are live and two; its side is a cut of the graph; its edge is in range, and at a mark
--- safe for the bound that the seat saw last; its vertex is in range; and a split where fewer than 1,000 seats were made
+-- an event is allowed if its seats are live and two; its side is a cut of the graph; its edge is in range, and at a mark
+-- safe for the bound that the seat saw last; its vertex is in range; and a split if fewer than 1,000 seats were made
 abbrev pub IsAllowedEvent : Machine → Event → Type 0
 IsAllowedEvent m (Load seat) = IsLiveSeat m seat
 IsAllowedEvent m (Lower seat side) = IsLiveSeat m seat × (side.vertices ≡ m.graph.vertices) × IsCut m.graph.vertices (has side.members)
@@ -70,7 +70,7 @@ IsAnswer old new event answer = (m : Machine) → Shows old m →
     (answer ≡ true → IsAllowedEvent m event × IsAllowed m (move_of m.graph event) × Shows new (after m (move_of m.graph event)))
     × (answer ≡ false → ¬ IsAllowedEvent m event × (new ≡ old))
 
--- a machine goes through a list of events, each taken in turn where it is allowed and else skipped, and takes so many
+-- a machine goes through a list of events, each taken in turn if it is allowed and else skipped, and takes this many
 abbrev pub Goes : Machine → List Event → ℕ → Machine → Type 0
 Goes m [] count n = (count ≡ 0) × (n ≡ m)
 Goes m (event ∷ events) count n =

@@ -1,4 +1,4 @@
--- What is told where there is nothing to write to `out`.
+-- What is reported if there is nothing to write to `out`.
 use Rattle.std.specs.Prelude.{ℕ, List, ◌++◌, codes}
 use Rattle.std.specs.Fmt.{decimal}
 use Rattle.metis_reader.specs.declared.fault.FaultKind.{FaultKind}

@@ -19,7 +19,7 @@ is_own-is : (parents : List ℕ) (v : ℕ) → is_own parents v ≡ eqb (get_or 
 unfolding is_own
 is_own-is parents v = refl
 
--- so many of the vertices from 1 on are counted, of the first `done` of them
+-- this many of the vertices from 1 on are counted, of the first `done` of them
 pub record IsCounted (parents : List ℕ) (v count : ℕ) : Type 0 where
   pub done : ℕ
   pub next : v ≡ done + 1

@@ -21,11 +21,11 @@ parents-set ps a x are le v l =
     (λ (ne : v ≢ a). omega (arith, get_or-set_other ps a v x 0 ne, are v (omega (arith, length-set ps a x))))
     (cases_eq v a)
 
--- a first of a class stays one where another vertex gets a new parent
+-- a first of a class stays one if another vertex gets a new parent
 pub firsts-set : (ps : List ℕ) (a x u : ℕ) → u ≢ a → get_or ps u 0 ≡ u → get_or (set ps a x) u 0 ≡ u
 firsts-set ps a x u ne first = get_or-set_other ps a u x 0 ne ∙ first
 
--- a set respects the classes with one new parent where it respects all others and has the vertex just where it has that
+-- a set respects the classes with one new parent if it respects all others and has the vertex exactly if it has that
 respects-set : (ps : List ℕ) (a x : ℕ) (s : VertexSet) → a < length ps → s x ≡ s a → ((v : ℕ) → v < length ps → v ≢ a → s (get_or ps v 0) ≡ s v) → Respects (set ps a x) s
 respects-set ps a x s la same others v l =
     ⊎_elim
@@ -68,7 +68,7 @@ linked ps last low l first s = (
   (λ h. respects-set ps last low s l h.1 (λ v lv ne. h.0 v lv)),
 )
 
--- the lesser of two is in a set just where the greater is, if the one is just where the other is
+-- the lesser of two is in a set exactly if the greater is, if the one is exactly if the other is
 either_way : (s : VertexSet) (a b : ℕ) → (s (min a b) ≡ s (max a b)) ↔ (s a ≡ s b)
 either_way s a b =
     ⊎_elim

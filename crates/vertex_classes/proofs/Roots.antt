@@ -5,7 +5,7 @@ use Rattle.std.proofs.lemmas.Bool.{cases_eq, eq-eqb, eqb-true}
 use Rattle.cut_definitions.specs.Weight.{VertexSet}
 use Rattle.vertex_classes.specs.Classes.{AreJoined, AreParents, Respects}
 
--- so many steps from a number to its parent
+-- this many steps from a number to its parent
 climbed : List ℕ → ℕ → ℕ → ℕ
 climbed parents zero v = v
 climbed parents (suc k) v = climbed parents k (get_or parents v 0)
@@ -19,7 +19,7 @@ climbed-parent : (parents : List ℕ) (k v : ℕ) → climbed parents k (get_or 
 unfolding climbed
 climbed-parent parents k v = refl
 
--- one step more changes nothing where there were enough
+-- one step more changes nothing if there were enough
 climbed-more : (parents : List ℕ) → AreParents parents → (k v : ℕ) → v < length parents → v ≤ k → climbed parents (suc k) v ≡ climbed parents k v
 unfolding climbed
 climbed-more parents up zero v l low =

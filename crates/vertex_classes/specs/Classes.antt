@@ -8,11 +8,11 @@ use Rattle.cut_definitions.specs.Weight.{VertexSet}
 abbrev pub AreParents : List ℕ → Type 0
 AreParents parents = (v : ℕ) → v < length parents → slice_index parents v ≤ v
 
--- a set has all vertices of a class or none: it has a vertex just where it has its parent
+-- a set has all vertices of a class or none: it has a vertex exactly if it has its parent
 abbrev pub Respects : List ℕ → VertexSet → Type 0
 Respects parents s = (v : ℕ) → v < length parents → s (slice_index parents v) ≡ s v
 
--- two vertices are in one class where each set that has all of a class or none has both or neither
+-- two vertices are in one class if each set that has all of a class or none has both or neither
 abbrev pub AreJoined : List ℕ → ℕ → ℕ → Type 0
 AreJoined parents u v = (s : VertexSet) → Respects parents s → s u ≡ s v
 
@@ -37,7 +37,7 @@ pub record IsLeastOf (labels : List ℕ) (c vertex : ℕ) : Type 0 where
   pub there : label labels vertex ≡ c
   pub before : (u : ℕ) → 1 ≤ u → u < vertex → label labels u < c
 
--- the vertices from 1 on have one label just where they are in one class, and the labels come up in their order
+-- the vertices from 1 on have one label exactly if they are in one class, and the labels are in their order
 pub record AreNumbersOf (parents labels : List ℕ) : Type 0 where
   pub long : length labels + 1 ≡ length parents
   pub are_labels : IsLabels labels

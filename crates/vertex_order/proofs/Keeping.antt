@@ -18,7 +18,7 @@ numbering_is_labelled g labels h = record { are_labels = h.are_labels; long = h.
 numbering_parts_none : (g : Graph) (labels : List ℕ) → IsNumbering g.vertices labels → PartsNoClass g labels
 numbering_parts_none g labels h = λ k side l u v u1 un v1 vn same. rw (h.apart u v u1 un v1 vn same) (parts_itself (has _ v))
 
--- where each vertex has a label of its own, the value and all minimum cuts are kept
+-- if each vertex has a label of its own, the value and all minimum cuts are kept
 pub numbering_keeps : (g : Graph) → IsGraph g → 2 ≤ g.vertices → (labels : List ℕ) → IsNumbering g.vertices labels → KeepsMinimumCuts g labels
 numbering_keeps g ok two labels h = law_of_contracted_minimum_cuts g ok labels (numbering_is_labelled g labels h) two (numbering_parts_none g labels h)
 

@@ -11,7 +11,7 @@ vertex_at f k = slice_index f.order.items k
 abbrev pub number_of : Finding → ℕ → ℕ
 number_of f v = label f.numbers.items v
 
--- vertex 1 was found first, and the number of each vertex that was found says where it stands
+-- vertex 1 was found first, and the number of each vertex that was found says where it is
 pub record IsFinding (n : ℕ) (f : Finding) : Type 0 where
   pub long : length f.numbers.items ≡ n
   pub some : 1 ≤ length f.order.items

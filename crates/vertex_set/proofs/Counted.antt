@@ -24,7 +24,7 @@ first_bit : (b : Bool) (x w h : ℕ) (rest : List ℕ) → b ≡ eqb (w % 2) 1 �
 first_bit true x w h rest e q = grind arith
 first_bit false x w h rest e q = grind arith
 
--- the numbers that stand for the set bits of a word are as many as these
+-- there are as many numbers for the set bits of a word as such bits
 pub word_ones : (m low w : ℕ) (s : VertexSet) → w < 2 ^ m → ((i : ℕ) → i < m → s (low + i) ≡ eqb (bit_at w i) 1) → length (filter s (range_with_len low m)) ≡ count_ones w
 word_ones zero low w s fits same = let none : w < 1 = fits in omega (arith, ones_le_self w)
 word_ones (suc m) low w s fits same =

@@ -178,7 +178,7 @@ false_of b e = grind arith
 true_of : (b : Bool) → false ≡ not b → b ≡ true
 true_of b e = grind arith
 
--- a set is empty where it has no member from 0 on
+-- a set is empty if it has no member from 0 on
 pub empty_by_next : (s : VertexList) (next : Option ℕ) (none : Bool) → is_some next ≡ not none →
     MatchOption next ((u : ℕ) → 0 ≤ u → has s.members u ≡ false) (IsNextFrom s 0) → IsTrue none ↔ (s.members ≡ [])
 empty_by_next s None none e h = ((λ is. none_is_empty s.members h), (λ is. true_of none e))

@@ -55,7 +55,7 @@ bit_at-masked_low word k i kl l =
     let k_in : k ≤ 64 = omega arith in
     low_of word ((2 ^ 64 - 1) * 2 ^ k % 2 ^ 64) i (2 ^ 64 - 2 ^ k) (ones_shl 64 k k_in) (bit_at_mask_below k 64 i l)
 
--- no bit of the word is set where nothing is left of it from a place on
+-- no bit of the word is set if nothing is left of it from a place on
 pub no_bit_masked : (words : List ℕ) (from : ℕ) → bit_and (get_or words (from / 64) 0) ((2 ^ 64 - 1) * 2 ^ (from % 64) % 2 ^ 64) ≡ 0 → HasNoBit words from ((from / 64 + 1) * 64)
 no_bit_masked words from e k l u =
     let at = from / 64 in

@@ -24,7 +24,7 @@ difference-swap a b place h = record {
   same_before = λ k l. sym (h.same_before k l);
 }
 
--- where the bit is set for s, and some bit from it on is set for t, then s comes first, and else t
+-- if the bit is set for s, and some bit from it on is set for t, then s comes first, and else t
 pub compared_at : (m n : ℕ) (a b : List ℕ) (s t : VertexList) → AreWords m a → AreWords n b → listed m (has_bit a) ≡ s → listed n (has_bit b) ≡ t →
     (place : ℕ) → IsFirstDifference a b place → has_bit a place ≡ true → (order rest : Ordering) → IsOrderAt b place order →
     (order ≡ ordering_then (slice_cmp nat_cmp s.members t.members) rest) × (ordering_reverse order ≡ ordering_then (slice_cmp nat_cmp t.members s.members) rest)
@@ -43,7 +43,7 @@ compared_at m n a b s t ka kb va vb place d is order rest h =
     (none.0 ∙ sym (then_greater st rest e.0), ap ordering_reverse none.0 ∙ sym (then_less ts rest e.1)))
     h
 
--- where no bit differs, n decides
+-- if no bit differs, n decides
 pub compared_all : (m n : ℕ) (a b : List ℕ) (s t : VertexList) → AreWords m a → AreWords n b → listed m (has_bit a) ≡ s → listed n (has_bit b) ≡ t →
     ((k : ℕ) → k / 64 < length a → k / 64 < length b → has_bit a k ≡ has_bit b k) →
     nat_cmp m n ≡ ordering_then (slice_cmp nat_cmp s.members t.members) (nat_cmp s.vertices t.vertices)

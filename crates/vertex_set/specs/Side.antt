@@ -49,7 +49,7 @@ pub record IsFirstDifference (words others : List ℕ) (place : ℕ) : Type 0 wh
   pub differ : has_bit words place ≢ has_bit others place
   pub same_before : (k : ℕ) → k < place → has_bit words k ≡ has_bit others k
 
--- the order is Less where some bit from a place on is set, and Greater where none is
+-- the order is Less if some bit from a place on is set, and Greater if none is
 abbrev pub IsOrderAt : List ℕ → ℕ → Ordering → Type 0
 IsOrderAt words place order =
     ((order ≡ Less) × (k : ℕ) × (place ≤ k) × (has_bit words k ≡ true))

@@ -69,7 +69,7 @@ lift_some labels h c side l u is e =
     let v = vertex_of labels h c l u in
     has_none (lift labels side) v.0 e (has-lift labels side v.0 v.1 v.2 ∙ (ap (has side) v.3 ∙ is))
 
--- where there is a class there is a vertex
+-- if there is a class there is a vertex
 some_vertex : (labels : List ℕ) → (c : ℕ) → 1 ≤ c → c ≤ classes labels → 1 ≤ length labels
 some_vertex [] c l u = absurd (omega arith)
 some_vertex (x ∷ xs) c l u = omega arith
@@ -267,7 +267,7 @@ law_of_contracted_minimum_cuts g ok labels h two whole =
           Contains-mincuts g (lift labels small) side (weight-lift g ok labels fits h.long small ∙ (s.1 ∙ same));
     }
 
--- where a minimum cut parts no class there are two classes
+-- if a minimum cut separates no class there are two classes
 pub kept_classes : (g : Graph) → IsGraph g → (labels : List ℕ) → IsLabelled g labels → PartsNoClass g labels → (side : List ℕ) → Contains (mincuts g) side → 2 ≤ classes labels
 unfolding relabel
 kept_classes g ok labels h whole side is =

@@ -66,7 +66,7 @@ components_counted g parents count long of_graph h =
       later = λ v l u is. let w = h.later v l (omega arith) is in (w.0, w.1, w.2, λ s none. w.3 s ((of_graph s).1 none));
     }
 
--- ---- no component just where there is no vertex
+-- ---- no component exactly if there is no vertex
 
 none_within : (high : ℕ) (s : List ℕ) → IsAscendingWithin 1 high s → high ≡ 0 → length s ≡ 0
 none_within high [] a e = refl

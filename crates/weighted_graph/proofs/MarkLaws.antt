@@ -31,7 +31,7 @@ law_of_kept_contraction g ok labels h two bound fair safe =
     let none : PartsNoClass g labels = λ k d l u v u1 un v1 vn same. safe u v u1 un v1 vn same (omega arith) k d l in
     law_of_contracted_minimum_cuts g ok labels h two none
 
--- a pair is safe where each minimum cut that parts it reaches the limit
+-- a pair is safe if each minimum cut that separates it reaches the limit
 pub safe_from_cuts : (g : Graph) → IsGraph g → (bound slack u v : ℕ) →
     ((s : VertexSet) → IsMinimumCut g s → parts s u v ≡ true → bound + slack ≤ weight g s) → IsSafe g bound slack u v
 safe_from_cuts g ok bound slack u v reaches less k d l =

@@ -41,7 +41,7 @@ merged_edge_list n sorted count merged current h few_n few_m total =
       few_edges = omega (arith, length_push merged.edges current, h.few);
     }
 
--- where all edges are merged each test weighs what it weighed
+-- if all edges are merged each test weighs what it weighed
 pub merged_all : (n : ℕ) (sorted : List Edge) (count : ℕ) (merged longer : Graph) (current : Edge) → IsMerged n sorted count merged current → longer ≡ with_edge merged current → take count sorted ≡ sorted →
     (f : ℕ → ℕ → Bool) → sum_by (term f) longer.edges ≡ sum_by (term f) sorted
 merged_all n sorted count merged longer current h longer_is whole f =

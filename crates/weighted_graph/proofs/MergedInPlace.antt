@@ -16,7 +16,7 @@ weight_of e = e.w
 abbrev front_of : ℕ → ℕ → List Edge → Graph
 front_of n kept slots = record { vertices = n; edges = take kept slots }
 
--- the first edges of a sorted list were merged into the front of it and the current edge; the others stand where they stood
+-- the first edges of a sorted list were merged into the front of it and the current edge; the others are where they were
 pub record IsMergedInPlace (sorted slots : List Edge) (k kept : ℕ) (current : Edge) : Type 0 where
   pub merged : (n : ℕ) → All (IsEdgeWithin n) sorted → IsMerged n sorted k (front_of n kept slots) current
   pub rest : (i : ℕ) → k ≤ i → get_or slots i no_edge ≡ get_or sorted i no_edge
@@ -81,6 +81,6 @@ module _ (sorted slots : List Edge) (k kept n : ℕ) (current : Edge) (h : IsMer
   pub in_place_weights : (f : ℕ → ℕ → Bool) → sum_by (term f) longer.edges ≡ sum_by (term f) sorted
   in_place_weights = merged_all n sorted k (front_of n kept slots) longer current (h.merged n within) longer_is whole
 
--- what stands in a list whose slice was written back, and that was cut off then
+-- what is in a list whose slice was written back, and that was cut off then
 pub taken_front : (slots ys : List Edge) (len count : ℕ) → length slots ≡ len → take count (take len (slots ++ ys)) ≡ take count slots
 taken_front slots ys len count long = ap (take count) (take_at slots ys len long)

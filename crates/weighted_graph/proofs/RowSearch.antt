@@ -62,7 +62,7 @@ comparisons_rise row up v =
     rise : (a b v : ℕ) → a ≤ b → ordering_index (nat_cmp a v) ≤ ordering_index (nat_cmp b v)
     rise a b v le = grind (arith, nat_tests)
 
--- what a binary search by the other end answers
+-- what a binary search by the other end returns
 pub searched_row : (row : List Arc) → Ascends row → (v : ℕ) (r : Result ℕ ℕ) → IsSearchInRange r (length row) → IsBinarySearchResult (λ (a : Arc). nat_cmp a.to v) row r →
     MatchResult r (λ place. (get_or row place no_arc).weight ≡ sum_by (to_term v) row) (λ place. 0 ≡ sum_by (to_term v) row)
 searched_row row up v (Ok place) in_range equal = found row up v place in_range (ranked _ v _ (sym (equal no_arc)))

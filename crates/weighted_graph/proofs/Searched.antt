@@ -26,7 +26,7 @@ seen-more seen x v l is =
 pub seen-before : (seen : List Bool) (x v : ℕ) → v ≢ x → is_seen (set seen x true) v ≡ true → is_seen seen v ≡ true
 seen-before seen x v ne is = sym (get_or-set_other seen x v true false ne) ∙ is
 
--- a mark counts for one where it is missing
+-- a mark counts for one if it is missing
 abbrev missing : Bool → ℕ
 missing b = if not b then 1 else 0
 

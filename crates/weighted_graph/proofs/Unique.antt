@@ -29,7 +29,7 @@ pair_weight-here : (e : Edge) (es : List Edge) → All (IsBefore e) es → pair_
 pair_weight-here e es after =
     omega (arith, sum_by-cons (pair_term e.u e.v) e es, pair_term-same e.u e.v e.w, pair_weight-after e.u e.v es after)
 
--- the first edge of a list comes before all of another, where its pair weighs nothing
+-- the first edge of a list comes before all of another, if its pair weighs nothing
 not_first : (n : ℕ) (e d : Edge) (es ds : List Edge) → IsEdgeWithin n e → AllPairs IsBefore (e ∷ es) → AllPairs IsBefore (d ∷ ds) →
     pair_weight (e ∷ es) e.u e.v ≡ pair_weight (d ∷ ds) e.u e.v → IsBefore e d → ⊥
 not_first n e d es ds he hes hds same before =

@@ -13,12 +13,12 @@ pub record IsLabelled (g : Graph) (labels : List ℕ) : Type 0 where
   pub are_labels : IsLabels labels
   pub long : length labels ≡ g.vertices
 
--- no minimum cut parts two vertices of one class
+-- no minimum cut separates two vertices of one class
 abbrev pub PartsNoClass : Graph → List ℕ → Type 0
 PartsNoClass g labels =
     All (λ side. (u v : ℕ) → 1 ≤ u → u ≤ g.vertices → 1 ≤ v → v ≤ g.vertices → label labels u ≡ label labels v → parts (has side) u v ≡ false) (mincuts g)
 
--- the value stays, and the minimum cuts are just the lifted ones of the contracted graph
+-- the value stays, and the minimum cuts are exactly the lifted ones of the contracted graph
 pub record KeepsMinimumCuts (g : Graph) (labels : List ℕ) : Type 0 where
   pub same_value : value (relabel g labels) ≡ value g
   pub each_is_lifted : (side : List ℕ) → Contains (mincuts g) side → (small : List ℕ) × Contains (mincuts (relabel g labels)) small × (lift labels small ≡ side)
@@ -51,7 +51,7 @@ abbrev pub ClassesAreSafe : Graph → List ℕ → ℕ → ℕ → Type 0
 ClassesAreSafe g labels bound slack =
     (u v : ℕ) → 1 ≤ u → u ≤ g.vertices → 1 ≤ v → v ≤ g.vertices → label labels u ≡ label labels v → IsSafe g bound slack u v
 
--- where all pairs of a class are safe for a fair bound, the value is the lesser of the bound and the contracted graph's value, or the bound where one class is left
+-- if all pairs of a class are safe for a fair bound, the value is the lesser of the bound and the contracted graph's value, or the bound if one class is left
 abbrev pub LawOfSafeContraction : Type 0
 LawOfSafeContraction = (g : Graph) → IsGraph g → (labels : List ℕ) → IsLabelled g labels → 2 ≤ g.vertices → (bound : ℕ) → IsFair g bound → ClassesAreSafe g labels bound 0 →
     value g ≡ (if nat_lt (classes labels) 2 then bound else min bound (value (relabel g labels)))

@@ -7,11 +7,11 @@ use Rattle.cut_definitions.specs.Contraction.{label}
 use Rattle.weighted_graph.specs.RowLaws.{edge_at}
 use Rattle.weighted_graph.specs.ContractionLaws.{IsLabelled, ClassesAreSafe, KeepsMinimumCuts}
 
--- a set parts no marked edge: it has both of its ends or none
+-- a set separates the ends of no marked edge: it has both or none
 abbrev pub PartsNoMark : Graph → (ℕ → Bool) → VertexSet → Type 0
 PartsNoMark g marked s = (i : ℕ) → i < length g.edges → IsTrue (marked i) → s (edge_at g i).u ≡ s (edge_at g i).v
 
--- marked edges join two vertices, in one step or several: no set parts them that parts no marked edge
+-- marked edges join two vertices, in one step or several: no set separates them that separates the ends of no marked edge
 abbrev pub AreJoinedByMarks : Graph → (ℕ → Bool) → ℕ → ℕ → Type 0
 AreJoinedByMarks g marked u v = (s : VertexSet) → PartsNoMark g marked s → s u ≡ s v
 
@@ -34,7 +34,7 @@ abbrev pub LawOfMarkedClasses : Type 0
 LawOfMarkedClasses = (g : Graph) (labels : List ℕ) (marked : ℕ → Bool) (bound slack : ℕ) → MarksAreSafe g marked bound slack →
     ClassesAreJoined g labels marked → ClassesAreSafe g labels bound slack
 
--- where all pairs of a class are safe for a fair bound with slack 1, contraction keeps the value and all minimum cuts
+-- if all pairs of a class are safe for a fair bound with slack 1, contraction keeps the value and all minimum cuts
 abbrev pub LawOfKeptContraction : Type 0
 LawOfKeptContraction = (g : Graph) → IsGraph g → (labels : List ℕ) → IsLabelled g labels → 2 ≤ g.vertices →
     (bound : ℕ) → IsFair g bound → ClassesAreSafe g labels bound 1 → KeepsMinimumCuts g labels

@@ -19,7 +19,7 @@ pair_term a b = term (λ u v. (u == a) && (v == b))
 abbrev pub pair_weight : List Edge → ℕ → ℕ → ℕ
 pair_weight es a b = sum_by (pair_term a b) es
 
--- an edge between the classes of its ends, where these are two
+-- an edge between the classes of its ends, if these are two
 abbrev pub between_classes : List ℕ → Edge → List Edge
 between_classes labels e =
     if label labels e.u == label labels e.v then []

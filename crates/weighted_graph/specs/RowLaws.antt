@@ -22,14 +22,14 @@ pub record IsArcAt (g : Graph) (v : ℕ) (a : Arc) : Type 0 where
   pub ends : (((edge_at g a.edge).u ≡ v) × ((edge_at g a.edge).v ≡ a.to)) ⊎ (((edge_at g a.edge).v ≡ v) × ((edge_at g a.edge).u ≡ a.to))
   pub same_weight : a.weight ≡ (edge_at g a.edge).w
 
--- the row of a vertex: just its edges, ascending by the other end
+-- the row of a vertex: exactly its edges, ascending by the other end
 pub record IsRowAt (g : Graph) (v : ℕ) (row : List Arc) : Type 0 where
   pub arcs : All (IsArcAt g v) row
   pub ascending : AllPairs (λ (a b : Arc). a.to < b.to) row
   pub degree : sum_by (λ (a : Arc). a.weight) row ≡ weight g (single v)
   pub weight_to : (s : VertexSet) → sum_by (λ (a : Arc). if s a.to then a.weight else 0) row ≡ weight_to g v s
 
--- each edge stands in the rows of both its ends
+-- each edge is in the rows of both its ends
 pub record StandsInRows (g : Graph) (i : ℕ) (e : Edge) : Type 0 where
   pub of_lesser : Contains (row_of g e.u) (record { to = e.v; edge = i; weight = e.w })
   pub of_greater : Contains (row_of g e.v) (record { to = e.u; edge = i; weight = e.w })

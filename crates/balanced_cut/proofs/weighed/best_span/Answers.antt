@@ -1,4 +1,4 @@
--- The search begins with the first cut, and ends where all ranges were weighed.
+-- The search begins with the first cut, and ends when all ranges were weighed.
 use Rattle.std.proofs.Common.{◌≡◌, ◌<◌, [], drop, subst, arith}
 use Rattle.rooted_cactus.specs.Borders.{border_at, ranges_between}
 use Rattle.cactus_walk.specs.Weighing.{range_of}

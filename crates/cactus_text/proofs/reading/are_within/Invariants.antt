@@ -1,4 +1,4 @@
--- The answer for all numbers is that for those to come.
+-- The result for all numbers is that for those to come.
 use Rattle.std.proofs.Common.{◌≡◌, ◌&&◌, nat_le, nat_lt, drop}
 use Rattle.std.specs.List.{list_all}
 use Rattle.cactus_text.proofs.reading.are_within.Given as goal

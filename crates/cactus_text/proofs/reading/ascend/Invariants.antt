@@ -1,4 +1,4 @@
--- The answer for all numbers is that for those to come.
+-- The result for all numbers is that for those to come.
 use Rattle.std.proofs.Common.{◌≡◌, drop}
 use Rattle.cactus_text.specs.Reading.{ascends}
 use Rattle.cactus_text.proofs.reading.ascend.Given as goal

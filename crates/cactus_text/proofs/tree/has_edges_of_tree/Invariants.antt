@@ -1,4 +1,4 @@
--- The bridges and the edges of the cycles so far, or 2^64 - 1 where these are more.
+-- The bridges and the edges of the cycles so far, or 2^64 - 1 if these are more.
 use Rattle.std.proofs.Common.{◌≡◌, ◌+◌, ◌-◌, ◌≤◌, ◌<◌, ◌^◌, length, drop}
 use Rattle.std.specs.List.{sum_by}
 use Rattle.cactus_text.proofs.tree.has_edges_of_tree.Given as goal

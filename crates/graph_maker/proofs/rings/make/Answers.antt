@@ -1,4 +1,4 @@
--- What stands in the list behind the last ring is the list of the made graph.
+-- What is in the list after the last ring is the list of the made graph.
 use Rattle.std.proofs.Common.{◌/◌, ◌∙◌, arith}
 use Rattle.graph_maker.proofs.Making.{ring_added, made_list, is_made}
 use Rattle.graph_maker.proofs.rings.make.Goals as goal

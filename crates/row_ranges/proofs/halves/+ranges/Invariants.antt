@@ -1,4 +1,4 @@
--- Each half has fewer workers than the whole, where there are two or more.
+-- Each half has fewer workers than the whole, if there are two or more.
 use Rattle.std.proofs.Common.{◌+◌, ◌*◌}
 use Rattle.std.specs.Prelude.{max}
 use Rattle.row_ranges.proofs.halves.+ranges.Given as goal

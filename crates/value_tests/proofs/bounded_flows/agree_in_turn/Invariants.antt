@@ -1,4 +1,4 @@
--- The flow stands for the graph after each run.
+-- The flow fits the graph after each run.
 use Rattle.max_flow.specs.Flow.{StandsFor}
 use Rattle.value_tests.proofs.bounded_flows.agree_in_turn.Given as goal
 

@@ -1,4 +1,4 @@
--- The merged edges stand at the front of the list, which is cut off behind them.
+-- The merged edges are at the front of the list, which is cut off after them.
 use Rattle.std.proofs.Common.{◌≡◌, List, length, ap, subst, sym, ◌∙◌, arith}
 use Rattle.std.specs.Prelude.{All}
 use Rattle.std.specs.List.{sum_by}

@@ -1,4 +1,4 @@
--- The answer for all vertices is that for those to come.
+-- The result for all vertices is that for those to come.
 use Rattle.std.proofs.Common.{◌≡◌, not, false, slice_index_or, drop}
 use Rattle.std.specs.List.{list_all}
 use Rattle.cactus_text.proofs.sets.Seen.has_none.Given as goal

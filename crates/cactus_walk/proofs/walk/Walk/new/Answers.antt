@@ -1,4 +1,4 @@
--- A new walk stands before the first cut of the places of all cuts that it keeps.
+-- A new walk is before the first cut of the places of all cuts that it keeps.
 use Rattle.std.proofs.Common.{◌∙◌, [], ap, sym, map, length, refl, subst, arith}
 use Rattle.std.specs.Prelude.{◌↔◌}
 use Rattle.std.specs.List.{All, Contains}

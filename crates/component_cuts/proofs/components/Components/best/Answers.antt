@@ -7,7 +7,7 @@ use Rattle.component_cuts.specs.Sums.{IsSmall}
 use Rattle.component_cuts.proofs.Divided.{length_divided}
 use Rattle.component_cuts.proofs.components.Components.best.Goals as goal
 
--- the number of components and the sum, as they are and as they are told
+-- the number of components and the sum, as they are and as they are reported
 entries : (P : ℕ → Type 0) (count total parts all : ℕ) → count ≡ parts → total ≡ all → P (count * (total + 1)) → P (parts * (all + 1))
 entries P count total parts all e f h = subst (λ (k : ℕ). P (k * (all + 1))) e (subst (λ (k : ℕ). P (count * (k + 1))) f h)
 

@@ -1,4 +1,4 @@
--- Where no path is left the marked vertices are the source side; else the amount went from s to t.
+-- If no path is left the marked vertices are the source side; else the amount went from s to t.
 use Rattle.std.proofs.Common.{refl, sym, ◌∙◌, subst, ap, arith}
 use Rattle.std.proofs.lemmas.List.{with_items_is}
 use Rattle.cut_definitions.specs.Cuts.{has}
@@ -41,7 +41,7 @@ invariant_of-self-2 c =
     (laid_out-same i.n i.starts.items i.residuals.items i.residuals.items i.marks.items c.clear-2.new.marks i.steps.items c.search-count.new.steps i.source i.source
     c.self.invariant refl (omega arith) (omega arith) c.self.invariant.source_vertices c.clear-2.ensures)
 
--- what contracts see of the flow changes in nothing but `toward`, and in the source where no path is left
+-- what contracts see of the flow changes in nothing but `toward`, and in the source if no path is left
 pub returns-then-mark-eq0-clause-sizes : goal.returns-then-mark-eq0-clause-sizes
 returns-then-mark-eq0-clause-sizes c =
     let i = c.self.inside in

@@ -1,4 +1,4 @@
--- An entry that has another label, or is not open, is taken out. Where none is left, no vertex is open.
+-- An entry that has another label, or is not open, is removed. If none is left, no vertex is open.
 use Rattle.std.proofs.Common.{◌≡◌, ◌<◌, length, get_or, ap, sym, ◌∙◌, subst}
 use Rattle.region_fronts.specs.Open.{IsShutAt}
 use Rattle.region_fronts.specs.Fronts.{FrontsState, IsCovered, list_at}

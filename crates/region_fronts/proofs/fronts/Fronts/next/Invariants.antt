@@ -1,4 +1,4 @@
--- Each open vertex stands in its list.
+-- Each open vertex is in its list.
 use Rattle.std.proofs.Common.{◌≡◌, length}
 use Rattle.std.specs.List.{sum_by}
 use Rattle.region_fronts.specs.Fronts.{IsCovered}

@@ -1,4 +1,4 @@
--- The ends of the vertices so far stand in their lists.
+-- The ends of the vertices so far are in their lists.
 use Rattle.std.proofs.Common.{◌≡◌, take}
 use Rattle.std.specs.List.{All}
 use Rattle.region_fronts.specs.Fronts.{KeepsAll, HasEnds}

@@ -1,4 +1,4 @@
--- The ends of the arcs so far stand in their lists.
+-- The ends of the arcs so far are in their lists.
 use Rattle.std.proofs.Common.{◌≡◌, take}
 use Rattle.std.specs.List.{All}
 use Rattle.weighted_graph.specs.declared.graph.Arc.{Arc}

@@ -1,4 +1,4 @@
--- What stands in the list is a vertex, and is left in it elsewhere.
+-- What is in the list is a vertex, and is left in it elsewhere.
 use Rattle.std.proofs.Common.{ℕ, ◌<◌, List, length, set, arith, sym, ◌∙◌, subst, ap}
 use Rattle.std.proofs.lemmas.List.{length-map, get_or_default}
 use Rattle.std.specs.Global.{Vec}

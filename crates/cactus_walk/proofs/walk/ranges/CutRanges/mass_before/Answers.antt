@@ -1,4 +1,4 @@
--- A border stands at a place of the list or at its end.
+-- A border is at a place of the list or at its end.
 use Rattle.std.proofs.Common.{◌<◌, ap, arith, length, slice_index}
 use Rattle.std.proofs.lemmas.Grind.{get_or_default_zero}
 use Rattle.cactus_walk.proofs.Stepping.{border_is, place_within}
