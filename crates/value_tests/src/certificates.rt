@@ -46,7 +46,7 @@ fn passes(graph: &Graph, test: Test, edge: usize, bound: u64, slack: u64) -> boo
     }
 }
 
-// The triangle with the weights 5, 1 and 4: vertex 1 has degree 6, of which edge 0 is 5; vertex 3
+// The triangle with the weights 5, 1 and 4. Vertex 1 has degree 6, of which edge 0 is 5. Vertex 3
 // has degree 5, and edge 2 is 4 of the degree 9 of vertex 2.
 const UNEVEN: &str = "3 3 1\n2 5 3 1\n1 5 3 4\n1 1 2 4\n";
 

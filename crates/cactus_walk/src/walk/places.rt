@@ -30,8 +30,8 @@ pub struct CutPlaces {
     pub borders: Vec<Border>,
 }
 
-/// The vertices of a cactus in the order in which the tree is entered, the borders of the ranges
-/// that are sides, and which of the cuts a walk leaves out.
+/// The vertices of a cactus in the order of entering, the borders of the ranges that are sides,
+/// and which of the cuts a walk leaves out.
 #[derive(Drop)]
 pub struct KeptPlaces {
     /// All vertices, in the order in which the tree is entered.
