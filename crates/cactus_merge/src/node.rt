@@ -107,7 +107,7 @@ fn top_vertices(
 }
 
 /// The node of a part of a chain, made of the root of its cactus: it has the vertices of the part,
-/// with the chain's ends.
+/// with the chain's ends. It fails only if it runs out of memory.
 pub fn part_node(
     alloc: Global,
     chain: &Chain,

@@ -190,7 +190,7 @@ fn leading_number(text: &[u8]) -> Option<(u64, usize)>
 }
 
 /// Whether a line is a word and exactly as many numbers as the room has places. If so, they are
-/// put into the room.
+/// put into the room; otherwise some places can be overwritten. One step for each byte.
 pub fn read_numbers(word: &[u8], line: &[u8], room: &mut [u64]) -> bool
     requires { IsWord word.now }
     ensures all { result ≡ true → numbers_of word.now line.now ≡ Some room.new }
@@ -209,7 +209,7 @@ pub fn read_numbers(word: &[u8], line: &[u8], room: &mut [u64]) -> bool
 }
 
 /// Whether a line is a word and some numbers. If so, they are put into the room in place of what
-/// was there.
+/// was there. One step for each byte. It fails only if it runs out of memory.
 pub fn read_line(word: &[u8], line: &[u8], room: &mut Vec<u64>) -> Result<bool, NoMemory>
     requires { IsWord word.now }
     ensures all { IfOk result (λ b. b ≡ true → numbers_of word.now line.now ≡ Some room.new.items) }

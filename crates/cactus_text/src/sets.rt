@@ -45,7 +45,7 @@ impl Seen {
         }
     }
 
-    /// Whether none of the vertices is there.
+    /// Whether none of the vertices is there. One step for each.
     pub fn has_none(&self, vertices: &[u64]) -> bool
         ensures { result ≡ list_all (λ v. not (slice_index_or self.now v false)) vertices.now }
     {
@@ -69,7 +69,8 @@ impl Seen {
         Ok(())
     }
 
-    /// Inserts vertices. It fails only if it runs out of memory.
+    /// Inserts vertices. It takes a step for each of them and for each number by which the set
+    /// grows, and fails only if it runs out of memory.
     pub fn add(&mut self, vertices: &[u64]) -> Result<(), NoMemory>
         ensures { OnOk result ((u : ℕ) → slice_index_or self.new u false ≡ (has vertices.now u || slice_index_or self.old u false)) }
     {
@@ -81,7 +82,7 @@ impl Seen {
         Ok(())
     }
 
-    /// Whether all vertices of 1 to n are there.
+    /// Whether all vertices of 1 to n are there, in O(n).
     pub fn has_all(&self, n: u32) -> bool
         ensures { result ≡ list_all (λ v. slice_index_or self.now v false) (range_with_len 1 n) }
     {
@@ -151,7 +152,7 @@ impl Joined {
         self.above[a.max(b)] = a.min(b);
     }
 
-    /// Joins the nodes of a cycle by its edges.
+    /// Joins the nodes of a cycle by its edges, one join for each.
     pub fn join_along(&mut self, cycle: &[u64])
         requires below { All (λ i. i < length self.old.above.items) cycle.now }
         requires some { 0 < length cycle.now }
@@ -164,7 +165,8 @@ impl Joined {
         self.join(cycle[cycle.len() - 1] as usize, cycle[0] as usize);
     }
 
-    /// Whether all nodes are joined, so that only the first is the least of its set.
+    /// Whether all nodes are joined, so that only the first is the least of its set. One step for
+    /// each node.
     pub fn is_one(&self) -> bool
         ensures { (labels : List ℕ) → IsLabelled self.now.above.items labels → result ≡ list_all (λ l. l == slice_index labels 0) labels }
     {

@@ -11,7 +11,7 @@ use region_flow::residual::carry;
 use weighted_graph::Graph;
 
 /// Pushes an amount from the first vertex of the order to that at a place, arc by arc from its
-/// end.
+/// end. One step for each arc of the path.
 pub fn push(graph: &Graph, toward: &mut [u64], steps: &[Step], place: u32, amount: u64)
     requires edge_list { IsEdgeList graph.now }
     requires residual { IsResidual graph.now toward.old }

@@ -11,8 +11,8 @@ use region_flow::residual::residual_on;
 use std::alloc::Global;
 use weighted_graph::Graph;
 
-/// Where the row of each vertex from 0 to n begins, and where the last ends. It takes 8 bytes a
-/// vertex, and fails only if it runs out of memory.
+/// Where the row of each vertex from 0 to n begins, and where the last ends. It takes O(n) steps
+/// and 8 bytes a vertex, and fails only if it runs out of memory.
 pub fn starts_of(alloc: Global, graph: &Graph) -> Result<Vec<usize>, NoMemory>
     ensures { IfOk result (λ starts. AreStarts graph.now starts.items) }
 {
@@ -39,7 +39,7 @@ fn fill_row(graph: &Graph, v: u32, toward: &[u64], residuals: &mut [u64])
     }
 }
 
-/// Writes the residual of each arc of all rows.
+/// Writes the residual of each arc of all rows, in O(n + m).
 pub fn fill(graph: &Graph, toward: &[u64], starts: &[usize], residuals: &mut [u64])
     requires residual { IsResidual graph.now toward.now }
     requires starts { AreStarts graph.now starts.now }

@@ -93,7 +93,8 @@ fn expand(
     count
 }
 
-/// Searches from `s`, the vertices of fewest arcs first, until `t` is reached.
+/// Searches from `s`, the vertices of fewest arcs first, until `t` is reached, and returns the
+/// number of vertices that were reached. It takes at most O(n + m), and only for what it reaches.
 pub fn search(
     graph: &Graph,
     toward: &[u64],

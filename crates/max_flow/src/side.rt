@@ -23,7 +23,7 @@ fn set(side: &mut Side, v: u32, is_in: bool)
     }
 }
 
-/// Makes a set that of the vertices that are marked.
+/// Makes a set that of the vertices that are marked. One step for each vertex of 1 to n.
 pub fn assign(side: &mut Side, marks: &[u32])
     requires length { length marks.now ≡ side.old.vertices + 1 }
     requires none { order_mark marks.now 0 ≡ 0 }

@@ -54,7 +54,8 @@ fn bare_command<'a>(alloc: Global) -> clap::Command<'a>
         .disable_help_flag(true)
 }
 
-/// A job, its further values and the options for the number of workers and the least balance.
+/// A job, its further values, and the options for the number of workers and the least balance. It
+/// fails only if it runs out of memory.
 pub fn command_line<'a>(alloc: Global) -> Result<clap::Command<'a>, NoMemory>
     ensures { IfOk result (λ command. app_of command ≡ mincut) }
 {

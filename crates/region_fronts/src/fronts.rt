@@ -348,7 +348,7 @@ impl Fronts {
     }
 
     /// Puts the ends of several vertices, each as `put_ends` does. One step for each arc of their
-    /// rows.
+    /// rows. If it runs out of memory, what was put so far stays.
     pub fn put_all_ends(
         &mut self,
         graph: &Graph,
@@ -373,7 +373,8 @@ impl Fronts {
     /// the place.
     ///
     /// Entries at the place that have another label by now are removed first; the last entry takes
-    /// the place of each. So the list never grows, and nothing before the place changes.
+    /// the place of each. So the list never grows, and nothing before the place changes. One step
+    /// for each entry that is removed.
     pub fn read(&mut self, labels: &[u32], region: u32, place: usize) -> Option<u32>
         requires { length labels.now ≡ self.old.vertices + 1 }
         ensures vertices { self.new.vertices ≡ self.old.vertices }

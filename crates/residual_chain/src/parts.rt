@@ -20,7 +20,7 @@ use vertex_set::Side;
 use weighted_graph::Graph;
 
 /// The first part, which is the source side of the flow; the other vertices have no part yet. It
-/// takes 4 bytes a vertex, and fails only if it runs out of memory.
+/// takes O(n) steps and 4 bytes a vertex, and fails only if it runs out of memory.
 pub fn source_part(alloc: Global, source: &Side) -> Result<Vec<u32>, NoMemory>
     ensures { IfOk result (λ r. IsSourcePart source.now.vertices source.now.members r.items) }
 {
