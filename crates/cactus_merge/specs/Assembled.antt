@@ -35,7 +35,7 @@ interval_sides c first count = flat_map (λ a. map (λ b. side_between c a b) (r
 abbrev pub run_sides : ChainView → Run → List (List ℕ)
 run_sides c r = interval_sides c r.first (r.last + 1 - r.first)
 
--- whether a vertex of a part's cactus represents a vertex: 1 each that is not in the list, j + 1 vertex j of it
+-- whether a vertex of a part's cactus represents a vertex: 1 each that is not in the list, and j + 1 the j-th of it
 abbrev pub stands_for : List ℕ → ℕ → ℕ → Bool
 stands_for own u v = if u == 1 then not (has own v) else slice_index_or own (u - 2) 0 == v
 

@@ -16,7 +16,7 @@ use residual_chain::Chain;
 use rooted_cactus::{Node, VertexList, rename_node};
 use std::alloc::Global;
 
-/// The names of the vertices of a part's cactus: 1 stays, and j + 1 becomes vertex j of the list.
+/// The names of the vertices of a part's cactus: 1 stays, and j + 1 becomes the j-th of the list.
 fn names_of(alloc: Global, own: &VertexList) -> Result<Vec<u32>, NoMemory>
     ensures { IfOk result (λ v. v.items ≡ names_by own.now) }
 {

@@ -15,7 +15,7 @@ use rooted_cactus::{Cactus, Children, VertexList};
 use std::alloc::Global;
 
 /// The cactus of a part of a chain. Vertex 1 represents all vertices that are not in the list, and
-/// vertex j + 1 represents vertex j of the list.
+/// vertex j + 1 represents the j-th vertex of the list.
 #[derive(Drop)]
 pub struct PartCactus {
     pub cactus: Cactus,
