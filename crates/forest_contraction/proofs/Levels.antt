@@ -1,13 +1,16 @@
 -- What is done to one level, and to some of them.
-use Rattle.std.proofs.Common.{◌≡◌, ℕ, ◌+◌, ◌<◌, ◌≤◌, ⊎_elim, inl, inr, List, [], ◌∷◌, ◌++◌, length, get_or, set, ◌∙◌, ap, subst, arith, get_or-set_other, get_or-set_same, length-set, length-append}
+use Rattle.std.proofs.Common.{◌≡◌, ℕ, ◌+◌, ◌<◌, ◌≤◌, ⊎_elim, inl, inr, List, [], ◌∷◌, ◌++◌, length, get_or, set, take, drop, refl, sym, ◌∙◌, ap, subst, arith, get_or-set_other, get_or-set_same, length-set, length-append}
 use Rattle.std.specs.Prelude.{◌≢◌, ◌⊎◌}
 use Rattle.std.proofs.lemmas.Bool.{cases_eq, cases_lt}
-use Rattle.std.proofs.Math.Seq.{get_or-append_seam}
-use Rattle.std.proofs.lemmas.List.{get_or_default, get_or_append_left}
+use Rattle.std.proofs.Math.Seq.{get_or-append_seam, take-length}
+use Rattle.std.proofs.lemmas.List.{get_or_default, get_or_append_left, take-append-le}
 use Rattle.cut_definitions.specs.Weight.{VertexSet}
 use Rattle.vertex_classes.specs.Classes.{AreJoined, Respects, HasSameClasses, HasJoined}
 use Rattle.forest_contraction.specs.Forests.{level, AreOver, HasSameLevels}
-use Rattle.vertex_classes.proofs.Joining.{same_classes-more, joined_before}
+use Rattle.vertex_classes.proofs.Joining.{same_classes, same_classes-more, joined_before}
+
+pub same_levels : (levels : List (List ℕ)) → HasSameLevels levels levels
+same_levels levels = record { count = refl; each = λ l h. same_classes (level levels l) }
 
 -- one level gets other parents for the same classes
 pub same_levels-set : (old levels : List (List ℕ)) (m : ℕ) (x new : List ℕ) → HasSameLevels old levels → m < length levels → HasSameClasses (get_or levels m x) new → HasSameLevels old (set levels m new)
@@ -89,3 +92,7 @@ alone-more levels x alone is l h s =
     (λ (e : l ≡ length levels). rw (e, get_or-append_seam levels x [] []) (is s))
     (λ ne. let lo : l < length levels = omega arith in rw (get_or_append_left levels (x ∷ []) [] l lo) (alone l lo s))
     (cases_eq l (length levels))
+
+-- what is written back over a whole list is there
+pub written_back : (items new : List (List ℕ)) (n : ℕ) → length new ≡ n → take n (new ++ drop (length new) items) ≡ new
+written_back items new n long = take-append-le n new (drop (length new) items) (omega (arith, long)) ∙ (ap (λ (k : ℕ). take k new) (sym long) ∙ take-length new)

@@ -49,3 +49,11 @@ pub record HasTaken (levels : List (List ℕ)) (step bound : ℕ) (e : Edge) (ol
   pub no_other : (s : VertexSet) → Respects old s → s e.u ≡ s e.v → Respects new s
   pub tied : (es whole : List Edge) → AreForests es step levels → AreTied whole bound old → ((s : VertexSet) → cut_weight es s + cut_term s e ≤ cut_weight whole s) →
       AreTied whole bound new
+
+-- each kind of classes has taken an edge, the first for a bound, and each further one for one more
+abbrev pub HaveTaken : List (List ℕ) → ℕ → ℕ → Edge → List (List ℕ) → List (List ℕ) → Type 0
+HaveTaken levels step bound e old new = (k : ℕ) → k < length old → HasTaken levels step (bound + k) e (level old k) (level new k)
+
+-- the first kind of classes is tied for a bound, and each further one for one more
+abbrev pub AreKindsTied : List Edge → ℕ → List (List ℕ) → Type 0
+AreKindsTied edges bound kinds = (k : ℕ) → k < length kinds → AreTied edges (bound + k) (level kinds k)

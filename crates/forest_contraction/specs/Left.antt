@@ -1,16 +1,21 @@
 -- What contraction leaves.
-use Rattle.std.specs.Prelude.{ℕ, ◌≡◌, ◌<◌, ◌≤◌, List, MatchOption, length, min, nat_lt, if◌then◌else◌}
+use Rattle.std.specs.Prelude.{ℕ, ◌≡◌, ◌+◌, ◌<◌, ◌≤◌, List, MatchOption, length, min, nat_lt, if◌then◌else◌}
 use Rattle.cut_definitions.specs.Graph.{Graph}
 use Rattle.cut_definitions.specs.Contraction.{RespectsClasses}
 use Rattle.cut_definitions.specs.Cuts.{value}
 use Rattle.cut_definitions.specs.Weight.{VertexSet, weight}
 use Rattle.forest_contraction.specs.declared.shrinking.Contracted.{Contracted}
-use Rattle.forest_contraction.specs.declared.shrinking.Ties.{Ties}
+use Rattle.forest_contraction.specs.declared.tying.Ties.{Ties}
 
 -- labels, one for each vertex, whose classes no set parts that weighs less than a bound
 pub record AreLabelsTied (g : Graph) (bound : ℕ) (labels : List ℕ) : Type 0 where
   pub long : length labels ≡ g.vertices
   pub tied : (s : VertexSet) → weight g s < bound → RespectsClasses g.vertices labels s
+
+-- classes that are tied for one more than a bound
+pub record AreTiesAbove (g : Graph) (bound : ℕ) (t : Ties) : Type 0 where
+  pub one_more : t.bound ≡ bound + 1
+  pub tied : AreLabelsTied g t.bound t.labels
 
 -- classes that are tied for a bound above the value, so that no minimum cut parts one
 pub record AreTies (g : Graph) (t : Ties) : Type 0 where

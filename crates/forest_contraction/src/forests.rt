@@ -3,7 +3,7 @@
 ghost use Rattle.std.specs.Prelude.{◌≡◌, ◌⊎◌, ◌+◌, ◌*◌, ◌^◌, ◌<◌, ◌≤◌, ℕ, [], ◌∷◌, ◌++◌, List, length};
 ghost use Rattle.cut_definitions.specs.declared.edge_list.Edge.{Edge};
 ghost use Rattle.vertex_classes.specs.Classes.{AreJoined, HasJoined};
-ghost use Rattle.forest_contraction.specs.Forests.{level, AreForests, AreOver, HasReach, HasSameLevels, HasTaken};
+ghost use Rattle.forest_contraction.specs.Forests.{level, AreForests, AreOver, HasReach, HasSameLevels, HaveTaken};
 
 use cut_definitions::{Edge, NoMemory};
 use std::alloc::Global;
@@ -85,24 +85,28 @@ fn put_and_reach(levels: &mut [Classes], edge: Edge, step: u64) -> u64
     joined as u64 * step + edge.w
 }
 
-/// Makes the ends of an edge one, where they are joined as heavily as a bound.
-fn join_reached(classes: &mut Classes, edge: Edge, reach: u64, bound: u64)
-    requires first { edge.u < length classes.old }
-    requires second { edge.v < length classes.old }
-    ensures taken { (levels : List (List ℕ)) (step : ℕ) → HasReach levels step edge reach → HasTaken levels step bound edge classes.old classes.new }
-    ensures heavy { bound ≤ reach → AreJoined classes.new edge.u edge.v }
+/// Joins the ends of an edge in the classes of each kind whose bound their joining reaches: of the
+/// kinds the first is tied for the bound, and each further one for one more.
+fn join_reached(tied: &mut [Classes], edge: Edge, reach: u64, bound: u64)
+    requires first { (k : ℕ) → k < length tied.old → edge.u < length (level tied.old k) }
+    requires second { (k : ℕ) → k < length tied.old → edge.v < length (level tied.old k) }
+    ensures kinds { length tied.new ≡ length tied.old }
+    ensures taken { (levels : List (List ℕ)) (step : ℕ) → HasReach levels step edge reach → HaveTaken levels step bound edge tied.old tied.new }
+    ensures heavy { (k : ℕ) → k < length tied.old → bound + k ≤ reach → AreJoined (level tied.new k) edge.u edge.v }
 {
-    if reach >= bound {
-        classes.join(edge.u, edge.v);
+    if reach < bound {
+        return;
     }
+    let count = ((reach - bound) as usize).saturating_add(1).min(tied.len());
+    join_levels(tied, 0, count, edge.u, edge.v);
 }
 
-/// Puts an edge into the levels, and makes its ends one in the classes that are tied for a bound,
-/// where the levels and its own weight reach that. An edge within a class is passed over: it could
-/// make no other vertices one.
+/// Puts an edge into the levels, and joins its ends in the classes of each kind whose bound the
+/// levels and its own weight reach. An edge within a class of the last kind is passed over: it
+/// could join no other vertices.
 pub(crate) fn tie_edge(
     levels: &mut [Classes],
-    tied: &mut Classes,
+    tied: &mut [Classes],
     edge: Edge,
     bound: u64,
     step: u64,
@@ -110,51 +114,21 @@ pub(crate) fn tie_edge(
     requires positive { 1 ≤ step }
     requires light { edge.w ≤ 2 ^ 61 }
     requires few { length levels.old * step ≤ 2 ^ 62 }
-    requires first { edge.u < length tied.old }
-    requires second { edge.v < length tied.old }
-    requires over { AreOver (length tied.old) levels.old }
+    requires some { 1 ≤ length tied.old }
+    requires first { (k : ℕ) → k < length tied.old → edge.u < length (level tied.old k) }
+    requires second { (k : ℕ) → k < length tied.old → edge.v < length (level tied.old k) }
+    requires over { AreOver (length (level tied.old 0)) levels.old }
     ensures count { length levels.new ≡ length levels.old }
-    ensures over { AreOver (length tied.old) levels.new }
+    ensures kinds { length tied.new ≡ length tied.old }
+    ensures over { AreOver (length (level tied.old 0)) levels.new }
     ensures forests { (es : List Edge) → AreForests es step levels.old → AreForests (es ++ edge ∷ []) step levels.new }
-    ensures taken { HasTaken levels.old step bound edge tied.old tied.new }
-    ensures heavy { bound ≤ edge.w → AreJoined tied.new edge.u edge.v }
+    ensures taken { HaveTaken levels.old step bound edge tied.old tied.new }
+    ensures heavy { (k : ℕ) → k + 1 ≡ length tied.old → bound + k ≤ edge.w → AreJoined (level tied.new k) edge.u edge.v }
 {
-    if tied.are_joined(edge.u, edge.v) {
+    let last = tied.len() - 1;
+    if tied[last].are_joined(edge.u, edge.v) {
         return;
     }
     let reach = put_and_reach(levels, edge, step);
     join_reached(tied, edge, reach, bound);
-}
-
-/// Puts an edge into the levels, and makes its ends one in the classes that are tied for a bound,
-/// and in those that are tied for one more, where the levels and its own weight reach that. An
-/// edge within one of the latter is passed over.
-pub(crate) fn tie_edge_twice(
-    levels: &mut [Classes],
-    tied: &mut Classes,
-    tied_above: &mut Classes,
-    edge: Edge,
-    bound: u64,
-    step: u64,
-)
-    requires positive { 1 ≤ step }
-    requires light { edge.w ≤ 2 ^ 61 }
-    requires fits { bound ≤ 2 ^ 61 }
-    requires few { length levels.old * step ≤ 2 ^ 62 }
-    requires first { edge.u < length tied.old }
-    requires second { edge.v < length tied.old }
-    requires same { length tied_above.old ≡ length tied.old }
-    requires over { AreOver (length tied.old) levels.old }
-    ensures count { length levels.new ≡ length levels.old }
-    ensures over { AreOver (length tied.old) levels.new }
-    ensures forests { (es : List Edge) → AreForests es step levels.old → AreForests (es ++ edge ∷ []) step levels.new }
-    ensures taken { HasTaken levels.old step bound edge tied.old tied.new }
-    ensures taken_above { HasTaken levels.old step (bound + 1) edge tied_above.old tied_above.new }
-{
-    if tied_above.are_joined(edge.u, edge.v) {
-        return;
-    }
-    let reach = put_and_reach(levels, edge, step);
-    join_reached(tied, edge, reach, bound);
-    join_reached(tied_above, edge, reach, bound + 1);
 }

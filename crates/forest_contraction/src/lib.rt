@@ -16,7 +16,7 @@ mod shrinking;
 mod tying;
 
 pub use shrinking::{
-    Contracted, FEW_EDGES, Ties, WithTies, contract_from_degree, contract_list, contract_with_ties,
-    is_tenth_less,
+    Contracted, FEW_EDGES, WithTies, contract_from_degree, contract_list, contract_measured,
+    contract_with_ties, is_tenth_less,
 };
-pub use tying::tied_classes;
+pub use tying::{Ties, WeightRange, tied_classes};

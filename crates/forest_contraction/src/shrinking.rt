@@ -8,7 +8,7 @@ ghost use Rattle.weighted_graph.specs.ContractionLaws.{PartsNoClass};
 ghost use Rattle.forest_contraction.specs.Left.{AreTies, IsContracted, IsLesser, IsLowered, Tells};
 
 use crate::leaning::leaning_classes;
-use crate::tying::{TwoKinds, tied_classes, two_kinds};
+use crate::tying::{TiedClasses, Ties, WeightRange, forests, weight_range};
 use cut_definitions::{EdgeList, NoMemory};
 use least_cut::least_degree;
 use std::alloc::Global;
@@ -28,29 +28,14 @@ pub fn is_tenth_less(few: u32, many: u32) -> bool
     u64::from(few) * 10 <= u64::from(many) * 9
 }
 
-/// The weight of each edge, if all weigh the same.
-fn common_weight(list: &EdgeList) -> Option<u64> {
-    let edges = list.edges();
-    if edges.is_empty() {
-        return None;
-    }
-    let weight = edges[0].w;
-    for edge in edges {
-        if edge.w != weight {
-            return None;
-        }
-    }
-    Some(weight)
-}
-
 /// Whether forests of less than the bound together can hold all edges, a forest being one
 /// edge for each vertex but one, and all weigh the same: then mostly next to nothing is
 /// tied. No answer rests on it.
-fn are_held(list: &EdgeList, bound: u64) -> bool {
-    let Some(weight) = common_weight(list) else {
-        return list.is_empty();
-    };
-    let forests = bound.saturating_sub(1) / weight.max(1);
+fn are_held(list: &EdgeList, range: WeightRange, bound: u64) -> bool {
+    if range.lightest < range.heaviest {
+        return false;
+    }
+    let forests = bound.saturating_sub(1) / range.heaviest.max(1);
     let most = forests.saturating_mul(u64::from(list.n()).saturating_sub(1));
     list.len() as u64 <= most
 }
@@ -58,27 +43,16 @@ fn are_held(list: &EdgeList, bound: u64) -> bool {
 /// Whether a graph whose edges weigh the same has few more of them than vertices, and two or more
 /// at each: it is made of long chains. A forest leaves out fewer edges than would take away a
 /// tenth of the vertices, and few edges are in triangles. No answer rests on it.
-fn is_thin(list: &EdgeList, bound: u64) -> bool {
-    if list.len() > list.n() as usize + list.n() as usize / 16 {
-        return false;
-    }
-    match common_weight(list) {
-        Some(weight) => weight <= bound / 2,
-        None => false,
-    }
+fn is_thin(list: &EdgeList, range: WeightRange, bound: u64) -> bool {
+    let n = list.n() as usize;
+    list.len() <= n + n / 16 && range.lightest == range.heaviest && range.heaviest <= bound / 2
 }
 
 /// Whether no edge weighs more than a quarter of the bound. Where all degrees are the bound or
 /// more, no vertices lean on one another then: an edge would have to be more than half of a
 /// degree, alone or with one to a common neighbour. No answer rests on it.
-fn are_light(list: &EdgeList, bound: u64) -> bool {
-    let most = bound / 4;
-    for edge in list.edges() {
-        if edge.w > most {
-            return false;
-        }
-    }
-    true
+fn are_light(range: WeightRange, bound: u64) -> bool {
+    range.heaviest <= bound / 4
 }
 
 /// The list with each class made one, where these are a tenth fewer than the vertices.
@@ -101,54 +75,31 @@ fn between_classes(
     Ok(Some(small))
 }
 
-/// The list with the classes that are tied for a bound made one,
-/// where these are a tenth fewer than the vertices.
-fn shrunk(alloc: Global, list: &EdgeList, bound: u64) -> Result<Option<EdgeList>, NoMemory>
-    requires enough { 2 ≤ list.now.vertices }
-    requires fits { bound ≤ 2 ^ 61 }
-    ensures less { IfOk result (λ found. IfSome found (λ small. small.vertices < list.now.vertices)) }
-    ensures left { IfOk result (λ found. IfSome found (IsLesser (min bound (value list.now)) bound)) }
-    ensures above { IfOk result (λ found. IfSome found (λ small. 2 ≤ small.vertices → value list.now ≤ value small)) }
-{
-    if is_thin(list, bound) || are_held(list, bound) {
-        return Ok(None);
-    }
-    let labels = tied_classes(alloc, list, bound)?;
-    between_classes(alloc, list, &labels)
-}
-
-/// Labels of classes that no cut parts which weighs less than a bound, and that bound.
-#[derive(Drop)]
-pub struct Ties {
-    pub bound: u64,
-    pub labels: Labels,
-}
-
-/// The list with the classes that are tied for a bound made one, where these are a tenth fewer
-/// than the vertices, and the classes that are tied for one more.
-fn shrunk_with_ties(
+/// The list with the classes made one that forests show for a bound, if these are a tenth fewer
+/// than the vertices, and if there are to be two kinds of classes, those for one more.
+fn shrunk(
     alloc: Global,
     list: &EdgeList,
+    range: WeightRange,
     bound: u64,
-) -> Result<Option<(EdgeList, Ties)>, NoMemory>
+    kinds: usize,
+) -> Result<Option<(EdgeList, Option<Ties>)>, NoMemory>
     requires enough { 2 ≤ list.now.vertices }
     requires fits { bound ≤ 2 ^ 61 }
-    requires above { value list.now ≤ bound }
+    requires kinds { (1 ≤ kinds) × (kinds ≤ 2) }
+    ensures less { IfOk result (λ found. IfSome found (λ made. made.0.vertices < list.now.vertices)) }
     ensures left { IfOk result (λ found. IfSome found (λ made. IsLesser (min bound (value list.now)) bound made.0)) }
-    ensures ties { IfOk result (λ found. IfSome found (λ made. AreTies list.now made.1)) }
+    ensures above { IfOk result (λ found. IfSome found (λ made. 2 ≤ made.0.vertices → value list.now ≤ value made.0)) }
+    ensures ties { value list.now ≤ bound → IfOk result (λ found. IfSome found (λ made. IfSome made.1 (AreTies list.now))) }
 {
-    if is_thin(list, bound) || are_held(list, bound) {
+    if is_thin(list, range, bound) || are_held(list, range, bound) {
         return Ok(None);
     }
-    let TwoKinds { tied, tied_above } = two_kinds(alloc, list, bound)?;
-    let Some(small) = between_classes(alloc, list, &tied)? else {
+    let TiedClasses { at, above } = forests(alloc, list, range, bound, kinds)?;
+    let Some(small) = between_classes(alloc, list, &at)? else {
         return Ok(None);
     };
-    let ties = Ties {
-        bound: bound + 1,
-        labels: tied_above,
-    };
-    Ok(Some((small, ties)))
+    Ok(Some((small, above)))
 }
 
 /// The list with the classes of vertices that lean on one another made one, where these are a
@@ -189,7 +140,7 @@ fn contract_at(alloc: Global, list: EdgeList, bound: u64) -> Result<Left, NoMemo
     let mut low = bound;
     let mut small = list;
     'passes: while small.n() >= 2 && small.len() > FEW_EDGES && low > 0 {
-        let Some(smaller) = shrunk(alloc, &small, low)? else {
+        let Some((smaller, _)) = shrunk(alloc, &small, weight_range(&small), low, 1)? else {
             break;
         };
         low = lowered(alloc, &smaller, low)?;
@@ -213,18 +164,23 @@ pub struct Contracted {
 /// bound. The vertices of a cluster are joined more heavily than that, so the clusters are made
 /// one before what parts them, and their degrees are the weights of cuts. Where the cut weighs at
 /// most the half, what is left is good for it too.
-fn lighter(alloc: Global, list: &EdgeList, bound: u64) -> Result<Contracted, NoMemory>
+fn lighter(
+    alloc: Global,
+    list: &EdgeList,
+    range: WeightRange,
+    bound: u64,
+) -> Result<Contracted, NoMemory>
     requires enough { 2 ≤ list.now.vertices }
     requires fits { bound ≤ 2 ^ 61 }
     ensures { IfOk result (IsContracted list.now bound) }
 {
     let half = bound.div_ceil(2);
-    let Some(mut small) = shrunk(alloc, list, half)? else {
+    let Some((mut small, _)) = shrunk(alloc, list, range, half, 1)? else {
         return Ok(Contracted { bound, list: None });
     };
     let mut low = lowered(alloc, &small, bound)?;
     'trials: while low >= bound && small.n() >= 2 {
-        let Some(smaller) = shrunk(alloc, &small, half)? else {
+        let Some((smaller, _)) = shrunk(alloc, &small, weight_range(&small), half, 1)? else {
             return Ok(Contracted { bound, list: None });
         };
         low = lowered(alloc, &smaller, bound)?;
@@ -257,17 +213,29 @@ fn after_pass(alloc: Global, found: Option<EdgeList>, bound: u64) -> Result<Cont
 }
 
 /// One pass of contraction by forests.
-fn pass(alloc: Global, list: &EdgeList, bound: u64) -> Result<Contracted, NoMemory>
+fn pass(
+    alloc: Global,
+    list: &EdgeList,
+    range: WeightRange,
+    bound: u64,
+) -> Result<Contracted, NoMemory>
     requires enough { 2 ≤ list.now.vertices }
     requires fits { bound ≤ 2 ^ 61 }
     ensures { IfOk result (IsContracted list.now bound) }
 {
-    let found = shrunk(alloc, list, bound)?;
-    after_pass(alloc, found, bound)
+    let Some((small, _)) = shrunk(alloc, list, range, bound, 1)? else {
+        return Ok(Contracted { bound, list: None });
+    };
+    after_pass(alloc, Some(small), bound)
 }
 
 /// The pass by forests at a lower bound, if there is one, where that at the bound came to nothing.
-fn pass_below(alloc: Global, list: &EdgeList, bound: u64) -> Result<Contracted, NoMemory>
+fn pass_below(
+    alloc: Global,
+    list: &EdgeList,
+    range: WeightRange,
+    bound: u64,
+) -> Result<Contracted, NoMemory>
     requires enough { 2 ≤ list.now.vertices }
     requires fits { bound ≤ 2 ^ 61 }
     ensures { IfOk result (IsContracted list.now bound) }
@@ -275,23 +243,28 @@ fn pass_below(alloc: Global, list: &EdgeList, bound: u64) -> Result<Contracted, 
     if bound < LOW_BOUND {
         return Ok(Contracted { bound, list: None });
     }
-    let found = lighter(alloc, list, bound)?;
+    let found = lighter(alloc, list, range, bound)?;
     if found.list.is_some() || found.bound >= bound {
         return Ok(found);
     }
-    let again = pass(alloc, list, found.bound)?;
+    let again = pass(alloc, list, range, found.bound)?;
     Ok(again)
 }
 
 /// What is tried where a pass by forests at the bound came to nothing: one at a lower bound, and
 /// vertices that lean on one another.
-fn other_pass(alloc: Global, list: &EdgeList, bound: u64) -> Result<Contracted, NoMemory>
+fn other_pass(
+    alloc: Global,
+    list: &EdgeList,
+    range: WeightRange,
+    bound: u64,
+) -> Result<Contracted, NoMemory>
     requires enough { 2 ≤ list.now.vertices }
     requires fits { bound ≤ 2 ^ 61 }
     ensures { IfOk result (IsContracted list.now bound) }
 {
-    let made = pass_below(alloc, list, bound)?;
-    if made.list.is_some() || are_light(list, bound) || is_thin(list, bound) {
+    let made = pass_below(alloc, list, range, bound)?;
+    if made.list.is_some() || are_light(range, bound) || is_thin(list, range, bound) {
         return Ok(made);
     }
     let found = leaned(alloc, list, made.bound)?;
@@ -314,7 +287,7 @@ fn contract_further(alloc: Global, list: EdgeList, bound: u64) -> Result<Left, N
         let Contracted {
             bound,
             list: smaller,
-        } = lighter(alloc, &left.list, left.bound)?;
+        } = lighter(alloc, &left.list, weight_range(&left.list), left.bound)?;
         if bound >= left.bound {
             break;
         }
@@ -352,6 +325,21 @@ pub fn contract_from_degree(
     ensures { IfOk result (λ c. MatchOption c.list (value list.now ≤ c.bound)
         (λ small. value list.now ≡ (if nat_lt small.vertices 2 then c.bound else min c.bound (value small)))) }
 {
+    contract_measured(alloc, list, weight_range(list), least)
+}
+
+/// The same, if the range of the weights is known too.
+pub fn contract_measured(
+    alloc: Global,
+    list: &EdgeList,
+    range: WeightRange,
+    least: u64,
+) -> Result<Contracted, NoMemory>
+    requires enough { 2 ≤ list.now.vertices }
+    requires least { IsLeastDegree list.now least }
+    ensures { IfOk result (λ c. MatchOption c.list (value list.now ≤ c.bound)
+        (λ small. value list.now ≡ (if nat_lt small.vertices 2 then c.bound else min c.bound (value small)))) }
+{
     // known by this call: it is an edge list
     let _n = list.n();
     if list.len() <= FEW_EDGES || least == 0 {
@@ -360,9 +348,9 @@ pub fn contract_from_degree(
             list: None,
         });
     }
-    let Contracted { bound, list: found } = pass(alloc, list, least)?;
+    let Contracted { bound, list: found } = pass(alloc, list, range, least)?;
     let Some(small) = found else {
-        let other = other_pass(alloc, list, bound)?;
+        let other = other_pass(alloc, list, range, bound)?;
         return contract_rest(alloc, other);
     };
     let made = Contracted {
@@ -426,8 +414,9 @@ pub fn contract_with_ties(alloc: Global, list: &EdgeList) -> Result<WithTies, No
             ties: None,
         });
     }
-    let Some((small, ties)) = shrunk_with_ties(alloc, list, least)? else {
-        let other = other_pass(alloc, list, least)?;
+    let range = weight_range(list);
+    let Some((small, ties)) = shrunk(alloc, list, range, least, 2)? else {
+        let other = other_pass(alloc, list, range, least)?;
         let contracted = contract_rest(alloc, other)?;
         return Ok(WithTies {
             contracted,
@@ -436,8 +425,5 @@ pub fn contract_with_ties(alloc: Global, list: &EdgeList) -> Result<WithTies, No
     };
     let made = after_pass(alloc, Some(small), least)?;
     let contracted = contract_rest(alloc, made)?;
-    Ok(WithTies {
-        contracted,
-        ties: Some(ties),
-    })
+    Ok(WithTies { contracted, ties })
 }

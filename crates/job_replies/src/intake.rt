@@ -3,6 +3,7 @@
 ghost use Rattle.std.specs.Prelude.{◌≡◌, ◌≢◌, ℕ, List, Ok, IfOk, IfErr, IfSome, length};
 ghost use Rattle.std.specs.Io.KnownBytes.{IsAtEnd};
 ghost use Rattle.metis_reader.specs.File.{graph_of, masses_of};
+ghost use Rattle.metis_reader.specs.Measures.{AreMeasures};
 ghost use Rattle.program_words.specs.Words.{ReadsGraph};
 ghost use Rattle.job_replies.specs.Intake.{IsCause};
 
@@ -18,6 +19,7 @@ pub fn take_in<S: Source>(alloc: Global, source: &mut S) -> Result<MetisGraph, S
     ensures graph { IfOk result (λ graph. IfSome (S.left source.old) (λ bytes. graph_of bytes ≡ Ok graph.edges)) }
     ensures masses { IfOk result (λ graph. IfSome (S.left source.old) (λ bytes. masses_of bytes ≡ graph.weights)) }
     ensures weighed { IfOk result (λ graph. length graph.weights ≡ graph.edges.vertices) }
+    ensures measured { IfOk result (λ graph. AreMeasures graph.edges graph.measures) }
     ensures ended { IfOk result (λ graph. IsAtEnd (S.left source.new)) }
     ensures same { IfOk result (λ graph. S.faults source.new ≡ S.faults source.old) }
     ensures cause { IfErr result (λ stop. (words : List (List ℕ)) → ReadsGraph words

@@ -1,8 +1,8 @@
 -- What the end of the input finds in the body, and the graph that it shows.
-use Rattle.std.proofs.Common.{◌≡◌, ◌≤◌, ◌<◌, ◌*◌, ◌-◌, ◌+◌, ◌^◌, ℕ, suc, sum_by, List, length, reverse, get_or, arith, subst, sym, ap, refl, ◌∙◌, []}
+use Rattle.std.proofs.Common.{◌≡◌, ◌≤◌, ◌<◌, ◌*◌, ◌-◌, ◌+◌, ◌++◌, ◌^◌, ℕ, suc, sum_by, false, List, length, reverse, get_or, arith, subst, sym, ap, refl, ◌∙◌, []}
 use Rattle.std.specs.List.{All, AllPairs, Contains}
 use Rattle.std.specs.List.Sorted.{IsPermutation}
-use Rattle.std.proofs.lemmas.List.Elements.{All-contains}
+use Rattle.std.proofs.lemmas.List.Elements.{All-append, All-contains}
 use Rattle.std.proofs.lemmas.List.Sorted.{IsPermutation-sym, IsPermutation-trans, IsPermutation-reverse, Contains-permutation, All-permutation, sum_by-IsPermutation, length_permutation}
 use Rattle.cut_definitions.specs.declared.edge_list.Edge.{Edge}
 use Rattle.cut_definitions.specs.Graph.{Graph, IsBefore, IsEdgeWithin, IsEdgeList}
@@ -13,8 +13,13 @@ use Rattle.metis_reader.specs.Profile.{Header, Entry}
 use Rattle.metis_reader.specs.File.{VertexLine, all_entries, end_findings, edges_of}
 use Rattle.metis_reader.specs.Ending.{TellsFirst, RowsFrom, graph_shown}
 use Rattle.metis_reader.specs.Mates.{IsFirstMismatch, IsOnceAt, IsMatchedAt}
-use Rattle.metis_reader.specs.Bodies.{greater_of, lesser_of, entry_count}
+use Rattle.metis_reader.specs.Bodies.{greater_of, lesser_of, waiting_of, entry_count}
+use Rattle.metis_reader.specs.Meeting.{met_from}
+use Rattle.metis_reader.specs.Measures.{AreMeasures, heaviest_of, lightest_of}
+use Rattle.metis_reader.specs.declared.measures.Measures.{Measures}
 use Rattle.metis_reader.specs.Shown.{BodyShows}
+use Rattle.metis_reader.proofs.Degrees.{all_of_both, measures_are}
+use Rattle.metis_reader.proofs.Meeting.{All-met}
 use Rattle.metis_reader.proofs.Faults.{Sizes, sizes}
 use Rattle.metis_reader.proofs.Times.{once_strict}
 use Rattle.metis_reader.proofs.Moved.{repeats_at_moved, once_at_moved, lacks_at_moved, matched_at_moved}
@@ -111,3 +116,19 @@ few_masses b = omega (arith, b.masses_of_lines, b.lines, b.header.few_vertices)
 -- and one for each vertex, once all lines are read
 pub one_for_each : (b : Body) → b.header.vertices ≤ length b.numbers.items → length b.masses.items ≡ b.header.vertices
 one_for_each b all = omega (arith, b.masses_of_lines, b.lines)
+
+-- where edges have no weights in the file, each weighs 1
+pub each_weighs_one : (b : Body) (sorted : List Edge) → IsPermutation (greater_of b) sorted → b.header.format.has_edge_weights ≡ false → All (λ (e : Edge). e.w ≡ 1) sorted
+each_weighs_one b sorted moved none =
+    let P : Edge → Type 0 = IsEdgeWithin b.header.vertices in
+    all_of_both b.header.vertices b.header.vertices b.greater.items (lesser_of b) sorted b.greater_within
+    (All-append P (met_from 0 b.cursors.items b.greater.items) (b.lesser.items ++ waiting_of b.waiting) (All-met P 0 b.cursors.items b.greater.items b.greater_within) b.lesser_within)
+    moved (sym b.total_is ∙ b.unit_weights none ∙ b.counted)
+
+-- what is told of the graph beside it
+pub body_measured : (b : Body) (sorted : List Edge) (g : Graph) (m : Measures) → b.header.vertices ≤ length b.numbers.items → g ≡ record { vertices = b.header.vertices; edges = sorted }
+    → IsPermutation (greater_of b) sorted → IsPermutation (lesser_of b) sorted → AllPairs IsBefore sorted
+    → m.least_degree ≡ b.least_degree → m.lightest ≡ lightest_of sorted → m.heaviest ≡ heaviest_of sorted → AreMeasures g m
+body_measured b sorted g m all is moved_g moved_l ascends least lightest heaviest =
+    measures_are (length b.numbers.items) b.header.vertices b.least_degree b.before b.total (greater_of b) (lesser_of b) sorted g m b.line_weights b.lines all is
+    (matched_is_edge_list b sorted moved_g moved_l ascends) moved_g moved_l least lightest heaviest

@@ -10,9 +10,10 @@ use crate::rounds::value_by_rounds;
 use crate::values::lesser_away;
 use cut_definitions::{EdgeList, MOST_WEIGHT, NoMemory};
 use forest_contraction::{
-    Contracted, FEW_EDGES, Ties, WithTies, contract_from_degree, contract_list, contract_with_ties,
+    Contracted, FEW_EDGES, Ties, WeightRange, WithTies, contract_from_degree, contract_list,
+    contract_measured, contract_with_ties,
 };
-use least_cut::value_of_dense;
+use least_cut::{degree_is_value, value_of_dense};
 use outside::Gate;
 use std::thread::Threads;
 use vertex_order::near_graph;
@@ -107,6 +108,31 @@ pub fn value_of_list<R: Threads + Sync, G: Gate>(
     let _n = list.n();
     let weight = lesser_of_list(&crew.threads, list, MOST_WEIGHT)?;
     Ok(weight)
+}
+
+/// The same, if the least degree and the range of the weights are known, as a reader shows them:
+/// then no pass over the edges has to find these. No answer rests on the range.
+pub fn value_of_measured<R: Threads + Sync, G: Gate>(
+    crew: &Crew<R, G>,
+    list: EdgeList,
+    range: WeightRange,
+    least: u64,
+) -> Result<u64, NoMemory>
+    requires enough { 2 ≤ list.vertices }
+    requires least { IsLeastDegree list least }
+    ensures { IfOk result (λ weight. weight ≡ value list) }
+{
+    if list.len() <= FEW_EDGES {
+        return value_of_few(crew, list);
+    }
+    if degree_is_value(&list, least) {
+        return Ok(least);
+    }
+    let Contracted {
+        bound,
+        list: smaller,
+    } = contract_measured(crew.threads.alloc, &list, range, least)?;
+    lesser_by_rows(&crew.threads, smaller.unwrap_or(list), bound)
 }
 
 /// The value of a graph, and classes that no minimum cut parts,

@@ -19,10 +19,11 @@ mod scans;
 mod values;
 
 pub use by_list::{
-    ValueWithTies, lesser_of_list, value_by_contraction, value_of_list, value_with_ties,
+    ValueWithTies, lesser_of_list, value_by_contraction, value_of_list, value_of_measured,
+    value_with_ties,
 };
 pub use closing::reduce_by_scans;
-pub use forest_contraction::FEW_EDGES;
+pub use forest_contraction::{FEW_EDGES, WeightRange};
 pub use kept_graph::Kernel;
 pub use kernels::{kernel, reduce};
 pub use narrowing::{ValueWithKernel, value_with_kernel};

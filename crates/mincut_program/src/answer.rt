@@ -4,6 +4,7 @@ ghost use Rattle.std.specs.Prelude.{◌≡◌, ◌≤◌, IfOk, IfErr, length};
 ghost use Rattle.cut_definitions.specs.Cuts.{value};
 ghost use Rattle.job_replies.specs.Jobs.{AsksCuts, IsAnswerOf, IsInRange, IsStopFor};
 ghost use Rattle.job_replies.specs.Replies.{text_of, IsPrintable};
+ghost use Rattle.metis_reader.specs.Measures.{AreMeasures};
 ghost use Rattle.program_words.specs.Texts.{value_line};
 ghost use Rattle.program_words.specs.Words.{IsMakeable, IsReading};
 
@@ -12,8 +13,8 @@ use crate::growth::grow_reply;
 use cactus_solver::{Cuts, SolvedList, tree_of_list};
 use cut_definitions::{EdgeList, VertexWeights};
 use job_replies::{Reply, apart_reply, first_outside, no_cut, value_text};
-use metis_reader::MetisGraph;
-use min_value::value_of_list;
+use metis_reader::{Measures, MetisGraph};
+use min_value::{WeightRange, value_of_measured};
 use outside::{Gate, NoMemory};
 use program_words::{Command, Job};
 use std::thread::Threads;
@@ -24,12 +25,18 @@ use worker_team::Crew;
 fn value_reply<R: Threads + Sync, G: Gate>(
     crew: &Crew<R, G>,
     list: EdgeList,
+    measures: Measures,
 ) -> Result<Reply, NoMemory>
     requires enough { 2 ≤ list.vertices }
+    requires measured { AreMeasures list measures }
     ensures text { IfOk result (λ reply. text_of reply ≡ value_line (value list)) }
     ensures printable { IfOk result IsPrintable }
 {
-    let value = value_of_list(crew, list)?;
+    let range = WeightRange {
+        lightest: measures.lightest,
+        heaviest: measures.heaviest,
+    };
+    let value = value_of_measured(crew, list, range, measures.least_degree)?;
     value_text(crew.threads.alloc, value)
 }
 
@@ -68,6 +75,7 @@ pub fn answer<R: Threads + Sync, G: Gate>(
     read: MetisGraph,
 ) -> Result<Reply, Stop>
     requires weighed { length read.weights ≡ read.edges.vertices }
+    requires measured { AreMeasures read.edges read.measures }
     requires reading { IsReading command.job }
     requires makeable { IsMakeable command.job }
     ensures text { IfOk result (λ reply. IsAnswerOf command read.weights read.edges (text_of reply)) }
@@ -77,6 +85,7 @@ pub fn answer<R: Threads + Sync, G: Gate>(
     let MetisGraph {
         edges: list,
         weights,
+        measures,
     } = read;
     let n = list.n();
     if let Some(vertex) = first_outside(&command.job, n) {
@@ -87,7 +96,7 @@ pub fn answer<R: Threads + Sync, G: Gate>(
         return Ok(reply);
     }
     if let Job::Value = command.job {
-        let reply = value_reply(crew, list)?;
+        let reply = value_reply(crew, list, measures)?;
         return Ok(reply);
     }
     if let Job::Grow(insertions) = &command.job {

@@ -7,11 +7,8 @@ use Rattle.forest_contraction.proofs.shrinking.contract_with_ties.Goals as goal
 pub returns-then-len-le-FEW_EDGES-clause-left : goal.returns-then-len-le-FEW_EDGES-clause-left
 returns-then-len-le-FEW_EDGES-clause-left c = least_above c.args.list.now c.n-n.ensures.edge_list.is_graph c.requires c.in_ok-least.least c.in_ok-least.ensures
 
-pub shrunk_with_ties-requires-clause-fits : goal.shrunk_with_ties-requires-clause-fits
-shrunk_with_ties-requires-clause-fits c = degrees_fit c.args.list.now c.n-n.ensures.edge_list.is_graph c.in_ok-least.least c.in_ok-least.ensures.least (omega (arith, c.requires))
-
-pub shrunk_with_ties-requires-clause-above : goal.shrunk_with_ties-requires-clause-above
-shrunk_with_ties-requires-clause-above c = least_above c.args.list.now c.n-n.ensures.edge_list.is_graph c.requires c.in_ok-least.least c.in_ok-least.ensures
+pub shrunk-requires-clause-fits : goal.shrunk-requires-clause-fits
+shrunk-requires-clause-fits c = degrees_fit c.args.list.now c.n-n.ensures.edge_list.is_graph c.in_ok-least.least c.in_ok-least.ensures.least (omega (arith, c.requires))
 
 pub other_pass-requires-clause-fits : goal.other_pass-requires-clause-fits
 other_pass-requires-clause-fits c = degrees_fit c.args.list.now c.n-n.ensures.edge_list.is_graph c.in_ok-least.least c.in_ok-least.ensures.least (omega (arith, c.requires))
@@ -34,3 +31,7 @@ returns-clause-left c =
     let g = c.args.list.now in
     let made = c.in_ok-made.ensures g c.requires (rw c.in-Some.is at c.in_ok-small.ensures.left) in
     c.in_ok-contracted-2.ensures g c.in_ok-least.least c.requires (least_above g c.n-n.ensures.edge_list.is_graph c.requires c.in_ok-least.least c.in_ok-least.ensures) made
+
+pub returns-clause-ties : goal.returns-clause-ties
+returns-clause-ties c =
+    rw c.in-Some.is at (c.in_ok-small.ensures.ties (least_above c.args.list.now c.n-n.ensures.edge_list.is_graph c.requires c.in_ok-least.least c.in_ok-least.ensures))

@@ -1,15 +1,16 @@
-use Rattle.std.proofs.Common.{◌≡◌, ◌+◌, ◌++◌, ◌∷◌, [], List, length, take, drop, arith, ap, sym, subst, refl, ◌∙◌}
+use Rattle.std.proofs.Common.{◌≡◌, ◌+◌, ◌++◌, ◌∷◌, [], ℕ, suc, List, length, take, drop, arith, ap, sym, subst, refl, ◌∙◌}
 use Rattle.std.specs.Prelude.{sum_by}
 use Rattle.std.specs.List.{All, AllPairs}
 use Rattle.std.specs.List.Sorted.{IsPermutation}
 use Rattle.std.proofs.lemmas.Grind.{common_steps}
-use Rattle.std.proofs.lemmas.List.{take_at, take_all, drop_all}
+use Rattle.std.proofs.lemmas.List.{length_push, take_at, take_all, drop_all}
 use Rattle.std.proofs.lemmas.List.Elements.{All-nil, All-same}
 use Rattle.std.proofs.lemmas.List.Sorted.{All-permutation, sum_by-IsPermutation}
 use Rattle.cut_definitions.specs.declared.edge_list.Edge.{Edge}
 use Rattle.cut_definitions.specs.Graph.{IsBefore, IsEdgeWithin}
 use Rattle.metis_reader.specs.Bodies.{waiting_of}
 use Rattle.metis_reader.specs.Meeting.{with_met, IsOfFinished, IsOfNext, IsInFront}
+use Rattle.metis_reader.proofs.Degrees.{line_over}
 use Rattle.metis_reader.proofs.Table.{RowEnds, row_ends, shows_line}
 use Rattle.metis_reader.proofs.body.Body.end_line.Goals as goal
 use Rattle.metis_reader.proofs.body.Body.end_line.Goals.{After-len-self}
@@ -100,11 +101,22 @@ invariant_of-self-clause-greater_within c =
 pub invariant_of-self-clause-lesser_within : goal.invariant_of-self-clause-lesser_within
 invariant_of-self-clause-lesser_within c = All-same (IsEdgeWithin c.args.self.now.header.vertices) (rest_now c) (rest c) (same_rest c) c.args.self.now.lesser_within
 
+one_more : (n : ℕ) → n + 1 ≡ suc n
+one_more n = omega arith
+
 numbers_are : (c : After-len-self) → c.push_reserved.new.self.items ≡ c.args.self.now.numbers.items ++ c.args.line ∷ []
 numbers_are c = c.push_reserved.ensures.items
 
 masses_are : (c : After-len-self) → c.push_reserved-3.new.self.items ≡ c.args.self.now.masses.items ++ c.args.self.now.mass ∷ []
 masses_are c = c.push_reserved-3.ensures.items
+
+pub invariant_of-self-clause-line_weights : goal.invariant_of-self-clause-line_weights
+invariant_of-self-clause-line_weights c =
+    let b = c.args.self.now in
+    let e = ends c in
+    line_over (length b.numbers.items) b.least_degree b.before b.total (length c.push_reserved.new.self.items) c.min-self.result
+    b.greater.items (with_met b.greater.items b.cursors.items (rest c)) (greater_now c) (with_met (greater_now c) c.push_reserved-2.new.self.items (rest_now c))
+    e.moved (same_met c) (ap length (numbers_are c) ∙ length_push b.numbers.items c.args.line ∙ one_more (length b.numbers.items)) c.min-self.ensures b.line_weights
 
 pub returns-clause-shows : goal.returns-clause-shows
 returns-clause-shows c = λ header done all here shows.

@@ -11,9 +11,11 @@ use Rattle.cut_definitions.specs.declared.edge_list.Edge.{Edge}
 use Rattle.cut_definitions.specs.Graph.{IsEdgeWithin}
 use Rattle.metis_reader.specs.Profile.{Entry}
 use Rattle.metis_reader.specs.Machine.{vertex}
-use Rattle.metis_reader.specs.Bodies.{lesser_of, waiting_of}
+use Rattle.metis_reader.specs.Bodies.{lesser_of, vertex_of, waiting_of}
+use Rattle.metis_reader.specs.Measures.{AreLineWeights, line_weight}
 use Rattle.metis_reader.specs.declared.body.Body.{Body}
 use Rattle.metis_reader.specs.Meeting.{with_met, IsOfFinished, IsOfNext, IsInFront}
+use Rattle.metis_reader.proofs.Degrees.{line_down, line_up}
 use Rattle.metis_reader.proofs.Table.{met_pushed, open_pushed, front_pushed, weight_pushed, shows_up, shows_down, grew_taken, grew_pushed, grew_met, one_counted, one_weighed}
 use Rattle.metis_reader.proofs.Faults.{Sizes, sizes}
 use Rattle.metis_reader.proofs.body.Body.enter.Goals as goal
@@ -76,6 +78,12 @@ invariant_of-self-clause-total_is c =
     ∙ ap (λ n. n + rest) (sym (ap (λ xs. sum_by (λ (e : Edge). e.w) xs) (up_items c) ∙ weight_pushed b.greater.items (up_edge c)))
     ∙ ap (λ xs. sum_by (λ (e : Edge). e.w) c.push_reserved.new.self.items + sum_by (λ (e : Edge). e.w) xs) (sym (up_met c))
 
+pub invariant_of-self-clause-line_weights : goal.invariant_of-self-clause-line_weights
+invariant_of-self-clause-line_weights c =
+    let b = c.args.self.now in
+    line_up (length b.numbers.items) b.least_degree b.before b.total b.greater.items (with_met b.greater.items b.cursors.items (rest c))
+    c.push_reserved.new.self.items (with_met c.push_reserved.new.self.items b.cursors.items (rest c)) (up_edge c) c.vertex-vertex.ensures (up_items c) (up_met c) b.line_weights
+
 pub invariant_of-self-clause-greater_within : goal.invariant_of-self-clause-greater_within
 invariant_of-self-clause-greater_within c =
     let b = c.args.self.now in
@@ -109,6 +117,7 @@ record Grew (b : Body) (e : Edge) (l : List Edge) : Type 0 where
   counted : b.entries + 1 ≡ length b.greater.items + length (with_met b.greater.items b.cursors.items l)
   weighed : b.total + e.w ≡ sum_by (λ (e : Edge). e.w) b.greater.items + sum_by (λ (e : Edge). e.w) (with_met b.greater.items b.cursors.items l)
   within : IsEdgeWithin b.header.vertices e → All (IsEdgeWithin b.header.vertices) l
+  lines : e.v ≡ vertex_of b → AreLineWeights (length b.numbers.items) b.least_degree b.before (b.total + e.w) (line_weight b.greater.items (with_met b.greater.items b.cursors.items l))
   moved : IsPermutation (lesser_of b ++ e ∷ []) (with_met b.greater.items b.cursors.items l)
 
 grew : (b : Body) (e : Edge) (l : List Edge) → IsPermutation ((b.lesser.items ++ waiting_of b.waiting) ++ e ∷ []) l → Grew b e l
@@ -119,6 +128,7 @@ grew b e l h =
       counted = one_counted b.entries b.greater.items (lesser_of b) (with_met b.greater.items b.cursors.items l) e b.counted met;
       weighed = one_weighed b.total b.greater.items (lesser_of b) (with_met b.greater.items b.cursors.items l) e b.total_is met;
       within = λ is. All-permutation (IsEdgeWithin b.header.vertices) (old ++ e ∷ []) l h (All-push (IsEdgeWithin b.header.vertices) old e b.lesser_within is);
+      lines = λ is. line_down (length b.numbers.items) b.least_degree b.before b.total b.greater.items (lesser_of b) (with_met b.greater.items b.cursors.items l) e is met b.line_weights;
       moved = met;
     }
 
@@ -161,6 +171,9 @@ invariant_of-self-then-take-clause-counted c = (taken c (c.take.ensures.taken c.
 pub invariant_of-self-then-take-clause-total_is : goal.invariant_of-self-then-take-clause-total_is
 invariant_of-self-then-take-clause-total_is c = (taken c (c.take.ensures.taken c.if-take.true)).weighed
 
+pub invariant_of-self-then-take-clause-line_weights : goal.invariant_of-self-then-take-clause-line_weights
+invariant_of-self-then-take-clause-line_weights c = (taken c (c.take.ensures.taken c.if-take.true)).lines c.vertex-vertex.ensures
+
 pub invariant_of-self-then-take-clause-lesser_within : goal.invariant_of-self-then-take-clause-lesser_within
 invariant_of-self-then-take-clause-lesser_within c =
     let is : c.vertex-vertex.result ≡ suc (length c.args.self.now.numbers.items) = c.vertex-vertex.ensures in
@@ -172,6 +185,9 @@ invariant_of-self-2-clause-counted c = (pushed c (c.take.ensures.left c.if-take.
 
 pub invariant_of-self-2-clause-total_is : goal.invariant_of-self-2-clause-total_is
 invariant_of-self-2-clause-total_is c = (pushed c (c.take.ensures.left c.if-take.false)).weighed
+
+pub invariant_of-self-2-clause-line_weights : goal.invariant_of-self-2-clause-line_weights
+invariant_of-self-2-clause-line_weights c = (pushed c (c.take.ensures.left c.if-take.false)).lines c.vertex-vertex.ensures
 
 pub invariant_of-self-2-clause-lesser_within : goal.invariant_of-self-2-clause-lesser_within
 invariant_of-self-2-clause-lesser_within c =

@@ -1,10 +1,13 @@
 use Rattle.std.proofs.Common.{◌≡◌, ◌≤◌, ◌*◌, length, arith, subst, sym, ap, ◌∙◌}
 use Rattle.std.proofs.lemmas.List.Sorted.{IsPermutation-refl}
+use Rattle.std.proofs.lemmas.List.Elements.{All-same}
+use Rattle.cut_definitions.specs.declared.edge_list.Edge.{Edge}
 use Rattle.cut_definitions.specs.Graph.{Graph, IsEdgeList}
+use Rattle.metis_reader.specs.Measures.{heaviest_of, lightest_of}
 use Rattle.metis_reader.specs.declared.header.Header.{Header}
 use Rattle.metis_reader.specs.declared.body.Body.{Body}
 use Rattle.metis_reader.specs.File.{all_entries}
-use Rattle.metis_reader.proofs.BodyEnd.{body_missing, body_few, body_accepted, matched_is_edge_list, few_masses, one_for_each}
+use Rattle.metis_reader.proofs.BodyEnd.{body_missing, body_few, body_accepted, matched_is_edge_list, few_masses, one_for_each, each_weighs_one, body_measured}
 use Rattle.metis_reader.proofs.Table.{shows_moved}
 use Rattle.metis_reader.proofs.body.Body.finish.Goals as goal
 
@@ -67,3 +70,19 @@ returns-clause-weighed c =
     ap length c.into_weights.ensures
     ∙ one_for_each b (all_lines c.args.self b c.settle_all.ensures.same_header c.settle_all.ensures.same_lines c.if-not-has_all_lines.ensures)
     ∙ sym (ap (λ (g : Graph). g.vertices) c.from_edges.ensures)
+
+pub measures_of-measures-requires : goal.measures_of-measures-requires
+measures_of-measures-requires c = λ none.
+    let b = c.settle_all.new.self in
+    All-same (λ (e : Edge). e.w ≡ 1) c.deref.result.now b.greater.items (c.deref.ensures.value ∙ c.shrink_to_fit.ensures.items) (each_weighs_one b b.greater.items (IsPermutation-refl b.greater.items) none)
+
+pub returns-clause-measured : goal.returns-clause-measured
+returns-clause-measured c =
+    let b = c.settle_all.new.self in
+    body_measured b b.greater.items c.from_edges.result c.measures_of-measures.result
+    (all_lines c.args.self b c.settle_all.ensures.same_header c.settle_all.ensures.same_lines c.if-not-has_all_lines.ensures)
+    (subst (λ edges. c.from_edges.result ≡ record { vertices = b.header.vertices; edges = edges }) c.shrink_to_fit.ensures.items c.from_edges.ensures)
+    (IsPermutation-refl b.greater.items) (c.is_met.ensures.lesser c.if-not-is_met.false) (c.is_met.ensures.ascends c.if-not-is_met.false)
+    c.measures_of-measures.ensures.least
+    (c.measures_of-measures.ensures.lightest ∙ ap lightest_of (c.deref.ensures.value ∙ c.shrink_to_fit.ensures.items))
+    (c.measures_of-measures.ensures.heaviest ∙ ap heaviest_of (c.deref.ensures.value ∙ c.shrink_to_fit.ensures.items))

@@ -7,13 +7,14 @@ use Rattle.std.proofs.lemmas.List.Sorted.{IsPermutation-append_comm, IsPermutati
 use Rattle.cut_definitions.specs.declared.edge_list.Edge.{Edge}
 use Rattle.cut_definitions.specs.Graph.{Graph, IsEdgeWithin, IsEdgeList}
 use Rattle.metis_reader.specs.declared.body.Body.{Body}
+use Rattle.metis_reader.specs.Measures.{heaviest_of, lightest_of}
 use Rattle.metis_reader.specs.Meeting.{met_from}
 use Rattle.metis_reader.specs.Bodies.{greater_of, lesser_of, waiting_of}
 use Rattle.metis_reader.specs.Ending.{TellsFirst}
 use Rattle.metis_reader.specs.File.{end_findings}
 use Rattle.metis_reader.proofs.Meeting.{All-met}
 use Rattle.metis_reader.proofs.EndLaw.{mismatch_inside}
-use Rattle.metis_reader.proofs.BodyEnd.{body_mismatch, body_accepted, matched_is_edge_list, few_masses, one_for_each}
+use Rattle.metis_reader.proofs.BodyEnd.{body_mismatch, body_accepted, matched_is_edge_list, few_masses, one_for_each, each_weighs_one, body_measured}
 use Rattle.metis_reader.proofs.body.Body.finish_by_sorting.Goals as goal
 use Rattle.metis_reader.proofs.body.Body.finish_by_sorting.Goals.{After-shrink_to_fit}
 
@@ -100,8 +101,9 @@ matched c =
 
 pub from_edges-requires : goal.from_edges-requires
 from_edges-requires c =
-    let m = matched c in
-    subst (λ edges. IsEdgeList (record { vertices = c.args.self.header.vertices; edges = edges })) (sym (edges_kept c))
+    let at = (goal.at.from_edges-requires c).After-shrink_to_fit in
+    let m = matched at in
+    subst (λ edges. IsEdgeList (record { vertices = c.args.self.header.vertices; edges = edges })) (sym (edges_kept at))
     (matched_is_edge_list c.args.self c.mismatch.new.greater m.greater m.lesser c.in_default.ensures.ascends)
 
 pub returns-clause-exact : goal.returns-clause-exact
@@ -121,3 +123,20 @@ into_weights-requires c = few_masses c.args.self
 pub returns-clause-weighed : goal.returns-clause-weighed
 returns-clause-weighed c =
     ap length c.into_weights.ensures ∙ one_for_each c.args.self c.requires.lines ∙ sym (ap (λ (g : Graph). g.vertices) c.from_edges.ensures)
+
+pub measures_of-measures-requires : goal.measures_of-measures-requires
+measures_of-measures-requires c = λ none.
+    let at = (goal.at.measures_of-measures-requires c).After-shrink_to_fit in
+    All-same (λ (e : Edge). e.w ≡ 1) c.deref-3.result.now c.mismatch.new.greater (c.deref-3.ensures.value ∙ edges_kept at) (each_weighs_one c.args.self c.mismatch.new.greater (matched at).greater none)
+
+pub returns-clause-measured : goal.returns-clause-measured
+returns-clause-measured c =
+    let at = (goal.at.returns-clause-measured c).After-shrink_to_fit in
+    let m = matched at in
+    let b = c.args.self in
+    body_measured b c.mismatch.new.greater c.from_edges.result c.measures_of-measures.result c.requires.lines
+    (subst (λ edges. c.from_edges.result ≡ record { vertices = b.header.vertices; edges = edges }) (edges_kept at) c.from_edges.ensures)
+    m.greater m.lesser c.in_default.ensures.ascends
+    c.measures_of-measures.ensures.least
+    (c.measures_of-measures.ensures.lightest ∙ ap lightest_of (c.deref-3.ensures.value ∙ edges_kept at))
+    (c.measures_of-measures.ensures.heaviest ∙ ap heaviest_of (c.deref-3.ensures.value ∙ edges_kept at))

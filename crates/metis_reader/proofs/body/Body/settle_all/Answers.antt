@@ -8,6 +8,7 @@ use Rattle.cut_definitions.specs.declared.edge_list.Edge.{Edge}
 use Rattle.cut_definitions.specs.Graph.{IsEdgeWithin}
 use Rattle.metis_reader.specs.Bodies.{waiting_of}
 use Rattle.metis_reader.specs.Meeting.{with_met, IsOfFinished, IsOfNext}
+use Rattle.metis_reader.proofs.Degrees.{lines_met}
 use Rattle.metis_reader.proofs.Table.{rest_within, moved_waiting}
 use Rattle.metis_reader.proofs.body.Body.settle_all.Goals as goal
 use Rattle.metis_reader.proofs.body.Body.settle_all.Goals.{After-self-1}
@@ -64,3 +65,9 @@ invariant_of-self-clause-lesser_within c =
 
 pub returns-clause-moved : goal.returns-clause-moved
 returns-clause-moved c = IsPermutation-trans _ _ _ c.settle.ensures.moved (moved (goal.at.returns-clause-moved c).After-self-1)
+
+pub invariant_of-self-clause-line_weights : goal.invariant_of-self-clause-line_weights
+invariant_of-self-clause-line_weights c =
+    let b = c.settle.new.self in
+    lines_met (length b.numbers.items) b.least_degree b.before b.total b.greater.items
+    (with_met b.greater.items b.cursors.items (rest c)) (with_met b.greater.items (cursors_now c) (rest_now c)) (moved c) b.line_weights

@@ -2,7 +2,7 @@
 use Rattle.std.proofs.Common.{arith}
 use Rattle.least_cut.proofs.ByDegrees.{degrees_fit}
 use Rattle.forest_contraction.proofs.Lessening.{least_above, lowered_above_value}
-use Rattle.forest_contraction.proofs.shrinking.contract_from_degree.Goals as goal
+use Rattle.forest_contraction.proofs.shrinking.contract_measured.Goals as goal
 
 pub returns-then-len-le-FEW_EDGES : goal.returns-then-len-le-FEW_EDGES
 returns-then-len-le-FEW_EDGES c = least_above c.args.list.now c.n-n.ensures.edge_list.is_graph c.requires.enough c.args.least c.requires.least
