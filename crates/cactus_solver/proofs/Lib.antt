@@ -3,3 +3,4 @@ pub mod Smaller
 pub mod Standing
 mod ByClasses
 pub mod Connected
+mod LightCuts

@@ -1,2 +1,3 @@
 pub mod Reducing
 pub mod SolvedLists
+pub mod LightCuts

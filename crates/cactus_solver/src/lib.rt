@@ -7,11 +7,13 @@
 //! cactus for a value that is known, and `solve_list` takes a list of edges: it goes by the list
 //! where forests make that shorter before a graph has rows, and tells of several components.
 //! `tree_of_list` stops before its last step, and answers the tree in arrays, of which
-//! `solve_list` makes the cactus. `minimum_cut` finds one minimum cut alone.
+//! `solve_list` makes the cactus. `minimum_cut` finds one minimum cut alone, and `cuts_below` several
+//! cuts that weigh less than a bound.
 #![tactic(auto)]
 
 mod by_growth;
 mod by_list;
+mod light_cuts;
 mod list_classes;
 mod one_cut;
 mod reduced;
@@ -22,6 +24,7 @@ mod sweep_team;
 pub use by_growth::tree_by_growth;
 pub use by_list::{solve_list, solve_long_list, tree_of_list, tree_of_long_list};
 pub use certified_growth::Limits;
+pub use light_cuts::cuts_below;
 pub use one_cut::minimum_cut;
 pub use rooted_cactus::Solved;
 pub use solved_list::{Cuts, SolvedList, SolvedTree};

@@ -1,7 +1,9 @@
 -- The least degree and the heaviest edge against each other.
-use Rattle.std.proofs.Common.{◌≡◌, ℕ, ◌*◌, ◌/◌, ◌≤◌, ◌^◌, get_or, arith}
+use Rattle.std.proofs.Common.{◌≡◌, ℕ, ◌+◌, ◌*◌, ◌/◌, ◌<◌, ◌≤◌, ◌^◌, List, length, get_or, sym, ◌∙◌, arith}
 use Rattle.std.proofs.Math.Nat.{mul_comm, mul-div-le, mul-le-mul_left}
+use Rattle.std.proofs.lemmas.List.{get_or_default}
 use Rattle.std.proofs.lemmas.Nat.{le-div}
+use Rattle.cut_definitions.specs.Weight.{weight}
 use Rattle.cut_definitions.specs.Cuts.{value}
 use Rattle.cut_definitions.specs.Graph.{Graph, IsGraph}
 use Rattle.cut_definitions.specs.Scan.{single}
@@ -35,3 +37,19 @@ pub dense_is_light : (g : Graph) (low : ℕ) → 1 ≤ g.vertices → IsLeastDeg
 dense_is_light g low some h dense i d l =
     let w = (get_or g.edges i d).w in
     le-div w (2 * low) g.vertices some (omega (arith, mul_comm w g.vertices, dense h.vertex h.from_one h.to_n i d l, h.has_it))
+
+-- a least of the degrees, which are in a list by the numbers of the vertices
+pub least_of_degrees : (g : Graph) (degrees numbers : List ℕ) (place least : ℕ) → numbers ≡ degrees → length degrees ≡ g.vertices + 1 → ((v : ℕ) → get_or degrees v 0 ≡ weight g (single v)) →
+    1 ≤ place → place < length numbers → ((k : ℕ) → 1 ≤ k → k < length numbers → get_or numbers place 0 ≤ get_or numbers k 0) → least ≡ get_or degrees place least → IsLeastDegree g least
+least_of_degrees g degrees numbers place least same long each one there at_most is =
+    let high : place < length degrees = rw same at there in
+    let has : least ≡ get_or degrees place 0 = is ∙ get_or_default degrees place least 0 high in
+    record {
+      vertex = place;
+      from_one = one;
+      to_n = omega (arith, high, long);
+      has_it = sym (has ∙ each place);
+      least = λ v from to_n.
+          let low : get_or degrees place 0 ≤ get_or degrees v 0 = rw same at (at_most v from (rw same (omega (arith, long, to_n)))) in
+          omega (arith, has, low, each v);
+    }

@@ -12,6 +12,7 @@ use Rattle.cut_definitions.specs.Weight.{VertexSet, weight, parts, complement, e
 use Rattle.cut_definitions.specs.Cuts.{has, value, side_of, IsSide, IsAscendingWithin}
 use Rattle.cut_definitions.specs.Scan.{single}
 use Rattle.cut_definitions.proofs.Bridge.{has_within, has-side_of, weight-side_of, IsSide-side_of, IsAscendingWithin-filter, same_ascending}
+use Rattle.cut_definitions.proofs.Ascending.{member_within}
 use Rattle.cut_definitions.proofs.Singles.{single_cut}
 use Rattle.cut_definitions.proofs.Values.{value-le, Contains-mincuts}
 use Rattle.region_flow.specs.Regions.{RegionState, IsInside}
@@ -38,13 +39,14 @@ from_one n [] h = tt
 from_one n (v ∷ vs) h = (omega (arith, h.0), h.1, h.2)
 
 -- a set that has just the vertices that another parts from vertex 1, as a list
+pub filtered : (n : ℕ) (x c : VertexSet) → 1 ≤ n → ((v : ℕ) → 1 ≤ v → v ≤ n → x v ≡ parts c 1 v) → filter x (range_with_len 1 n) ≡ side_of n c
+filtered n x c one same =
+    same_ascending 1 n (filter x (range_with_len 1 n)) (side_of n c) (IsAscendingWithin-filter n 1 n x (omega arith))
+    (from_one n (side_of n c) (IsAscendingWithin-filter (n - 1) 2 n (λ v. parts c 1 v) (omega (arith, one))))
+    (λ v low high. has_within n 1 v x low (omega (arith, high)) ∙ same v low high ∙ sym (has-side_of n c v low high))
+
 pub side_listed : (n : ℕ) (x c : VertexSet) (s : VertexList) → 1 ≤ n → s ≡ listed n x → ((v : ℕ) → 1 ≤ v → v ≤ n → x v ≡ parts c 1 v) → (s.vertices ≡ n) × (s.members ≡ side_of n c)
-side_listed n x c s one is same = rw is (
-  refl,
-  same_ascending 1 n (filter x (range_with_len 1 n)) (side_of n c) (IsAscendingWithin-filter n 1 n x (omega arith))
-      (from_one n (side_of n c) (IsAscendingWithin-filter (n - 1) 2 n (λ v. parts c 1 v) (omega (arith, one))))
-      (λ v low high. has_within n 1 v x low (omega (arith, high)) ∙ same v low high ∙ sym (has-side_of n c v low high)),
-)
+side_listed n x c s one is same = rw is (refl, filtered n x c one same)
 
 -- ---- cuts that were found
 
@@ -161,6 +163,18 @@ flow_found g ok f labels t limit found low high same first outside shown is less
       less = less;
     }
 
+-- its list of vertices is around the vertex too
+pub listed_around : (n : ℕ) (labels : List ℕ) (t : ℕ) (found : List ℕ) (side : VertexList) → 1 ≤ t → t ≤ n → side ≡ listed n (has found) → IsAround labels t (has found) → IsAround labels t (has side.members)
+listed_around n labels t found side low high is around = rw is (record {
+  there = has-listed n (has found) t low high ∙ around.there;
+  inside = record {
+    outside = around.inside.outside;
+    labelled = λ v there.
+        let within = member_within 1 n v (listed n (has found)).members (IsAscendingWithin-filter n 1 n (has found) (omega arith)) there in
+        around.inside.labelled v (sym (has-listed n (has found) v within.0 within.1) ∙ there);
+  };
+})
+
 -- ---- the sweep
 
 -- once all vertices have entered, no cut undercuts the best
@@ -176,6 +190,11 @@ found_more g bound (Some c) best most more before = record { cut = more.cut; les
 pub limit_more : (bound : ℕ) (found best : Option LightestCut) → limit_of found (limit_of best bound) ≡ limit_of (option_or found best) bound
 limit_more bound None best = refl
 limit_more bound (Some c) best = refl
+
+-- which weighs no more
+pub limit_lower : (g : Graph) (bound : ℕ) (found best : Option LightestCut) → IsFoundBelow g (limit_of best bound) found → limit_of (option_or found best) bound ≤ limit_of best bound
+limit_lower g bound None best more = omega arith
+limit_lower g bound (Some c) best more = omega (arith, more.less)
 
 -- the bound of what was found is at most that before
 pub limit_at_most : (g : Graph) (bound : ℕ) (best : Option LightestCut) → IsFoundBelow g bound best → limit_of best bound ≤ bound

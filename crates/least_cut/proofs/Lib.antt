@@ -4,3 +4,4 @@ pub mod FewEdges
 pub mod Sweeping
 pub mod ByDegrees
 pub mod FoundCuts
+pub mod CutLists

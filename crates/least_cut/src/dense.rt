@@ -54,17 +54,20 @@ fn add_degrees(edges: &[Edge], degrees: &mut [u64])
     }
 }
 
-/// The least number of a list, but for the one in the place 0.
-fn least_after_first(numbers: &[u64]) -> u64
+/// The place of a least number of a list, but for the place 0.
+pub(crate) fn place_of_least(numbers: &[u64]) -> usize
     requires { 2 ≤ length numbers.now }
-    ensures some { (k : ℕ) × (1 ≤ k) × (k < length numbers.now) × (slice_index numbers.now k ≡ result) }
-    ensures least { (k : ℕ) → 1 ≤ k → k < length numbers.now → result ≤ slice_index numbers.now k }
+    ensures from_one { 1 ≤ result }
+    ensures there { result < length numbers.now }
+    ensures least { (k : ℕ) → 1 ≤ k → k < length numbers.now → slice_index numbers.now result ≤ slice_index numbers.now k }
 {
-    let mut least = numbers[1];
+    let mut place = 1;
     for k in 1..numbers.len() {
-        least = least.min(numbers[k]);
+        if numbers[k] < numbers[place] {
+            place = k;
+        }
     }
-    least
+    place
 }
 
 /// The degrees of all vertices, each in the place of its number, from one pass over the
@@ -88,15 +91,17 @@ pub fn least_degree(alloc: Global, list: &EdgeList) -> Result<u64, NoMemory>
     ensures { IfOk result (IsLeastDegree list.now) }
 {
     let degrees = degrees_of(alloc, list)?;
-    Ok(least_after_first(&degrees))
+    let place = place_of_least(&degrees);
+    Ok(degrees[place])
 }
 
-/// Whether a graph of two or more vertices is dense, as `value_of_dense` tells it by the least
-/// degree, which is given; that is the value then.
+/// Whether a graph of two or more vertices is dense, as `value_of_dense` tells it, by the least
+/// degree, which is given. If so, that is the value.
 pub fn degree_is_value(list: &EdgeList, least: u64) -> bool
     requires enough { 2 ≤ list.now.vertices }
     requires least { IsLeastDegree list.now least }
-    ensures { IsTrue result → least ≡ value list.now }
+    ensures dense { IsTrue result ↔ IsDense list.now }
+    ensures value { IsTrue result → least ≡ value list.now }
 {
     !has_few_edges(list) && are_light(list.n(), list.edges(), least)
 }

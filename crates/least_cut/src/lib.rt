@@ -19,8 +19,10 @@
 pub mod dense;
 mod front;
 pub mod lightest;
+mod several;
 pub mod sweep;
 
 pub use dense::{degree_is_value, degrees_of, least_degree, value_of_dense};
 pub use lightest::{LightestCut, lightest_cut_below, lightest_vertex_cut};
+pub use several::cuts_below;
 pub use sweep::{Swept, least_weight, least_weight_below, least_weight_within};

@@ -6,12 +6,12 @@ ghost use Rattle.cut_definitions.specs.Degrees.{HasDegrees, IsLeastDegree};
 ghost use Rattle.cut_definitions.specs.Graph.{IsVertex};
 ghost use Rattle.cut_definitions.specs.Scan.{single};
 ghost use Rattle.cut_definitions.specs.Weight.{weight};
+ghost use Rattle.region_flow.specs.Inflow.{IsAround, IsStopReached};
 ghost use Rattle.region_flow.specs.Regions.{IsRegionFlow};
 ghost use Rattle.vertex_set.specs.Side.{listed};
 ghost use Rattle.least_cut.specs.Lightest.{IsCutFound, IsFoundBelow, IsLightestCut, IsVertexAlone, limit_of};
-ghost use Rattle.least_cut.specs.Sweep.{IsSwept};
 
-use crate::dense::degrees_of;
+use crate::dense::{degrees_of, place_of_least};
 use crate::front::Front;
 use crate::sweep::{is_dense, least_if_connected};
 use cut_definitions::{EdgeList, NoMemory};
@@ -84,22 +84,6 @@ fn vertex_below(alloc: Global, graph: &Graph, bound: u64) -> Result<Option<Light
     Ok(Some(LightestCut { weight, side }))
 }
 
-/// The place of a least number of a list, but for the place 0.
-fn place_of_least(numbers: &[u64]) -> usize
-    requires { 2 ≤ length numbers.now }
-    ensures from_one { 1 ≤ result }
-    ensures there { result < length numbers.now }
-    ensures least { (k : ℕ) → 1 ≤ k → k < length numbers.now → slice_index numbers.now result ≤ slice_index numbers.now k }
-{
-    let mut place = 1;
-    for k in 1..numbers.len() {
-        if numbers[k] < numbers[place] {
-            place = k;
-        }
-    }
-    place
-}
-
 /// The cut that parts a vertex of least degree from all others.
 ///
 /// It goes once over the list of edges and takes 8 bytes of memory for each vertex. It is refused
@@ -121,7 +105,7 @@ pub fn lightest_vertex_cut(alloc: Global, list: &EdgeList) -> Result<LightestCut
 
 /// Lets a vertex enter the source, and answers a lightest of the cuts around it, if that weighs
 /// less than a limit.
-fn enter_with_cut(
+pub(crate) fn enter_with_cut(
     alloc: Global,
     graph: &Graph,
     flow: &mut RegionFlow,
@@ -136,7 +120,8 @@ fn enter_with_cut(
     ensures flow { OnOk result (IsRegionFlow graph.now flow.new) }
     ensures labels { OnOk result (flow.new.labels ≡ slice_set flow.old.labels t 0) }
     ensures found { IfOk result (IsFoundBelow graph.now limit) }
-    ensures swept { (bound : ℕ) → IsSwept graph.now bound flow.old.labels limit → IfOk result (λ found. IsSwept graph.now bound flow.new.labels (limit_of found limit)) }
+    ensures around { IfOk result (λ found. IfSome found (λ c. IsAround flow.old.labels t (has c.side.members))) }
+    ensures least { IfOk result (λ found. IsStopReached graph.now flow.old.labels t (limit_of found limit)) }
 {
     let n = graph.n();
     let outcome = flow.flow(graph, t, limit);
@@ -151,7 +136,7 @@ fn enter_with_cut(
 }
 
 /// The weight of the cut that was found, or the bound if there is none.
-fn limit(found: &Option<LightestCut>, bound: u64) -> u64
+pub(crate) fn limit(found: &Option<LightestCut>, bound: u64) -> u64
     ensures { result ≡ limit_of found.now bound }
 {
     match found {
@@ -162,7 +147,7 @@ fn limit(found: &Option<LightestCut>, bound: u64) -> u64
 
 /// A number that no cut weighs less than: the one that is known, and if that is 0, what the
 /// components and the degrees tell.
-fn lower_bound(alloc: Global, graph: &Graph, known: u64) -> Result<u64, NoMemory>
+pub(crate) fn lower_bound(alloc: Global, graph: &Graph, known: u64) -> Result<u64, NoMemory>
     requires enough { 2 ≤ graph.now.vertices }
     requires known { known ≤ value graph.now }
     ensures { IfOk result (λ low. low ≤ value graph.now) }

@@ -5,7 +5,7 @@ use Rattle.least_cut.proofs.FoundCuts.{found_is_lightest}
 use Rattle.cactus_solver.proofs.one_cut.cut_beside.Goals as goal
 
 pub returns-then-degree_is_value : goal.returns-then-degree_is_value
-returns-then-degree_is_value o c = found_is_lightest c.args.list c.args.alone c.requires.alone (c.degree_is_value.ensures c.if-degree_is_value.true)
+returns-then-degree_is_value o c = found_is_lightest c.args.list c.args.alone c.requires.alone (c.degree_is_value.ensures.value c.if-degree_is_value.true)
 
 pub returns-in-Some-2 : goal.returns-in-Some-2
 returns-in-Some-2 o c =

@@ -1,11 +1,11 @@
 -- The sweep begins with vertex 1 in the source, and ends where no cut can undercut what was found.
 use Rattle.std.proofs.Common.{◌≡◌, ◌<◌, ◌≤◌, ℕ, List, length, get_or, ◌∙◌, refl, ap, subst, arith, get_or-set_same}
+use Rattle.std.specs.Option.{option_or}
 use Rattle.cut_definitions.specs.Cuts.{value}
 use Rattle.least_cut.specs.Front.{FrontState}
 use Rattle.least_cut.specs.Lightest.{IsFoundBelow, limit_of}
-use Rattle.least_cut.specs.Sweep.{IsSwept}
-use Rattle.least_cut.proofs.Sweeping.{swept_start, fewer_outside, zero_kept}
-use Rattle.least_cut.proofs.FoundCuts.{found_more, lightest_found, limit_at_least, limit_at_most, limit_more, none_found, swept_end}
+use Rattle.least_cut.proofs.Sweeping.{swept_on, swept_start, fewer_outside, zero_kept}
+use Rattle.least_cut.proofs.FoundCuts.{found_more, lightest_found, limit_at_least, limit_at_most, limit_lower, limit_more, none_found, swept_end}
 use Rattle.least_cut.proofs.lightest.lightest_cut_below.Goals as goal
 use Rattle.least_cut.proofs.lightest.lightest_cut_below.Goals.{else-sweep-test, then-sweep-test+in_default}
 
@@ -47,15 +47,19 @@ sweep-preserved c =
     let entered = λ (v : ℕ) (zero : get_or labels v 0 ≡ 0). (let r : get_or c.enter_with_cut.new.flow.labels v 0 ≡ 0 = ap (λ (ls : List ℕ). get_or ls v 0) c.in_ok-enter_with_cut.ensures.labels ∙ zero_kept labels t v zero within in r) in
     let passed : c.put_neighbours-in-sweep.new.self.passed ≡ c.next.new.self.passed = ap (λ (f : FrontState). f.passed) c.put_neighbours-in-sweep.ensures in
     let is_limit : c.limit-least.result ≡ limit_of c.sweep.best bound = c.limit-least.ensures in
-    let after = subst (λ (k : ℕ). IsSwept g bound labels k → IsSwept g bound c.enter_with_cut.new.flow.labels (limit_of c.in_ok-enter_with_cut.field-0 k)) is_limit (c.in_ok-enter_with_cut.ensures.swept bound) h.swept in
     let more : IsFoundBelow g (limit_of c.sweep.best bound) c.in_ok-enter_with_cut.field-0 = subst (λ (k : ℕ). IsFoundBelow g k c.in_ok-enter_with_cut.field-0) is_limit c.in_ok-enter_with_cut.ensures.found in
+    let found = found_more g bound c.in_ok-enter_with_cut.field-0 c.sweep.best most more h.found in
+    let best = option_or c.in_ok-enter_with_cut.field-0 c.sweep.best in
+    let same : limit_of c.in_ok-enter_with_cut.field-0 c.limit-least.result ≡ limit_of best bound = ap (λ (k : ℕ). limit_of c.in_ok-enter_with_cut.field-0 k) is_limit ∙ limit_more bound c.in_ok-enter_with_cut.field-0 c.sweep.best in
     record {
       flow = c.in_ok-enter_with_cut.ensures.flow;
       first = entered 1 h.first;
       vertices = ap (λ (f : FrontState). f.vertices) c.put_neighbours-in-sweep.ensures ∙ c.in-Some.ensures.vertices ∙ h.vertices;
       passed = λ v one low. entered v (c.in-Some.ensures.passed v one (omega (arith, passed, low)));
-      found = rw c.or-best.ensures (found_more g bound c.in_ok-enter_with_cut.field-0 c.sweep.best most more h.found);
-      swept = rw c.or-best.ensures (subst (λ (k : ℕ). IsSwept g bound c.enter_with_cut.new.flow.labels k) (limit_more bound c.in_ok-enter_with_cut.field-0 c.sweep.best) after);
+      found = rw c.or-best.ensures found;
+      swept = rw c.or-best.ensures (swept_on g labels c.enter_with_cut.new.flow.labels t bound (limit_of c.sweep.best bound) (limit_of c.in_ok-enter_with_cut.field-0 c.limit-least.result) (limit_of best bound)
+          within h.swept c.in_ok-enter_with_cut.ensures.least c.in_ok-enter_with_cut.ensures.labels
+          (limit_lower g bound c.in_ok-enter_with_cut.field-0 c.sweep.best more) (omega (arith, same)) (limit_at_least g bound best found));
     }
 
 pub returns-clause-some : goal.returns-clause-some

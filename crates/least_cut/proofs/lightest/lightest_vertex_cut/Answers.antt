@@ -1,10 +1,11 @@
 -- The vertex of least degree alone is a cut.
-use Rattle.std.proofs.Common.{◌≡◌, ◌<◌, ◌≤◌, ◌+◌, ◌∙◌, length, get_or, sym, ap, arith}
+use Rattle.std.proofs.Common.{◌≡◌, ◌≤◌, ◌+◌, ◌∙◌, length, ap, arith}
 use Rattle.std.proofs.lemmas.List.{get_or_default}
 use Rattle.cut_definitions.specs.Weight.{weight}
 use Rattle.cut_definitions.proofs.Singles.{single_cut}
 use Rattle.cut_definitions.specs.Scan.{single}
 use Rattle.least_cut.specs.Lightest.{IsVertexAlone}
+use Rattle.least_cut.proofs.ByDegrees.{least_of_degrees}
 use Rattle.least_cut.proofs.FoundCuts.{cut_found}
 use Rattle.least_cut.proofs.lightest.lightest_vertex_cut.Goals as goal
 
@@ -21,19 +22,5 @@ returns-clause-found c =
     cut_found g c.n-n.ensures.edge_list.is_graph (single v) _ (omega (arith, c.requires)) (single_cut g.vertices v c.requires low high) alone.over alone.side weighs
 
 pub returns-clause-least : goal.returns-clause-least
-returns-clause-least c =
-    let g = c.args.list.now in
-    let degrees = c.in_ok-degrees.degrees.items in
-    let place = c.place_of_least-place.result in
-    let long : length c.deref.result.now ≡ g.vertices + 1 = ap (λ xs. length xs) c.deref.ensures.value ∙ c.in_ok-degrees.ensures.long in
-    let within : place < length degrees = omega (arith, c.place_of_least-place.ensures.there, long, c.in_ok-degrees.ensures.long) in
-    let is : c.index.result.now ≡ get_or degrees place 0 = c.index.ensures ∙ get_or_default degrees place c.index.result.now 0 within in
-    record {
-      vertex = place;
-      from_one = c.place_of_least-place.ensures.from_one;
-      to_n = omega (arith, c.place_of_least-place.ensures.there, long);
-      has_it = sym (is ∙ c.in_ok-degrees.ensures.each place);
-      least = λ v one to_n.
-          let least : get_or degrees place 0 ≤ get_or degrees v 0 = rw c.deref.ensures.value at (c.place_of_least-place.ensures.least v one (omega (arith, long, to_n))) in
-          omega (arith, is, least, c.in_ok-degrees.ensures.each v);
-    }
+returns-clause-least c = least_of_degrees c.args.list.now c.in_ok-degrees.degrees.items c.deref.result.now c.place_of_least-place.result c.index.result.now c.deref.ensures.value c.in_ok-degrees.ensures.long c.in_ok-degrees.ensures.each
+    c.place_of_least-place.ensures.from_one c.place_of_least-place.ensures.there c.place_of_least-place.ensures.least c.index.ensures

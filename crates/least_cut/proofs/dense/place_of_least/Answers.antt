@@ -1,8 +1,8 @@
 -- One number more was looked at.
 use Rattle.std.proofs.Common.{ℕ, get_or, arith}
 use Rattle.least_cut.proofs.FoundCuts.{next_less, next_not_less}
-use Rattle.least_cut.proofs.lightest.place_of_least.Goals as goal
-use Rattle.least_cut.proofs.lightest.place_of_least.Goals.{then-numbers-k, else-numbers-k}
+use Rattle.least_cut.proofs.dense.place_of_least.Goals as goal
+use Rattle.least_cut.proofs.dense.place_of_least.Goals.{then-numbers-k, else-numbers-k}
 
 pub loop-k-preserved : goal.loop-k-preserved
 loop-k-preserved c =

@@ -1,6 +1,6 @@
 -- No number so far is less.
 use Rattle.std.proofs.Common.{ℕ, ◌<◌, ◌≤◌, length, get_or}
-use Rattle.least_cut.proofs.lightest.place_of_least.Given as goal
+use Rattle.least_cut.proofs.dense.place_of_least.Given as goal
 
 abbrev pub invariant-loop-k : goal.invariant-loop-k
 invariant-loop-k l = record {

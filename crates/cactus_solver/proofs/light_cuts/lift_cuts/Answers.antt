@@ -1,0 +1,1 @@
+-- One cut more is lifted.
