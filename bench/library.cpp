@@ -86,6 +86,14 @@ static uint64_t by_cut(const Arrays &g) {
     return value;
 }
 
+static uint64_t by_cuts_below(const Arrays &g) {
+    static std::vector<uint8_t> inside;
+    inside.resize(50 * (size_t)g.n);
+    uint64_t count = 0, weights[50];
+    if (mincut_cuts_below(g.n, g.u.size(), g.u.data(), g.v.data(), g.w.data(), 20, 50, &count, weights, inside.data())) exit(6);
+    return count ? weights[0] : 20;
+}
+
 static uint64_t by_cactus(const Arrays &g) {
     static std::vector<size_t> starts, cycles;
     static std::vector<uint32_t> vertices;
@@ -129,6 +137,7 @@ int main(int count, char **words) {
     time_calls("mincut_value", graphs, calls, by_value);
     time_calls("mincut_value_below", graphs, calls, by_value_below);
     time_calls("mincut_cut", graphs, calls, by_cut);
+    time_calls("mincut_cuts_below", graphs, calls, by_cuts_below);
     time_calls("mincut_cactus", graphs, calls, by_cactus);
     time_calls("mincut_balanced", graphs, calls, by_balanced);
     time_calls("LEMON NagamochiIbaraki", graphs, calls, [](const Arrays &g) { return by_lemon(g, false); });

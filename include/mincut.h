@@ -1,4 +1,4 @@
-/* Minimum cuts of a weighted undirected graph: their value, one of them, their number, a cactus of all of them, a most balanced one, lists
+/* Minimum cuts of a weighted undirected graph: their value, one of them, several light cuts, their number, a cactus of all of them, a most balanced one, lists
  * of their sides, and the fewest new edges that raise the value; and the components of a graph that is not connected.
  *
  * Graphs. A graph has n vertices, 0 to n - 1, and m edges in three arrays of m entries: edge i joins u[i] and v[i] and has the weight
@@ -11,7 +11,7 @@
  *
  * Checks. Lengths, limits, vertices, sums and the room in arrays are checked inside, and a status says what is wrong. Pointers are not
  * checked: an array must have as many entries as its length says, it must be aligned, and no output array may overlap another array.
- * These pointers may be null: arrays of edges if m is 0, in_side of a list if rows is 0, component_of if n is 0, and mass always.
+ * These pointers may be null: arrays of edges if m is 0, weight and in_side of a list if rows is 0, component_of if n is 0, and mass always.
  *
  * Threads and memory. A call uses only its arrays and the heap, keeps nothing, and starts no thread. Calls in several threads may run
  * side by side, on output arrays of their own. Memory comes from the program's malloc, realloc and free, is in proportion to n + m, and
@@ -64,7 +64,7 @@ const char *mincut_status_text(uint32_t status);
 mincut_status mincut_value(uint32_t n, size_t m, const uint32_t *u, const uint32_t *v, const uint64_t *w, uint64_t *value);
 
 /* The smaller of the bound and the value, to separate constraints: the value if it is below the bound, and otherwise the bound. The
- * statuses and the cost are those of mincut_value; flows end at the bound. */
+ * statuses and the cost are those of mincut_value; flows end at the bound, so one far below the value saves some of them. */
 mincut_status mincut_value_below(uint32_t n, size_t m, const uint32_t *u, const uint32_t *v, const uint64_t *w, uint64_t bound,
                                  uint64_t *value);
 
@@ -76,9 +76,21 @@ mincut_status mincut_cut(uint32_t n, size_t m, const uint32_t *u, const uint32_t
                          uint8_t *in_side);
 
 /* The same if the value is below the bound. Otherwise `value` gets the bound and in_side is unchanged: no cut weighs less. The statuses
- * and the cost are those of mincut_cut; flows end at the bound. */
+ * and the cost are those of mincut_cut. */
 mincut_status mincut_cut_below(uint32_t n, size_t m, const uint32_t *u, const uint32_t *v, const uint64_t *w, uint64_t bound,
                                uint64_t *value, uint8_t *in_side);
+
+/* Several cuts that weigh less than the bound, to separate several constraints at a time: at most `rows` of them, no two the same, and a
+ * minimum cut first. Which others are listed, in which order, is free. Cut k weighs weight[k], and its side is the row of n bytes from
+ * in_side + k * n: 0 for vertex 0 and all vertices on its side, 1 for the others. `count` gets the number of the cuts; it is 0 only if no
+ * cut weighs less than the bound or rows is 0. The graph need not be connected.
+ *
+ * weight has `rows` entries and in_side rows * n; both may be null if rows is 0. There are at most n - 1 cuts. Entries after those of the
+ * last cut are unchanged. The statuses are 0 to 7. With a status other than MINCUT_OK all outputs are unchanged. Cost: one pass of
+ * contraction at the bound, and one sweep of flows over the rest. A flow ends at the bound while there is room, then at the least weight
+ * found. Each cut takes n / 8 bytes of memory. */
+mincut_status mincut_cuts_below(uint32_t n, size_t m, const uint32_t *u, const uint32_t *v, const uint64_t *w, uint64_t bound,
+                                size_t rows, uint64_t *count, uint64_t *weight, uint8_t *in_side);
 
 /* The number of all minimum cuts of a connected graph, at most n (n - 1) / 2; none is listed. With a status other than MINCUT_OK,
  * `count` is unchanged. The statuses are 0 to 8. Cost: that of the cactus. */
@@ -224,7 +236,8 @@ mincut_status mincut_augment(uint32_t n, size_t m, const uint32_t *u, const uint
 /* The proved exports beneath the calls above, for bindings. Each array is a pointer, which is not null even if the length is 0, and its
  * length. The statuses are the same. Arrays for answers may have any room: if one is too short for the answer, the status is MINCUT_NO_ROOM
  * and the arrays are unchanged; mincut_raw_cactus, mincut_raw_augment and the lists of sides then fill in the sizes, and the others change
- * nothing. There are n masses, or none. mincut_raw_sides lists the minimum cuts of balance `least` or more, which are all if that is 0. */
+ * nothing. mincut_raw_cuts_below lists as many cuts as both of its arrays have room for. There are n masses, or none. mincut_raw_sides
+ * lists the minimum cuts of balance `least` or more, which are all if that is 0. */
 uint32_t mincut_raw_value(uint32_t n, const uint32_t *u, size_t u_len, const uint32_t *v, size_t v_len, const uint64_t *w,
                           size_t w_len, uint64_t *value);
 uint32_t mincut_raw_value_below(uint32_t n, const uint32_t *u, size_t u_len, const uint32_t *v, size_t v_len, const uint64_t *w,
@@ -233,6 +246,9 @@ uint32_t mincut_raw_cut(uint32_t n, const uint32_t *u, size_t u_len, const uint3
                         uint64_t *value, uint8_t *in_side, size_t in_side_len);
 uint32_t mincut_raw_cut_below(uint32_t n, const uint32_t *u, size_t u_len, const uint32_t *v, size_t v_len, const uint64_t *w,
                               size_t w_len, uint64_t bound, uint64_t *value, uint8_t *in_side, size_t in_side_len);
+uint32_t mincut_raw_cuts_below(uint32_t n, const uint32_t *u, size_t u_len, const uint32_t *v, size_t v_len, const uint64_t *w,
+                               size_t w_len, uint64_t bound, uint64_t *count, uint64_t *weight, size_t weight_len, uint8_t *in_side,
+                               size_t in_side_len);
 uint32_t mincut_raw_count(uint32_t n, const uint32_t *u, size_t u_len, const uint32_t *v, size_t v_len, const uint64_t *w,
                           size_t w_len, uint64_t *count);
 uint32_t mincut_raw_components(uint32_t n, const uint32_t *u, size_t u_len, const uint32_t *v, size_t v_len, const uint64_t *w,

@@ -166,6 +166,26 @@ inline std::optional<Cut> cut_below(const Graph &graph, std::uint64_t bound) {
     return found;
 }
 
+/* A cut that weighs less than a bound. */
+struct LightCut {
+    std::uint64_t weight;
+    std::vector<std::uint8_t> in_side;  /* 0 for vertex 0 and all vertices on its side, 1 for the others */
+};
+
+/* Cuts that weigh less than the bound, at most so many and no two the same, and a minimum cut first; which others is free. None only if no
+ * cut weighs less or `most` is 0. The graph need not be connected. */
+inline std::vector<LightCut> cuts_below(const Graph &graph, std::uint64_t bound, std::size_t most) {
+    const std::size_t n = room_of(graph), rows = std::min(most, n);
+    std::uint64_t count = 0;
+    std::vector<std::uint64_t> weights(rows + 1);
+    std::vector<std::uint8_t> bytes(rows * n + 1);
+    check(mincut_cuts_below(graph.vertices, graph.edges(), graph.u.data(), graph.v.data(), graph.w.data(), bound, rows, &count,
+                            weights.data(), bytes.data()));
+    std::vector<LightCut> found;
+    for (std::size_t k = 0; k < count; ++k) found.push_back({weights[k], {bytes.data() + k * n, bytes.data() + (k + 1) * n}});
+    return found;
+}
+
 /* The number of all minimum cuts of a connected graph. */
 inline std::uint64_t count(const Graph &graph) {
     std::uint64_t found = 0;

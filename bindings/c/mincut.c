@@ -54,6 +54,15 @@ mincut_status mincut_cut_below(uint32_t n, size_t m, const uint32_t *u, const ui
     return (mincut_status)mincut_raw_cut_below(n, some(u), m, some(v), m, some(w), m, bound, value, in_side, n);
 }
 
+mincut_status mincut_cuts_below(uint32_t n, size_t m, const uint32_t *u, const uint32_t *v, const uint64_t *w, uint64_t bound,
+                                size_t rows, uint64_t *count, uint64_t *weight, uint8_t *in_side) {
+    uint64_t no_weight = 0;
+    uint8_t no_row = 0;
+    if (is_bad(m, u, v, w) || !count || (rows > 0 && (!weight || !in_side))) return MINCUT_BAD_LENGTH;
+    return (mincut_status)mincut_raw_cuts_below(n, some(u), m, some(v), m, some(w), m, bound, count, weight ? weight : &no_weight, bytes_of(rows, 1),
+                                                in_side ? in_side : &no_row, bytes_of(rows, n));
+}
+
 mincut_status mincut_count(uint32_t n, size_t m, const uint32_t *u, const uint32_t *v, const uint64_t *w, uint64_t *count) {
     if (is_bad(m, u, v, w) || !count) return MINCUT_BAD_LENGTH;
     return (mincut_status)mincut_raw_count(n, some(u), m, some(v), m, some(w), m, count);

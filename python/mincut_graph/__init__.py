@@ -17,10 +17,10 @@ from .errors import (BadInput, BadVertex, BadWords, Disconnected, Failed, Mincut
 from .graph import Graph, RawGraph
 from .levels import Levels, Part
 from .readers import read_graph
-from .results import (Augmentation, Balanced, Choice, Comparison, Cut, CutLink, Failure, Growth, Link, NewLinks, Site, State, Step)
+from .results import (Augmentation, Balanced, Choice, Comparison, Cut, CutLink, Failure, Growth, LightCut, Link, NewLinks, Site, State, Step)
 
 __version__ = '0.4.0'
 __all__ = ['Augmentation', 'BadInput', 'BadVertex', 'BadWords', 'Balanced', 'Cactus', 'Choice', 'Comparison', 'Cut', 'CutLink', 'Disconnected',
-           'Failed', 'Failure', 'Graph', 'Growth', 'Levels', 'Link', 'MinimumCuts', 'MincutError', 'NewLinks', 'NoCut', 'NoProgram',
+           'Failed', 'Failure', 'Graph', 'Growth', 'Levels', 'LightCut', 'Link', 'MinimumCuts', 'MincutError', 'NewLinks', 'NoCut', 'NoProgram',
            'OutOfMemory', 'Part', 'RawGraph', 'Refused', 'Site', 'State', 'Step', 'StreamFailed', 'TimedOut', 'TooLarge', 'UnknownName',
            'read_graph']

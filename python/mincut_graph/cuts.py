@@ -4,6 +4,7 @@ from __future__ import annotations
 import os
 from collections.abc import Callable, Hashable, Iterable, Sequence
 from difflib import get_close_matches
+from itertools import islice
 from typing import Any, Optional, TypeVar, Union
 
 from .cactus import Cactus
@@ -12,7 +13,7 @@ from .changes import changed
 from .deadline import Deadline
 from .errors import BadInput, BadWords, Disconnected, NoProgram, TooLarge, UnknownName
 from .failures import Progress, failures_of
-from .given import items, pair_of, whole
+from .given import given_number, items, pair_of, whole
 from .graph import Graph, finished
 from .levels import Levels, levels_of
 from .library import Library
@@ -20,7 +21,7 @@ from .numbers import whole_numbers
 from .places import find_library
 from .program import Program
 from .ranges import Range, Ranges
-from .results import Augmentation, Balanced, Choice, Comparison, Cut, CutLink, Failure, Growth, Link, NewLinks, Site, State, Step
+from .results import Augmentation, Balanced, Choice, Comparison, Cut, CutLink, Failure, Growth, LightCut, Link, NewLinks, Site, State, Step
 from .sources import WEIGHT, Mass, raw_graph
 from .words import checked_words, checked_workers
 
@@ -119,14 +120,12 @@ class MinimumCuts:
         return Cut(value, self.named(side))
 
     def cut_below(self, bound: int, *, time_limit: Optional[float] = None) -> Optional[Cut]:
-        """One minimum cut if the value is below the bound, otherwise None. By the library it costs no more than `cut`, since flows end at the
-        bound; the program finds the value first. Raises BadInput for a bound that is not a whole number of 0 or more.
+        """One minimum cut if the value is below the bound, otherwise None. By the library it costs what `cut` does; the
+        program finds the value first. Raises BadInput for a bound that is not a whole number of 0 or more.
 
         >>> MinimumCuts([('a', 'b', 3), ('b', 'c', 2)]).cut_below(3)
         Cut(value=2, side=['c'])"""
-        most = whole(bound, 'bound', 0)
-        if most is None:
-            raise BadInput('bound is None; it has to be a whole number')
+        most = given_number(bound, 'bound')
         with Deadline(self.limit(time_limit)) as deadline:
             if self.library and 'value' not in self._known:
                 found = self.library.cut_below(self.graph, most, deadline.left())
@@ -135,6 +134,21 @@ class MinimumCuts:
                 self._known['value'], self._known['cut'] = found[0], found
             is_below = self.value(time_limit=deadline.left()) < most
             return self.cut(time_limit=deadline.left()) if is_below else None
+
+    def cuts_below(self, bound: int, most: int, *, time_limit: Optional[float] = None) -> list[LightCut]:
+        """Different cuts below the bound, at most so many, a minimum cut first. Which others there are is free; the list is empty only if no cut
+        weighs less or `most` is 0. By the library it costs about what `cut` does; by the program it has minimum cuts alone. Raises BadInput for
+        a bound or a number that is not a whole number of 0 or more.
+
+        >>> MinimumCuts([('a', 'b', 3), ('b', 'c', 2)]).cuts_below(3, 5)
+        [LightCut(weight=2, side=['c'])]"""
+        limit, rows = given_number(bound, 'bound'), given_number(most, 'most')
+        with Deadline(self.limit(time_limit)) as deadline:
+            if self.library:
+                found = self.library.cuts_below(self.graph, limit, rows, deadline.left())
+            else:
+                found = self._minimum_below(limit, rows, deadline)
+            return [LightCut(weight, self.named(side)) for weight, side in found]
 
     def count(self, *, time_limit: Optional[float] = None) -> int:
         """The number of all minimum cuts. A graph of k components has 2^(k-1) - 1; more than 127 are refused with TooLarge.
@@ -452,6 +466,16 @@ class MinimumCuts:
         except Disconnected:
             return 0, self._once('components', self.graph.components)[1]
         return ranges.cactus.value, ranges.side(next(ranges.all()))
+
+    def _minimum_below(self, bound: int, most: int, deadline: Deadline) -> list[tuple[int, list[int]]]:
+        """(value, side) of at most so many minimum cuts, if the value is below the bound; one alone of a graph that is not connected."""
+        value = self.value(time_limit=deadline.left())
+        if value >= bound or most == 0:
+            return []
+        if value == 0:
+            return [self._once('cut', lambda: self._one_cut(deadline.left()))]
+        ranges = self.ranges(deadline.left())
+        return [(value, ranges.side(one)) for one in islice(ranges.all(), most)]
 
     def _near(self) -> list[list[tuple[int, int]]]:
         """For each vertex its neighbours, ascending, with the weights of the links."""

@@ -35,3 +35,11 @@ def whole(number: Any, what: str, least: int) -> Optional[int]:
     if found < least:
         raise BadInput(f'{what} is {found}; it has to be {least} or more')
     return found
+
+
+def given_number(number: Any, what: str) -> int:
+    """The whole number of 0 or more, which may not be left out."""
+    found = whole(number, what, 0)
+    if found is None:
+        raise BadInput(f'{what} is None; it has to be a whole number')
+    return found

@@ -1,4 +1,4 @@
-"""The shared library as a back end: the calls of mincut.h by ctypes, for the value, one cut, the count, the cactus, a most balanced cut,
+"""The shared library as a back end: the calls of mincut.h by ctypes, for the value, one cut, several light cuts, the count, the cactus, a most balanced cut,
 lists of sides, and augmentations.
 
 A call on a small graph without a time limit runs in this process, and an interrupt waits for its end, some milliseconds. All others run
@@ -64,6 +64,7 @@ class Library:
             loaded.mincut_value.argtypes = loaded.mincut_count.argtypes = graph + [POINTER(c_uint64)]
             loaded.mincut_cut.argtypes = graph + [POINTER(c_uint64), POINTER(c_uint8)]
             loaded.mincut_cut_below.argtypes = graph + [c_uint64, POINTER(c_uint64), POINTER(c_uint8)]
+            loaded.mincut_cuts_below.argtypes = graph + [c_uint64, c_size_t, POINTER(c_uint64), POINTER(c_uint64), POINTER(c_uint8)]
             loaded.mincut_cactus.argtypes = graph + [POINTER(Sizes), POINTER(c_size_t), POINTER(c_uint32), POINTER(Bridge),
                                                      POINTER(c_size_t), POINTER(c_uint64)]
             loaded.mincut_balanced.argtypes = graph + [POINTER(c_uint64), POINTER(Balance), POINTER(c_uint8)]
@@ -87,6 +88,16 @@ class Library:
         most = min(bound, MOST_BOUND)
         value, side = alone(lambda: self.one_cut(self.loaded.mincut_cut_below, graph, most), graph, time_limit)
         return (value, side) if value < bound else None
+
+    def cuts_below(self, graph: Graph, bound: int, most: int, time_limit: Optional[float] = None) -> list[tuple[int, list[int]]]:
+        """(weight, side) of cuts that weigh less than the bound, at most so many, and a minimum cut first."""
+        return alone(lambda: self.light_cuts(graph, min(bound, MOST_BOUND), min(most, len(graph.names))), graph, time_limit)
+
+    def light_cuts(self, graph: Graph, bound: int, rows: int) -> list[tuple[int, list[int]]]:
+        n, count, weights = len(graph.names), c_uint64(), (c_uint64 * rows)()
+        inside = (c_uint8 * (rows * n))()
+        checked(self.loaded.mincut_cuts_below(*arrays(graph), bound, rows, byref(count), weights, inside), graph)
+        return [(weights[k], [v for v, byte in enumerate(inside[k * n:(k + 1) * n]) if byte]) for k in range(count.value)]
 
     def one_cut(self, call: Callable[..., int], graph: Graph, *asked: int) -> tuple[int, list[int]]:
         value, inside = c_uint64(), (c_uint8 * len(graph.names))()

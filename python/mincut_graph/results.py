@@ -22,6 +22,12 @@ class Cut(NamedTuple):
     side: list[Any]
 
 
+class LightCut(NamedTuple):
+    """A cut below a bound."""
+    weight: int
+    side: list[Any]
+
+
 class Balanced(NamedTuple):
     """A minimum cut: the mass of its lighter side, and its side without the first vertex."""
     balance: int
@@ -35,7 +41,7 @@ class Augmentation(NamedTuple):
 
 
 class Step(NamedTuple):
-    """The value and the number of minimum cuts after an insertion."""
+    """Value and count after an insertion."""
     value: int
     count: int  # type: ignore[assignment]
 
@@ -66,7 +72,7 @@ class Choice(NamedTuple):
 
 
 class State(NamedTuple):
-    """The value, the number of minimum cuts, and a most balanced one with its links."""
+    """Value, count, and a most balanced cut with its links."""
     value: int
     count: int  # type: ignore[assignment]
     balance: int
@@ -100,7 +106,7 @@ class CutLink(NamedTuple):
 
 
 class Failure(NamedTuple):
-    """A link, and the value and the number of minimum cuts of the graph without it."""
+    """A link, and value and count of the graph without it."""
     source: Any
     target: Any
     weight: int

@@ -1,4 +1,4 @@
-/* Stands in for the shared library in tests, with the calls of mincut.h: the value, one cut, the count, a most balanced cut, lists of sides and the sets of an augmentation by trying all
+/* Stands in for the shared library in tests, with the calls of mincut.h: the value, one cut, several light cuts, the count, a most balanced cut, lists of sides and the sets of an augmentation by trying all
  * sides of up to 16 vertices, and the cactus of a ring whose edges stand in order, written down from another node than the canonical cactus begins with. A first weight
  * of 999 makes a call that does not end, one of 998 one that ends its process, one of 997 one without memory. */
 #include <stddef.h>
@@ -62,6 +62,23 @@ int mincut_cut_below(uint32_t n, size_t m, const uint32_t *u, const uint32_t *v,
 
 int mincut_cut(uint32_t n, size_t m, const uint32_t *u, const uint32_t *v, const uint64_t *w, uint64_t *value, uint8_t *in_side) {
     return mincut_cut_below(n, m, u, v, w, UINT64_MAX, value, in_side);
+}
+
+int mincut_cuts_below(uint32_t n, size_t m, const uint32_t *u, const uint32_t *v, const uint64_t *w, uint64_t bound, size_t rows,
+                      uint64_t *count, uint64_t *weight, uint8_t *in_side) {
+    uint64_t least, all;
+    const int status = best(n, m, u, v, w, &least, &all);
+    if (status) return status;
+    uint32_t first = 2;
+    while (weight_of(m, u, v, w, first) != least) first += 2;
+    *count = 0;
+    for (uint32_t next = 0; next < 1u << n && *count < rows; next += 2) {
+        const uint32_t side = next ? next : first;
+        if ((next && side == first) || weight_of(m, u, v, w, side) >= bound) continue;
+        for (uint32_t i = 0; i < n; ++i) in_side[*count * n + i] = side >> i & 1;
+        weight[(*count)++] = weight_of(m, u, v, w, side);
+    }
+    return 0;
 }
 
 int mincut_count(uint32_t n, size_t m, const uint32_t *u, const uint32_t *v, const uint64_t *w, uint64_t *count) {

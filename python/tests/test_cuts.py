@@ -25,6 +25,7 @@ def test_square():
     assert cuts.sides(least=2) == [['b', 'c'], ['c', 'd']]
     assert cuts.cut().value == 2 and cuts.cut().side in cuts.sides()
     assert (cuts.cut_below(2), cuts.cut_below(3)) == (None, cuts.cut())
+    assert cuts.cuts_below(2, 5) == [] and [(weight, side in cuts.sides()) for weight, side in cuts.cuts_below(3, 1)] == [(2, True)]
     assert cuts.balanced() == (2, ['b', 'c'])
     cactus = cuts.cactus()
     assert (cactus.value, sorted(cactus.node_of()), cactus.bridges, cactus.cycles) == (2, ['a', 'b', 'c', 'd'], [], [[0, 1, 2, 3]])
@@ -115,7 +116,7 @@ def test_what_is_given_is_judged():
                        (lambda: cuts.what_if(remove=[('a', 'b', 1)]), 'two vertices'), (lambda: cuts.levels(up_to='x'), 'whole number'),
                        (lambda: cuts.sides(least=1.5), 'whole number'), (lambda: cuts.failures(processes=0), '1 or more'), (lambda: cuts.grow(3), 'is no list'),
                        (lambda: cuts.candidates([('a', 'c')], target=-1), '0 or more'), (lambda: cuts.candidates([('a', 'c')], costs=7), 'is no list'),
-                       (lambda: cuts.grow(['ab']), "'ab' is a text"), (lambda: cuts.cut_below(1.5), 'whole number'), (lambda: cuts.cut_below(None), 'whole number')):
+                       (lambda: cuts.grow(['ab']), "'ab' is a text"), (lambda: cuts.cut_below(1.5), 'whole number'), (lambda: cuts.cut_below(None), 'whole number'), (lambda: cuts.cuts_below(2, None), 'whole number')):
         with pytest.raises(mincut_graph.BadInput, match=line):
             call()
 

@@ -60,6 +60,21 @@ def test_one_cut(stub):
     assert cuts.cut() == cuts.cut_below(5) and cuts.cut().side in cuts.sides()
 
 
+def test_several_light_cuts(stub):
+    for n, edges, value, sides in random_graphs(40):
+        cuts = MinimumCuts(edges, library=stub)
+        assert cuts.cuts_below(value, 9) == cuts.cuts_below(value + 1, 0) == []
+        found = cuts.cuts_below(1 << 70, 5)
+        assert found[0].weight == value and 0 < len(found) <= 5 and len({tuple(side) for _, side in found}) == len(found)
+        assert all(sum(link.weight for link in cuts.links(side)) == weight for weight, side in found)
+        by_program = MinimumCuts(edges, library=False).cuts_below(value + 1, 5)
+        assert by_program and all(cut.weight == value and cut.side in MinimumCuts(edges, library=False).sides() for cut in by_program)
+    assert MinimumCuts(ring(4), library=stub, time_limit=20).cuts_below(3, 1)[0].weight == 2, 'in a process of its own'
+    assert MinimumCuts([(1, 2), (3, 4), (4, 5)], library=stub).cuts_below(1, 9) == [(0, [3, 4, 5])]
+    with pytest.raises(mincut_graph.NoCut):
+        MinimumCuts([], library=stub).cuts_below(3, 4)
+
+
 def test_most_balanced(stub):
     for n, edges, value, sides in random_graphs(40):
         masses = {v: v % 3 for edge in edges for v in edge[:2]}
@@ -156,6 +171,9 @@ def test_library_and_program_agree():
         value = by_program.value()
         fresh = MinimumCuts(edges, library=str(LIBRARY))
         assert fresh.cut_below(value) is None and fresh.cut_below(value + 1) == fresh.cut() and fresh.cut().side in by_program.sides()
+        light = fresh.cuts_below(2 * value + 1, n)
+        assert light[0].side in by_program.sides() and fresh.cuts_below(value, n) == [] and len({tuple(side) for _, side in light}) == len(light)
+        assert all(weight <= 2 * value and sum(link.weight for link in fresh.links(side)) == weight for weight, side in light)
         for asked in ((None, None), (2, None), (None, (0, n - 1))):
             assert Library(str(LIBRARY)).sides(by_library.graph, *asked) == Program().sides(by_program.graph, *asked)
 

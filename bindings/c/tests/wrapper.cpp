@@ -40,6 +40,7 @@ static int faults() {
     if (!tells(MINCUT_TOO_MANY_VERTICES, [] { mincut::cactus(mincut::EdgeList(~0u)); })) return 9;
     if (!tells(MINCUT_NO_CUT, [] { mincut::cut(mincut::EdgeList(0)); })) return 22;
     if (!tells(MINCUT_BAD_LENGTH, [&] { mincut::cut_below({4, four.u, four.v, mass}, 2); })) return 23;
+    if (!tells(MINCUT_NO_CUT, [] { mincut::cuts_below(mincut::EdgeList(1), 2, 3); })) return 26;
     return mincut::TooManySides(7).sides() == 7 ? 0 : 10;
 }
 
@@ -60,6 +61,11 @@ static int answers() {
     if (one.value != 0 || one.in_side.size() != 3 || one.in_side[0] != 0 || one.in_side[1] + one.in_side[2] == 0) return 24;
     const std::optional<mincut::Cut> below = mincut::cut_below(path, 2);
     if (!below || below->value != 1 || !is_side(path, below->in_side) || mincut::cut_below(path, 1)) return 25;
+    const std::vector<mincut::LightCut> light = mincut::cuts_below(path, 2, 5);
+    if (light.size() != 3 || mincut::cuts_below(path, 2, 2).size() != 2 || !mincut::cuts_below(path, 1, 5).empty()) return 27;
+    for (const mincut::LightCut &k : light)
+        if (k.weight != 1 || !is_side(path, k.in_side)) return 28;
+    if (light[0].in_side == light[1].in_side || light[0].in_side == light[2].in_side || light[1].in_side == light[2].in_side) return 29;
     const mincut::Balanced best = mincut::balanced(path);
     if (best.value != 1 || best.balance != 2 || best.in_side != std::vector<std::uint8_t>{0, 0, 1, 1}) return 12;
     if (mincut::sides(path).lists() != std::vector<Side>{{1, 2, 3}, {2, 3}, {3}}) return 13;

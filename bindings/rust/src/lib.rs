@@ -1,4 +1,4 @@
-//! Minimum cuts of a weighted undirected graph: their value, one of them, their number, a cactus of all of them, a most balanced one,
+//! Minimum cuts of a weighted undirected graph: their value, one of them, several light cuts, their number, a cactus of all of them, a most balanced one,
 //! lists of their sides, and the fewest new edges that raise the value; and the components of a graph that is not connected.
 //!
 //! A graph has `n` vertices, 0 to n - 1; edge i joins `u[i]` and `v[i]` and weighs `w[i]`. Edges with the same ends count as one with
@@ -319,6 +319,15 @@ pub struct Cut {
     pub in_side: Vec<bool>,
 }
 
+/// A cut that weighs less than a bound.
+#[derive(Clone, Debug, PartialEq, Eq)]
+pub struct LightCut {
+    /// What the edges between its sides weigh.
+    pub weight: u64,
+    /// For each vertex whether it is on the side without vertex 0.
+    pub in_side: Vec<bool>,
+}
+
 /// The length of an array for all vertices; 0 above the limit, since such a graph is refused whatever the room.
 fn room_of(n: u32) -> usize {
     if n > 4_194_304 { 0 } else { n as usize }
@@ -374,6 +383,10 @@ extern "C" {
     fn mincut_raw_cut_below(
         n: u32, u: *const u32, u_len: usize, v: *const u32, v_len: usize, w: *const u64, w_len: usize, bound: u64, value: *mut u64,
         in_side: *mut u8, in_side_len: usize,
+    ) -> u32;
+    fn mincut_raw_cuts_below(
+        n: u32, u: *const u32, u_len: usize, v: *const u32, v_len: usize, w: *const u64, w_len: usize, bound: u64, count: *mut u64,
+        weight: *mut u64, weight_len: usize, in_side: *mut u8, in_side_len: usize,
     ) -> u32;
     fn mincut_raw_count(
         n: u32, u: *const u32, u_len: usize, v: *const u32, v_len: usize, w: *const u64, w_len: usize, count: *mut u64,
@@ -447,6 +460,32 @@ pub fn cut_below(n: u32, u: &[u32], v: &[u32], w: &[u64], bound: u64) -> Result<
         )
     };
     told(status).map(|()| (least < bound).then(|| Cut { value: least, in_side: bools(&bytes) }))
+}
+
+/// Cuts that weigh less than the bound, at most so many and no two the same, and a minimum cut first; which others is free. There are
+/// none only if no cut weighs less or `most` is 0. The graph need not be connected.
+///
+/// ```
+/// // a path of three vertices with weights 2 and 1
+/// let found = mincut::cuts_below(3, &[0, 1], &[1, 2], &[2, 1], 3, 9).unwrap();
+/// assert_eq!((found.len(), found[0].weight, &found[0].in_side[..]), (2, 1, &[false, false, true][..]));
+/// assert_eq!((found[1].weight, &found[1].in_side[..]), (2, &[false, true, true][..]));
+/// ```
+pub fn cuts_below(n: u32, u: &[u32], v: &[u32], w: &[u64], bound: u64, most: usize) -> Result<Vec<LightCut>, Error> {
+    // there are fewer cuts than vertices
+    let rows = most.min(room_of(n));
+    let (mut weights, mut bytes) = (vec![0u64; rows], vec![0u8; rows * room_of(n)]);
+    let mut count = 0;
+    // SAFETY: as above; the outputs are different vectors.
+    let status = unsafe {
+        mincut_raw_cuts_below(
+            n, u.as_ptr(), u.len(), v.as_ptr(), v.len(), w.as_ptr(), w.len(), bound, &mut count, weights.as_mut_ptr(), weights.len(),
+            bytes.as_mut_ptr(), bytes.len(),
+        )
+    };
+    told(status)?;
+    let sides = bytes.chunks(room_of(n).max(1)).map(bools);
+    Ok(weights.iter().zip(sides).take(count as usize).map(|(weight, in_side)| LightCut { weight: *weight, in_side }).collect())
 }
 
 /// The number of all minimum cuts of a connected graph.

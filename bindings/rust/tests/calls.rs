@@ -1,4 +1,4 @@
-use mincut::{balanced, cactus, components, count, cut, cut_below, sides, sides_balanced, sides_between, value, Error};
+use mincut::{balanced, cactus, components, count, cut, cut_below, cuts_below, sides, sides_balanced, sides_between, value, Error};
 
 #[test]
 fn each_fault_is_told() {
@@ -12,6 +12,9 @@ fn each_fault_is_told() {
     assert_eq!(cut(1, &[], &[], &[]), Err(Error::NoCut));
     assert_eq!(cut(u32::MAX, &[], &[], &[]), Err(Error::TooManyVertices));
     assert_eq!(cut_below(2, &[0], &[2], &[1], 5), Err(Error::BadVertex));
+    assert_eq!(cuts_below(1, &[], &[], &[], 5, 3), Err(Error::NoCut));
+    assert_eq!(cuts_below(u32::MAX, &[], &[], &[], 5, 3), Err(Error::TooManyVertices));
+    assert_eq!(cuts_below(2, &[0], &[2], &[1], 5, 3), Err(Error::BadVertex));
     assert_eq!(count(2, &[], &[], &[]), Err(Error::Disconnected));
     assert_eq!(balanced(2, &[0], &[1], &[1], &[1]), Err(Error::BadLength));
     assert_eq!(balanced(2, &[0], &[1], &[1], &[u64::MAX, 1]), Err(Error::MassSum));
@@ -35,6 +38,27 @@ fn one_cut_has_a_side() {
     let apart = cut(6, &u[..6], &v[..6], &w[..6]).unwrap();
     assert_eq!((apart.value, &apart.in_side[..]), (0, &[false, false, false, true, true, true][..]));
     assert_eq!(cut_below(6, &u[..6], &v[..6], &w[..6], u64::MAX), Ok(Some(apart)));
+}
+
+#[test]
+fn light_cuts_differ() {
+    // a ring of four vertices: six minimum cuts, and one that parts opposite vertices from each other
+    let (u, v, w) = ([0, 1, 2, 3], [1, 2, 3, 0], [1, 1, 1, 1]);
+    let found = cuts_below(4, &u, &v, &w, 3, 9).unwrap();
+    assert_eq!(found.len(), 3);
+    for (k, cut) in found.iter().enumerate() {
+        let weight = (0..4).filter(|i| cut.in_side[u[*i] as usize] != cut.in_side[v[*i] as usize]).count() as u64;
+        assert_eq!((cut.weight, weight, cut.in_side[0]), (2, 2, false));
+        assert!(found[..k].iter().all(|other| other.in_side != cut.in_side));
+    }
+    assert_eq!(cuts_below(4, &u, &v, &w, 2, 9), Ok(vec![]));
+    assert_eq!(cuts_below(4, &u, &v, &w, 3, 0), Ok(vec![]));
+    assert_eq!(cuts_below(4, &u, &v, &w, 3, 1).unwrap().len(), 1);
+    // with one edge lighter the minimum cut comes first, whatever the room
+    for most in 1..4 {
+        let uneven = cuts_below(4, &u, &v, &[5, 4, 5, 1], 20, most).unwrap();
+        assert_eq!((uneven.len(), uneven[0].weight, &uneven[0].in_side[..]), (most, 5, &[false, false, true, true][..]));
+    }
 }
 
 #[test]

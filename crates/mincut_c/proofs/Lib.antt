@@ -10,3 +10,4 @@ pub mod Listing
 pub mod SetNumbers
 pub mod FewSets
 pub mod CutBytes
+pub mod LightCuts

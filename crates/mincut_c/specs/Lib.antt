@@ -7,3 +7,4 @@ pub mod Listed
 pub mod Raised
 pub mod Components
 pub mod OneCut
+pub mod LightCuts

@@ -10,8 +10,8 @@ use crate::values::lesser_of_arrays;
 use std::alloc::Global;
 
 /// The lesser of a bound and the least weight of a cut of the graph with `n` vertices, counted
-/// from 0, whose edges the arrays give. The sweep ends each flow at the bound, so a low bound that
-/// the value reaches is told sooner than the value.
+/// from 0, whose edges the arrays give. Flows end at the bound, so a bound far below the value saves
+/// some of them; else it costs what the value costs.
 ///
 /// The statuses are those of `mincut_raw_value`.
 #[unsafe(no_mangle)]

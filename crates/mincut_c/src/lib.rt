@@ -12,6 +12,7 @@ mod canonical;
 mod components;
 mod counts;
 mod filling;
+mod light_cuts;
 mod listings;
 mod masses;
 mod one_cut;

@@ -4,8 +4,8 @@
 
 It compiles the tests of bindings/c/tests against the library, those of mincut.hpp by C++17 and C++20, and the shim anew under the address and
 undefined sanitizers; runs them, the small ones under valgrind and helgrind where these are there; makes each allocation of a call fail in turn; runs --calls random
-graphs with faults in them in-process; compares value, one cut, number, sides, lists of them, a most balanced cut and an augmentation on --graphs random
-multigraphs with the program, and the components with those by hand; weighs one cut of a graph of each family; compiles and runs the examples; and has
+graphs with faults in them in-process; compares value, one cut, several light cuts, number, sides, lists of them, a most balanced cut and an augmentation on --graphs random
+multigraphs with the program, and the components with those by hand; weighs one cut and several of a graph of each family; compiles and runs the examples; and has
 cargo test the Rust crate. --quick leaves out valgrind and cargo.
 """
 import argparse
@@ -174,8 +174,32 @@ def cut_differs(library, n, u, v, w, value):
                 and (not u or answer(max(u + v)) == answer(max(u + v), value + 1) == (6, 77, left)))
 
 
+def light_cuts_differ(library, n, u, v, w, value):
+    """Whether what is listed below a bound is not some cuts below it, each once and with its weight, and the lightest first; or is none though
+    there is a cut and room; or a fault changes what it should not."""
+    m = len(u)
+    edges = (c_size_t(m), (c_uint32 * m)(*u), (c_uint32 * m)(*v), (c_uint64 * m)(*w))
+
+    def answer(count, bound, rows):
+        told, weights, inside = c_uint64(77), (c_uint64 * (rows + 1))(*[7] * (rows + 1)), (ctypes.c_uint8 * (rows * n + 1))(*[7] * (rows * n + 1))
+        status = library.mincut_cuts_below(c_uint32(count), *edges, c_uint64(bound), c_size_t(rows), byref(told), weights, inside)
+        return status, told.value, list(weights), list(inside)
+
+    def are_cuts(bound, rows):
+        status, count, weights, inside = answer(n, bound, rows)
+        sides = [tuple(inside[k * n:(k + 1) * n]) for k in range(count)]
+        return (status == 0 and count <= rows and (count == 0) == (value >= bound or rows == 0) and len(set(sides)) == count
+                and set(weights[count:] + inside[count * n:]) == {7} and weights[0] == (value if count else 7)
+                and all(weight < bound and side[0] == 0 and set(side) == {0, 1} and sum(x for a, b, x in zip(u, v, w) if side[a] != side[b]) == weight
+                        for weight, side in zip(weights, sides)))
+
+    bounds = {0, value // 2, value, value + 1, 2 * value + 5, (1 << 64) - 1}
+    return not (all(are_cuts(bound, rows) for bound in bounds for rows in (0, 1, 3, n))
+                and (not u or answer(max(u + v), value + 1, 3) == (6, 77, [7] * 4, [7] * (3 * n + 1))))
+
+
 def check_families(prefix):
-    """One cut of a graph of each family, and of two copies of it beside each other."""
+    """One cut and several of a graph of each family, and of two copies of it beside each other."""
     library, rng = ctypes.CDLL(f'{prefix}/lib/libmincut.so'), random.Random(5)
     for name, (made, vertices_for) in FAMILIES.items():
         n, edges, facts = made(vertices_for(FAMILY_EDGES), rng)
@@ -185,7 +209,9 @@ def check_families(prefix):
         two = 2 * n, u + [x + n for x in u], v + [x + n for x in v], w + w
         if facts.get('value', value.value) != value.value or cut_differs(library, n, u, v, w, value.value) or cut_differs(library, *two, 0):
             sys.exit(f'one cut of the family {name} differs')
-    told(f'{len(FAMILIES)} families: one cut of each, and of two graphs beside each other')
+        if light_cuts_differ(library, n, u, v, w, value.value) or light_cuts_differ(library, *two, 0):
+            sys.exit(f'several cuts of the family {name} differ')
+    told(f'{len(FAMILIES)} families: one cut and several of each, and of two graphs beside each other')
 
 
 def balanced(library, n, u, v, w, masses):
@@ -290,6 +316,8 @@ def check_program(prefix, program, graphs):
             sys.exit(f'graph {number} differs in its components: {graph}')
         if cut_differs(library, *graph, value):
             sys.exit(f'graph {number} differs in its one cut: {graph}')
+        if light_cuts_differ(library, *graph, value):
+            sys.exit(f'graph {number} differs in several cuts: {graph}')
         found, count, of_cactus = asked(library, *graph)
         apart += count is None
         masses = [rng.choice([0, 1, 1, 2, 1 << 40]) for _ in range(graph[0])] if rng.random() < 0.7 else None
