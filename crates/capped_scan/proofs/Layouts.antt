@@ -62,7 +62,7 @@ lowered_state n root cap prefix size free tree new order y w = record {
   others = λ v ne. at_drop size v new ∙ (w.others (size + v) (omega arith) (λ q. ne (omega arith)) ∙ sym (at_drop size v tree));
 }
 
--- a limit of all links is one of the keys, also where one is lowered
+-- a limit of all links is one of the keys, also if one is lowered
 pub lowered_few : (size limit : ℕ) (tree new : List ℕ) (x : ℕ) → IsWritten size (size + x) 0 tree new → ((v : ℕ) → get_or (drop size tree) v 0 - 1 ≤ limit) → (v : ℕ) → get_or new (size + v) 0 ≤ limit + 1
 lowered_few size limit tree new x w few v = ⊎_elim
     (λ (e : v ≡ x). let zero_is : get_or new (size + v) 0 ≡ 0 = rw e w.written in let r : get_or new (size + v) 0 ≤ limit + 1 = omega arith in r)

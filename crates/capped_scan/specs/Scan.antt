@@ -40,7 +40,7 @@ is_live s v = waits s v || has s.order v
 abbrev pub NoneWaits : ScanState → Type 0
 NoneWaits s = (v : ℕ) → waits s v ≡ false
 
--- the lesser of the cap and the weight from the scanned vertices to one that waits
+-- the smaller of the cap and the weight from the scanned vertices to one that waits
 abbrev pub rank : Graph → ScanState → ℕ → ℕ
 rank g s v = min s.cap (weight_to g v (has s.order))
 

@@ -147,9 +147,9 @@ impl Scan {
         })
     }
 
-    /// The lesser of the cap and the weight from the scanned vertices to a vertex of 1 to n. It is
-    /// 0 if that vertex is scanned or dropped, or nothing is scanned. Every cut that separates it
-    /// from the vertex scanned last weighs at least that.
+    /// The smaller of the cap and the weight from the scanned vertices to a vertex of 1 to n. It
+    /// is 0 if that vertex is scanned or dropped, or nothing is scanned. Every cut that separates
+    /// it from the vertex scanned last weighs at least that.
     pub fn link(&self, graph: &Graph, y: u32) -> u64
         requires stands { StandsFor self.now graph.now }
         requires from_one { 1 ≤ y }

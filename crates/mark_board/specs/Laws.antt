@@ -7,9 +7,9 @@ use Rattle.cut_definitions.specs.Contraction.{classes, relabel}
 use Rattle.weighted_graph.specs.ContractionLaws.{IsLabelled, KeepsMinimumCuts}
 use Rattle.weighted_graph.specs.Marks.{ClassesAreJoined, MarksAreSafe}
 
--- if marks join each two vertices of a class, and are safe for a fair bound: with slack 0 the value is the lesser of the
--- bound and the contracted graph's value, or the bound if one class is left; with slack 1 the value and all minimum cuts
--- are kept
+-- if marks join any two vertices of a class, and are safe for a fair bound: with slack 0 the value is the smaller of
+-- the bound and the contracted graph's value, or the bound if one class is left; with slack 1 the value and all
+-- minimum cuts are kept
 abbrev pub LawOfMarkedContraction : Type 0
 LawOfMarkedContraction = (g : Graph) → IsGraph g → 2 ≤ g.vertices → (labels : List ℕ) → IsLabelled g labels → (marked : ℕ → Bool) → ClassesAreJoined g labels marked →
     (bound : ℕ) → IsFair g bound →

@@ -2,7 +2,7 @@
 //! vertices.
 //!
 //! Each call of `Board` is one step of the machine of `scan_core`, by the seat that is passed to
-//! it, and one atomic operation on a word of a table. Only `split` and `join` are two: a load of
+//! it. It is one atomic operation on a word of a table. Only `split` and `join` are two: a load of
 //! the bound, and the operation on the seats. No call waits for another, and none takes memory
 //! once the board is open. `Marks` are what a closed board leaves. Contracts see them as the
 //! number of edges and the ascending list of the marked ones.

@@ -18,7 +18,7 @@ use Rattle.rooted_cactus.specs.Numbers.{is_inner}
 use Rattle.rooted_cactus.proofs.Tallies.{no_blocks}
 use Rattle.rooted_cactus.proofs.Views.{view}
 
--- all below a node is as it must be
+-- all below a node is normal
 abbrev pub is_fine : Node → Bool
 is_fine x = (shape x).fine
 
@@ -34,7 +34,7 @@ children_are (x ∷ xs) =
     ap (λ b. b && list_all (λ y. child_fine true (shape y)) xs) (child_is true x) ∙ ap (λ b. (is_set true x && is_fine x) && b) (children_are xs)
     ∙ four_and (is_set true x) (is_fine x) (list_all (is_set true) xs) (all_fine xs)
 
--- what a block is where its kind and its nodes are known
+-- what a block is if its kind and its nodes are known
 placed_as : (b : Block) (cycle : Bool) (xs : List Node) → (block_shape b).is_cycle ≡ cycle → nodes_of b ≡ xs → is_placed b ≡ ((not cycle || nat_le 2 (length xs)) && list_all (is_set cycle) xs)
 placed_as b cycle xs k n =
     ap (λ c. (not c || nat_le 2 (length (nodes_of b))) && list_all (is_set c) (nodes_of b)) k ∙ ap (λ ys. (not cycle || nat_le 2 (length ys)) && list_all (is_set cycle) ys) n
@@ -73,7 +73,7 @@ inner_fine (x ∷ xs) = first (inner_fine xs) (is_inner x) refl where
   first rest true h = ap (λ k. is_fine x && k) rest
   first rest false h = rest ∙ sym (ap (λ k. k && all_fine xs) (fine_step x ∙ ap (λ bs. list_all is_placed bs && all_fine (flat_map nodes_of bs)) (no_blocks x h)))
 
--- a node whose blocks are as they must be gives way to those below it
+-- a node whose blocks are normal is replaced by those below it
 pub taken_fine : (left before after : List Node) (x : Node) → before ≡ left ++ x ∷ [] → after ≡ left ++ filter is_inner (flat_map nodes_of (blocks x)) → list_all is_placed (blocks x) ≡ true → all_fine before ≡ all_fine after
 taken_fine left before after x b a h =
     ap all_fine b ∙ list_all-append is_fine left (x ∷ []) ∙ ap (λ k. all_fine left && k) (and-true (is_fine x) ∙ fine_step x ∙ ap (λ k. k && all_fine (flat_map nodes_of (blocks x))) h)

@@ -218,7 +218,7 @@ entered_one stay names root x es e xs rest before after may h b v shed a =
           read_push sets es e (map f after) ∙ ap (read_entries sets es) put ∙ h.reads sets;
     }
 
--- any names may be given where no leaf stays, and their own in any case
+-- any names may be given if no leaf stays, and their own in any case
 pub any_names : (names : List ℕ → List ℕ) → MayName false names
 any_names names = λ e. absurd (false≢true e)
 

@@ -1,4 +1,4 @@
--- What a normal cactus gives to each node and each block in it.
+-- What normality says of each node and each block of a cactus.
 use Rattle.std.proofs.Common.{◌≡◌, ℕ, ◌≤◌, ◌⊎◌, inl, inr, Bool, true, false, ◌&&◌, ◌==◌, List, [], ◌∷◌, ◌++◌, length, map, ap, ◌∙◌, sym, subst, arith, append-nil}
 use Rattle.std.specs.Prelude.{nat_le}
 use Rattle.std.specs.List.{list_all, flat_map}
@@ -50,7 +50,7 @@ IsSolid x = HasOne (has (vertices x)) ⊎ (2 ≤ length (blocks x))
 abbrev pub IsPlaced : Node → Type 0
 IsPlaced x = IsSolid x ⊎ ((nodes : Children) × (blocks x ≡ Cycle nodes ∷ []) × (vertices x ≡ []))
 
--- ---- where a node may stand
+-- ---- where a node may be
 abbrev pub cycles_of : List Block → List Bool
 cycles_of bs = map (λ b. (block_shape b).is_cycle) bs
 

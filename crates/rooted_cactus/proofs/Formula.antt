@@ -40,7 +40,7 @@ census_cycle nodes = ap (fold-Block BlockCensus (List BlockCensus) (List Census)
     ∙ fold-roll-Block BlockCensus (List BlockCensus) (List Census) Census census_block_step census_blocks_step census_children_step census_node_step (Open.Cycle nodes)
     ∙ ap cycle_census (fold_out-Children BlockCensus (List BlockCensus) (List Census) Census census_block_step census_blocks_step census_children_step census_node_step nodes)
 
--- ---- the two folds agree on where a node is between two cycles
+-- ---- the two folds agree on whether a node is between two cycles
 same_kind : (b : Block) → (block_census b).is_cycle ≡ (tally b).is_cycle
 same_kind b = elim (view b) [
   | inl h ↦ ap (λ (c : BlockCensus). c.is_cycle) (ap block_census h.1 ∙ census_bridge h.0) ∙ sym (ap (λ (t : Tally). t.is_cycle) (ap tally h.1 ∙ tally_bridge h.0))

@@ -1,4 +1,5 @@
--- Induction over a tree: what holds of a node where it holds of the blocks below it, and of a block where it holds of its nodes, holds of each node.
+-- Induction over a tree. If a fact holds for a node whenever it holds for the blocks below it, and for a block whenever it
+-- holds for its nodes, then it holds for each node.
 use Rattle.std.proofs.Common.{◌≡◌, List, [], ◌∷◌, map, sym, ap, subst}
 use Rattle.std.specs.List.{AllByRecursion}
 use Rattle.std.specs.declared.boxed.Box.{Box}

@@ -100,7 +100,7 @@ blocks_all sets N K target js bs stack e d =
     subst (λ l. Each K l bs) (sym (append-nil d.done) ∙ ap (λ (l : List Joint). d.done ++ all_drawn sets l d.rest) (sym e) ∙ d.whole) d.blocks_done
 
 -- ---- a tree is put together from the last entry
--- so many nodes are finished as the entries that are left want
+-- as many nodes are finished as the entries that are left need
 pub record Readied (entries : List ShedNode) (finished : ℕ) : Type 0 where
   pub ready : IsReady entries finished
   pub one : left entries finished ≡ 1
@@ -114,7 +114,7 @@ readied_one entries es e before after h p a = record {
   one = ap (left es) a ∙ sym (left_push es e before) ∙ ap (λ (l : List ShedNode). left l before) (sym p) ∙ h.one;
 }
 
--- the finished nodes stand for what all is read off with the entries that are left
+-- the finished nodes stand for all that is read off with the entries that are left
 pub record Makes {X : Type 0} (sets : List ℕ → VertexSet) (N : Read → X → Type 0) (r : Read) (entries : List ShedNode) (finished : List X) : Type 0 where
   pub reads : List Read
   pub nodes : Each N reads finished

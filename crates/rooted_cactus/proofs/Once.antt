@@ -14,7 +14,7 @@ use Rattle.rooted_cactus.specs.Rooted.{IsCactus}
 use Rattle.rooted_cactus.specs.declared.tree.Node.{Node}
 use Rattle.rooted_cactus.proofs.Elements.{drop_nothing}
 
--- how often a number stands in a list
+-- how often a number is in a list
 abbrev times : ℕ → List ℕ → ℕ
 times v [] = 0
 times v (x ∷ xs) = (if x == v then 1 else 0) + times v xs
@@ -52,13 +52,13 @@ inside from to p = nat_le from p && not (nat_le to p)
 inside_none : (from p : ℕ) → inside from 0 p ≡ false
 inside_none from p = ap (λ b. nat_le from p && not b) (le-leb 0 p (omega arith)) ∙ and-false (nat_le from p)
 
--- a number that stands first, and nowhere else
+-- a number that is first, and nowhere else
 here : (v x : ℕ) (xs : List ℕ) → (x == v) ≡ true → times v xs ≡ 0 → (from to : ℕ) → has (drop from (take to (x ∷ xs))) v ≡ inside from to 0
 here v x xs e h from zero = ap (λ l. has l v) (drop_nothing from) ∙ sym (inside_none from 0)
 here v x xs e h zero (suc to) = ap (λ b. b || has (take to xs) v) e ∙ sym (ap (λ b. b && not (nat_le (suc to) 0)) (le-leb 0 0 (omega arith)) ∙ ap not (lt-leb (suc to) 0 (omega arith)))
 here v x xs e h (suc from) (suc to) = never v xs h from to ∙ sym (ap (λ b. b && not (nat_le (suc to) 0)) (lt-leb (suc from) 0 (omega arith)))
 
--- a number that stands behind the first
+-- a number that is after the first
 behind : (v x : ℕ) (xs : List ℕ) (p : ℕ) → (x == v) ≡ false → ((from to : ℕ) → has (drop from (take to xs)) v ≡ inside from to p) → (from to : ℕ) → has (drop from (take to (x ∷ xs))) v ≡ inside from to (suc p)
 behind v x xs p e h from zero = ap (λ l. has l v) (drop_nothing from) ∙ sym (inside_none from (suc p))
 behind v x xs p e h zero (suc to) =
@@ -113,7 +113,7 @@ each_once n root h v low high =
     let p = one_place v (concat (entered root)) one in
     (p.0, λ r. p.1 r.from r.to)
 
--- a number that stands in a list is in it
+-- a number that is in a list exactly once is in it
 times_has : (v : ℕ) (xs : List ℕ) → times v xs ≡ 1 → has xs v ≡ true
 times_has v [] h = absurd (omega (arith, h))
 times_has v (x ∷ xs) h = elim (one_if (x == v) (times v xs) h) [

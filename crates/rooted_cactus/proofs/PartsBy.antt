@@ -1,4 +1,4 @@
--- The equations of a part where another test stands for the vertices of a node.
+-- The equations of a part if another test decides which vertices a node has.
 use Rattle.std.proofs.Common.{◌≡◌, ℕ, List, map, sym, ◌∙◌, ap}
 use Rattle.std.specs.declared.boxed.Box.{Box}
 use Rattle.std.specs.declared.alloc.Global.{Global}

@@ -65,7 +65,7 @@ child_parts above x =
     ∙ ap (λ cs. well_placed (length (vertices x) == 0) (above ∷ cs) && (shape x).fine) (node_cycles x)
     ∙ ap (λ f. well_placed (length (vertices x) == 0) (above ∷ map (λ b. (block_shape b).is_cycle) (blocks x)) && f) (node_fine x)
 
--- a root that has a vertex stands well
+-- a root that has a vertex is well placed
 pub root_normal : (x : Node) (v : ℕ) → Contains (vertices x) v → is_normal x ≡ list_all (λ b. (block_shape b).fine) (blocks x)
 root_normal x v h =
     let some : (length (vertices x) == 0) ≡ false = ne_eqb (length (vertices x)) 0 (λ e. omega (arith, h.1, e)) in

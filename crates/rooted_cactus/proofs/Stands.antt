@@ -1,4 +1,5 @@
--- A finished node or block stands for what was read: off it the same is read, or where a tree is trimmed it shows it.
+-- A finished node or block stands for what was read: if the tree is put together as it was, the same is read off it, and if
+-- it is trimmed, it shows the same sets.
 use Rattle.std.proofs.Common.{◌≡◌, ℕ, ◌≤◌, true, false, inl, inr, ◌==◌, List, [], ◌∷◌, length, map, reverse, ap, ◌∙◌, sym, refl, subst}
 use Rattle.std.specs.declared.boxed.Box.{Box}
 use Rattle.std.specs.declared.alloc.Global.{Global}
@@ -41,7 +42,7 @@ bridge_is b x child e v = (
   ap nodes_of e ∙ nodes_bridge child ∙ ap (λ (y : Node). y ∷ []) v,
 )
 
--- ---- where it is put together as it was
+-- ---- if it is put together as it was
 each_read : {X : Type 0} (f : X → Read) (rs : List Read) (xs : List X) → Each (λ r x. f x ≡ r) rs xs → map f xs ≡ rs
 each_read f [] [] h = refl
 each_read f [] (x ∷ xs) h = absurd h
@@ -69,7 +70,7 @@ module _ (sets : List ℕ → VertexSet) where
   pub leaf_reads : (own : List ℕ) (b : Block) (x : Node) → IsBridgeTo b x → vertices x ≡ own → blocks x ≡ [] → BlockReads sets (bridge_read (node_read sets own [])) b
   leaf_reads own b x is v none = bridge_reads (node_read sets own []) x b is (node_reads own [] x v (subst (Each (BlockReads sets) []) (sym none) tt))
 
--- ---- where it is trimmed
+-- ---- if it is trimmed
 pub hung_shows : (r : Read) (x : Node) (b : Block) → (is_spare (vertices x) (blocks x) ≡ true → blocks x ≡ b ∷ []) → (is_spare (vertices x) (blocks x) ≡ false → IsBridgeTo b x) → IsNodeOf r x → IsBlockOf (bridge_read r) b
 hung_shows r x b spare stays h good = elim (cases_Bool (is_spare (vertices x) (blocks x))) [
   | inl t ↦ one_shows r x b t (spare t) (h good)

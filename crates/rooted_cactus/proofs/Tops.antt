@@ -21,7 +21,7 @@ pub reversed_top : {X : Type 0} (xs : List X) → reverse xs ≡ top_first xs
 reversed_top [] = refl
 reversed_top (x ∷ xs) = reverse-append (x ∷ []) xs ∙ ap (λ l. l ++ x ∷ []) (reversed_top xs)
 
--- ---- so many elements are taken off the end at once
+-- ---- several elements are taken off the end at once
 module _ {X : Type 0} (xs : List X) (n k : ℕ) (all : n ≡ length xs) (few : k ≤ length xs) where
   back_first : top_first (drop (n - k) xs) ++ top_first (take (n - k) xs) ≡ top_first xs
   back_first = sym (top_both (take (n - k) xs) (drop (n - k) xs)) ∙ ap top_first (take-append-drop (n - k) xs)

@@ -155,7 +155,7 @@ child_shows r x stays some s =
       fine = child_parts true x ∙ and_from _ _ placed s.fine;
     }
 
--- ---- a node of a cycle that gives way to the node below its bridge
+-- ---- a node of a cycle that is replaced by the node below its bridge
 over_bridge : (r : Read) (child : Box Node Global) → ShowsBlock (bridge_read r) (Bridge child) → ShowsChild r child.value
 over_bridge r child s =
     let x = child.value in
@@ -168,7 +168,7 @@ over_bridge r child s =
       fine = child_parts true x ∙ and_from _ _ (bridge_to_cycle (length (vertices x) == 0) (cycles_of (blocks x)) fine.0) fine.1;
     }
 
--- a node of a cycle stays, or gives way to the node below its bridge
+-- a node of a cycle stays, or is replaced by the node below its bridge
 spare_block : (vs : List ℕ) (bs : List Block) → is_spare vs bs ≡ true → (b : Block) × (bs ≡ b ∷ [])
 spare_block vs bs h = one bs (and_parts (length vs == 0) (length bs == 1) h).1 where
   one : (cs : List Block) → (length cs == 1) ≡ true → (b : Block) × (cs ≡ b ∷ [])

@@ -14,12 +14,13 @@ abbrev pub ranges_between : List Border → List Range
 ranges_between [] = []
 ranges_between (b ∷ bs) = ranges_to b.place (take b.following bs) ++ ranges_between bs
 
--- the borders of so many subtrees, one after another, from a number on
+-- the borders of some subtrees, one after another, from a number on
 abbrev pub borders_along : List ℕ → ℕ → ℕ → List Border
 borders_along sizes zero from = record { place = from; following = 0 } ∷ []
 borders_along sizes (suc count) from = record { place = from; following = suc count } ∷ borders_along sizes count (from + slice_index sizes from)
 
--- the borders of a block of so many nodes, from the number of its first on; a node that is the first of no block has none
+-- the borders of a block, by the number of its nodes and that of its first; a node that is the first of no block has
+-- none
 abbrev pub borders_at : List ℕ → ℕ → ℕ → List Border
 borders_at sizes zero first = []
 borders_at sizes (suc count) first = borders_along sizes (suc count) first

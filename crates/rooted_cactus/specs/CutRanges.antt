@@ -20,7 +20,7 @@ pub record IsRangeWithin (low high : ℕ) (r : Range) : Type 0 where
 abbrev pub elements_at : {X : Type 0} → List X → Range → List X
 elements_at xs r = drop r.from (take r.to xs)
 
--- a part of a tree: how many nodes it has, and the ranges of its cuts, where its first node has the number that is given
+-- a part of a tree: how many nodes it has, and the ranges of its cuts if its first node has the given number
 pub record Layout : Type 0 where
   pub size : ℕ
   pub ranges : ℕ → List Range
@@ -85,6 +85,6 @@ block_layout = fold-Block Layout Layout (List Layout) Layout block_layout_step b
 abbrev pub size_of : Node → ℕ
 size_of x = (layout x).size
 
--- for each cut of a tree, in its order, the numbers of the nodes that it cuts off, where the root has the number k
+-- for each cut of a tree, in its order, the numbers of the nodes that it cuts off if the root has the number k
 abbrev pub cut_ranges : Node → ℕ → List Range
 cut_ranges x k = (layout x).ranges k

@@ -31,7 +31,7 @@ entered = fold-Node (List (List ℕ)) (List (List ℕ)) (List (List ℕ)) (List 
 unfoldable pub entered_block : Block → List (List ℕ)
 entered_block = fold-Block (List (List ℕ)) (List (List ℕ)) (List (List ℕ)) (List (List ℕ)) entered_block_step entered_blocks_step entered_children_step entered_node_step
 
--- the entry of the table at the place of the number, or the number where there is none
+-- the entry of the table at the place of the number, or the number itself if there is none
 abbrev pub name_of : List ℕ → ℕ → ℕ
 name_of names v = slice_index_or names v v
 

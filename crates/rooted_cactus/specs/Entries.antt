@@ -59,7 +59,7 @@ node_read sets own rs = record {
   counts = counts_read rs;
 }
 
--- what is read off a node where its vertices have other names
+-- what is read off a node if its vertices have other names
 abbrev pub read_node : (List ℕ → VertexSet) → (List ℕ → List ℕ) → Node → Read
 read_node sets names x = record { part = part_by (λ l. sets (names l)) x; lists = map names (entered x); counts = widths x }
 
@@ -97,7 +97,7 @@ abbrev pub all_drawn : (List ℕ → VertexSet) → List Joint → List Read →
 all_drawn sets [] rs = []
 all_drawn sets (j ∷ js) rs = drawn sets j rs ∷ all_drawn sets js (drop (used j) rs)
 
--- the names that vertices may be given: any, but their own alone where leaves stay in their boxes
+-- the names that vertices may be given: any, but only their own if leaves stay in their boxes
 abbrev pub MayName : Bool → (List ℕ → List ℕ) → Type 0
 MayName leaves_stay names = leaves_stay ≡ true → names ≡ kept
 
@@ -126,7 +126,7 @@ abbrev pub read_entries : (List ℕ → VertexSet) → List ShedNode → List Re
 read_entries sets [] rs = rs
 read_entries sets (e ∷ es) rs = read_entry sets e (read_entries sets es rs)
 
--- how many nodes stand in the list after several entries, where so many stood there before
+-- how many nodes are in the list after several entries, from how many were there before
 abbrev pub left : List ShedNode → ℕ → ℕ
 left [] k = k
 left (e ∷ es) k = left es k - wanted (joints_of e) + 1

@@ -6,18 +6,19 @@ use Rattle.rooted_cactus.specs.declared.tree.Block.TheOpen.{Block-F, Blocks-F, C
 use Rattle.rooted_cactus.specs.declared.tree.Block.{Block}
 use Rattle.rooted_cactus.specs.declared.tree.Block.TheFolds.{fold-Node, fold-Block}
 
--- a node: whether it has no vertex, for each block below it whether that is a cycle, and whether all below it is as it must be
+-- a node: whether it has no vertex, for each block below it whether that is a cycle, and whether all below it is
+-- normal
 pub record NodeShape : Type 0 where
   pub is_empty : Bool
   pub cycles : List Bool
   pub fine : Bool
 
--- a block: whether it is a cycle, and whether all below its upper node is as it must be
+-- a block: whether it is a cycle, and whether all below its upper node is normal
 pub record BlockShape : Type 0 where
   pub is_cycle : Bool
   pub fine : Bool
 
--- an empty node lies in two or more blocks; where it lies in exactly two, both are cycles
+-- an empty node lies in two or more blocks; if it lies in exactly two, both are cycles
 abbrev pub well_placed : Bool → List Bool → Bool
 well_placed is_empty around = not is_empty || (nat_le 2 (length around) && (not (length around == 2) || list_all (λ c. c) around))
 
@@ -44,6 +45,7 @@ shape = fold-Node BlockShape (List BlockShape) (List NodeShape) NodeShape shape_
 unfoldable pub block_shape : Block → BlockShape
 block_shape = fold-Block BlockShape (List BlockShape) (List NodeShape) NodeShape shape_block_step shape_blocks_step shape_children_step shape_node_step
 
--- every cycle has three or more nodes, the one above its children among them; an empty node lies in two or more blocks, and in two cycles where it lies in exactly two blocks
+-- every cycle has three or more nodes, with the one above its children; an empty node lies in two or more blocks, and if it
+-- lies in exactly two, both are cycles
 abbrev pub is_normal : Node → Bool
 is_normal root = well_placed (shape root).is_empty (shape root).cycles && (shape root).fine

@@ -9,7 +9,8 @@ use Rattle.rooted_cactus.specs.declared.tree.Block.{Block}
 use Rattle.rooted_cactus.specs.declared.tree.Block.TheOpen.{Block-F, Blocks-F, Children-F, Node-F, Bridge, Cycle}
 use Rattle.rooted_cactus.specs.declared.tree.Block.TheFolds.{fold-Node, fold-Block}
 
--- the number of the nonempty intervals of so many children, k (k - 1) / 2 in a cycle of k nodes
+-- the number of the nonempty intervals of m children; a cycle of k nodes has k - 1 children and k (k - 1) / 2
+-- intervals
 abbrev pub triangle : ℕ → ℕ
 triangle zero = 0
 triangle (suc m) = suc m + triangle m
@@ -35,7 +36,7 @@ all_own bs = total (map (λ (b : Tally). b.own) bs)
 abbrev pub all_under : List Tally → ℕ
 all_under bs = total (map (λ (b : Tally). b.under) bs)
 
--- the number of the cuts of the blocks of a node, less one where it is between two cycles
+-- the number of the cuts of the blocks of a node, less one if it is between two cycles
 abbrev pub own_of : List ℕ → List Tally → ℕ
 own_of vs bs = all_own bs - (if between vs bs then 1 else 0)
 

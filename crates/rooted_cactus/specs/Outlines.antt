@@ -70,7 +70,7 @@ sizes = fold-Node (List ℕ) (List ℕ) (List ℕ) (List ℕ) sizes_block_step s
 unfoldable pub block_sizes : Block → List ℕ
 block_sizes = fold-Block (List ℕ) (List ℕ) (List ℕ) (List ℕ) sizes_block_step sizes_blocks_step sizes_children_step sizes_node_step
 
--- so many subtrees, one after another, end at a number, where the first begins at another
+-- some subtrees, one after another, end at a number if the first begins at another
 abbrev pub Hops : List ℕ → ℕ → ℕ → ℕ → Type 0
 Hops sizes zero from to = from ≡ to
 Hops sizes (suc count) from to = (from < length sizes) × Hops sizes count (from + slice_index sizes from) to

@@ -1,4 +1,4 @@
--- The cuts of a rooted cactus, each as the set of the vertices that it parts from the root.
+-- The cuts of a rooted cactus, each as the set of the vertices that it separates from the root.
 use Rattle.std.specs.Prelude.{ℕ, false, List, [], ◌∷◌, ◌++◌, map}
 use Rattle.std.specs.List.{flat_map}
 use Rattle.cut_definitions.specs.Weight.{VertexSet, either}
@@ -82,7 +82,7 @@ below x = (part x).below
 abbrev pub cuts : Node → List VertexSet
 cuts x = (part x).cuts
 
--- the part of a node, where another test stands for the vertices of a node
+-- the part of a node, if another test decides which vertices a node has
 abbrev pub node_step_by : (List ℕ → VertexSet) → Node-F Part Part (List Part) Part → Part
 node_step_by sets x = record { below = either (sets x.vertices) x.blocks.below; cuts = x.blocks.cuts }
 

@@ -7,7 +7,7 @@ use Rattle.rooted_cactus.specs.Rooted.{sides_of}
 use Rattle.cut_definitions.specs.Members.{SameMembers}
 use Rattle.rooted_cactus.specs.declared.solved.Solved.{Solved}
 
--- the value of the graph, and a normal cactus whose sides are just its minimum cuts
+-- the value of the graph, and a normal cactus whose sides are exactly its minimum cuts
 pub record IsSolved (g : Graph) (solved : Solved) : Type 0 where
   pub value : solved.value ≡ value g
   pub over : solved.cactus.vertices ≡ g.vertices

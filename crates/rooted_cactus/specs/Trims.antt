@@ -50,7 +50,7 @@ pub record ShowsChild (r : Read) (x : Node) : Type 0 where
   pub wide : AreWide (widths x)
   pub fine : child_fine true (shape x) ≡ true
 
--- a block with the same vertices below it and the same cuts, which is as it must be
+-- a block with the same vertices below it and the same cuts, which is valid
 pub record ShowsBlock (r : Read) (b : Block) : Type 0 where
   pub below : (block_part b).below ≡ r.part.below
   pub cuts : SameSets (block_part b).cuts r.part.cuts
@@ -58,7 +58,7 @@ pub record ShowsBlock (r : Read) (b : Block) : Type 0 where
   pub wide : AreWide (block_widths b)
   pub fine : (block_shape b).fine ≡ true
 
--- none of these cuts is empty, and of so many children each cycle has two or more
+-- none of these sets is empty, and none of these numbers of children is below 2
 pub record IsGood (sets : List VertexSet) (counts : List ℕ) : Type 0 where
   pub cuts : NoneEmpty sets
   pub wide : All (λ k. 2 ≤ k) counts
@@ -89,6 +89,6 @@ is_above_bridge vs bs = is_spare vs bs && list_all (λ b. not (block_shape b).is
 abbrev pub IsBridgeTo : Block → Node → Type 0
 IsBridgeTo b x = ((block_shape b).is_cycle ≡ false) × (nodes_of b ≡ x ∷ [])
 
--- the node that stands for a node in a cycle: what is below its bridge, where it has no vertex and nothing but that bridge
+-- the node in place of a node of a cycle: the node below its bridge if it has no vertex and nothing but that bridge
 abbrev pub trimmed_node : Node → Node
 trimmed_node x = cond (is_above_bridge (vertices x) (blocks x)) (slice_index_or (flat_map nodes_of (blocks x)) 0 x) x

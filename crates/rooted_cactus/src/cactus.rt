@@ -23,11 +23,11 @@ use cut_definitions::NoMemory;
 use std::alloc::Global;
 use std::marker::Model;
 
-/// A tree of nodes, joined by bridges and cycles, in which each of the vertices 1 to
-/// n is in exactly one node.
+/// A tree of nodes, joined by bridges and cycles, in which each of the vertices 1 to n is in
+/// exactly one node.
 ///
-/// Vertex 1 is in the root, the vertices of each node ascend,
-/// and each cycle has two or more nodes below its upper one.
+/// Vertex 1 is in the root, the vertices of each node ascend, and each cycle has two or more nodes
+/// below its upper one.
 #[derive(Drop)]
 pub struct Cactus {
     n: u32,
@@ -60,8 +60,8 @@ fn all_vertices(alloc: Global, n: u32) -> Result<VertexList, NoMemory>
 }
 
 impl Cactus {
-    /// The cactus of one node with all vertices, which has no cut. It takes 4n bytes, and is
-    /// refused only where these are wanting.
+    /// The cactus of one node with all vertices, which has no cut. It takes n steps and 4n bytes,
+    /// and fails only if it runs out of memory.
     pub fn single(alloc: Global, n: u32) -> Result<Cactus, NoMemory>
         requires { 1 ≤ n }
         ensures n { IfOk result (λ c. c.vertices ≡ n) }
@@ -76,7 +76,7 @@ impl Cactus {
         Ok(Cactus { n, root })
     }
 
-    /// The cactus of a finished tree, which is taken over. It takes no memory.
+    /// The cactus of a finished tree, which is taken over. One step; it takes no memory.
     pub fn from_root(n: u32, root: Node) -> Cactus
         requires { IsCactus n root }
         ensures { result ≡ record { vertices = n; root = root } }
@@ -84,7 +84,7 @@ impl Cactus {
         Cactus { n, root }
     }
 
-    /// The tree, given back. It takes no memory.
+    /// Returns the tree, and takes the cactus over. One step; it takes no memory.
     pub fn into_root(self) -> Node
         ensures value { result ≡ self.root }
         ensures cactus { IsCactus self.vertices result }
@@ -108,7 +108,7 @@ impl Cactus {
         self.n
     }
 
-    /// The number of nodes, or 2^64 - 1 where there are more. One step for each node; it takes no
+    /// The number of nodes, or 2^64 - 1 if there are more. It takes one step for each node and no
     /// memory, and calls itself once for each level of the tree.
     pub fn nodes(&self) -> u64
         ensures { result ≡ min (length (entered self.now.root)) (2 ^ 64 - 1) }
@@ -117,19 +117,21 @@ impl Cactus {
     }
 
     /// Whether every cycle has three or more nodes, and every empty node lies in two or more
-    /// blocks, and in two cycles where it lies in exactly two blocks. One step for each node; it
-    /// takes no memory, and calls itself once for each level of the tree.
+    /// blocks. If an empty node lies in exactly two blocks, both have to be cycles.
+    ///
+    /// It takes one step for each node and no memory, and calls itself once for each level of the
+    /// tree.
     pub fn is_normal(&self) -> bool
         ensures { result ≡ is_normal self.now.root }
     {
         blocks_are_normal(&self.root.blocks)
     }
 
-    /// Whether the cactus is normal, as `is_normal` tells it, by a loop with a stack: a deep tree
-    /// does not run out of stack.
+    /// Whether the cactus is normal, as from `is_normal`, by a loop with a stack, so that a deep
+    /// tree does not overflow the call stack.
     ///
-    /// One step for each node and block. It takes memory for the nodes on the stack, at most
-    /// 8 bytes a node, and is refused only where that is wanting.
+    /// It takes one step for each node and block, and memory for the nodes on the stack, at most 8
+    /// bytes a node. It fails only if it runs out of memory.
     pub fn is_normal_within(&self, alloc: Global) -> Result<bool, NoMemory>
         ensures { IfOk result (λ b. b ≡ is_normal self.now.root) }
     {
@@ -137,14 +139,16 @@ impl Cactus {
         Ok(is_normal)
     }
 
-    /// The cactus without what can be spared: normal, with the same set of sides.
+    /// The cactus without what can be spared. It is normal, and has the same set of sides.
     ///
-    /// No side of the cactus may be empty. A bridge to an empty node with one other block gives
-    /// way to that block, and in a cycle an empty node with a bridge alone gives way to the node
-    /// below that bridge; the rest of the tree keeps its form. The tree is taken over and its
-    /// nodes are moved. One step for each node and block, in loops, so that a deep tree does not
-    /// run out of stack. It takes memory in proportion to the nodes, and is refused only where
-    /// that is wanting; the cactus is dropped then.
+    /// No side of the cactus may be empty. A bridge to an empty node with one other block is
+    /// replaced by that block. In a cycle, an empty node that has a bridge alone is replaced by
+    /// the node below that bridge. The rest of the tree keeps its form.
+    ///
+    /// The tree is taken over and its nodes are moved. It takes one step for each node and block,
+    /// in loops, so that a deep tree does not overflow the call stack. It takes memory in
+    /// proportion to the nodes, and fails only if it runs out of memory; the cactus is dropped
+    /// then.
     pub fn normal(self, alloc: Global) -> Result<Cactus, NoMemory>
         requires { HasNoEmptySide self }
         ensures n { IfOk result (λ c. c.vertices ≡ self.vertices) }
@@ -157,14 +161,16 @@ impl Cactus {
         Ok(Cactus::from_root(n, root))
     }
 
-    /// The number of the different sides of the cuts of a normal cactus over at
-    /// most 4,194,304 vertices.
+    /// The number of the different sides of the cuts of a normal cactus over at most 4,194,304
+    /// vertices.
     ///
-    /// It is the number of the bridges and, for each cycle of k nodes, k (k - 1) / 2, less the
-    /// number of the empty nodes that lie in exactly two blocks, both cycles: there alone two
-    /// cuts have one side. One step for each node and block; it takes no memory, and calls
-    /// itself once for each level of the tree. Where a tree may be deep, `count_within`
-    /// answers the same by loops.
+    /// Each bridge counts 1, and each cycle of k nodes k (k - 1) / 2. From the sum is taken the
+    /// number of the empty nodes that lie in exactly two blocks, both cycles: only there do two
+    /// cuts have the same side.
+    ///
+    /// It takes one step for each node and block and no memory, and calls itself once for each
+    /// level of the tree. For a tree that may be deep there is `count_within`, which works by
+    /// loops.
     pub fn count(&self) -> u64
         requires normal { is_normal self.now.root ≡ true }
         requires few { self.now.vertices ≤ 4194304 }
@@ -175,11 +181,11 @@ impl Cactus {
         number_of(self.root())
     }
 
-    /// The number of the sides, as `count` tells it, by a loop with a stack:
-    /// a deep tree does not run out of stack.
+    /// The number of the sides, as from `count`, by a loop with a stack, so that a deep tree does
+    /// not overflow the call stack.
     ///
-    /// One step for each node and block. It takes memory for the nodes on the stack, at most
-    /// 8 bytes a node, and is refused only where that is wanting.
+    /// It takes one step for each node and block, and memory for the nodes on the stack, at most 8
+    /// bytes a node. It fails only if it runs out of memory.
     pub fn count_within(&self, alloc: Global) -> Result<u64, NoMemory>
         requires normal { is_normal self.now.root ≡ true }
         requires few { self.now.vertices ≤ 4194304 }
@@ -191,13 +197,13 @@ impl Cactus {
         Ok(number)
     }
 
-    /// Puts in place of each vertex of the cactus the vertices of 1 to n
-    /// that have it as their class.
+    /// Replaces each vertex of the cactus by those vertices of 1 to n that have it as their class.
     ///
     /// Each side becomes the set of the vertices whose class is in it, and the tree keeps its
-    /// form. It takes memory in proportion to n and the nodes, and is refused only where that is
-    /// wanting; the cactus is dropped then. Time O(n log n) for gathering and sorting, and one
-    /// step for each node, in loops, so that a deep tree does not run out of stack.
+    /// form. It takes O(n log n) to gather and sort the vertices, and one step for each node. It
+    /// works by loops, so that a deep tree does not overflow the call stack. It takes memory in
+    /// proportion to n and the nodes, and fails only if it runs out of memory; the cactus is
+    /// dropped then.
     pub fn spread(self, alloc: Global, n: u32, classes: &[u32]) -> Result<Cactus, NoMemory>
         requires { AreClasses n self.vertices classes.now }
         ensures n { IfOk result (λ c. c.vertices ≡ n) }

@@ -8,15 +8,15 @@ pub fn few_nodes()
     ensures { LawOfFewNodes }
 {}
 
-/// The number of the different sides of a normal cactus is the number of its bridges and, for each
-/// cycle of k nodes, k (k - 1) / 2, less the number of its empty nodes between two cycles.
+/// The number of the different sides of a normal cactus. Each bridge counts 1 and each cycle of k
+/// nodes k (k - 1) / 2, less the number of the empty nodes between two cycles.
 pub fn number_of_sides()
     ensures { LawOfCount }
 {}
 
-/// The number of the different sides of a normal cactus, by three sums: the bridges and,
-/// for each cycle of k nodes, k (k - 1) / 2, less the empty nodes that lie in exactly
-/// two blocks, both cycles.
+/// The number of the different sides of a normal cactus, by three sums: the bridges and, for each
+/// cycle of k nodes, k (k - 1) / 2, less the empty nodes that lie in exactly two blocks, both
+/// cycles.
 pub fn number_by_blocks()
     ensures { LawOfFormula }
 {}

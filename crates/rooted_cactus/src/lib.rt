@@ -1,23 +1,25 @@
-//! The rooted cactus: its tree, the lists that it is built from, its sides, its normal form and
+//! The rooted cactus: its tree, the lists that it is built from, its sides, its normal form, and
 //! the number of its sides.
 //!
-//! A `Cactus` over n vertices is a tree whose nodes hold the vertices 1 to n, each vertex in
-//! exactly one node and vertex 1 in the root, joined by bridges and cycles. Contracts see it as n
-//! and its root, and read the tree by a few words: `entered`, `cuts`, `sides_of`, `widths`.
-//! `cactus_tree` says what these are, and gives this crate together with `cactus_walk` and
-//! `flat_cactus`, which stand on it side by side.
+//! A `Cactus` over n vertices is a tree of nodes that are joined by bridges and cycles. Each of
+//! the vertices 1 to n is in exactly one node, and vertex 1 is in the root. Contracts see a cactus
+//! as n and its root, and read the tree by a few words: `entered`, `cuts`, `sides_of`, `widths`.
+//! `cactus_tree` says what these mean. It exports this crate together with `cactus_walk` and
+//! `flat_cactus`, which are built on this one side by side.
 //!
-//! For these two it also lists the vertices with the place at which each node begins, `in_order`,
-//! and tells of each node, in the same order, how many nodes are right below it and in its block,
-//! `outline_of`, and from it down, `sizes_along`.
+//! For these two crates there are lists in the order in which the tree is entered. `in_order`
+//! lists the vertices, with the place at which each node begins. `outline_of` says of each node
+//! how many nodes are right below it and in its block, and `sizes_along` how many there are from
+//! it down.
 //!
-//! Where a tree is made anew it is taken apart into entries, `entries_of`, and put together from
-//! the last one, `put_together`. What nodes and blocks are made into is a `Maker`'s to say: one
-//! puts the tree together as it was with other vertices, one without the nodes and bridges that
-//! can be spared (`hung`, `trimmed`), and that of `canonical_cactus` in an order of its own.
+//! To make a tree anew, it is taken apart into entries (`entries_of`), and put together from the
+//! last entry to the first (`put_together`). A `Maker` decides what becomes of the nodes and
+//! blocks. One keeps the tree as it was, for other names of the vertices. One leaves out the nodes
+//! and bridges that can be spared (`hung`, `trimmed`). That of `canonical_cactus` has an order of
+//! its own.
 //!
-//! `Solved` has a cactus of all minimum cuts of a graph beside its value: the solver makes it, and
-//! what prints it needs no more of the solver than this.
+//! `Solved` has the value of a graph, and a cactus of all its minimum cuts. The solver makes it,
+//! and what prints it needs nothing else of the solver.
 #![tactic(auto)]
 
 mod cactus;

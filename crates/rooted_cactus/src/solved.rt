@@ -1,8 +1,8 @@
-//! What is found of a solved graph.
+//! What the solver finds out about a graph.
 
 use crate::cactus::Cactus;
 
-/// The value of a graph, and a normal cactus whose sides are just its minimum cuts.
+/// The value of a graph, and a normal cactus whose sides are exactly its minimum cuts.
 #[derive(Drop)]
 pub struct Solved {
     pub value: u64,

@@ -68,7 +68,7 @@ pub struct Children {
 }
 
 impl Drop for Blocks {
-    /// Takes the tree apart in a loop, so that a deep one does not run out of stack.
+    /// Takes the tree apart in a loop, so that a deep one does not overflow the call stack.
     #[cycle(drop)]
     fn drop(self) {
         let Blocks { mut items } = self;
@@ -110,7 +110,8 @@ impl Blocks {
         }
     }
 
-    /// The empty list with room for so many blocks. For none it takes no memory.
+    /// The empty list with room for `count` blocks. With no room it takes no memory. It fails only
+    /// if it runs out of memory.
     pub fn with_capacity(alloc: Global, count: usize) -> Result<Blocks, NoMemory>
         ensures { IfOk result (λ b. blocks_in b ≡ []) }
     {
@@ -125,8 +126,8 @@ impl Blocks {
         Blocks { items }
     }
 
-    /// Appends a block. Where memory is wanting the list stays as it was,
-    /// and the block is dropped.
+    /// Appends a block. It fails only if it runs out of memory; the list then stays as it was, and
+    /// the block is dropped.
     pub fn push(&mut self, item: Block) -> Result<(), NoMemory>
         ensures ok { OnOk result (blocks_in self.new ≡ blocks_in self.old ++ item ∷ []) }
         ensures err { OnErr result (blocks_in self.new ≡ blocks_in self.old) }
@@ -135,7 +136,7 @@ impl Blocks {
         Ok(())
     }
 
-    /// Takes the last block out; none exactly where the list is empty.
+    /// Removes and returns the last block, or returns `None` if the list is empty.
     pub fn pop(&mut self) -> Option<Block>
         ensures items { blocks_in self.old ≡ blocks_in self.new ++ option_to_list result }
         ensures some { IsSome result ↔ (0 < length (blocks_in self.old)) }
@@ -143,8 +144,9 @@ impl Blocks {
         self.items.pop()
     }
 
-    /// Takes the blocks from the place `at` on out of the list, in order, and gives them as a list
-    /// of their own. It takes memory for that list; where it is wanting the list stays as it was.
+    /// Removes the blocks from the place `at` on, and returns them in order as a list of their
+    /// own. It takes memory for that list, and fails only if it runs out of memory; the list then
+    /// stays as it was.
     pub fn split_off(&mut self, at: usize) -> Result<Blocks, NoMemory>
         requires { at ≤ length (blocks_in self.old) }
         ensures front { OnOk result (blocks_in self.new ≡ take at (blocks_in self.old)) }
@@ -181,7 +183,8 @@ impl Children {
         }
     }
 
-    /// The empty list with room for so many nodes. For none it takes no memory.
+    /// The empty list with room for `count` nodes. With no room it takes no memory. It fails only
+    /// if it runs out of memory.
     pub fn with_capacity(alloc: Global, count: usize) -> Result<Children, NoMemory>
         ensures { IfOk result (λ c. nodes_in c ≡ []) }
     {
@@ -196,7 +199,8 @@ impl Children {
         Children { items }
     }
 
-    /// Appends a node. Where memory is wanting the list stays as it was, and the node is dropped.
+    /// Appends a node. It fails only if it runs out of memory; the list then stays as it was, and
+    /// the node is dropped.
     pub fn push(&mut self, item: Node) -> Result<(), NoMemory>
         ensures ok { OnOk result (nodes_in self.new ≡ nodes_in self.old ++ item ∷ []) }
         ensures err { OnErr result (nodes_in self.new ≡ nodes_in self.old) }
@@ -205,8 +209,8 @@ impl Children {
         Ok(())
     }
 
-    /// Appends the nodes of another list, in order. Where memory is wanting the list stays as it
-    /// was, and the others are dropped.
+    /// Appends the nodes of another list, in order. It fails only if it runs out of memory; the
+    /// list then stays as it was, and the other nodes are dropped.
     pub fn append(&mut self, more: Children) -> Result<(), NoMemory>
         ensures ok { OnOk result (nodes_in self.new ≡ nodes_in self.old ++ nodes_in more) }
         ensures err { OnErr result (nodes_in self.new ≡ nodes_in self.old) }
@@ -216,7 +220,7 @@ impl Children {
         Ok(())
     }
 
-    /// Takes the last node out; none exactly where the list is empty.
+    /// Removes and returns the last node, or returns `None` if the list is empty.
     pub fn pop(&mut self) -> Option<Node>
         ensures items { nodes_in self.old ≡ nodes_in self.new ++ option_to_list result }
         ensures some { IsSome result ↔ (0 < length (nodes_in self.old)) }
@@ -224,8 +228,9 @@ impl Children {
         self.items.pop()
     }
 
-    /// Takes the nodes from the place `at` on out of the list, in order, and gives them as a list
-    /// of their own. It takes memory for that list; where it is wanting the list stays as it was.
+    /// Removes the nodes from the place `at` on, and returns them in order as a list of their own.
+    /// It takes memory for that list, and fails only if it runs out of memory; the list then stays
+    /// as it was.
     pub fn split_off(&mut self, at: usize) -> Result<Children, NoMemory>
         requires { at ≤ length (nodes_in self.old) }
         ensures front { OnOk result (nodes_in self.new ≡ take at (nodes_in self.old)) }

@@ -8,11 +8,11 @@ use std::alloc::Global;
 use std::marker::Model;
 use std::slice;
 
-/// How the vertices of a list are held. Most nodes of a large cactus have one vertex,
-/// which needs no memory of its own.
+/// How the vertices of a list are held. Most nodes of a large cactus have one vertex, which needs
+/// no memory of its own.
 #[derive(Drop)]
 enum Held {
-    /// One vertex, and where memory comes from once there are more.
+    /// One vertex, and the allocator that is used once there are more.
     One(u32, Global),
     /// Any number of vertices.
     Many(Vec<u32>),
@@ -54,7 +54,8 @@ impl VertexList {
         }
     }
 
-    /// The empty list with room for so many vertices. For none and for one it takes no memory.
+    /// The empty list with room for `count` vertices. For none or one it takes no memory. It fails
+    /// only if it runs out of memory.
     pub fn with_capacity(alloc: Global, count: usize) -> Result<VertexList, NoMemory>
         ensures { IfOk result (λ l. l ≡ []) }
     {
@@ -76,8 +77,8 @@ impl VertexList {
         }
     }
 
-    /// Appends a vertex. Where memory is wanting the list stays as it was.
-    /// The first vertex of a list takes no memory.
+    /// Appends a vertex. The first vertex of a list takes no memory. It fails only if it runs out
+    /// of memory; the list then stays as it was.
     pub fn push(&mut self, item: u32) -> Result<(), NoMemory>
         ensures ok { OnOk result (self.new ≡ self.old ++ item ∷ []) }
         ensures err { OnErr result (self.new ≡ self.old) }
@@ -99,7 +100,7 @@ impl VertexList {
         }
     }
 
-    /// Takes the last vertex out; none exactly where the list is empty.
+    /// Removes and returns the last vertex, or returns `None` if the list is empty.
     pub fn pop(&mut self) -> Option<u32>
         ensures items { self.old ≡ self.new ++ option_to_list result }
         ensures some { IsSome result ↔ (0 < length self.old) }
@@ -114,7 +115,7 @@ impl VertexList {
         }
     }
 
-    /// The number of entries.
+    /// The number of vertices.
     pub fn len(&self) -> usize
         ensures { result ≡ length self.now }
     {
@@ -134,7 +135,7 @@ impl VertexList {
         }
     }
 
-    /// The entry at a place, counted from 0.
+    /// The vertex at a place, counted from 0.
     pub fn at(&self, i: usize) -> u32
         requires { i < length self.now }
         ensures { slice_get self.now i ≡ Some result }
@@ -142,8 +143,8 @@ impl VertexList {
         self.as_slice()[i]
     }
 
-    /// Puts in place of each number the entry of the table at that place, counted from 0;
-    /// a number past its end stays.
+    /// Replaces each number by the entry of the table at that place, counted from 0. A number past
+    /// the end of the table stays. One step for each number.
     pub fn rename(&mut self, names: &[u32])
         ensures { self.new ≡ renamed names.now self.old }
     {
@@ -158,7 +159,7 @@ impl VertexList {
     }
 }
 
-/// Puts in place of each number the entry of the table at that place, or leaves it.
+/// Replaces each number by the entry of the table at that place, if there is one.
 fn rename_all(items: &mut [u32], names: &[u32])
     ensures { items.new ≡ renamed names.now items.old }
 {
@@ -168,7 +169,7 @@ fn rename_all(items: &mut [u32], names: &[u32])
     }
 }
 
-/// The entry of the table at the place of the number, or the number where there is none.
+/// The entry of the table at the place of the number, or the number itself if there is none.
 fn new_name(names: &[u32], number: u32) -> u32
     ensures { result ≡ name_of names.now number }
 {

@@ -6,7 +6,7 @@ use Rattle.std.proofs.lemmas.List.Concat.{flat_map-cons}
 use Rattle.cut_definitions.specs.declared.edge_list.Edge.{Edge}
 use Rattle.weighted_graph.specs.Merging.{between_classes}
 
--- what each thread gives of an edge is the edge between its classes, or nothing
+-- what each thread returns for an edge is the edge between its classes, or nothing
 pub mapped_are : (labels : List ℕ) (es : List Edge) (os : List (Option Edge)) → AllZip (λ e o. option_to_list o ≡ between_classes labels e) es os →
     filter_map (λ o. o) os ≡ flat_map (between_classes labels) es
 mapped_are labels [] [] h = refl

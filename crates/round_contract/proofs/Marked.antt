@@ -13,11 +13,11 @@ use Rattle.vertex_classes.specs.Classes.{no_vertex, AreNumbersOf, HasJoined, Res
 use Rattle.vertex_classes.proofs.Numbered.{zero_out}
 use Rattle.round_contract.specs.Classes.{AreClassesOfMarks}
 
--- a set parts none of the first marked edges
+-- a set separates the ends of none of the first marked edges
 abbrev pub PartsNoMarkBefore : Graph → (ℕ → Bool) → ℕ → VertexSet → Type 0
 PartsNoMarkBefore g marked count s = (i : ℕ) → i < count → IsTrue (marked i) → s (edge_at g i).u ≡ s (edge_at g i).v
 
--- the sets that respect classes are those that part none of the first marked edges
+-- the sets that respect classes are those that separate the ends of none of the first marked edges
 abbrev pub AreOfMarksBefore : Graph → (ℕ → Bool) → ℕ → List ℕ → Type 0
 AreOfMarksBefore g marked count parents = (s : VertexSet) → Respects parents s ↔ PartsNoMarkBefore g marked count s
 

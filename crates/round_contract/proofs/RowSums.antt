@@ -140,7 +140,7 @@ members_none g ok labels c b =
     (λ e h. none_joined (eqb (label labels e.u) c) (eqb (label labels e.v) c) e.u e.v (class labels b e.u) (class labels b e.v) e.w h.0 (omega (arith, h.0, h.1))) g.edges ok.in_range)
     ∙ sum_by-none (λ (e : Edge). 0) (λ e. refl) g.edges
 
--- where no vertex of a class is left, all of them are before
+-- if no vertex of a class is left, all of them are before
 all_before : (labels : List ℕ) (c from v : ℕ) → IsNone labels c from v → (x : ℕ) → x ≤ length labels → members_before labels c from x ≡ class labels c x
 all_before labels c from v h x within = ⊎_elim
     (λ (l : x < from). early (eqb (label labels x) c) x from l)
@@ -253,7 +253,7 @@ rows_are g labels = spread g labels (range_with_len 1 (classes labels))
 
 -- ---- the runs of the workers
 
--- run i, where the runs begin and end at these numbers of classes
+-- run i, if the runs begin and end at these numbers of classes
 abbrev run_at : Graph → List ℕ → (ℕ → ℕ) → ℕ → List Edge
 run_at g labels ends i = run_rows g labels (ends i) (ends (i + 1) - ends i)
 
@@ -279,12 +279,12 @@ runs_are g labels ends up from (r ∷ runs) each =
     ∙ (rows_run g labels (ends from) a b
     ∙ ap (run_rows g labels (ends from)) all)))
 
--- what was found in a run that was not refused
+-- what was found in a run that did not fail
 found_is : {E : Type 0} (run : Result (Vec Edge) E) (xs : List Edge) → IsOk run → IfOk run (λ edges. edges.items ≡ xs) → found_edges run ≡ xs
 found_is (Ok edges) xs ok h = h
 found_is (Err e) xs ok h = absurd (grind (arith, ok))
 
--- runs of so many classes each, the last ones cut off at the number of classes, and enough of them to reach it
+-- runs of equally many classes, the last ones cut off at the number of classes, and enough of them to reach it
 pub runs_of_size : {E : Type 0} (g : Graph) (labels : List ℕ) (size count : ℕ) (runs : List (Result (Vec Edge) E)) → count ≡ classes labels → count ≤ length runs * size → All (λ run. IsOk run) runs →
     ((i : ℕ) (d : Result (Vec Edge) E) → i < length runs → IfOk (get_or runs i d) (λ edges. edges.items ≡ run_rows g labels (min (i * size) count) (min ((i + 1) * size) count - min (i * size) count))) →
     flat_map found_edges runs ≡ (relabel g labels).edges

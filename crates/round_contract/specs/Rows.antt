@@ -44,7 +44,7 @@ abbrev pub class_row : Graph → List ℕ → ℕ → List Edge
 class_row g labels c =
     filter (λ (e : Edge). nat_lt 0 e.w) (map (λ b. record { u = c; v = b; w = between g (class labels c) (class labels b) }) (range_with_len (c + 1) (classes labels - c)))
 
--- the edges of the contracted graph from each of so many classes after one to greater ones, in the order of the classes
+-- the edges of the contracted graph from each class of a run to greater ones, in the order of the classes
 abbrev pub run_rows : Graph → List ℕ → ℕ → ℕ → List Edge
 run_rows g labels from count = flat_map (class_row g labels) (range_with_len (from + 1) count)
 
@@ -60,6 +60,6 @@ pub record AreMembers (labels first next : List ℕ) : Type 0 where
   pub first_of_each : AreFirst labels 1 first
   pub next_of_each : AreNext labels 1 next
 
--- the edges to so many classes from one on, by what each weighs
+-- the edges to a number of classes from one on, by what each weighs
 abbrev pub edges_by : List ℕ → ℕ → ℕ → List Edge
 edges_by sums c count = filter (λ (e : Edge). nat_lt 0 e.w) (map (λ b. record { u = c; v = b; w = slice_index sums b }) (range_with_len (c + 1) count))

@@ -14,7 +14,7 @@ use std::alloc::Global;
 use vertex_classes::Classes;
 use weighted_graph::{Graph, Labels};
 
-/// Makes the ends of each marked edge one, where each vertex is alone.
+/// Joins the classes of the ends of each marked edge, after each vertex was alone in its class.
 fn join_marked(graph: &Graph, marks: &Marks, classes: &mut Classes)
     requires marks { marks.now.edges ≡ length graph.now.edges }
     requires long { length classes.old ≡ graph.now.vertices + 1 }
@@ -32,10 +32,11 @@ fn join_marked(graph: &Graph, marks: &Marks, classes: &mut Classes)
     }
 }
 
-/// The labels of a graph's vertices by the classes that marked edges join, in one step or
-/// several; classes are numbered by their least vertex. The marks are over this graph's
-/// edges. It takes O(m log(n) + n) steps and 8 bytes of memory for each vertex, and is
-/// refused only where that is wanting.
+/// The labels of a graph's vertices by the classes that marked edges join, in one step or several.
+/// Classes are numbered by their least vertex. The marks are over this graph's edges.
+///
+/// It takes O(m log n + n) steps and 8 bytes of memory for each vertex, and fails only if it runs
+/// out of memory.
 pub fn classes_of_marks(alloc: Global, graph: &Graph, marks: &Marks) -> Result<Labels, NoMemory>
     requires { marks.now.edges ≡ length graph.now.edges }
     ensures vertices { IfOk result (λ l. length l ≡ graph.now.vertices) }

@@ -1,5 +1,5 @@
-//! Contraction of a dense graph: the weights between classes are added up
-//! along the rows of each class.
+//! Contraction of a dense graph: the weights between classes are added up along the rows of each
+//! class.
 
 ghost use Rattle.std.specs.Prelude.{◌≡◌, ℕ, ◌+◌, ◌-◌, ◌*◌, ◌<◌, ◌≤◌, ◌^◌, ◌++◌, All, IfOk, IsTrue, OnOk, length, min, slice_index};
 ghost use Rattle.std.specs.List.{flat_map};
@@ -17,8 +17,8 @@ use std::thread;
 use std::thread::Threads;
 use weighted_graph::{Arc, Graph, Labels, relabel_list};
 
-/// The greatest number of classes for which rows are added up:
-/// each two of them may be joined by an edge.
+/// The greatest number of classes for which rows are added up, since an edge may join any two of
+/// them.
 const MANY_CLASSES: u32 = 4096;
 
 /// On a list of fewer edges rayon's calls gain nothing.
@@ -27,8 +27,8 @@ const EDGES_FOR_THREADS: usize = 4_194_304;
 /// On a dense graph of fewer edges threads cost more than they save.
 const EDGES_FOR_RUNS: usize = 1_048_576;
 
-/// Writes for each class its first vertex, and for each vertex the next one of its class,
-/// or 0 where there is none.
+/// Writes for each class its first vertex, and for each vertex the next one of its class, or 0 if
+/// there is none.
 fn link(labels: &Labels, first: &mut [u32], next: &mut [u32])
     requires classes { length first.old ≡ classes labels.now + 1 }
     requires vertices { length next.old ≡ length labels.now + 1 }
@@ -47,8 +47,8 @@ fn link(labels: &Labels, first: &mut [u32], next: &mut [u32])
     }
 }
 
-/// Adds the weights of a row to those of the classes of its ends,
-/// where these are greater than the lesser one.
+/// Adds the weight of each arc of a row to the sum of the class of its end, if that class has a
+/// greater number than `lesser`.
 fn add_row(row: &[Arc], labels: &Labels, lesser: u32, sums: &mut [u64])
     requires ends { All (λ (a : Arc). (1 ≤ a.to) × (a.to ≤ length labels.now)) row.now }
     requires long { length sums.old ≡ classes labels.now + 1 }
@@ -91,7 +91,7 @@ fn add_class(
     }
 }
 
-/// Appends the edges from a class to each greater one for which there is a weight.
+/// Appends an edge from a class to each class with a greater number to which there is a weight.
 fn append_row(class: u32, sums: &[u64], edges: &mut Vec<Edge>) -> Result<(), NoMemory>
     requires class { class < length sums.now }
     requires few { length sums.now ≤ 4194305 }
@@ -110,16 +110,15 @@ fn append_row(class: u32, sums: &[u64], edges: &mut Vec<Edge>) -> Result<(), NoM
     Ok(())
 }
 
-/// For each class its first vertex, and for each vertex the next one of its class,
-/// or 0 where there is none.
+/// For each class its first vertex, and for each vertex the next one of its class, or 0 if there
+/// is none.
 #[derive(Clone, Copy)]
 pub(crate) struct Members<'a> {
     pub(crate) first: &'a [u32],
     pub(crate) next: &'a [u32],
 }
 
-/// For each class its first vertex, and for each vertex the next one of its class,
-/// as `Members` shows them.
+/// The two lists of `Members`.
 fn linked(alloc: Global, labels: &Labels) -> Result<(Vec<u32>, Vec<u32>), NoMemory>
     ensures { IfOk result (λ lists. AreMembers labels.now lists.0.items lists.1.items) }
 {
@@ -129,8 +128,8 @@ fn linked(alloc: Global, labels: &Labels) -> Result<(Vec<u32>, Vec<u32>), NoMemo
     Ok((first, next))
 }
 
-/// The edges of the contracted graph whose lesser class is one after `from` and at
-/// most `to`, in their order.
+/// The edges of the contracted graph whose class of smaller number is after `from` and at most
+/// `to`, in their order.
 fn edges_of_run(
     alloc: Global,
     graph: &Graph,
@@ -158,7 +157,7 @@ fn edges_of_run(
     Ok(edges)
 }
 
-/// The edges of runs, one run after another; none where one of them was refused.
+/// The edges of the runs, one run after another. It fails if one of the runs has failed.
 fn joined(alloc: Global, runs: Vec<Result<Vec<Edge>, NoMemory>>) -> Result<Vec<Edge>, NoMemory>
     ensures edges { IfOk result (λ edges. edges.items ≡ flat_map found_edges runs.items) }
     ensures whole { OnOk result (All (λ run. IsOk run) runs.items) }
@@ -171,8 +170,7 @@ fn joined(alloc: Global, runs: Vec<Result<Vec<Edge>, NoMemory>>) -> Result<Vec<E
     Ok(edges)
 }
 
-/// The edges of the contracted graph, in their order,
-/// where each worker makes those of a run of classes.
+/// The edges of the contracted graph, in their order. Each worker makes those of a run of classes.
 fn edges_by_workers<R: Threads + Sync>(
     rt: &R,
     alloc: Global,
@@ -231,8 +229,8 @@ fn list_by_rows(alloc: Global, graph: &Graph, labels: &Labels) -> Result<EdgeLis
     Ok(list_of_edges(graph, labels, edges))
 }
 
-/// The list of edges of the graph on a few classes, where each worker makes
-/// those of a run of classes.
+/// The list of edges of the graph on a few classes. Each worker makes the edges of a run of
+/// classes.
 fn list_by_workers<R: Threads + Sync>(
     rt: &R,
     alloc: Global,
@@ -254,8 +252,8 @@ fn list_by_workers<R: Threads + Sync>(
     Ok(list_of_edges(graph, labels, edges))
 }
 
-/// Whether so many edges of the graph may be left between classes that each two
-/// classes can be looked at.
+/// Whether there are few classes, and so many edges may be left between them that looking at all
+/// pairs of classes is cheap.
 fn is_dense(graph: &Graph, labels: &Labels) -> bool
     ensures { IsTrue result → classes labels.now ≤ 4096 }
 {
@@ -268,12 +266,12 @@ fn is_dense(graph: &Graph, labels: &Labels) -> bool
     is_little_smaller && pairs / 8 <= graph.edges() as u64
 }
 
-/// The list of edges of the graph on the classes of labels, one for each vertex, as `relabel_list`
-/// makes it, by the calling thread alone.
+/// The list of edges of the graph on the classes of labels, of which there is one for each vertex.
+/// It is the list that `relabel_list` makes; the calling thread works alone.
 ///
-/// A dense graph that becomes little smaller is not sorted: with k classes it costs
+/// A dense graph that becomes little smaller is not sorted. With k classes it takes
 /// O(n + m + k^2), where k^2 is at most in proportion to m, and memory in proportion to n + m. All
-/// others cost O(m log m). It is refused only where memory is wanting.
+/// others take O(m log m). It fails only if it runs out of memory.
 pub fn contracted_alone(alloc: Global, graph: &Graph, labels: &Labels) -> Result<EdgeList, NoMemory>
     requires { length labels.now ≡ graph.now.vertices }
     ensures { IfOk result (λ l. l ≡ relabel graph.now labels.now) }
@@ -285,15 +283,16 @@ pub fn contracted_alone(alloc: Global, graph: &Graph, labels: &Labels) -> Result
     Ok(list)
 }
 
-/// The list of edges that `contracted_alone` makes, by several threads where there are two workers
-/// or more and edges enough.
+/// The list of edges that `contracted_alone` makes, by several threads if there are at least two
+/// workers and enough edges.
 ///
-/// Of a dense graph that becomes little smaller, and has 1,048,576 edges or more, each worker
-/// makes the edges of a run of classes; more than 64 workers count as 64, and each has memory in
-/// proportion to the number of classes and to its edges. Of all others, 4,194,304 edges or more
-/// are mapped and sorted by rayon's calls, which start threads for the processors of the machine,
-/// whatever the number of workers. It costs as much as `contracted_alone` in all, and is refused
-/// only where memory is wanting.
+/// In a dense graph that becomes little smaller and has 1,048,576 edges or more, each worker makes
+/// the edges of a run of classes. More than 64 workers count as 64, and each has memory in
+/// proportion to the number of classes and to its edges. In all other graphs, 4,194,304 edges or
+/// more are mapped and sorted by rayon's calls. These start threads for the processors of the
+/// machine, whatever the number of workers.
+///
+/// In all it costs as much as `contracted_alone`, and it fails only if it runs out of memory.
 pub fn contracted_list<R: Threads + Sync>(
     rt: &R,
     alloc: Global,
@@ -317,8 +316,8 @@ pub fn contracted_list<R: Threads + Sync>(
     Ok(list)
 }
 
-/// The graph on the classes of labels, one for each vertex, with rows: that of `contracted_list`.
-/// It costs as much.
+/// The graph of `contracted_list`, with rows. It takes O(m log m), and fails only if it runs out
+/// of memory.
 pub fn contracted<R: Threads + Sync>(
     rt: &R,
     alloc: Global,

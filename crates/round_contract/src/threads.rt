@@ -1,5 +1,5 @@
-//! Contraction of a list of edges in several threads:
-//! mapped to classes and sorted by rayon's calls, and merged.
+//! Contraction of a list of edges in several threads: rayon's calls map it to classes and sort it,
+//! and then it is merged.
 
 ghost use Rattle.std.specs.Prelude.{◌≡◌, All, IfOk, length};
 ghost use Rattle.std.specs.List.{flat_map};
@@ -15,7 +15,7 @@ use std::alloc::Global;
 use std::thread::Threads;
 use weighted_graph::{Labels, merged_list};
 
-/// The edge between the classes of an edge's ends; none where these are one class.
+/// The edge between the classes of an edge's ends, if these are two classes.
 fn class_edge(edge: &Edge, labels: &Labels) -> Option<Edge>
     requires { IsEdgeWithin (length labels.now) edge.now }
     ensures { option_to_list result ≡ between_classes labels.now edge.now }
@@ -32,8 +32,8 @@ fn class_edge(edge: &Edge, labels: &Labels) -> Option<Edge>
     })
 }
 
-/// The edges between the classes of their ends, but for those within a class,
-/// in the order of the list.
+/// The edges between the classes of their ends, in the order of the list, without those inside a
+/// class.
 fn class_edges<R: Threads + Sync>(
     rt: &R,
     alloc: Global,
@@ -63,8 +63,8 @@ fn sort_by_ends<R: Threads + Sync>(rt: &R, edges: &mut [Edge])
     par_sort_unstable_by_key(rt, edges, |edge: &Edge| (edge.u, edge.v));
 }
 
-/// The edges of the graph on the classes of labels, as `relabel_list` makes them, in as many
-/// threads as there are processors.
+/// The edges of the graph on the classes of labels, as from `relabel_list`, by as many threads as
+/// there are processors.
 pub(crate) fn relabel_in_threads<R: Threads + Sync>(
     rt: &R,
     alloc: Global,

@@ -133,7 +133,7 @@ worked_later g slack share shares s t same later h = record {
       (tested_later g (s.board.opening + slack) share shares (length g.edges) s t later (h.tested below));
 }
 
--- what was tested at the bound that was seen first is a share's work, where no lower one was seen since
+-- what was tested at the bound that was seen first is a share's work, if no lower one was seen since
 pub worked_after : (b : BoardView) (g : Graph) (slack bound share shares : ℕ) (s t : SeatView) → HasSeen b g slack bound s → HasSeen b g slack t.seen t → IsLater s t →
     HasTested g (bound + slack) share shares (length g.edges) s → HasWorked g slack share shares t
 worked_after b g slack bound share shares s t h k later tested = record {
@@ -198,7 +198,7 @@ join_step b g slack certifies shares n k xs ys w s seen h some last rest le le_o
           (cases_eq i k);
     }
 
--- workers that are written back to where they stood
+-- workers that are written back to their places
 pub done_written : (b : BoardView) (g : Graph) (slack same : ℕ) (certifies : Bool) (n m : ℕ) (xs ys : List Worker) → slack ≡ same → n ≡ m → m ≡ length xs → AreDone b g slack certifies n xs →
     AreDone b g same certifies m (take m (xs ++ ys))
 done_written b g slack same certifies n m xs ys e count long h =

@@ -29,15 +29,15 @@ pub record IsLater (s t : SeatView) : Type 0 where
 abbrev pub AreWon : ScanState → SeatView → Type 0
 AreWon scan s = (v : ℕ) → has scan.order v ≡ true → Contains s.won v
 
--- the edges of a share below a place are marked where they are certified at a limit
+-- the edges of a share below a place are marked if they are certified at a limit
 pub record HasTested (g : Graph) (limit share shares upto : ℕ) (s : SeatView) : Type 0 where
   pub each : (e : ℕ) → e < upto → e % shares ≡ share → IsCertified g (edge_at g e) limit → Contains s.own e
 
--- where the seat saw no lower bound than the opening one, the edges of a share are marked that are certified at it
+-- if the seat saw no lower bound than the opening one, the edges of a share that are certified at it are marked
 pub record HasWorked (g : Graph) (slack share shares : ℕ) (s : SeatView) : Type 0 where
   pub tested : s.board.opening ≤ s.seen → HasTested g (s.board.opening + slack) share shares (length g.edges) s
 
--- where the seat saw no lower bound than the opening one, all edges are marked that are certified at it
+-- if the seat saw no lower bound than the opening one, all edges that are certified at it are marked
 pub record HasAll (g : Graph) (slack : ℕ) (s : SeatView) : Type 0 where
   pub each : s.board.opening ≤ s.seen → (e : ℕ) → e < length g.edges → IsCertified g (edge_at g e) (s.board.opening + slack) → Contains s.own e
 
@@ -45,7 +45,7 @@ pub record HasAll (g : Graph) (slack : ℕ) (s : SeatView) : Type 0 where
 pub record IsReady (b : BoardView) (g : Graph) (slack : ℕ) (w : Worker) : Type 0 where
   pub seated : HasSeen b g slack w.seat.seen w.seat
 
--- a worker that has scanned nothing but what it took, and has done its share where it was to certify
+-- a worker that has scanned nothing but what it took, and has done its share if it was to certify
 pub record IsDone (b : BoardView) (g : Graph) (slack : ℕ) (certifies : Bool) (share shares : ℕ) (w : Worker) : Type 0 where
   pub seated : HasSeen b g slack w.seat.seen w.seat
   pub won : IfSome w.scan (λ made. IfOk made (λ scan. AreWon scan w.seat))

@@ -10,8 +10,8 @@ use capped_scan::Scan;
 use mark_board::Marks;
 use weighted_graph::Graph;
 
-/// Marks the edges from the vertex scanned last to those whose link reaches the bound and the
-/// slack, and answers whether there is one. It goes along the vertex's row.
+/// Marks the edges from the vertex scanned last to those whose link reaches the sum of the bound
+/// and the slack. It returns whether there is one, and takes one step for each arc of the vertex.
 pub fn mark_links(
     graph: &Graph,
     scan: &Scan,

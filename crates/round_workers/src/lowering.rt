@@ -4,7 +4,8 @@ ghost use Rattle.std.specs.Prelude.{◌≡◌, if◌then◌else◌, min};
 
 use capped_scan::Scanned;
 
-/// The lesser of a bound and the weight of the scanned set, where that set is not everything.
+/// The smaller of a bound and the weight of the scanned set, or the bound if that set has all
+/// vertices.
 pub fn lowered(next: Scanned, bound: u64) -> u64
     ensures { result ≡ (if next.all then bound else min bound next.prefix_weight) }
 {

@@ -1,4 +1,4 @@
-//! One round.
+//! One round of workers.
 
 ghost use Rattle.std.specs.Prelude.{◌≡◌, ◌+◌, ◌≤◌, IfOk, length, true};
 ghost use Rattle.cut_definitions.specs.Safe.{IsFair};
@@ -17,8 +17,8 @@ use std::alloc::Global;
 use std::thread::Threads;
 use weighted_graph::Graph;
 
-/// Into how many shares the edges are divided:
-/// one for each worker, but at most one for every four edges.
+/// The number of shares into which the edges are divided: one for each worker, but at most one for
+/// every four edges.
 fn shares_for(edges: usize, workers: u32) -> usize
     requires { (1 ≤ workers) × (workers ≤ 64) }
     ensures { (1 ≤ result) × (result ≤ 64) }
@@ -26,8 +26,8 @@ fn shares_for(edges: usize, workers: u32) -> usize
     (workers as usize).min(edges / 4).max(1)
 }
 
-/// A board that is opened with a bound, after each worker of a task has run, and the seat to which
-/// all of their seats were joined.
+/// Opens a board with a bound, and lets each worker of a task run. It returns the board, and the
+/// seat to which all of their seats were joined.
 fn run_workers<R: Threads + Sync, G: Gate>(
     rt: &R,
     graph: &Graph,
@@ -52,8 +52,8 @@ fn run_workers<R: Threads + Sync, G: Gate>(
     Ok((board, seat))
 }
 
-/// The bound and the marks of a board whose workers are done. Where the bound has fallen, workers
-/// may have tested an edge before that, so the edges without a mark are tested once more.
+/// The bound and the marks of a board whose workers are done. If the bound has fallen, workers may
+/// have tested an edge before that, so the edges without a mark are tested once more.
 fn close_round(board: Board, seat: BoardSeat, graph: &Graph, bound: u64, slack: u64) -> (u64, Marks)
     requires seated { HasSeen board graph.now slack seat.seen seat }
     requires opening { board.opening ≡ bound }
@@ -74,17 +74,20 @@ fn close_round(board: Board, seat: BoardSeat, graph: &Graph, bound: u64, slack: 
     (low, marks)
 }
 
-/// Marks edges that may be contracted, and lowers a bound. The bound is the weight of some cut;
-/// the slack is 0 where only the value is to be kept, and 1 where all minimum cuts are.
+/// Marks edges that may be contracted, and lowers a bound, which is the weight of some cut. With
+/// slack 0 only the value is kept, with slack 1 all minimum cuts are.
 ///
-/// The answered bound is the weight of some cut. Each mark is safe for it and the slack; each edge
-/// is marked for which one of the four certificates holds at it. There are 1 to 64 workers, but at
-/// most one for every four edges, so below eight edges no thread is started. Each worker passes
-/// the gate with its number, tests its share of the edges, and scans from a vertex of its own what
-/// no other worker takes; they share the bound, the marks and the taken vertices, and none waits
-/// for another. A round costs O(m log n) and the certificates of all edges, and O(n log n) for
-/// each worker, takes O(m) memory and O(n) for each worker, which that takes in its own thread,
-/// and is refused only where that is wanting.
+/// The bound that it returns is the weight of some cut too. Each mark is safe for it and the
+/// slack. Each edge for which one of the four certificates holds at this bound is marked.
+///
+/// There are 1 to 64 workers, but at most one for every four edges, so with fewer than eight edges
+/// no thread is started. Each worker passes the gate with its number, and tests its share of the
+/// edges. Then it scans from a vertex of its own what no other worker takes. They share the bound,
+/// the marks and the taken vertices, and no worker waits for another.
+///
+/// A round takes the certificates of all edges, O(m log n), and O(n log n) for each worker. It
+/// takes O(m) memory, and O(n) for each worker, which the worker takes in its own thread. It fails
+/// only if it runs out of memory.
 pub fn round<R: Threads + Sync, G: Gate>(
     rt: &R,
     alloc: Global,
@@ -114,19 +117,22 @@ pub fn round<R: Threads + Sync, G: Gate>(
     Ok(close_round(board, seat, graph, bound, slack))
 }
 
-/// Marks edges that may be contracted by scans alone, and lowers a bound: a round as `round`, in
-/// which no edge is tested by a certificate, so that it costs little on a large graph (after
-/// Henzinger, Noe and Schulz, 2020).
+/// Marks edges that may be contracted by scans alone, and lowers a bound. It is a round without
+/// certificates, so it costs little on a large graph (after Henzinger, Noe and Schulz, 2020).
 ///
-/// The bound of the threshold is the weight of some cut, and so is the answered one, and each mark
-/// is safe for that and the slack. There are 1 to 64 workers, each of which runs, so the caller
-/// sees that the graph is worth them. Each passes the gate with its number, and scans from a
-/// vertex of its own what no other worker takes, until no vertex that waits touches what it
-/// scanned; they share the bound, the marks and the taken vertices, and none waits for another. Of
-/// a vertex that is near to several workers each sees only a part of the weight, so on a dense
-/// graph they mark less than one would. All together go along each row about once: O(m log n), and
-/// O(n) for each worker. It takes O(m) memory, and O(n) for each worker, which that takes in its
-/// own thread, and is refused only where that is wanting.
+/// The bound of the threshold is the weight of some cut, and so is the one that it returns. Each
+/// mark is safe for that and the slack. There are 1 to 64 workers, each of which runs, so the
+/// caller sees to it that the graph is worth them.
+///
+/// Each worker passes the gate with its number. Then it scans from a vertex of its own what no
+/// other worker takes, until no waiting vertex touches what it scanned. They share the bound, the
+/// marks and the taken vertices, and no worker waits for another. If a vertex is near to several
+/// workers, each of them sees only a part of the weight. So on a dense graph they mark less than
+/// one worker would.
+///
+/// All together go along each row about once, in O(m log n), and O(n) for each worker. It takes
+/// O(m) memory, and O(n) for each worker, which the worker takes in its own thread. It fails only
+/// if it runs out of memory.
 pub fn scan_round<R: Threads + Sync, G: Gate>(
     rt: &R,
     alloc: Global,

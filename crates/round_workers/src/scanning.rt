@@ -13,8 +13,8 @@ use capped_scan::{Scan, Scanned};
 use mark_board::{Board, BoardSeat};
 use weighted_graph::Graph;
 
-/// Lowers the board's bound to a lower one than the seat saw, and answers what the seat has then
-/// seen. Where it saw no higher one, nothing is done.
+/// Lowers the board's bound, if `low` is less than what the seat saw. It returns what the seat has
+/// then seen.
 fn lower_to(
     board: &Board,
     seat: &mut BoardSeat,
@@ -34,8 +34,8 @@ fn lower_to(
     }
 }
 
-/// Marks an edge, where a look does not show that it is marked already: words that all workers
-/// read stay where they are, and words that one of them writes do not.
+/// Marks an edge, unless a look shows that it is marked. Words that are only read can stay in the
+/// caches of all workers; those that one worker writes cannot.
 fn mark_once(board: &Board, seat: &mut BoardSeat, edge: usize)
     requires seat { seat.old.board ≡ board.now }
     requires edge { edge < length board.now.graph.edges }
@@ -73,8 +73,8 @@ fn mark_links_on_board(
     }
 }
 
-/// What a worker does once a vertex was scanned: it lowers the bound by the weight of the scanned
-/// set, and marks by the vertex's links. It answers the bound that the seat has then seen.
+/// Lowers the bound by the weight of the scanned set after a vertex was scanned, and marks by the
+/// vertex's links. It returns the bound that the seat has then seen.
 fn take_in(
     board: &Board,
     seat: &mut BoardSeat,
@@ -103,7 +103,7 @@ fn take_in(
     seen
 }
 
-/// Takes a vertex for a worker, and answers whether none had it.
+/// Takes a vertex for a worker, and returns whether no worker had it.
 fn take_vertex(
     board: &Board,
     seat: &mut BoardSeat,
@@ -121,8 +121,8 @@ fn take_vertex(
     board.take(seat, vertex)
 }
 
-/// A turn of a worker's scan, at the vertex that comes next: it is scanned where no worker had it,
-/// and dropped where one had. It answers the bound that the seat has then seen.
+/// One turn of a worker's scan, at the vertex that comes next. It is scanned if no worker had it,
+/// and dropped otherwise. It returns the bound that the seat has then seen.
 fn scan_or_drop(
     board: &Board,
     seat: &mut BoardSeat,
@@ -153,11 +153,12 @@ fn scan_or_drop(
     take_in(board, seat, graph, scan, next, threshold)
 }
 
-/// Scans what no other worker takes, from a root on, lowers the board's bound by each set that
-/// was scanned, and marks by links. Vertices that others have are dropped where they come next.
-/// It ends where no vertex that waits touches the scanned set: a worker passes over no vertex
-/// but its own and those beside them, so the scans of all together cost about as much as one
-/// scan of the whole graph.
+/// Scans from a root on what no other worker takes, lowers the board's bound by each set that was
+/// scanned, and marks by links. Vertices that others have are dropped as they come next.
+///
+/// It ends when no waiting vertex touches the scanned set. A worker passes over no vertices but
+/// its own and those beside them. So all scans together cost about as much as one scan of the
+/// whole graph.
 pub(crate) fn scan_on_board(
     board: &Board,
     seat: &mut BoardSeat,

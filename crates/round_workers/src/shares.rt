@@ -10,7 +10,7 @@ use crate::threshold::Threshold;
 use mark_board::{Board, BoardSeat};
 use weighted_graph::Graph;
 
-/// Marks an edge, where one of the four tests holds for it by the bound that the seat saw last.
+/// Marks an edge if one of the four tests holds for it by the bound that the seat saw last.
 fn mark_if_certified(
     board: &Board,
     seat: &mut BoardSeat,
@@ -30,8 +30,9 @@ fn mark_if_certified(
     }
 }
 
-/// Tests the edges of a share, which begin at its number and are as far apart as there are shares,
-/// and marks those that are certified by the bound that the seat saw last.
+/// Tests the edges of a share, and marks those that are certified by the bound that the seat saw
+/// last. The share begins with the edge of its number, and takes each edge that comes `shares`
+/// edges later.
 pub(crate) fn mark_share(
     board: &Board,
     seat: &mut BoardSeat,
@@ -48,7 +49,7 @@ pub(crate) fn mark_share(
     ensures later { IsLater seat.old seat.new }
     ensures tested { HasTested graph.now (threshold.bound + threshold.slack) share shares (length graph.now.edges) seat.new }
 {
-    // known by this call: the graph is an edge list, so a step goes not past the greatest number
+    // known by this call: the graph is an edge list, so no step goes past the greatest number
     let _n = graph.n();
     let edges = graph.edges();
     let mut edge = share;

@@ -1,7 +1,7 @@
-//! What marks go by.
+//! What decides which edges are marked.
 
-/// The bound that marks go by, and the slack:
-/// 0 where only the value is to be kept, and 1 where all minimum cuts are.
+/// The bound at which edges are marked, and the slack: with slack 0 only the value is kept, with
+/// slack 1 all minimum cuts are.
 #[derive(Clone, Copy)]
 pub struct Threshold {
     pub bound: u64,

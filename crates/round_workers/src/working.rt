@@ -15,17 +15,17 @@ use std::thread;
 use std::thread::Threads;
 use weighted_graph::Graph;
 
-/// A worker: its seat of the board, and once it has run its scan of the graph,
-/// or that memory was wanting for it.
+/// A worker: its seat of the board, and once it has run its scan of the graph, or the failure to
+/// get memory for it.
 #[derive(Drop)]
 pub(crate) struct Worker {
     pub(crate) seat: BoardSeat,
     pub(crate) scan: Option<Result<Scan, NoMemory>>,
 }
 
-/// What the workers of a round do: into how many shares the edges are divided, one for each
-/// worker, the slack of all marks, whether each worker tests the edges of its share by
-/// certificates before it scans, and whence it takes its memory.
+/// What the workers of a round do: the allocator that they use, the number of shares of the edges,
+/// one for each worker, and the slack of all marks. `certifies` says whether each worker tests the
+/// edges of its share by certificates before it scans.
 #[derive(Clone, Copy)]
 pub(crate) struct Task {
     pub(crate) alloc: Global,
@@ -34,8 +34,8 @@ pub(crate) struct Task {
     pub(crate) certifies: bool,
 }
 
-/// A worker for each share, with a seat that is split off.
-/// It has no scan yet, and makes it in its own thread.
+/// A worker for each share, with a seat that is split off. It has no scan yet; it makes one in its
+/// own thread.
 pub(crate) fn workers_for(
     alloc: Global,
     graph: &Graph,
@@ -59,7 +59,7 @@ pub(crate) fn workers_for(
     Ok(workers)
 }
 
-/// Tests the edges of a worker's share, where the task asks for that.
+/// Tests the edges of a worker's share, if the task asks for that.
 fn certify(board: &Board, seat: &mut BoardSeat, graph: &Graph, share: usize, task: Task, bound: u64)
     requires seen { HasSeen board.now graph.now task.slack bound seat.old }
     requires slack { task.slack ≤ 1 }
@@ -78,8 +78,8 @@ fn certify(board: &Board, seat: &mut BoardSeat, graph: &Graph, share: usize, tas
     }
 }
 
-/// Where a worker begins to scan: at the first vertex of its run, if the vertices are divided into
-/// as many runs as there are shares.
+/// The vertex at which a worker begins to scan: the first one of its run, if the vertices are
+/// divided into as many runs as there are shares.
 fn root_of(graph: &Graph, share: usize, shares: usize) -> u32
     requires enough { 1 ≤ graph.now.vertices }
     requires share { share < shares }
@@ -92,7 +92,7 @@ fn root_of(graph: &Graph, share: usize, shares: usize) -> u32
 }
 
 /// Makes a scan of the graph for a worker, and scans what no other worker takes from a root of its
-/// own. Memory O(n) is all that it takes, and want of it is its only refusal.
+/// own. It takes O(n) memory, and fails only if it runs out of memory.
 fn scan_own(
     board: &Board,
     seat: &mut BoardSeat,
@@ -120,8 +120,8 @@ fn scan_own(
     Ok(scan)
 }
 
-/// The work of one worker: it passes the gate, looks at the bound, tests the edges of its share,
-/// where that is asked for, and scans the graph from a vertex of its own.
+/// The work of one worker. It passes the gate, looks at the bound, tests the edges of its share if
+/// it has to, and scans the graph from a vertex of its own.
 fn work<G: Gate>(
     board: &Board,
     graph: &Graph,
@@ -171,8 +171,8 @@ pub(crate) fn race<R: Threads + Sync, G: Gate>(
     );
 }
 
-/// Joins the seats of all workers to one, which then has all of their marks. It is refused where
-/// memory was wanting for the scan of one of them.
+/// Joins the seats of all workers to one, which then has all of their marks. It fails if one of
+/// them ran out of memory for its scan.
 pub(crate) fn join_workers(
     board: &Board,
     graph: &Graph,

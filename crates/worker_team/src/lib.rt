@@ -2,8 +2,8 @@
 //!
 //! The steps that several workers can share are calls of the trait `Team`. So a solver is written
 //! once for both, and each call takes one argument in place of a runtime, an allocator and a
-//! number of workers. Rounds, which pass a gate, take a `Crew`; they are for small graphs, and for
-//! threads alone.
+//! number of workers. Rounds, in which each worker passes a gate, take a `Crew`. They are for
+//! small graphs and for threads alone.
 #![tactic(auto)]
 
 mod alone;

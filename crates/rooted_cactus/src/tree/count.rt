@@ -7,7 +7,8 @@ ghost use Rattle.rooted_cactus.specs.Entered.{entered, entered_block};
 
 use super::{Block, Blocks, Children, Node};
 
-/// The number of a node and all nodes below it, or 2^64 - 1 where there are more.
+/// The number of a node and all nodes below it, or 2^64 - 1 if there are more. It takes one step
+/// for each node and no memory, and calls itself once for each level of the tree.
 #[cycle(count)]
 pub fn count_node(node: &Node) -> u64
     ensures { result ≡ min (length (entered node.now)) (2 ^ 64 - 1) }

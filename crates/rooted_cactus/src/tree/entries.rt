@@ -1,4 +1,4 @@
-//! A tree taken apart into its nodes, in the order in which it is entered, by loops.
+//! A tree taken apart into its nodes, in the order in which it is entered.
 
 ghost use Rattle.std.specs.Prelude.{List, ◌≡◌, ◌==◌, ◌&&◌, [], ◌++◌, length, OnOk, IfOk};
 ghost use Rattle.rooted_cactus.specs.Trees.{blocks, blocks_in, nodes_in, vertices};
@@ -15,9 +15,9 @@ use std::mem;
 pub enum Joint {
     /// A bridge, and a box for the node below it.
     Bridge(Box<Node>),
-    /// A bridge down to a node without blocks, which stays where it is.
+    /// A bridge down to a node without blocks, which stays in its box.
     Leaf(Box<Node>),
-    /// A cycle with so many nodes below its upper one.
+    /// A cycle with this number of nodes below its upper one.
     Cycle(usize),
 }
 
@@ -57,8 +57,8 @@ fn stays(node: &Node, leaves_stay: bool) -> bool
     leaves_stay && node.blocks.len() == 0
 }
 
-/// Moves the nodes of a block onto the stack, the first on top, but for a leaf below a bridge
-/// where leaves stay. The box of another bridge stays, with a bare node in it.
+/// Moves the nodes of a block onto the stack, the first on top. If `leaves_stay`, a leaf below a
+/// bridge stays in its box. The box of another bridge stays too, with a bare node in it.
 fn shed_block(
     alloc: Global,
     stack: &mut Vec<Node>,
@@ -84,8 +84,10 @@ fn shed_block(
     }
 }
 
-/// Moves the nodes of some blocks onto the stack, the first on top, but for leaves below bridges
-/// where these stay, and lists the blocks, the last first.
+/// Moves the nodes of some blocks onto the stack, the first on top, and lists the blocks, the last
+/// first. If `leaves_stay`, leaves below bridges stay in their boxes.
+///
+/// It takes one step for each node of these blocks, and fails only if it runs out of memory.
 pub fn shed_blocks(
     alloc: Global,
     stack: &mut Vec<Node>,
@@ -103,9 +105,13 @@ pub fn shed_blocks(
     Ok(joints)
 }
 
-/// The entries of a tree, in the order in which it is entered, but for leaves below bridges, which
-/// stay in their boxes. Room for so many nodes as are expected is reserved at once, since a long
-/// list that grows is copied again and again; there may be more of them, or fewer.
+/// The entries of a tree, in the order in which it is entered. Leaves below bridges have none, but
+/// stay in their boxes.
+///
+/// It takes one step for each node and block, in a loop with a stack, and memory in proportion to
+/// the nodes. It fails only if it runs out of memory. Room for `expected` nodes is reserved at
+/// once, since a long list that grows is copied again and again. There may be more nodes, or
+/// fewer.
 pub fn entries_of(alloc: Global, root: Node, expected: usize) -> Result<Vec<ShedNode>, NoMemory>
     ensures { IfOk result (λ e. Shows kept root e.items []) }
 {

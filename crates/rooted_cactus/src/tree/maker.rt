@@ -1,4 +1,4 @@
-//! What the nodes and blocks of a tree are made into, where it is put together from its entries.
+//! What becomes of the nodes and blocks of a tree that is put together from its entries.
 
 ghost use Rattle.std.specs.Prelude.{List, ℕ, ◌≡◌, [], IfOk, OnOk};
 ghost use Rattle.cut_definitions.specs.Weight.{VertexSet};
@@ -11,9 +11,9 @@ use crate::vertex_list::VertexList;
 use cut_definitions::NoMemory;
 use std::alloc::Global;
 
-/// How nodes and blocks are finished, each when all below it is. A finished one stands for what
-/// was read off the node or block of the tree that was taken apart; in which way it does is the
-/// maker's to say. Each call is refused only where memory is wanting.
+/// How nodes and blocks are finished, each once all below it is finished. A finished one stands
+/// for what was read off the node or block of the tree that was taken apart. The maker decides in
+/// which way it does so. Each call fails only if it runs out of memory.
 pub trait Maker {
     /// A finished node.
     type Node: Drop;
@@ -21,7 +21,7 @@ pub trait Maker {
     /// A finished block.
     type Block: Drop;
 
-    /// The sets that lists of vertices may be read as.
+    /// The ways in which lists of vertices may be read as sets.
     ghost may_read: { (List ℕ → VertexSet) → Type 0 };
 
     /// A finished node stands for what was read.
@@ -30,7 +30,7 @@ pub trait Maker {
     /// A finished block stands for what was read.
     ghost block_is: { (List ℕ → VertexSet) → Read → Self.Block → Type 0 };
 
-    /// The block that stands for a bridge to the node, by way of a box that there is.
+    /// The block that stands for a bridge to the node. It uses the box that is passed to it.
     fn bridge(node: Self::Node, place: Box<Node>) -> Self::Block
         ensures { (sets : List ℕ → VertexSet) (r : Read) → node_is sets r node → block_is sets (bridge_read r) result };
 
@@ -38,12 +38,13 @@ pub trait Maker {
     fn leaf(alloc: Global, place: Box<Node>) -> Self::Block
         ensures { (sets : List ℕ → VertexSet) → may_read sets → block_is sets (bridge_read (node_read sets (vertices place.value) [])) result };
 
-    /// The block that stands for a cycle through the nodes and the one above.
-    /// They are listed with the last first.
+    /// The block that stands for a cycle through the nodes and the one above. They are listed with
+    /// the last first.
     fn cycle(alloc: Global, nodes: Vec<Self::Node>) -> Result<Self::Block, NoMemory>
         ensures { IfOk result (λ b. (sets : List ℕ → VertexSet) (rs : List Read) → Each (node_is sets) rs (top_first nodes.items) → block_is sets (cycle_read rs) b) };
 
-    /// The node of some vertices, with the blocks below it. These are taken out of their list.
+    /// The node with some vertices, and with the blocks below it, which are taken out of their
+    /// list.
     fn node(
         alloc: Global,
         vertices: VertexList,

@@ -1,4 +1,4 @@
-//! Whether a tree is normal: no node and no block of it can be spared.
+//! Whether a tree is normal, so that no node and no block of it can be spared.
 
 ghost use Rattle.std.specs.Prelude.{◌≡◌, ◌==◌, ◌∷◌, length, map, IfOk};
 ghost use Rattle.std.specs.List.{list_all};
@@ -11,7 +11,7 @@ use super::{Block, Blocks, Node};
 use cut_definitions::NoMemory;
 use std::alloc::Global;
 
-/// Whether a node below a block lies in blocks enough, where it has no vertex.
+/// Whether a node below a block has a vertex or lies in enough blocks.
 fn is_well_placed(node: &Node, above_is_cycle: bool) -> bool
     ensures { result ≡ well_placed (length (vertices node.now) == 0) (above_is_cycle ∷ map (λ b. (block_shape b).is_cycle) (blocks node.now)) }
 {
@@ -35,8 +35,8 @@ pub fn is_cycle(block: &Block) -> bool
     }
 }
 
-/// Whether the nodes of a block below its upper node are well placed,
-/// and enough of them where it is a cycle.
+/// Whether the nodes of a block below its upper node are well placed, and whether a cycle has two
+/// or more of them.
 fn block_is_placed(block: &Block) -> bool
     ensures { result ≡ is_placed block.now }
 {
@@ -50,7 +50,7 @@ fn block_is_placed(block: &Block) -> bool
     !above_is_cycle || nodes.len() >= 2
 }
 
-/// Whether this holds of all blocks.
+/// Whether `block_is_placed` holds for all blocks.
 fn blocks_are_placed(blocks: &Blocks) -> bool
     ensures { result ≡ list_all is_placed (blocks_in blocks.now) }
 {
@@ -62,7 +62,8 @@ fn blocks_are_placed(blocks: &Blocks) -> bool
     true
 }
 
-/// Whether all below the upper node of some blocks is normal.
+/// Whether all below the upper node of some blocks is normal. It takes one step for each node and
+/// no memory, and calls itself once for each level of the tree.
 #[cycle(normal)]
 pub fn blocks_are_normal(blocks: &Blocks) -> bool
     ensures { result ≡ list_all (λ b. (block_shape b).fine) (blocks_in blocks.now) }
@@ -95,7 +96,8 @@ fn nodes_are_normal(nodes: &[Node]) -> bool
     true
 }
 
-/// Whether all below a node is normal, as by `blocks_are_normal`, by a loop with a stack.
+/// Whether all below a node is normal, as from `blocks_are_normal`, by a loop with a stack. It
+/// takes one step for each node and block, and fails only if it runs out of memory.
 pub fn is_normal_below(alloc: Global, root: &Node) -> Result<bool, NoMemory>
     ensures { IfOk result (λ b. b ≡ list_all (λ b. (block_shape b).fine) (blocks root.now)) }
 {

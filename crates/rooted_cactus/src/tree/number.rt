@@ -33,14 +33,14 @@ fn cuts_of_blocks(blocks: &Blocks) -> u64
     count
 }
 
-/// Whether a node has no vertex, and one block alone, a cycle.
+/// Whether a node has no vertex and only one block, a cycle.
 fn is_between(node: &Node) -> bool
     ensures { result ≡ between (vertices node.now) (map tally (blocks node.now)) }
 {
     is_spare(node) && is_cycle(node.blocks.at(0))
 }
 
-/// The number of the cuts of the blocks of a node, less one where it is between two cycles.
+/// The number of the cuts of the blocks of a node, less one if it is between two cycles.
 fn own_cuts(node: &Node) -> u64
     requires { all_own (map tally (blocks node.now)) < 2 ^ 63 }
     ensures { result ≡ own_of (vertices node.now) (map tally (blocks node.now)) }
@@ -53,7 +53,7 @@ fn own_cuts(node: &Node) -> u64
     }
 }
 
-/// Puts a node on the stack where it has a block below it.
+/// Puts a node on the stack if it has a block below it.
 fn stack_node<'a>(stack: &mut Vec<&'a Node>, node: &'a Node) -> Result<(), NoMemory>
     ensures { OnOk result (seen stack.new.items ≡ seen stack.old.items ++ filter is_inner (node.now ∷ [])) }
 {
@@ -73,11 +73,11 @@ fn stack_nodes<'a>(stack: &mut Vec<&'a Node>, nodes: &'a [Node]) -> Result<(), N
     Ok(())
 }
 
-/// Puts the nodes of some blocks on the stack, in order, but for those with no block below them,
-/// so that a long cycle of such nodes takes no memory.
+/// Puts the nodes of some blocks on the stack, in order, except those with no block below them. So
+/// a long cycle of such nodes takes no memory.
 ///
-/// One step for each node of these blocks. It takes memory only where the stack has no room, and
-/// is refused only where that is wanting.
+/// It takes one step for each node of these blocks, and memory only if the stack has no room. It
+/// fails only if it runs out of memory.
 pub fn stack_inner<'a>(stack: &mut Vec<&'a Node>, blocks: &'a Blocks) -> Result<(), NoMemory>
     ensures { OnOk result (seen stack.new.items ≡ seen stack.old.items ++ filter is_inner (flat_map nodes_of (blocks_in blocks.now))) }
 {
@@ -87,7 +87,8 @@ pub fn stack_inner<'a>(stack: &mut Vec<&'a Node>, blocks: &'a Blocks) -> Result<
     Ok(())
 }
 
-/// The number of the cuts of a tree, less one for each empty node above one block, a cycle.
+/// The number of the cuts of a tree, less one for each empty node above only one block, a cycle.
+/// It takes one step for each node and block, and fails only if it runs out of memory.
 pub fn count_cuts(alloc: Global, root: &Node) -> Result<u64, NoMemory>
     requires { number root.now < 2 ^ 62 }
     ensures { IfOk result (λ k. k ≡ number root.now) }
@@ -102,8 +103,8 @@ pub fn count_cuts(alloc: Global, root: &Node) -> Result<u64, NoMemory>
     Ok(count)
 }
 
-/// The number of the cuts of a tree, as by `count_cuts`, without memory:
-/// a call for each level of the tree.
+/// The number of the cuts of a tree, as from `count_cuts`. It takes no memory, and calls itself
+/// once for each level of the tree.
 #[cycle(number)]
 pub fn number_of(node: &Node) -> u64
     requires { number node.now < 2 ^ 62 }

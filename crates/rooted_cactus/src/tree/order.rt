@@ -24,11 +24,11 @@ fn stack_nodes<'a>(stack: &mut Vec<&'a Node>, nodes: &'a [Node]) -> Result<(), N
     Ok(())
 }
 
-/// Puts the nodes of some blocks on the stack, the first on top,
-/// so that they are taken off in the order of entering.
+/// Puts the nodes of some blocks on the stack, the first on top, so that they are taken off in the
+/// order of entering.
 ///
-/// One step for each of these blocks and nodes. It takes memory only where the stack has no room,
-/// and is refused only where that is wanting.
+/// It takes one step for each of these blocks and nodes, and memory only if the stack has no room.
+/// It fails only if it runs out of memory.
 pub fn stack_blocks<'a>(stack: &mut Vec<&'a Node>, blocks: &'a Blocks) -> Result<(), NoMemory>
     ensures { OnOk result (waiting stack.new.items ≡ flat_map nodes_of (blocks_in blocks.now) ++ waiting stack.old.items) }
 {
@@ -40,22 +40,22 @@ pub fn stack_blocks<'a>(stack: &mut Vec<&'a Node>, blocks: &'a Blocks) -> Result
     Ok(())
 }
 
-/// All vertices of a tree, and where those of each node begin.
+/// All vertices of a tree, and the places at which the nodes begin.
 #[derive(Drop)]
 pub struct InOrder {
     /// The vertices of all nodes, in the order of entering.
     pub vertices: Vec<u32>,
-    /// For each node, in this order, the place of its first vertex;
-    /// and last the number of all vertices.
+    /// For each node, in this order, the place of its first vertex; and last the number of all
+    /// vertices.
     pub places: Vec<usize>,
 }
 
 /// The vertices of all nodes in the order of entering, with the place at which each node begins.
 ///
-/// One step for each vertex and node, in a loop with a stack, so that a deep tree does not run
-/// out of stack. It takes 4 bytes a vertex and 16 a node, and is refused only where these are
-/// wanting. Room for so many vertices and nodes as are expected is reserved at once; there may
-/// be more of them, or fewer.
+/// It takes one step for each vertex and node, in a loop with a stack, so that a deep tree does
+/// not overflow the call stack. It takes 4 bytes a vertex and 16 a node, and fails only if it runs
+/// out of memory. Room for `expected` vertices and nodes is reserved at once. There may be more of
+/// them, or fewer.
 pub fn in_order(alloc: Global, root: &Node, expected: usize) -> Result<InOrder, NoMemory>
     ensures vertices { IfOk result (λ r. r.vertices.items ≡ concat (entered root.now)) }
     ensures places { IfOk result (λ r. r.places.items ≡ places_from 0 (entered root.now)) }
@@ -73,8 +73,8 @@ pub fn in_order(alloc: Global, root: &Node, expected: usize) -> Result<InOrder, 
     Ok(InOrder { vertices, places })
 }
 
-/// The vertices of all nodes, in the order in which the tree is entered:
-/// a node, then its blocks in order.
+/// The vertices of all nodes, in the order in which the tree is entered: a node, then its blocks
+/// in order. It costs as much as `in_order`, and fails only if it runs out of memory.
 pub fn vertices_in_order(alloc: Global, root: &Node) -> Result<Vec<u32>, NoMemory>
     ensures { IfOk result (λ v. v.items ≡ concat (entered root.now)) }
 {

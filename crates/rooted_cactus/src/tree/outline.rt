@@ -1,5 +1,5 @@
-//! The outline of a tree: for each node, in the order of entering, how many nodes are right below
-//! it, and the sizes of the subtrees, found from that.
+//! The outline of a tree, in the order of entering: for each node how many nodes are right below
+//! it, and from that the sizes of the subtrees.
 
 ghost use Rattle.std.specs.Prelude.{◌≡◌, ℕ, ◌+◌, ◌++◌, ◌<◌, ◌≤◌, length, map, OnOk, IfOk};
 ghost use Rattle.std.specs.List.{flat_map};
@@ -16,8 +16,8 @@ use std::alloc::Global;
 pub struct NodeOutline {
     /// The number of the nodes right below it.
     pub children: usize,
-    /// The number of the nodes of the block whose first one this is;
-    /// 0 where it is the first of none.
+    /// If this node is the first one of a block, the number of the nodes of that block; 0
+    /// otherwise.
     pub head: usize,
 }
 
@@ -66,10 +66,11 @@ fn stack_blocks<'a>(stack: &mut Vec<Seen<'a>>, blocks: &'a Blocks) -> Result<(),
     Ok(())
 }
 
-/// The entries of all nodes of a tree, in the order of entering. One step for each node and
-/// block, in a loop with a stack; it takes memory in proportion to the nodes, and is refused only
-/// where that is wanting. Room for so many nodes as are expected is reserved at once; there may
-/// be more of them, or fewer.
+/// The entries of all nodes of a tree, in the order of entering.
+///
+/// It takes one step for each node and block, in a loop with a stack, and memory in proportion to
+/// the nodes. It fails only if it runs out of memory. Room for `expected` nodes is reserved at
+/// once. There may be more of them, or fewer.
 pub fn outline_of(alloc: Global, root: &Node, expected: usize) -> Result<Vec<NodeOutline>, NoMemory>
     ensures { IfOk result (λ v. v.items ≡ outlined root.now) }
 {
@@ -90,7 +91,7 @@ pub fn outline_of(alloc: Global, root: &Node, expected: usize) -> Result<Vec<Nod
     Ok(entries)
 }
 
-/// Where so many subtrees end that stand one after another.
+/// The place at which the last of `count` subtrees ends that follow one another from a place on.
 fn end_of(sizes: &[usize], from: usize, count: usize) -> usize
     requires { (to : ℕ) × (to ≤ length sizes.now) × Hops sizes.now count from to }
     ensures { Hops sizes.now count from result }
@@ -118,8 +119,9 @@ fn child_counts(alloc: Global, entries: &[NodeOutline]) -> Result<Vec<usize>, No
 /// The sizes of the subtrees of a tree from the entries of its nodes: for each node, in the order
 /// of entering, how many nodes there are from it down.
 ///
-/// From the last node to the first: the subtrees right below a node are known when it is its turn.
-/// One step for each node; it takes 8 bytes a node, and is refused only where these are wanting.
+/// It goes from the last node to the first, so the sizes of the subtrees right below a node are
+/// known before its own. It takes one step and 8 bytes for each node, and fails only if it runs
+/// out of memory.
 pub fn sizes_along(alloc: Global, entries: &[NodeOutline]) -> Result<Vec<usize>, NoMemory>
     requires { (x : Node) × (entries.now ≡ outlined x) }
     ensures { (x : Node) → entries.now ≡ outlined x → IfOk result (λ v. v.items ≡ sizes x) }
@@ -134,13 +136,13 @@ pub fn sizes_along(alloc: Global, entries: &[NodeOutline]) -> Result<Vec<usize>,
     Ok(sizes)
 }
 
-/// The sizes of the subtrees of a tree: for each node, in the order of entering,
-/// how many nodes there are from it down.
+/// The sizes of the subtrees of a tree: for each node, in the order of entering, how many nodes
+/// there are from it down.
 ///
-/// Three loops, of one step for each node and block, so that a deep tree does not run
-/// out of stack. It takes memory in proportion to the nodes, and is refused only where
-/// that is wanting. Room for so many nodes as are expected is reserved at once; there
-/// may be more of them, or fewer.
+/// It takes three loops, of one step for each node and block, so that a deep tree does not
+/// overflow the call stack. It takes memory in proportion to the nodes, and fails only if it runs
+/// out of memory. Room for `expected` nodes is reserved at once. There may be more of them, or
+/// fewer.
 pub fn subtree_sizes(alloc: Global, root: &Node, expected: usize) -> Result<Vec<usize>, NoMemory>
     ensures { IfOk result (λ v. v.items ≡ sizes root.now) }
 {

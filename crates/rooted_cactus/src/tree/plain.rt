@@ -14,7 +14,7 @@ use cut_definitions::NoMemory;
 use std::alloc::Global;
 use std::mem;
 
-/// The node of some vertices and blocks, which are taken out of their list. It takes no memory.
+/// The node with some vertices and blocks, which are taken out of their list. It takes no memory.
 pub fn node_with(alloc: Global, own: VertexList, row: &mut Vec<Block>) -> Node
     ensures vertices { vertices result ≡ own }
     ensures blocks { blocks result ≡ row.old.items }
@@ -27,7 +27,7 @@ pub fn node_with(alloc: Global, own: VertexList, row: &mut Vec<Block>) -> Node
     }
 }
 
-/// Puts a tree together as it was: the same is read off each node and block.
+/// Puts a tree together as it was: what is read off each node and block stays the same.
 pub struct PlainMaker;
 
 impl Maker for PlainMaker {

@@ -21,7 +21,7 @@ fn draw_bridge<M: Maker>(stack: &mut Vec<M::Node>, place: Box<Node>) -> M::Block
     M::bridge(node, place)
 }
 
-/// The block that stands for a cycle through so many nodes from the top of the stack.
+/// The block that stands for a cycle through `count` nodes from the top of the stack.
 fn draw_cycle<M: Maker>(
     alloc: Global,
     stack: &mut Vec<M::Node>,
@@ -80,10 +80,12 @@ fn draw_blocks<M: Maker>(
 
 /// What a maker makes of the entries of a tree.
 ///
-/// From the last entry to the first: the nodes below an entry are finished when it is its
-/// turn. So a deep tree does not run out of stack. All share one row of blocks. It takes
-/// memory for the nodes and for the blocks of one node, beside what the maker takes; where it
-/// is wanting, all is dropped.
+/// It goes from the last entry to the first, so the nodes below an entry are finished before it,
+/// and a deep tree does not overflow the call stack. All entries share one row of blocks.
+///
+/// It takes one step for each node and block, and memory for the nodes and for the blocks of one
+/// node, besides what the maker takes. It fails only if it runs out of memory; everything is
+/// dropped then.
 pub fn put_together<M: Maker>(alloc: Global, entries: Vec<ShedNode>) -> Result<M::Node, NoMemory>
     requires ready { IsReady entries.items 0 }
     requires one { left entries.items 0 ≡ 1 }

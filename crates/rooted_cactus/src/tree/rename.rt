@@ -14,7 +14,7 @@ use super::put::put_together;
 use cut_definitions::NoMemory;
 use std::alloc::Global;
 
-/// The entries of a tree, with other names.
+/// The entries of a tree, with other names for its vertices.
 fn renamed_entries(alloc: Global, root: Node, names: &[u32]) -> Result<Vec<ShedNode>, NoMemory>
     ensures { IfOk result (λ e. Shows (renamed names.now) root e.items []) }
 {
@@ -31,12 +31,12 @@ fn renamed_entries(alloc: Global, root: Node, names: &[u32]) -> Result<Vec<ShedN
     Ok(entries)
 }
 
-/// The tree with the entry of a table in place of each vertex: the entry at that place, counted
-/// from 0; a number past the table's end stays.
+/// The tree in which each vertex is replaced by the entry of a table at that place, counted from
+/// 0. A number past the end of the table stays.
 ///
-/// The tree is taken over and its nodes are moved. One step for each vertex and node, in loops, so
-/// that a deep tree does not run out of stack. It takes memory in proportion to the nodes, and is
-/// refused only where that is wanting; the tree is dropped then.
+/// The tree is taken over and its nodes are moved. It takes one step for each vertex and node, in
+/// loops, so that a deep tree does not overflow the call stack. It takes memory in proportion to
+/// the nodes, and fails only if it runs out of memory; the tree is dropped then.
 pub fn rename_node(alloc: Global, node: Node, names: &[u32]) -> Result<Node, NoMemory>
     ensures names { IfOk result (λ x. entered x ≡ map (renamed names.now) (entered node)) }
     ensures sides { IfOk result (λ x. (sets : List ℕ → VertexSet) → part_by sets x ≡ part_by (λ l. sets (renamed names.now l)) node) }

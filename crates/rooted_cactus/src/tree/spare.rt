@@ -10,14 +10,14 @@ use super::normal::is_cycle;
 use super::{Block, Blocks, Node};
 use std::alloc::Global;
 
-/// Whether a node has no vertex, and one block alone.
+/// Whether a node has no vertex and only one block.
 pub fn is_spare(node: &Node) -> bool
     ensures { result ≡ is_spare (vertices node.now) (blocks node.now) }
 {
     node.vertices.len() == 0 && node.blocks.len() == 1
 }
 
-/// Whether a node has no vertex, and one block alone, a bridge.
+/// Whether a node has no vertex and only one block, a bridge.
 fn is_above_a_bridge(node: &Node) -> bool
     ensures { result ≡ is_above_bridge (vertices node.now) (blocks node.now) }
 {
@@ -44,7 +44,7 @@ fn below_bridge(block: Block) -> Node
     }
 }
 
-/// A bridge to the node, by way of a box that there is; what was in the box is dropped.
+/// A bridge to the node, in the box that is passed to it. What was in the box is dropped.
 pub fn bridge_to(node: Node, place: Box<Node>) -> Block
     ensures { IsBridgeTo result node }
 {
@@ -62,8 +62,8 @@ pub fn leaf_bridge(alloc: Global, place: Box<Node>) -> Block
     Block::Bridge(leaf)
 }
 
-/// A bridge to the node, by way of a box that there is, or the node's one block where it has no
-/// vertex and no other block.
+/// A bridge to the node, in the box that is passed to it. If the node has no vertex and only one
+/// block, it returns that block instead.
 pub fn hung(node: Node, place: Box<Node>) -> Block
     ensures spare { is_spare (vertices node) (blocks node) ≡ true → blocks node ≡ result ∷ [] }
     ensures bridge { is_spare (vertices node) (blocks node) ≡ false → IsBridgeTo result node }
@@ -74,8 +74,8 @@ pub fn hung(node: Node, place: Box<Node>) -> Block
     bridge_to(node, place)
 }
 
-/// The node as it may stand in a cycle: what is below its bridge, where it has no vertex and
-/// nothing but that bridge.
+/// The node as it may be in a cycle. If the node has no vertex and only one block, a bridge, it
+/// returns the node below that bridge instead.
 pub fn trimmed(node: Node) -> Node
     ensures { result ≡ trimmed_node node }
 {

@@ -29,7 +29,7 @@ fn put(groups: &mut [Vec<u32>], class: usize, vertex: u32) -> Result<(), NoMemor
     Ok(())
 }
 
-/// Lists without an element, one for each class from 0 to `last`.
+/// Empty lists, one for each class from 0 to `last`.
 fn no_groups(alloc: Global, last: u32) -> Result<Vec<Vec<u32>>, NoMemory>
     ensures len { IfOk result (λ g. length g.items ≡ last + 1) }
     ensures empty { IfOk result (λ g. (c : ℕ) → group_at g.items c ≡ []) }
@@ -42,7 +42,8 @@ fn no_groups(alloc: Global, last: u32) -> Result<Vec<Vec<u32>>, NoMemory>
     Ok(groups)
 }
 
-/// The vertices of each class, ascending.
+/// The vertices of each class from 0 to `last`, ascending. It takes one step for each vertex and
+/// class, and fails only if it runs out of memory.
 pub fn vertices_by_class(
     alloc: Global,
     classes: &[u32],
@@ -84,7 +85,7 @@ fn add_classes(alloc: Global, groups: &[Vec<u32>], classes: &[u32]) -> Result<Ve
     Ok(out)
 }
 
-/// The vertices of several classes, ascending. A class that is named twice counts once.
+/// The vertices of several classes, ascending. A class that is listed twice counts once.
 fn spread_list(
     alloc: Global,
     list: &VertexList,
@@ -98,7 +99,7 @@ fn spread_list(
     Ok(VertexList::from_vec(vertices))
 }
 
-/// The entries of a tree, with the vertices of each class in place of the class.
+/// The entries of a tree, in which each class is replaced by its vertices.
 fn spread_entries(alloc: Global, root: Node, groups: &[Vec<u32>]) -> Result<Vec<ShedNode>, NoMemory>
     ensures { IfOk result (λ e. (classes : List ℕ) → AreGathered classes groups.now → Shows (lift classes) root e.items []) }
 {
@@ -114,8 +115,8 @@ fn spread_entries(alloc: Global, root: Node, groups: &[Vec<u32>]) -> Result<Vec<
     Ok(entries)
 }
 
-/// The tree with the vertices of each class, ascending, in place of the class.
-/// The classes are 1 to `last`.
+/// The tree in which each class of 1 to `last` is replaced by its vertices, ascending. It costs as
+/// much as `Cactus::spread`, and fails only if it runs out of memory.
 pub fn spread_node(alloc: Global, node: Node, classes: &[u32], last: u32) -> Result<Node, NoMemory>
     requires few { length classes.now < 2 ^ 32 }
     requires in_range { All (λ c. c ≤ last) classes.now }

@@ -15,7 +15,7 @@ use crate::vertex_list::VertexList;
 use cut_definitions::NoMemory;
 use std::alloc::Global;
 
-/// The nodes as they may stand in a cycle, in order. They are listed with the last first.
+/// The nodes as they may be in a cycle, in order. They are listed with the last first.
 fn trimmed_nodes(alloc: Global, nodes: Vec<Node>) -> Result<Children, NoMemory>
     ensures { IfOk result (λ c. nodes_in c ≡ map trimmed_node (top_first nodes.items)) }
 {
