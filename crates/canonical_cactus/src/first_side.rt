@@ -1,19 +1,22 @@
 //! The first of the sides of best balance.
 //!
-//! In the order of entering each side is a range between two borders of a block. Of two sides that
-//! one comes first which has the least vertex that only one of them has, if the other one has a
-//! greater vertex; else the other one is the beginning of it, and comes first. What one range has
-//! and another has not is two ranges, so a few least vertices of ranges decide.
+//! In the order of entering, each side is a range between two borders of a block. Take the least
+//! vertex that only one of two sides has. If the other side has a greater vertex, the side with
+//! that vertex comes first. Otherwise the other side is the beginning of it, and comes first. The
+//! vertices that are in one range and not in another are those of two ranges. So the least
+//! vertices of a few ranges decide.
 //!
-//! A side has the best balance where its mass is one of two. The ranges of a mass from one border
-//! on end at borders that stand side by side, and neither the first nor the last of these goes
-//! back from one border to the next. Ranges of one mass can be many where vertices have no mass,
-//! so they are not gone through. Borders without mass between them are a run. The ranges of a mass
-//! above 0 that begin in one run end in one run, each at each, so all of them have the shortest
-//! one within them (`first_around`). The ranges without mass are all those between two borders of
-//! a run, and those with the least vertex come first (`first_within`). From such a range on the
-//! borders at both ends are taken in one after another, at most once each, until all that is
-//! around comes behind all that is in it. So of each run one range is compared.
+//! A side has the best balance if its mass is one of two. The ranges of one mass that begin at a
+//! border end at adjacent borders. As that border moves on, neither the first nor the last of
+//! these ends goes back. If vertices have no mass, there can be many ranges of one mass, so they
+//! are not gone through.
+//!
+//! Borders with no mass between them form a run. The ranges of a mass above 0 that begin in one
+//! run end in one run. Any start goes with any end, so all of them contain the shortest one
+//! (`first_around`). The ranges without mass are all those between two borders of a run, and those
+//! with the least vertex come first (`first_within`). From such a range on, the borders at both
+//! ends are taken in one after another, at most once each. That ends when all vertices around the
+//! range are greater than all those in it. So one range is compared for each run.
 
 ghost use Rattle.std.specs.Prelude.{◌≡◌, ◌≢◌, ◌+◌, ◌<◌, ◌≤◌, ◌⊎◌, [], ℕ, IfOk, IsFalse, IsTrue, Some, length, slice_index};
 ghost use Rattle.std.specs.List.{Contains};
@@ -32,15 +35,16 @@ use rooted_cactus::Cactus;
 use std::alloc::Global;
 use vertex_set::Side;
 
-/// The cuts of a cactus, the balance that is wanted, and what the sides are compared by.
+/// The cuts of a cactus, the larger mass of the balance that is sought, and what the sides are
+/// compared by.
 #[derive(Drop)]
 struct Ranked {
     ranges: CutRanges,
     high: u128,
     /// The least vertices of ranges.
     least: Minima,
-    /// The least of what is wanting from each vertex to the greatest number of 32 bits, so by it
-    /// the greatest vertices of ranges.
+    /// The least of the differences u32::MAX - v of ranges, which show the greatest vertices of
+    /// ranges.
     wanting: Minima,
 }
 
@@ -51,8 +55,8 @@ struct Ends {
     end: usize,
 }
 
-/// The first of the sides so far, the first border of a run without mass between its borders, and
-/// the first ends up to which the ranges from the last one have a mass, and more than it.
+/// The first of the sides so far, and the first border of the present run. `light` and `heavy` are
+/// the first ends at which the range from the last border has at least the mass, and more than it.
 #[derive(Clone, Copy)]
 struct Search {
     found: Option<Span>,
@@ -62,8 +66,7 @@ struct Search {
 }
 
 impl Ranked {
-    /// The least vertex of a range that another one does not have;
-    /// the greatest number of 32 bits where there is none.
+    /// The least vertex of a range that another one does not have, or u32::MAX if there is none.
     fn least_beyond(&self, span: Span, other: Span) -> u32
         requires ranked { IsRanked self.now }
         requires span { IsRangeOf (count_of self.now) (range_of span) }
@@ -82,8 +85,8 @@ impl Ranked {
         self.least.least(before).min(self.least.least(behind))
     }
 
-    /// Whether a range has a vertex greater than a number. A vertex of it that is known to be
-    /// greater saves the search; the greatest number of 32 bits stands for none.
+    /// Whether a range has a vertex greater than a number. If a greater vertex of it is known,
+    /// that saves the search; u32::MAX stands for none.
     fn has_greater(&self, span: Span, vertex: u32, known: u32) -> bool
         requires ranked { IsRanked self.now }
         requires span { IsRangeOf (count_of self.now) (range_of span) }
@@ -97,8 +100,8 @@ impl Ranked {
         self.wanting.least(span) < u32::MAX - vertex
     }
 
-    /// Whether the side at a range comes before the side at another in the order of lists; true
-    /// where they are the same.
+    /// Whether the side at one range comes before the side at another in the order of lists, or is
+    /// the same.
     fn goes_before(&self, span: Span, other: Span) -> bool
         requires ranked { IsRanked self.now }
         requires span { IsRangeOf (count_of self.now) (range_of span) }
@@ -117,7 +120,8 @@ impl Ranked {
         }
     }
 
-    /// The range of the earlier of the side that was found and that at another range.
+    /// The range of the earlier of two sides: the one that was found, if any, and the one at
+    /// another range.
     fn earlier(&self, found: Option<Span>, span: Span) -> Span
         requires ranked { IsRanked self.now }
         requires found { IsFound self.now found }
@@ -147,8 +151,8 @@ impl Ranked {
         self.ranges.between(ends.start, ends.end)
     }
 
-    /// The first border from one on of which the range to the next one has
-    /// a vertex up to a number.
+    /// The first border from one on for which the range to the next border has a vertex up to a
+    /// number.
     fn first_with(&self, from: usize, end: usize, vertex: u32) -> usize
         requires ranked { IsRanked self.now }
         requires within { end ≤ last_of self.now.ranges from }
@@ -166,7 +170,8 @@ impl Ranked {
         at
     }
 
-    /// The last border before one of which the range to the next one has a vertex up to a number.
+    /// The last border before one for which the range to the next border has a vertex up to a
+    /// number.
     fn last_with(&self, from: usize, end: usize, vertex: u32) -> usize
         requires ranked { IsRanked self.now }
         requires within { end ≤ last_of self.now.ranges from }
@@ -184,7 +189,8 @@ impl Ranked {
         at
     }
 
-    /// A range with as many borders more, at one of its ends, as take in a vertex around it.
+    /// The range, extended at one of its ends by just as many borders as it takes to reach the
+    /// given vertex around it.
     fn with_vertex(&self, bounds: Ends, inner: Ends, vertex: u32) -> Ends
         requires ranked { IsRanked self.now }
         requires within { IsWithin self.now bounds inner }
@@ -207,12 +213,11 @@ impl Ranked {
         }
     }
 
-    /// The first of the sides at the ranges between two borders that have
-    /// another range within them.
+    /// The first of the sides at the ranges between two borders that contain another range.
     ///
     /// As long as the range has a greater vertex than the least one around it, that one belongs to
-    /// the first side. After that all that is around comes behind all that is in it, so each
-    /// longer side begins with this one.
+    /// the first side. After that, all vertices around it are greater than all those in it, so
+    /// each longer side begins with this one.
     fn first_around(&self, bounds: Ends, inner: Ends) -> Ends
         requires ranked { IsRanked self.now }
         requires within { IsWithin self.now bounds inner }
@@ -231,8 +236,8 @@ impl Ranked {
         ends
     }
 
-    /// The first of the sides at the ranges between two borders:
-    /// it has the least of all these vertices.
+    /// The first of the sides at the nonempty ranges between two borders. It has the least of all
+    /// these vertices.
     fn first_within(&self, bounds: Ends) -> Ends
         requires ranked { IsRanked self.now }
         requires some { bounds.start < bounds.end }
@@ -252,9 +257,9 @@ impl Ranked {
         )
     }
 
-    /// Of the ranges of a mass that begin in a run of borders without mass between them, the one
-    /// whose side comes first. The ranges from the last border of the run that have the mass end
-    /// from one border on, and before another.
+    /// The range whose side comes first, of the ranges of a mass that begin in a run of borders
+    /// with no mass between them. `ends` are the ends of such ranges that begin at the last border
+    /// of the run: the first one, and the one after the last.
     fn first_of_run(&self, mass: u128, run: Ends, ends: Ends) -> Option<Ends>
         requires ranked { IsRanked self.now }
         requires start { run.end < length self.now.ranges.borders.items }
@@ -300,7 +305,8 @@ impl Ranked {
             && self.ranges.mass(self.ranges.between(start, start + 1)) == 0
     }
 
-    /// Of the side that was found and that at a range, if there is one, the range of the earlier.
+    /// The range of the earlier of two sides: the one that was found, if any, and the one at
+    /// another range, if any.
     fn earlier_of(&self, found: Option<Span>, first: Option<Ends>) -> Option<Span>
         requires ranked { IsRanked self.now }
         requires found { IsFound self.now found }
@@ -316,7 +322,7 @@ impl Ranked {
     }
 
     /// The first of the sides at the ranges of a mass that begin at a border, and before it. A run
-    /// of borders without mass between them is gone over at its last one.
+    /// of borders with no mass between them is handled at its last one.
     fn first_from(&self, mass: u128, start: usize, search: Search) -> Search
         requires ranked { IsRanked self.now }
         requires start { start < length self.now.ranges.borders.items }
@@ -352,7 +358,7 @@ impl Ranked {
         }
     }
 
-    /// The first of the side that was found and the sides at all ranges of a mass.
+    /// The first of the side that was found, if any, and the sides at all ranges of a mass.
     fn first_of_mass(&self, mass: u128, found: Option<Span>) -> Option<Span>
         requires ranked { IsRanked self.now }
         requires mass { (mass ≡ self.now.high) ⊎ (mass + self.now.high ≡ total_mass self.now.ranges) }
@@ -389,8 +395,8 @@ impl Ranked {
         None
     }
 
-    /// The first of the sides at the ranges of either mass that gives the balance, where none is
-    /// empty or the balance is above 0.
+    /// The first of the sides at the ranges of either mass that gives the balance. No such range
+    /// is empty, or the balance is above 0.
     fn first_of_both(&self) -> Option<Span>
         requires ranked { IsRanked self.now }
         requires none_empty { self.now.high ≡ 0 → NoneEmpty self.now }
@@ -420,7 +426,7 @@ impl Ranked {
     }
 }
 
-/// What is wanting from each vertex to the greatest number of 32 bits.
+/// The difference between u32::MAX and each vertex.
 fn wanting_of(alloc: Global, order: &[u32]) -> Result<Vec<u32>, NoMemory>
     ensures long { IfOk result (λ v. length v.items ≡ length order.now) }
     ensures wanting { IfOk result (λ v. (p : ℕ) → p < length order.now → slice_index v.items p + slice_index order.now p ≡ 4294967295) }
@@ -432,7 +438,7 @@ fn wanting_of(alloc: Global, order: &[u32]) -> Result<Vec<u32>, NoMemory>
     Ok(wanting)
 }
 
-/// The cuts of a cactus, with a balance that is wanted.
+/// The cuts of a cactus, with the larger mass of the balance that is sought.
 fn rank_cuts(
     alloc: Global,
     cactus: &Cactus,
@@ -458,13 +464,13 @@ fn rank_cuts(
     })
 }
 
-/// Of all sides of the cuts of the cactus that have the best balance by the masses
-/// of the vertices, the first in the order of lists, in which a list that another
-/// begins with comes first.
+/// The first of all sides of the cuts of the cactus that have the best balance by the masses of
+/// the vertices. It is the first in the order of lists, in which a list comes before those that
+/// begin with it.
 ///
-/// It takes O(n log n) steps for a cactus of n vertices whose nodes are at most in proportion to
-/// n, however many cuts have the best balance and whatever the masses are. It takes memory in
-/// proportion to the nodes and to n, and is refused only where that is wanting.
+/// It takes O(n log n) for a cactus of n vertices whose nodes are at most in proportion to n,
+/// however many cuts have the best balance and whatever the masses are. It takes memory in
+/// proportion to the nodes and to n, and fails only if it runs out of memory.
 pub fn first_best(alloc: Global, cactus: &Cactus, weights: &VertexWeights) -> Result<Side, NoMemory>
     requires some { blocks cactus.now.root ≢ [] }
     requires weights { length weights.now ≡ cactus.now.vertices }

@@ -1,34 +1,37 @@
 //! Canonical cactuses: of all cactuses that show the same cuts, one.
 //!
-//! A cactus is canonical where it is normal, every cycle has four or more nodes, the blocks of a
-//! node ascend by the least vertex below them, and in every cycle the least vertex at or under the
-//! first child is less than that at or under the last. Contracts see it by `is_canonical`, which
-//! reads the tree by one fold, `arranged`: the vertices at or under each node, and whether all
-//! there stands in order. The function of that name is the test, and `canonical` makes the
-//! canonical cactus with the sides of another one.
+//! A cactus is canonical if it is normal, every cycle has four or more nodes, and the blocks of
+//! each node ascend by the least vertex below them. Also, in every cycle the least vertex at or
+//! under the first child is less than that at or under the last. Contracts see this by
+//! `is_canonical`, which reads the tree by one fold, `arranged`: the vertices at or under each
+//! node, and whether all there is in order. The function `is_canonical` is the test, and
+//! `canonical` makes the canonical cactus with the sides of another one.
 //!
-//! Two canonical cactuses over the same vertices that have the same sides are one tree,
-//! `laws::one_tree`, and have one flat cactus, `laws::one_flat`: so what is printed of a canonical
-//! cactus is a function of the sides alone. The law goes by induction from the root: the sides
-//! that lie in no other one tell the blocks of a node, two of them that overlap tell a cycle from
-//! a bridge, and the sides that contain the first child of a cycle tell the order of the others.
-//! That a cycle of three nodes shows the same cuts as an empty node with three bridges, that an
-//! empty node of few blocks can be spared, and the order of blocks and children are the freedoms
-//! which the representation of Dinitz, Karzanov and Lomonosov (1976) leaves.
+//! Two canonical cactuses over the same vertices that have the same sides are one tree
+//! (`laws::one_tree`), and have one flat cactus (`laws::one_flat`). So what is printed of a
+//! canonical cactus is a function of the sides alone. The proof goes by induction from the root.
+//! The sides that lie in no other side determine the blocks of a node. Two of them that overlap
+//! distinguish a cycle from a bridge, and the sides that contain the first child of a cycle
+//! determine the order of the others.
 //!
-//! `canonical` gives a canonical cactus back as it is. Else it takes the tree apart into entries
-//! (`rooted_cactus::entries_of`), but for leaves below bridges, and lets
-//! `rooted_cactus::put_together` put it together from the last one by a maker of its own
-//! (`maker`): each node and block is finished with its least vertex (`parts`), and blocks and
-//! cycles are put in order as they are made (`rows`). It takes O(n log n) for n vertices, in
-//! loops; `is_canonical` one step for each node and vertex, and a call for each level (`order`),
-//! and `is_canonical_within` the same by loops (`standing`).
+//! The representation of Dinitz, Karzanov and Lomonosov (1976) leaves a few freedoms. A cycle of
+//! three nodes shows the same cuts as an empty node with three bridges. An empty node of few
+//! blocks can be spared. The order of blocks and children is free.
 //!
-//! `first_best` tells one side in the same way: of the sides of best balance the first, so it is a
-//! function of the sides and the masses alone. It does not go over the cuts of best balance, of
-//! which there can be some n^2 where many vertices have mass 0: of all that begin in one run of
-//! borders without mass between them it makes the first, by the least vertices of a few ranges,
-//! which trees of minima (`minima`) tell. So it takes O(n log n) for n vertices.
+//! `canonical` returns a canonical cactus as it is. Any other tree is taken apart into entries,
+//! but for leaves below bridges (`rooted_cactus::entries_of`). Then it is put together from the
+//! last entry to the first (`rooted_cactus::put_together`) by a maker of its own (`maker`). Each
+//! node and block is finished with its least vertex (`parts`), and blocks and cycles are put in
+//! order as they are made (`rows`). It takes O(n log n) for n vertices, in loops. `is_canonical`
+//! takes one step for each node and vertex, and calls itself once for each level (`order`).
+//! `is_canonical_within` does the same by loops (`standing`).
+//!
+//! In the same way `first_best` returns one side: the first of the sides of best balance, which is
+//! a function of the sides and the masses alone. It does not go over the cuts of best balance, of
+//! which there can be about n^2 if many vertices have mass 0. Of all cuts that begin in one run of
+//! borders with no mass between them, it makes only the first. For that it takes the least
+//! vertices of a few ranges from trees of minima (`minima`). So it takes O(n log n) for n
+//! vertices.
 #![tactic(auto)]
 
 ghost use Rattle.std.specs.Prelude.{◌≡◌, IfOk};
@@ -52,23 +55,23 @@ use rooted_cactus::Cactus;
 use standing::stands_in_order;
 use std::alloc::Global;
 
-/// Whether a cactus is normal, every cycle has four or more nodes, the blocks of each node ascend
-/// by the least vertex below them, and in every cycle the least vertex at or under the first child
-/// is less than that at or under the last.
+/// Whether a cactus is normal, every cycle has four or more nodes, and the blocks of each node
+/// ascend by the least vertex below them. Also, in every cycle the least vertex at or under the
+/// first child has to be less than that at or under the last.
 ///
-/// One step for each node and each vertex. It takes no memory, and calls itself once for each
-/// level of the tree, so that a very deep tree can run out of stack.
+/// It takes one step for each node and each vertex and no memory. It calls itself once for each
+/// level of the tree, so a very deep tree can overflow the call stack.
 pub fn is_canonical(cactus: &Cactus) -> bool
     ensures { result ≡ is_canonical cactus.now.root }
 {
     cactus.is_normal() && node_standing(cactus.root()).in_order
 }
 
-/// Whether a cactus is canonical, as `is_canonical` tells it, by loops:
-/// a deep tree does not run out of stack.
+/// Whether a cactus is canonical, as from `is_canonical`, by loops, so that a deep tree does not
+/// overflow the call stack.
 ///
-/// One step for each node and each vertex. It takes memory for the nodes that have blocks below
-/// them, at most 32 bytes each, and is refused only where that is wanting.
+/// It takes one step for each node and each vertex. It takes memory for the nodes that have blocks
+/// below them, at most 32 bytes each, and fails only if it runs out of memory.
 pub fn is_canonical_within(alloc: Global, cactus: &Cactus) -> Result<bool, NoMemory>
     ensures { IfOk result (λ all. all ≡ is_canonical cactus.now.root) }
 {

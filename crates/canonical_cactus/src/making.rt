@@ -12,16 +12,16 @@ use std::alloc::Global;
 
 /// The canonical cactus with the same set of sides.
 ///
-/// No side of the cactus may be empty. A cycle of three nodes gives way to a bridge down to an
-/// empty node with two more bridges; a bridge to an empty node with one other block gives way to
-/// that block, and in a cycle an empty node with a bridge alone to the node below that bridge;
-/// then the blocks of each node are put in the order of the least vertices below them, and a cycle
-/// is turned round where its last node has a lesser one than its first.
+/// No side of the cactus may be empty. A cycle of three nodes is replaced by a bridge down to an
+/// empty node with two more bridges. A bridge to an empty node with one other block is replaced by
+/// that block. In a cycle, an empty node that has a bridge alone is replaced by the node below
+/// that bridge. Then the blocks of each node are put in the order of the least vertices below
+/// them, and a cycle is reversed if its last node has a smaller one than its first.
 ///
-/// A cactus that is canonical is given back as it is. Else the tree is taken apart and its
-/// nodes are moved. Time O(n log n), in loops, so that a deep tree does not run out of
-/// stack. It takes memory in proportion to the nodes, and is refused only where that is
-/// wanting; the cactus is dropped then.
+/// A cactus that is canonical is returned as it is. Otherwise the tree is taken apart and its
+/// nodes are moved. It takes O(n log n), in loops, so that a deep tree does not overflow the call
+/// stack. It takes memory in proportion to the nodes, and fails only if it runs out of memory; the
+/// cactus is dropped then.
 pub fn canonical(alloc: Global, cactus: Cactus) -> Result<Cactus, NoMemory>
     requires { HasNoEmptySide cactus }
     ensures n { IfOk result (λ c. c.vertices ≡ cactus.vertices) }

@@ -1,5 +1,5 @@
-//! The least numbers of ranges of a list, by a tree of minima in one vector: the nodes 2 i and 2
-//! i + 1 stand below node i, and the numbers themselves are the second half, the leaves.
+//! The least numbers of ranges of a list, by a tree of minima in one vector. The nodes 2 i and 2 i
+//! + 1 are below node i, and the numbers themselves are the second half, the leaves.
 
 ghost use Rattle.std.specs.Prelude.{◌≡◌, ℕ, ◌+◌, ◌*◌, ◌<◌, ◌≤◌, IfOk, length, min, slice_index};
 ghost use Rattle.canonical_cactus.specs.Minima.{IsLeast, IsMinTree, leaf_at};
@@ -13,11 +13,11 @@ use std::alloc::Global;
 pub(crate) struct Minima {
     /// How many numbers there are.
     pub(crate) size: usize,
-    /// The nodes from 1 on, and behind them the numbers.
+    /// The nodes from 1 on, and after them the numbers.
     pub(crate) tree: Vec<u32>,
 }
 
-/// Writes the inner nodes over the leaves that are there.
+/// Computes the inner nodes from the leaves.
 fn build(tree: &mut [u32], size: usize)
     requires long { length tree.old ≡ 2 * size }
     ensures nodes { (i : ℕ) → 1 ≤ i → i < size → slice_index tree.new i ≡ min (slice_index tree.new (2 * i)) (slice_index tree.new (2 * i + 1)) }
@@ -31,7 +31,8 @@ fn build(tree: &mut [u32], size: usize)
 }
 
 impl Minima {
-    /// The tree over these numbers. One step and 8 bytes for each.
+    /// The tree over these numbers. It takes one step and 8 bytes for each, and fails only if it
+    /// runs out of memory.
     pub(crate) fn of(alloc: Global, numbers: &[u32]) -> Result<Minima, NoMemory>
         requires few { length numbers.now ≤ 4194304 }
         ensures tree { IfOk result IsMinTree }
@@ -45,12 +46,11 @@ impl Minima {
         Ok(Minima { size, tree })
     }
 
-    /// The least of the numbers at the places of a range;
-    /// the greatest number of 32 bits where it is empty.
+    /// The least of the numbers at the places of a range, or u32::MAX if the range is empty.
     ///
-    /// From level to level up the nodes at both ends are looked at, and the nodes above
-    /// those between are left. So it takes a number of steps in proportion to the logarithm
-    /// of the length of the range.
+    /// It goes up level by level, looks at the nodes at both ends, and goes on with the nodes
+    /// above those between. So the number of steps is in proportion to the logarithm of the length
+    /// of the range.
     pub(crate) fn least(&self, span: Span) -> u32
         requires tree { IsMinTree self.now }
         requires from { span.from ≤ self.now.size }

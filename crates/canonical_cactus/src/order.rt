@@ -1,4 +1,4 @@
-//! Whether the blocks and the cycles of a tree stand in order.
+//! Whether the blocks and the cycles of a tree are in order.
 
 ghost use Rattle.std.specs.Prelude.{◌≡◌, ◌&&◌, ◌||◌, ◌==◌, ◌<◌, nat_le, nat_lt, length, map};
 ghost use Rattle.std.specs.List.{list_all};
@@ -8,15 +8,15 @@ ghost use Rattle.canonical_cactus.specs.Standing.{least_in, lesser_of, or_zero};
 
 use rooted_cactus::{Block, Blocks, Children, Node, VertexList};
 
-/// What is known of a part of a tree: its least vertex, if it has any,
-/// and whether all in it stands in order.
+/// What is known of a part of a tree: its least vertex, if it has any, and whether all in it is in
+/// order.
 #[derive(Clone, Copy)]
 pub struct Standing {
     pub least: Option<u32>,
     pub in_order: bool,
 }
 
-/// The lesser of two vertices, or the one that there is.
+/// The smaller of two vertices, or the only one, if there is one.
 pub fn lesser(first: Option<u32>, second: Option<u32>) -> Option<u32>
     ensures { result ≡ lesser_of first second }
 {
@@ -29,7 +29,7 @@ pub fn lesser(first: Option<u32>, second: Option<u32>) -> Option<u32>
     }
 }
 
-/// The vertex, and 0 where there is none.
+/// The vertex, or 0 if there is none.
 pub fn vertex_or_zero(vertex: Option<u32>) -> u32
     ensures { result ≡ or_zero vertex }
 {
@@ -57,8 +57,8 @@ pub fn comes_after(place: usize, before: u32, vertex: u32) -> bool
     place == 0 || before < vertex
 }
 
-/// The vertex at place 0: the one that is given where this is the place,
-/// else the one that was found before.
+/// The first vertex of a row that is gone through: the vertex itself at place 0, and at later
+/// places the first one so far.
 pub fn first_of(place: usize, first: u32, vertex: u32) -> u32
     ensures zero { place ≡ 0 → result ≡ vertex }
     ensures later { 0 < place → result ≡ first }
@@ -66,7 +66,8 @@ pub fn first_of(place: usize, first: u32, vertex: u32) -> u32
     if place == 0 { vertex } else { first }
 }
 
-/// A node, and all that hangs from it.
+/// What is known of a node and all that hangs from it. It takes one step for each node and vertex
+/// and no memory, and calls itself once for each level of the tree.
 #[cycle(order)]
 pub fn node_standing(node: &Node) -> Standing
     ensures least { result.least ≡ least_in (arranged node.now).vertices }
@@ -80,7 +81,7 @@ pub fn node_standing(node: &Node) -> Standing
     }
 }
 
-/// The blocks of a node, which are to ascend by their least vertices.
+/// What is known of the blocks of a node, which have to ascend by their least vertices.
 #[cycle(order)]
 fn blocks_standing(blocks: &Blocks) -> Standing
     ensures least { result.least ≡ least_in (all_vertices (map arranged_block (blocks_in blocks.now))) }
@@ -115,8 +116,8 @@ fn block_standing(block: &Block) -> Standing
     }
 }
 
-/// The nodes of a cycle, which are to be three or more,
-/// the first with a lesser vertex than the last.
+/// What is known of the nodes of a cycle. There have to be three or more of them, the first with a
+/// smaller vertex than the last.
 #[cycle(order)]
 fn cycle_standing(nodes: &Children) -> Standing
     ensures least { result.least ≡ least_in (all_vertices (map arranged (nodes_in nodes.now))) }

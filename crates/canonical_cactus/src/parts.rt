@@ -1,5 +1,5 @@
-//! Finished parts of a tree: nodes that may stand below a block,
-//! and blocks that may hang from a node.
+//! Finished parts of a tree: nodes that may be below a block, and blocks that may hang from a
+//! node.
 
 ghost use Rattle.std.specs.Prelude.{IfOk};
 ghost use Rattle.rooted_cactus.specs.Entries.{Read, bridge_read};
@@ -23,8 +23,8 @@ pub struct Hung {
     pub least: Option<u32>,
 }
 
-/// A bridge to the node, by way of a box that there is, or the node's one block where it has no
-/// vertex and no other block.
+/// A bridge to the node, in the box that is passed to it. If the node has no vertex and only one
+/// block, it returns that block instead.
 pub fn hang_in(placed: Placed, place: Box<Node>) -> Hung
     ensures { (r : Read) → IsNodeOf r placed → IsBlockOf (bridge_read r) result }
 {
@@ -33,7 +33,8 @@ pub fn hang_in(placed: Placed, place: Box<Node>) -> Hung
     Hung { block, least }
 }
 
-/// A bridge to the node, or the node's one block where it has no vertex and no other block.
+/// A bridge to the node, or the node's only block if it has no vertex and one block. It fails only
+/// if it runs out of memory.
 pub fn hang(alloc: Global, placed: Placed) -> Result<Hung, NoMemory>
     ensures { IfOk result (λ b. (r : Read) → IsNodeOf r placed → IsBlockOf (bridge_read r) b) }
 {

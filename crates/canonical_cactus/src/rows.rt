@@ -1,5 +1,5 @@
-//! The blocks of a node in the order of their least vertices, and cycles in the one of their two
-//! directions that is meant.
+//! The blocks of a node in the order of their least vertices, and each cycle in its canonical
+//! direction.
 
 ghost use Rattle.std.specs.Prelude.{◌≡◌, ◌≢◌, [], length, IfOk, OnOk, List};
 ghost use Rattle.std.specs.List.Sorted.{IsPermutation, IsNonDecreasingBy};
@@ -22,8 +22,9 @@ fn sort_down(row: &mut Vec<Hung>)
     row.reverse();
 }
 
-/// The node of some vertices, with the blocks of a row below it in the order of their least
-/// vertices. The row is empty then.
+/// The node with some vertices, and with the blocks of a row below it in the order of their least
+/// vertices. The row is empty afterwards. It takes O(k log k) for k blocks, and fails only if it
+/// runs out of memory.
 pub fn node_of(alloc: Global, vertices: VertexList, row: &mut Vec<Hung>) -> Result<Placed, NoMemory>
     ensures node { IfOk result (λ p. (rs : List Read) → AreBlocksOf rs row.old.items → IsNodeOf (node_read has vertices rs) p) }
     ensures empty { OnOk result (row.new.items ≡ []) }
@@ -52,8 +53,8 @@ fn rises(nodes: &[Placed]) -> bool
     vertex_or_zero(nodes[nodes.len() - 1].least) < vertex_or_zero(nodes[0].least)
 }
 
-/// Turns the nodes, of which the last is first, round where they are to be closed
-/// from the last to the first.
+/// Reverses the nodes, which are listed with the last first, if the cycle has to run from the last
+/// to the first.
 fn face(nodes: &mut Vec<Placed>)
     ensures { top_first nodes.new.items ≡ faced (top_first nodes.old.items) }
 {
@@ -63,7 +64,8 @@ fn face(nodes: &mut Vec<Placed>)
 }
 
 /// The cycle through three or more nodes, in the direction in which the least vertex at or under
-/// the first is less than that at or under the last. They are listed with the last first.
+/// the first is less than that at or under the last. They are listed with the last first. It takes
+/// one step for each node, and fails only if it runs out of memory.
 pub fn cycle_of(alloc: Global, nodes: Vec<Placed>) -> Result<Hung, NoMemory>
     requires { length nodes.items ≢ 2 }
     ensures { IfOk result (λ b. (rs : List Read) → AreNodesOf rs (top_first nodes.items) → IsBlockOf (cycle_read rs) b) }
@@ -83,7 +85,7 @@ pub fn cycle_of(alloc: Global, nodes: Vec<Placed>) -> Result<Hung, NoMemory>
 }
 
 /// A bridge to an empty node with two bridges, which stands for a cycle through two nodes and the
-/// node above. They are listed with the last first.
+/// node above. They are listed with the last first. It fails only if it runs out of memory.
 pub fn star_of(alloc: Global, nodes: Vec<Placed>) -> Result<Hung, NoMemory>
     requires { length nodes.items ≡ 2 }
     ensures { IfOk result (λ b. (rs : List Read) → AreNodesOf rs (top_first nodes.items) → IsBlockOf (cycle_read rs) b) }

@@ -1,5 +1,5 @@
-//! Whether the blocks and the cycles of a tree stand in order, by loops,
-//! so that a deep tree does not run out of stack.
+//! Whether the blocks and the cycles of a tree are in order, by loops, so that a deep tree does
+//! not overflow the call stack.
 
 ghost use Rattle.std.specs.Prelude.{List, Option, ℕ, ◌≡◌, ◌&&◌, [], ◌∷◌, ◌++◌, IfOk, length, map, nat_le};
 ghost use Rattle.std.specs.List.{filter, flat_map, list_all};
@@ -15,8 +15,8 @@ use cut_definitions::NoMemory;
 use rooted_cactus::{Block, Blocks, Children, Node, stack_inner};
 use std::alloc::Global;
 
-/// The root, and all nodes that have a block below them, each before those below it. Room for so
-/// many nodes as are expected is reserved at once.
+/// The root, and all nodes that have a block below them, each before those below it. Room for
+/// `expected` nodes is reserved at once.
 fn inner_nodes<'a>(
     alloc: Global,
     root: &'a Node,
@@ -34,7 +34,8 @@ fn inner_nodes<'a>(
     Ok(nodes)
 }
 
-/// The least vertex at or under a node, taken off the stack where the node has a block below it.
+/// The least vertex at or under a node. If the node has a block below it, it is taken off the
+/// stack.
 fn draw_least(known: &mut Vec<Option<u32>>, node: &Node) -> Option<u32>
     requires { (rest : List (Option ℕ)) × (known.old.items ≡ rest ++ leasts_of (filter is_inner (node.now ∷ []))) }
     ensures least { result ≡ least_of node.now }
@@ -46,8 +47,8 @@ fn draw_least(known: &mut Vec<Option<u32>>, node: &Node) -> Option<u32>
     known.pop().unwrap()
 }
 
-/// The least vertex of a cycle below its upper node, and whether it has three or more nodes there,
-/// the first with a lesser least vertex than the last.
+/// The least vertex of a cycle below its upper node. It also says whether the cycle has three or
+/// more nodes there, the first with a smaller least vertex than the last.
 fn draw_cycle(known: &mut Vec<Option<u32>>, nodes: &Children) -> Standing
     requires { (rest : List (Option ℕ)) × (known.old.items ≡ rest ++ leasts_of (filter is_inner (nodes_in nodes.now))) }
     ensures least { result.least ≡ least_in (all_vertices (map arranged (nodes_in nodes.now))) }
@@ -72,7 +73,7 @@ fn draw_cycle(known: &mut Vec<Option<u32>>, nodes: &Children) -> Standing
     }
 }
 
-/// The least vertex below a block, and whether it is a bridge, or a cycle that stands in order.
+/// The least vertex below a block, and whether it is a bridge, or a cycle that is in order.
 fn draw_block(known: &mut Vec<Option<u32>>, block: &Block) -> Standing
     requires { (rest : List (Option ℕ)) × (known.old.items ≡ rest ++ leasts_of (filter is_inner (nodes_of block.now))) }
     ensures least { result.least ≡ least_in (arranged_block block.now).vertices }
@@ -88,8 +89,8 @@ fn draw_block(known: &mut Vec<Option<u32>>, block: &Block) -> Standing
     }
 }
 
-/// The least vertex below some blocks, and whether they ascend by their least vertices and each
-/// of them stands in order.
+/// The least vertex below some blocks, and whether they ascend by their least vertices and each of
+/// them is in order.
 fn draw_blocks(known: &mut Vec<Option<u32>>, blocks: &Blocks) -> Standing
     requires { (rest : List (Option ℕ)) × (known.old.items ≡ rest ++ leasts_of (filter is_inner (flat_map nodes_of (blocks_in blocks.now)))) }
     ensures least { result.least ≡ least_in (all_vertices (map arranged_block (blocks_in blocks.now))) }
@@ -117,8 +118,8 @@ fn draw_blocks(known: &mut Vec<Option<u32>>, blocks: &Blocks) -> Standing
     }
 }
 
-/// The least vertex at or under a node, and whether its blocks stand in order,
-/// whatever is below their nodes.
+/// The least vertex at or under a node, and whether its blocks are in order, whatever is below
+/// their nodes.
 fn draw_node(known: &mut Vec<Option<u32>>, node: &Node) -> Standing
     requires { (rest : List (Option ℕ)) × (known.old.items ≡ rest ++ leasts_of (inner_below node.now)) }
     ensures least { result.least ≡ least_of node.now }
@@ -133,9 +134,9 @@ fn draw_node(known: &mut Vec<Option<u32>>, node: &Node) -> Standing
     }
 }
 
-/// Whether the blocks of each of some nodes stand in order. From the last node to the first: the
-/// least vertices at or under the nodes below one are known when it is its turn. It ends with the
-/// first node whose blocks do not.
+/// Whether the blocks of each of some nodes are in order. It goes from the last node to the first,
+/// so the least vertices at or under the nodes below one are known before. It ends with the first
+/// node whose blocks are not in order.
 fn all_stand(alloc: Global, nodes: Vec<&Node>) -> Result<bool, NoMemory>
     requires { (root : Node) × IsWalk (root ∷ []) (seen nodes.items) [] }
     ensures { IfOk result (λ all. all ≡ list_all stands (seen nodes.entry.items)) }
@@ -152,9 +153,9 @@ fn all_stand(alloc: Global, nodes: Vec<&Node>) -> Result<bool, NoMemory>
     Ok(true)
 }
 
-/// Whether all in a tree stands in order. It takes memory for the nodes that have blocks, at most
-/// 32 bytes each, and is refused only where that is wanting; room for so many nodes as are
-/// expected is reserved at once.
+/// Whether all in a tree is in order. It takes one step for each node and vertex. It takes memory
+/// for the nodes that have blocks, at most 32 bytes each, and fails only if it runs out of memory.
+/// Room for `expected` nodes is reserved at once.
 pub fn stands_in_order(alloc: Global, root: &Node, expected: usize) -> Result<bool, NoMemory>
     ensures { IfOk result (λ all. all ≡ (arranged root.now).in_order) }
 {

@@ -9,7 +9,7 @@ ghost use Rattle.metis_reader.specs.Fed.{LawOfReader};
 ghost use Rattle.metis_reader.specs.FirstForm.{LawOfFirstForm};
 ghost use Rattle.metis_reader.specs.Reading.{input_findings, start};
 
-/// A reading byte by byte finds the faults of the text's lines and words, in their order.
+/// Reading byte by byte finds the faults of the lines and words of the text, in their order.
 pub fn a_reading_finds_the_faults()
     ensures { (bytes : List ℕ) → input_findings start bytes ≡ file_findings (suc (length bytes)) (length (lines bytes)) (from_header (filter is_kept (lines bytes))) }
 {}
@@ -24,14 +24,14 @@ pub fn a_fixed_fault_is_the_first()
     ensures { (bytes more : List ℕ) (fault : Fault) → fixed bytes ≡ Some fault → graph_of (bytes ++ more) ≡ Err fault }
 {}
 
-/// A reader that has refused nothing stands for bytes that fix no fault,
-/// and takes what is left of 2^33 bytes.
+/// A reader that has refused nothing stands for bytes that fix no fault, and takes what is left of
+/// 2^33 bytes.
 pub fn a_reader_is_still_fed()
     ensures { LawOfReader }
 {}
 
-/// A text of the first form, which has numbers with one space between two and no weights, is
-/// accepted, and gives the graph of its rows.
+/// A text of the first form is accepted, and its graph is that of its rows. Such a text has no
+/// weights, and numbers with one space between two.
 pub fn a_first_form_is_accepted()
     ensures { LawOfFirstForm }
 {}

@@ -7,14 +7,14 @@ use cut_definitions::NoMemory;
 use std::alloc::Global;
 use std::marker::Model;
 
-/// Lines that follow one on the other: the index of the first one, and its number.
+/// Lines that directly follow one another: the index of the first one, and its number.
 #[derive(Clone, Copy)]
 pub struct Run {
     first: usize,
     line: u64,
 }
 
-/// Whether a line follows on another.
+/// Whether a line directly follows another.
 fn follows(line: u64, last: u64) -> bool
     ensures { result ≡ true → line ≡ suc last }
 {
@@ -35,7 +35,7 @@ fn line_at(runs: &[Run], index: usize) -> u64
     line
 }
 
-/// The numbers of the vertex lines. A line that follows on the one before takes no memory.
+/// The numbers of the vertex lines. A line that directly follows the one before takes no memory.
 #[derive(Drop)]
 pub struct LineNumbers {
     runs: Vec<Run>,
@@ -71,7 +71,7 @@ impl LineNumbers {
         }
     }
 
-    /// Room for so many numbers.
+    /// Room for `count` numbers.
     pub fn with_capacity(alloc: Global, count: usize) -> Result<LineNumbers, NoMemory>
         ensures items { IfOk result (λ n. n.items ≡ []) }
         ensures room { IfOk result (λ n. n.room ≡ count) }

@@ -4,7 +4,7 @@ use cut_definitions::{NoMemory, VertexWeights};
 use std::alloc::Global;
 use std::marker::Model;
 
-/// Adds so many masses of 1.
+/// Appends `ones` masses of 1.
 fn write_ones(masses: &mut Vec<u64>, ones: usize)
     requires { length masses.old.items + ones ≤ vec_capacity masses.old }
     ensures items { masses.new.items ≡ masses.old.items ++ replicate ones 1 }
@@ -15,11 +15,11 @@ fn write_ones(masses: &mut Vec<u64>, ones: usize)
     }
 }
 
-/// The masses of the vertices. Those behind the last one that is not 1 take no memory.
+/// The masses of the vertices. Those after the last one that is not 1 take no memory.
 #[derive(Drop)]
 pub struct MassList {
     masses: Vec<u64>,
-    // how many masses of 1 come behind these
+    // how many masses of 1 come after these
     ones: usize,
 }
 
@@ -44,7 +44,7 @@ impl MassList {
         }
     }
 
-    /// Room for so many masses.
+    /// Room for `count` masses.
     pub fn with_capacity(alloc: Global, count: usize) -> Result<MassList, NoMemory>
         ensures items { IfOk result (λ m. m.items ≡ []) }
         ensures room { IfOk result (λ m. m.room ≡ count) }
@@ -55,7 +55,7 @@ impl MassList {
         })
     }
 
-    /// Adds the mass of the next vertex.
+    /// Appends the mass of the next vertex.
     #[inline(always)]
     pub fn push_reserved(&mut self, mass: u64)
         requires { length self.old.items < self.old.room }
@@ -71,7 +71,7 @@ impl MassList {
         self.masses.push_reserved(mass);
     }
 
-    /// The masses, as they are kept.
+    /// The masses, without a copy.
     pub fn into_weights(self) -> VertexWeights
         requires { length self.items ≤ 4194304 }
         ensures { result ≡ self.items }

@@ -6,7 +6,7 @@ ghost use Rattle.metis_reader.specs.Measures.{heaviest_of, lightest_of};
 use crate::header::Format;
 use cut_definitions::Edge;
 
-/// What reading shows of a graph beside its edges.
+/// What reading shows of a graph besides its edges.
 #[derive(Clone, Copy)]
 pub struct Measures {
     /// The least weighted degree of a vertex, or 2^64 - 1 if there are no vertices.

@@ -1,5 +1,5 @@
-//! Entries whose lesser neighbour is far away, which wait for their mates
-//! until the last row is read.
+//! Entries whose smaller neighbour is far away, which wait for their mates until the last row is
+//! read.
 
 ghost use Rattle.std.specs.Prelude.{◌≡◌, ◌≢◌, ◌≤◌, ◌<◌, ◌+◌, ◌*◌, ◌/◌, ◌%◌, ◌-◌, ◌^◌, true, ◌++◌, ◌∷◌, [], ℕ, false, IfOk, IsTrue, length, get_or, replicate, vec_capacity};
 ghost use Rattle.std.specs.List.{All};
@@ -12,19 +12,19 @@ use crate::mates::advance;
 use cut_definitions::{Edge, NoMemory};
 use std::alloc::Global;
 
-/// So many vertices make a block, and so many places a part of its region.
+/// The number of vertices in a block, and of places in a part of its region.
 const BLOCK: usize = 1024;
 
 const ROWS: u32 = 1024;
 
-/// So many vertices there are at most.
+/// The greatest number of vertices.
 const MOST: u32 = 4_194_304;
 
-/// An entry waits from this distance on. It is more than a block,
-/// so the lesser neighbour's block is ended by then.
+/// The distance from which on an entry waits. It is more than a block, so the block of the smaller
+/// neighbour has ended by then.
 const FAR: u32 = 16_384;
 
-/// How many entries of a block lead far, with one more at this distance.
+/// The number of entries of a block that lead far, with one more at this distance.
 #[inline(always)]
 pub(crate) fn far_after(far: usize, distance: u32) -> usize
     ensures far { 16384 ≤ distance → result ≡ (far + 1) % 2 ^ 64 }
@@ -36,7 +36,7 @@ pub(crate) fn far_after(far: usize, distance: u32) -> usize
     far
 }
 
-/// Adds empty places.
+/// Appends 1,024 empty places.
 fn add_places(packed: &mut Vec<u32>)
     requires { length packed.old.items + 1024 ≤ vec_capacity packed.old }
     ensures items { packed.new.items ≡ packed.old.items ++ replicate 1024 0 }
@@ -47,7 +47,7 @@ fn add_places(packed: &mut Vec<u32>)
     }
 }
 
-/// Adds weights of 1 for as many places, where weights are kept.
+/// Appends weights of 1 for as many places, if weights are kept.
 fn add_weights(weights: &mut Vec<u64>, are_kept: bool)
     requires { are_kept ≡ true → length weights.old.items + 1024 ≤ vec_capacity weights.old }
     ensures same { (k : ℕ) → get_or weights.new.items k 1 ≡ get_or weights.old.items k 1 }
@@ -62,8 +62,8 @@ fn add_weights(weights: &mut Vec<u64>, are_kept: bool)
     }
 }
 
-/// Writes the weight of the entry at this place, where it is kept or is not 1.
-/// It tells whether the place has it now.
+/// Writes the weight of the entry at this place, if weights are kept. It returns whether the place
+/// now has that weight; without weights it is always 1.
 #[inline(always)]
 fn write_weight(weights: &mut [u64], place: usize, w: u64) -> bool
     ensures written { IsTrue result → get_or weights.new place 1 ≡ w }
@@ -76,8 +76,8 @@ fn write_weight(weights: &mut [u64], place: usize, w: u64) -> bool
     w == 1
 }
 
-/// Puts an entry at a place of this block, the lesser end's, if the place is empty.
-/// It tells whether it did.
+/// Puts an entry at a place of the block of its smaller end, if the place is empty, and returns
+/// whether it did.
 #[inline(always)]
 fn put_place(
     owners: &[u32],
@@ -109,7 +109,7 @@ fn put_place(
     true
 }
 
-/// The entry that stands as this number at a place.
+/// The entry that has this number at a place.
 #[inline(always)]
 fn entry_of(owners: &[u32], weights: &[u64], place: usize, packed: u32) -> Edge
     requires owned { place / 1024 < length owners.now }
@@ -126,8 +126,8 @@ fn entry_of(owners: &[u32], weights: &[u64], place: usize, packed: u32) -> Edge
     Edge { u, v, w: 1 }
 }
 
-/// Looks for the entry at a place, if there is one, at the cursor of its row, and empties the
-/// place where it is there. It tells whether it is.
+/// Looks for the entry at a place, if there is one, at the cursor of its row. If it is there, the
+/// place is emptied. It returns whether the entry is there.
 #[inline(always)]
 fn meet_place(
     greater: &[Edge],
@@ -157,9 +157,9 @@ fn meet_place(
     true
 }
 
-/// Reads the rows of the block whose entries stand in this part of the places, where its region
-/// begins there. The entries are met sooner then, since what lies at their cursors is near. The
-/// answer says nothing, and only keeps the reads from being left out.
+/// Reads the rows of the block whose region begins with this part of the places, if one does. Then
+/// its entries are met sooner, since what is at their cursors is near. The result means nothing;
+/// it only keeps the compiler from leaving out the reads.
 #[inline(never)]
 fn read_ahead(greater: &[Edge], owners: &[u32], cursors: &[u32], part: usize) -> u32 {
     if part >= owners.len() {
@@ -188,7 +188,7 @@ fn read_ahead(greater: &[Edge], owners: &[u32], cursors: &[u32], part: usize) ->
 }
 
 /// Looks for each entry that waits at the cursor of its row, and empties the places of those that
-/// are there. It tells how many are left of so many.
+/// are there. It returns how many of the `held` entries are left, and what `read_ahead` returned.
 fn meet_waiting(
     greater: &[Edge],
     owners: &[u32],
@@ -233,27 +233,27 @@ fn put_back_waiting(owners: &[u32], weights: &[u64], packed: &[u32], lesser: &mu
     }
 }
 
-/// Entries to far lesser neighbours, which wait for their mates in a region for each block of
-/// vertices. So at the end those of a block are met together, while its rows are near. How far is
-/// far and where an entry stands decides the time alone: what does not fit is not taken.
+/// Entries to smaller neighbours far away, which wait for their mates in a region for each block
+/// of vertices. So those of a block are met together at the end, while its rows are near. How far
+/// is far and where an entry is put decides only the time: what does not fit is not taken.
 #[derive(Drop)]
 pub struct Waiting {
-    // for each place 0, or the number of an entry:
-    // where its lesser end stands in the block, and its greater end
+    // for each place 0, or the number of an entry: the place of its smaller end in the block, and
+    // its greater end
     packed: Vec<u32>,
-    // the weights of the entries, where edges have weights
+    // the weights of the entries, if edges have weights
     weights: Vec<u64>,
-    // for each 1,024 places the block whose entries stand there
+    // for each 1,024 places the block whose entries are there
     owners: Vec<u32>,
-    // for each ended block where its next entry goes
+    // for each finished block, where its next entry goes
     fills: Vec<usize>,
     // how many entries wait
     held: usize,
-    // how many times 1,024 places there may be, and how many blocks
+    // the greatest number of parts of 1,024 places, and the number of blocks
     parts: usize,
     blocks: usize,
     has_weights: bool,
-    // what the reading ahead answered
+    // what the reading ahead returned
     read: u32,
     ghost place_room: { 1024 * parts ≤ vec_capacity packed },
     ghost weight_room: { has_weights ≡ true → 1024 * parts ≤ vec_capacity weights },
@@ -290,7 +290,7 @@ impl Waiting {
         }
     }
 
-    /// Memory for the entries of a graph with so many vertices and edges.
+    /// Memory for the entries of a graph with these numbers of vertices and edges.
     pub fn new(
         alloc: Global,
         vertices: u32,
@@ -324,8 +324,8 @@ impl Waiting {
         self.held == 0
     }
 
-    /// Takes an entry, if its neighbours are far from each other and there is room for it.
-    /// It tells whether it did.
+    /// Takes an entry, if its ends are far from each other and there is room for it, and returns
+    /// whether it did.
     #[inline(always)]
     pub fn take(&mut self, u: u32, v: u32, w: u64) -> bool
         requires from_one { 1 ≤ u }
@@ -340,8 +340,8 @@ impl Waiting {
         self.take_far(u, v, w)
     }
 
-    /// Takes an entry, if there is room for it in the region of its lesser end's block.
-    /// It tells whether it did.
+    /// Takes an entry, if there is room for it in the region of its smaller end's block, and
+    /// returns whether it did.
     #[inline(never)]
     fn take_far(&mut self, u: u32, v: u32, w: u64) -> bool
         requires from_one { 1 ≤ u }
@@ -375,8 +375,9 @@ impl Waiting {
         true
     }
 
-    /// Ends a row, where so many rows are ended then, and so many entries of their block lead far.
-    /// It tells how many entries of the block of the next row do.
+    /// Ends a row. `rows` is the number of rows that are ended then, and `far` the number of
+    /// entries of their block that lead far. It returns how many entries of the block of the next
+    /// row do.
     #[inline(always)]
     pub fn end_row(&mut self, rows: usize, far: usize) -> usize
         ensures { waiting_of self.new ≡ waiting_of self.old }
@@ -388,7 +389,7 @@ impl Waiting {
         0
     }
 
-    /// Makes a region for a block of which so many entries lead far, as far as there is room.
+    /// Makes a region for a block with `far` entries that lead far, as far as there is room.
     #[inline(never)]
     fn end_block(&mut self, far: usize)
         ensures { waiting_of self.new ≡ waiting_of self.old }

@@ -1,4 +1,4 @@
-//! A tree in arrays whose blocks and cycles stand in the order of a canonical cactus.
+//! A tree in arrays whose blocks and cycles are in the order of a canonical cactus.
 
 ghost use Rattle.std.specs.Prelude.{◌≡◌, ◌-◌, ◌<◌, ◌≤◌, length, slice_index};
 ghost use Rattle.std.specs.List.{range_with_len};
@@ -8,8 +8,8 @@ ghost use Rattle.tree_flattening.specs.Plans.{run_of};
 use crate::groups::Groups;
 use node_tree::FlatTree;
 
-/// Nodes of a block, from one number up to another, which is not among them; from the last to the
-/// first where they are turned.
+/// Nodes of a block, from one number up to before another. If they are turned, they go from the
+/// last to the first.
 #[derive(Clone, Copy)]
 pub struct Run {
     first: usize,
@@ -18,7 +18,7 @@ pub struct Run {
 }
 
 impl Run {
-    /// How many nodes there are.
+    /// The number of nodes.
     pub fn len(self) -> usize
         requires { self.first ≤ self.end }
         ensures { result ≡ length (run_list self) }
@@ -39,8 +39,8 @@ impl Run {
     }
 }
 
-/// A tree, the vertices of each node, the first nodes of the blocks below it by their least
-/// vertices, and the least vertex at or under each node.
+/// A tree, the vertices of each node, the first nodes of the blocks below it in the order of the
+/// least vertices of the blocks, and the least vertex at or under each node.
 #[derive(Drop)]
 pub struct Arranged<'a> {
     tree: &'a FlatTree,
@@ -50,7 +50,7 @@ pub struct Arranged<'a> {
 }
 
 impl<'a> Arranged<'a> {
-    /// An arrangement of its parts.
+    /// The arrangement with these parts.
     pub fn new(tree: &'a FlatTree, members: Groups, heads: Groups, leasts: Vec<u32>) -> Arranged<'a>
         ensures tree { result.tree.now ≡ tree.now }
         ensures members { result.members ≡ members }
@@ -65,7 +65,7 @@ impl<'a> Arranged<'a> {
         }
     }
 
-    /// How many nodes there are.
+    /// The number of nodes.
     pub fn len(&self) -> usize
         ensures { result ≡ (plan_of self.now).count }
     {
@@ -88,7 +88,7 @@ impl<'a> Arranged<'a> {
         self.heads.at(node)
     }
 
-    /// Where the nodes end that follow a node in a cycle.
+    /// The number after the last node that follows a node in its block.
     fn end_of_run(&self, head: usize) -> usize
         requires { head < length self.now.tree.now.uppers }
         ensures ordered { head < result }

@@ -36,7 +36,7 @@ fn uppers_in(alloc: Global, tree: &FlatTree) -> Result<Vec<usize>, NoMemory>
     Ok(uppers)
 }
 
-/// The nodes that are the first of a block: those but the root that follow no other.
+/// The nodes that are the first of a block: those that follow no other, but for the root.
 fn heads_in(alloc: Global, tree: &FlatTree) -> Result<Vec<u32>, NoMemory>
     requires { length tree.now.uppers < 2 ^ 32 }
     ensures { IfOk result (λ v. v.items ≡ filter (λ h. not (is_follower tree.now.follows h)) (range_with_len 1 (length tree.now.uppers - 1))) }
@@ -50,7 +50,7 @@ fn heads_in(alloc: Global, tree: &FlatTree) -> Result<Vec<u32>, NoMemory>
     Ok(heads)
 }
 
-/// Whether each group has a number.
+/// Whether no group is empty.
 fn are_filled(groups: &Groups) -> bool
     ensures yes { IsTrue result → (i : ℕ) → i < length groups.now → 1 ≤ length (slice_index_or groups.now i []) }
     ensures no { IsFalse result → ¬ ((i : ℕ) → i < length groups.now → 1 ≤ length (slice_index_or groups.now i [])) }
@@ -63,8 +63,8 @@ fn are_filled(groups: &Groups) -> bool
     true
 }
 
-/// Whether two nodes and no more follow each other somewhere,
-/// which make a cycle of three nodes with the one above.
+/// Whether somewhere exactly two nodes follow each other. With the node above they form a cycle of
+/// three nodes.
 fn has_triangle(tree: &FlatTree) -> bool
     ensures yes { IsTrue result → ¬ (HasNoTriangle tree.now) }
     ensures no { IsFalse result → HasNoTriangle tree.now }
@@ -79,7 +79,7 @@ fn has_triangle(tree: &FlatTree) -> bool
     false
 }
 
-/// Sorts the first nodes of the blocks below each node by the least vertices of these.
+/// Sorts the first nodes of the blocks below each node by the least vertices of the blocks.
 fn sort_heads(heads: &mut Groups, blocks: &[u32])
     ensures len { length heads.new ≡ length heads.old }
     ensures moved { (i : ℕ) → i < length heads.old → IsPermutation (slice_index_or heads.old i []) (slice_index_or heads.new i []) }
@@ -90,7 +90,7 @@ fn sort_heads(heads: &mut Groups, blocks: &[u32])
     }
 }
 
-/// The tree, arranged, whose nodes have the members.
+/// The tree, arranged, whose nodes have these vertices.
 fn arrange_filled<'a>(
     alloc: Global,
     tree: &'a FlatTree,
@@ -110,8 +110,9 @@ fn arrange_filled<'a>(
     Ok(Arranged::new(tree, members, heads, nodes))
 }
 
-/// The vertices 1 to n of each node of a tree;
-/// none where there are more nodes than vertices, or a node has no vertex.
+/// The vertices of each node of a tree, which are 1 to n, or `None` if there are more nodes than
+/// vertices, or a node has no vertex. It takes one step for each node and vertex and memory in
+/// proportion to n, and fails only if it runs out of memory.
 pub fn members_of(alloc: Global, tree: &HomedTree, n: u32) -> Result<Option<Groups>, NoMemory>
     requires homes { length tree.now.homes.items ≡ n + 1 }
     requires nodes { AreNodes (arrays_of tree.now) }
@@ -130,9 +131,11 @@ pub fn members_of(alloc: Global, tree: &HomedTree, n: u32) -> Result<Option<Grou
     Ok(Some(members))
 }
 
-/// A tree over the vertices 1 to n whose blocks stand in the order of their least vertices;
-/// none where there are more nodes than vertices, a node has no vertex, or a cycle has three
-/// nodes with the one above.
+/// A tree over the vertices 1 to n whose blocks are in the order of their least vertices. It
+/// returns `None` if there are more nodes than vertices, a node has no vertex, or a cycle has
+/// three nodes with the one above.
+///
+/// It takes O(n log n), and memory in proportion to n. It fails only if it runs out of memory.
 pub fn arrange<'a>(
     alloc: Global,
     tree: &'a HomedTree,

@@ -26,13 +26,13 @@ fn sum_of_places(tree: &FlatTree) -> u64
     sum
 }
 
-/// The number of the minimum cuts of a connected graph, whose tree is given; none where that has
-/// more nodes than the graph has vertices, or a node has no vertex.
+/// The number of the minimum cuts of a connected graph, from the tree of these cuts. It returns
+/// `None` if the tree has more nodes than the graph has vertices, or a node has no vertex.
 ///
-/// A side is what is under some neighbours in one block. So as many sides end with a node as its
-/// place in its block tells, and no two are the same where each node has a vertex. One step for
-/// each node and vertex; memory is in proportion to n, and it is refused only where that is
-/// wanting.
+/// A side has all that is under some adjacent nodes of one block. So as many sides end with a node
+/// as its place in its block says, and no two are the same if each node has a vertex. It takes one
+/// step for each node and vertex, and memory in proportion to n. It fails only if it runs out of
+/// memory.
 pub fn count_of_tree(
     alloc: Global,
     list: &EdgeList,

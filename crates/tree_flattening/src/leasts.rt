@@ -11,8 +11,8 @@ use cut_definitions::NoMemory;
 use node_tree::FlatTree;
 use std::alloc::Global;
 
-/// The least vertex at or below each node, and at the first node of each
-/// block the least below that.
+/// The least vertex at or below each node, and for the first node of each block the least vertex
+/// below the block.
 #[derive(Drop)]
 pub struct Leasts {
     pub nodes: Vec<u32>,
@@ -42,7 +42,7 @@ fn least_at(first: u32, places: &[u32], table: &[u32]) -> u32
     least
 }
 
-/// The least vertex at or below a node, where those below its blocks are known.
+/// The least vertex at or below a node, from those below its blocks.
 fn least_of_node(own: &[u32], heads: &[u32], blocks: &[u32]) -> u32
     requires some { 1 ≤ length own.now }
     requires known { All (λ head. head < length blocks.now) heads.now }
@@ -52,7 +52,7 @@ fn least_of_node(own: &[u32], heads: &[u32], blocks: &[u32]) -> u32
     least_at(least, heads, blocks)
 }
 
-/// The least vertex below a block, where those at or below its nodes are known.
+/// The least vertex below a block, from those at or below its nodes.
 fn least_of_block(tree: &FlatTree, nodes: &[u32], head: usize) -> u32
     requires within { head < length tree.now.uppers }
     requires known { length nodes.now ≡ length tree.now.uppers }
@@ -97,7 +97,8 @@ fn find_leasts(
     }
 }
 
-/// The least vertices of all nodes and blocks of a tree. One step for each node and vertex.
+/// The least vertices of all nodes and blocks of a tree. It takes one step and 8 bytes for each
+/// node, and one step for each vertex. It fails only if it runs out of memory.
 pub fn leasts_of(
     alloc: Global,
     tree: &FlatTree,

@@ -13,19 +13,21 @@ use flat_cactus::FlatCactus;
 use node_tree::HomedTree;
 use std::alloc::Global;
 
-/// The flat canonical cactus over the vertices 1 to n whose sides are those of a tree in arrays;
-/// none just where there are more nodes than vertices, a node has no vertex, or a cycle has three
-/// nodes with the one above, since then the canonical cactus has other nodes than the tree.
+/// The flat canonical cactus over the vertices 1 to n whose sides are those of a tree in arrays.
+/// It returns `None` exactly if there are more nodes than vertices, a node has no vertex, or a
+/// cycle has three nodes with the one above. In these cases the canonical cactus has other nodes
+/// than the tree.
 ///
-/// The tree has a home for each of the vertices 1 to n, its arrays are those of a tree of nodes in
+/// The tree has a home for each of the vertices 1 to n. Its arrays are those of a tree of nodes in
 /// which an upper node comes before its lower ones, and the home of vertex 1 is the root.
 ///
-/// Blocks are put in the order of the least vertices below them, and cycles turned so that the
-/// least vertex at or under their first node below the upper one is less than that at or under
-/// the last; nodes are numbered in the order in which the tree is entered then. It takes
-/// O(n log n) steps, as many as n where the blocks of each node are in order already, in loops,
-/// so that a deep tree does not run out of stack. Memory is in proportion to n, and it is refused
-/// only where that is wanting.
+/// Blocks are put in the order of the least vertices below them. Cycles are turned so that the
+/// least vertex at or under their first node below the upper one is less than that at or under the
+/// last. Then nodes are numbered in the order in which the tree is entered.
+///
+/// It takes O(n log n), or O(n) if the blocks of each node are in order already. It works by
+/// loops, so that a deep tree does not overflow the call stack. It takes memory in proportion to
+/// n, and fails only if it runs out of memory.
 pub fn canonical_flat(
     alloc: Global,
     tree: &HomedTree,

@@ -16,8 +16,8 @@ use cut_definitions::NoMemory;
 use flat_cactus::FlatCactus;
 use std::alloc::{AllocError, Global};
 
-/// What is still to be entered: a node, or the block that begins with a node,
-/// below the node of a number.
+/// What is still to be entered: a node, or the block that begins with a node, below the node with
+/// a number.
 #[derive(Clone, Copy)]
 enum Task {
     Enter(usize),
@@ -37,7 +37,7 @@ fn stack_run(stack: &mut Vec<Task>, run: Run) -> Result<(), NoMemory>
     Ok(())
 }
 
-/// Puts the blocks below the node of a number on the stack, the first on top.
+/// Puts the blocks below the node with a number on the stack, the first on top.
 fn stack_heads(stack: &mut Vec<Task>, up: u64, heads: &[u32]) -> Result<(), NoMemory>
     ensures { OnOk result (top_first stack.new.items ≡ map (hang up) heads.now ++ top_first stack.old.items) }
 {
@@ -60,8 +60,8 @@ fn add_node(flat: &mut FlatCactus, own: &[u32]) -> Result<(), NoMemory>
     Ok(())
 }
 
-/// Appends the cycle through the node `up` and the roots of the trees of a run,
-/// whose nodes have the next numbers.
+/// Appends the cycle through the node `up` and the roots of the trees of a run, whose nodes have
+/// the next numbers.
 fn add_cycle(flat: &mut FlatCactus, up: u64, run: Run, sizes: &[usize]) -> Result<(), NoMemory>
     requires ordered { run.first ≤ run.end }
     requires known { All (λ j. j < length sizes.now) (run_list run) }
@@ -140,7 +140,7 @@ fn enter(
     }
 }
 
-/// How many nodes the trees of a run have together, and a number more.
+/// The number of nodes of all trees of a run, added to another number.
 fn size_of_run(sizes: &[usize], run: Run, before: usize) -> Result<usize, NoMemory>
     requires ordered { run.first ≤ run.end }
     requires known { All (λ j. j < length sizes.now) (run_list run) }
@@ -153,8 +153,9 @@ fn size_of_run(sizes: &[usize], run: Run, before: usize) -> Result<usize, NoMemo
     Ok(size)
 }
 
-/// How many nodes there are at and below a node, where those below its blocks are known. (So many
-/// as do not fit a word are not in memory.)
+/// The number of nodes at and below a node, from those below its blocks. A number that does not
+/// fit into a word cannot occur, since the nodes are in memory; it would count as being out of
+/// memory.
 fn size_of_node(plan: &Arranged, sizes: &[usize], node: usize) -> Result<usize, NoMemory>
     requires plan { IsPlan (plan_of plan.now) }
     requires all { HasAll plan.now }
@@ -169,7 +170,7 @@ fn size_of_node(plan: &Arranged, sizes: &[usize], node: usize) -> Result<usize, 
     Ok(size)
 }
 
-/// How many nodes there are at and below each node.
+/// The number of nodes at and below each node.
 fn sizes_of(alloc: Global, plan: &Arranged) -> Result<Vec<usize>, NoMemory>
     requires plan { IsPlan (plan_of plan.now) }
     requires all { HasAll plan.now }
@@ -185,12 +186,12 @@ fn sizes_of(alloc: Global, plan: &Arranged) -> Result<Vec<usize>, NoMemory>
     Ok(sizes)
 }
 
-/// The flat cactus of an arranged tree over the vertices 1 to n: its nodes numbered from 0 in the
-/// order in which the tree is entered, a node before its children and children in order.
+/// The flat cactus of an arranged tree over the vertices 1 to n. Its nodes are numbered from 0 in
+/// the order in which the tree is entered, a node before its children and children in order.
 ///
-/// One step for each node, block and vertex, in loops with a stack, so that a deep tree does
-/// not run out of stack. It takes memory in proportion to the nodes and to n, and is refused
-/// only where that is wanting.
+/// It takes one step for each node, block and vertex, in loops with a stack, so that a deep tree
+/// does not overflow the call stack. It takes memory in proportion to the nodes and to n, and
+/// fails only if it runs out of memory.
 pub fn flatten_arranged(alloc: Global, plan: &Arranged, n: u32) -> Result<FlatCactus, NoMemory>
     requires plan { IsPlan (plan_of plan.now) }
     requires all { HasAll plan.now }
