@@ -11,7 +11,7 @@ use crate::text::Text;
 use edge_augment::Plan;
 use outside::{Sink, SinkFailed};
 
-/// Puts the lines of new edges.
+/// Puts the lines of the new edges.
 fn put_edges<K: Sink>(page: &mut Page, sink: &mut K, edges: &[(u32, u32)]) -> Result<(), SinkFailed>
     ensures { Puts (page.old ++ flat_map edge_line edges.now) (K.taken sink.old) (K.taken sink.new) (K.faults sink.old) (K.faults sink.new) page.new result }
 {
@@ -32,10 +32,9 @@ fn put_sets<K: Sink>(page: &mut Page, sink: &mut K, plan: &Plan) -> Result<(), S
     Ok(())
 }
 
-/// The text of an augmentation: the value of the graph, and the plan.
-///
-/// It has the value, the number of the new edges and these,
-/// and the number of the sets and these, one a line.
+/// The text of an augmentation: the value of the graph, and the plan. After the value come the
+/// number of the new edges, the new edges, the number of the sets, and the sets, each edge and set
+/// on a line.
 #[derive(Clone, Copy, Drop)]
 pub struct AugmentText<'a>(pub u64, pub &'a Plan);
 

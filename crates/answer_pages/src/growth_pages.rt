@@ -12,7 +12,7 @@ use crate::text::Text;
 use flat_cactus::FlatCactus;
 use outside::{Sink, SinkFailed};
 
-/// What is told of one step of a growth.
+/// What the text says of one step of a growth.
 #[derive(Clone, Copy, Debug, PartialEq, Eq)]
 pub struct Step {
     /// The value of the graph.
@@ -62,8 +62,8 @@ fn put_steps<K: Sink>(page: &mut Page, sink: &mut K, steps: &[Step]) -> Result<(
 
 /// The text of a growth: its steps, and the value and the cactus at its end.
 ///
-/// It has a line for each step, with its number from 1 on, the value and the number of the minimum
-/// cuts, and then the text of the cactus with the value.
+/// It has a line for each step, with its number, counted from 1, the value and the number of the
+/// minimum cuts. Then comes the text of the cactus with the value.
 #[derive(Clone, Copy, Drop)]
 pub struct GrowthText<'a>(pub &'a [Step], pub u64, pub &'a FlatCactus);
 

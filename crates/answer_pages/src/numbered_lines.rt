@@ -1,5 +1,5 @@
-//! Texts by their lines, each of which is known by its number: so a part of a text can be made
-//! without what stands before it.
+//! Texts by their lines, each of which is known by its number. So a part of a text can be made
+//! without what comes before it.
 
 ghost use Rattle.std.specs.Prelude.{◌≡◌, ℕ, ◌+◌, ◌-◌, ◌*◌, ◌^◌, ◌<◌, ◌≤◌, ◌++◌, length, min, slice_index_or, []};
 ghost use Rattle.answer_pages.specs.Lines.{joined_between, room_wanted, texts};
@@ -12,7 +12,7 @@ use flat_cactus::FlatCactus;
 use outside::{Sink, SinkFailed};
 use vertex_set::Side;
 
-/// Lines that stand one after another.
+/// Lines that follow one another.
 #[derive(Clone, Copy)]
 pub enum Lines<'a> {
     /// A line for each node of a cactus, with its number and its vertices.
@@ -30,7 +30,7 @@ pub enum Lines<'a> {
 }
 
 impl Lines<'_> {
-    /// How many there are.
+    /// The number of lines.
     pub(crate) fn count(&self) -> usize
         ensures { result ≡ length (texts self.now) }
     {
@@ -44,7 +44,7 @@ impl Lines<'_> {
         }
     }
 
-    /// Puts the line of a number.
+    /// Puts the line with this number.
     fn put_one<K: Sink>(&self, page: &mut Page, sink: &mut K, i: usize) -> Result<(), SinkFailed>
         requires { i < length (texts self.now) }
         ensures { Puts (page.old ++ slice_index_or (texts self.now) i []) (K.taken sink.old) (K.taken sink.new) (K.faults sink.old) (K.faults sink.new) page.new result }
@@ -62,7 +62,7 @@ impl Lines<'_> {
         }
     }
 
-    /// Puts the lines from one number up to another, which is not put.
+    /// Puts the lines from one number up to before another.
     pub(crate) fn put<K: Sink>(
         &self,
         page: &mut Page,
@@ -80,9 +80,9 @@ impl Lines<'_> {
         Ok(())
     }
 
-    /// How many bytes are kept for a line: eight for each number, and eight more for a
-    /// line with a word. They are enough where no number has more than seven digits, as in
-    /// all texts of this program.
+    /// The number of bytes that are kept for a line: eight for each number, and eight more for a
+    /// line with a word. They are enough if no number has more than seven digits, as in all texts
+    /// of this program.
     pub(crate) fn room_for(&self, i: usize) -> usize
         requires { i < length (texts self.now) }
         ensures { result ≡ min (room_wanted self.now i) (2 ^ 64 - 1) }
@@ -96,8 +96,8 @@ impl Lines<'_> {
         }
     }
 
-    /// The first line from one on for which so many bytes may not be enough,
-    /// or how many lines there are.
+    /// The first line from one on for which `room` bytes may not be enough, or the number of lines
+    /// if there is none.
     pub(crate) fn next_long(&self, from: usize, room: usize) -> usize
         requires { from ≤ length (texts self.now) }
         ensures no_less { from ≤ result }
@@ -114,11 +114,10 @@ impl Lines<'_> {
     }
 }
 
-/// How many bytes a number has at most, of those that a text of this program
-/// has, with a space before it.
+/// The greatest number of bytes of a number in a text of this program, with a space before it.
 const NUMBER_SIZE: usize = 8;
 
-/// How many bytes a line with so many numbers has at most.
+/// The greatest number of bytes of a line with `count` numbers.
 fn room_for_numbers(count: usize) -> usize
     ensures { result ≡ min (8 * count + 8) (2 ^ 64 - 1) }
 {

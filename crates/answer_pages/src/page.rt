@@ -10,14 +10,14 @@ use outside::{Sink, SinkFailed, write_whole};
 use std::alloc::Global;
 use std::marker::Model;
 
-/// How many bytes go out in one piece.
+/// The number of bytes that are written at once.
 const PAGE_SIZE: usize = 32768;
 
-/// Bytes on their way to a sink, which are held until there are enough for a write.
-/// Contracts see what it holds.
+/// Bytes on their way to a sink, which are held until there are enough for a write. Contracts see
+/// what the page holds.
 ///
-/// It takes its memory at the start. What the sink took and what the page holds are
-/// together the text so far.
+/// It takes its memory when it is made. What the sink took and what the page holds are together
+/// the text so far.
 #[derive(Drop)]
 pub struct Page {
     bytes: Vec<u8>,
@@ -34,7 +34,7 @@ impl Model for Page {
 }
 
 impl Page {
-    /// A page that holds nothing. It takes 32 KiB, and is refused only where these are wanting.
+    /// A page that holds nothing. It takes 32 KiB, and fails only if it runs out of memory.
     pub fn new(alloc: Global) -> Result<Page, NoMemory>
         ensures { IfOk result (λ p. p ≡ []) }
     {
@@ -42,14 +42,14 @@ impl Page {
         Ok(Page { bytes })
     }
 
-    /// Drops what is held.
+    /// Drops what the page holds.
     pub(crate) fn clear(&mut self)
         ensures { self.new ≡ [] }
     {
         self.bytes.clear();
     }
 
-    /// Writes out what is held.
+    /// Writes out what the page holds. It fails if the sink does.
     pub fn flush<K: Sink>(&mut self, sink: &mut K) -> Result<(), SinkFailed>
         ensures puts { Puts self.old (K.taken sink.old) (K.taken sink.new) (K.faults sink.old) (K.faults sink.new) self.new result }
         ensures empty { OnOk result (self.new ≡ []) }
@@ -59,8 +59,8 @@ impl Page {
         Ok(())
     }
 
-    /// Sees that so many more bytes have room: where the page would get too full,
-    /// what it holds is written out.
+    /// Makes room for `count` more bytes. If the page would get too full, what it holds is written
+    /// out.
     fn make_room<K: Sink>(&mut self, sink: &mut K, count: usize) -> Result<(), SinkFailed>
         requires { count ≤ 41 }
         ensures puts { Puts self.old (K.taken sink.old) (K.taken sink.new) (K.faults sink.old) (K.faults sink.new) self.new result }
@@ -72,8 +72,8 @@ impl Page {
         Ok(())
     }
 
-    /// Puts a short piece behind what is held, which is written out before where the
-    /// page would get too full.
+    /// Puts a short piece after what the page holds. If the page would get too full, what it holds
+    /// is written out before.
     pub fn put<K: Sink>(&mut self, sink: &mut K, piece: &[u8]) -> Result<(), SinkFailed>
         requires { length piece.now ≤ 40 }
         ensures { Puts (self.old ++ piece.now) (K.taken sink.old) (K.taken sink.new) (K.faults sink.old) (K.faults sink.new) self.new result }

@@ -73,7 +73,7 @@ pub(crate) fn put_side<K: Sink>(
     }
 }
 
-/// Puts the line of a side behind the word for one.
+/// Puts the line of a side with the word `side` before it.
 fn put_worded_side<K: Sink>(page: &mut Page, sink: &mut K, side: &Side) -> Result<(), SinkFailed>
     ensures { Puts (page.old ++ line (codes "side") side.now.members) (K.taken sink.old) (K.taken sink.new) (K.faults sink.old) (K.faults sink.new) page.new result }
 {
@@ -82,10 +82,10 @@ fn put_worded_side<K: Sink>(page: &mut Page, sink: &mut K, side: &Side) -> Resul
     page.put(sink, b"\n")
 }
 
-/// The text of a listing of cuts: who makes its lines into text, the value, and the sides.
+/// The text of a listing of cuts: the maker of its lines, the value, and the sides.
 ///
-/// It has the value, the number of the sides, and the sides, one a line. Time besides for each
-/// side in proportion to n/64.
+/// It has the value, the number of the sides, and the sides, one on each line. Besides the text it
+/// takes about n/64 steps for each side.
 #[derive(Drop)]
 pub struct ListingText<'a, M>(pub M, pub u64, pub &'a [Side]);
 
@@ -102,8 +102,8 @@ impl<M: TextMaker> Text for ListingText<'_, M> {
     }
 }
 
-/// The text of a side with its balance: the value of its cut, the balance, and the side. Time
-/// besides in proportion to n/64.
+/// The text of a side with its balance: the value of its cut, the balance, and the side. Besides
+/// the text it takes about n/64 steps.
 #[derive(Clone, Copy, Drop)]
 pub struct BalancedText<'a>(pub u64, pub u128, pub &'a Side);
 

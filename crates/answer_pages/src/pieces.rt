@@ -1,10 +1,10 @@
-//! Long texts that several workers make side by side, a piece each,
-//! and that are written in their order.
+//! Long texts that several workers make in parallel, a piece each, and that are written in their
+//! order.
 //!
-//! In each round the lines that come next are dealt to the pieces, each of which takes as many as
-//! surely fit; the pieces are made side by side, and written one after another. No promise rests
-//! on which lines a piece was dealt, nor on whether it was made: where what it has is not the text
-//! of the lines that come next, they are put one by one.
+//! In each round the lines that come next are dealt to the pieces. Each piece takes as many lines
+//! as surely fit. The pieces are made in parallel, and written one after another. No promise
+//! depends on which lines a piece was dealt, nor on whether it was made. If a piece does not have
+//! the text of the lines that come next, these lines are put one by one.
 
 ghost use Rattle.std.specs.Prelude.{⊤, Some, ◌≡◌, ◌<◌, ◌≤◌, ◌+◌, ◌++◌, ◌*◌, ◌/◌, ◌∷◌, false, IfOk, codes, length, min};
 ghost use Rattle.std.specs.List.{All, concat};
@@ -24,15 +24,15 @@ use std::thread;
 use std::thread::Threads;
 use vertex_set::Side;
 
-/// How many bytes the text of a piece may have: some milliseconds of work.
+/// The greatest number of bytes in a piece: some milliseconds of work.
 const PIECE_SIZE: usize = 2_097_152;
 
-/// Who makes lines into text.
+/// What makes lines into text.
 pub trait TextMaker: Drop {
-    /// What it needs to do its work.
+    /// What the maker needs for its work.
     ghost ready: { Self → Type 0 } = { λ _. ⊤ };
 
-    /// Puts all of some lines.
+    /// Puts all lines.
     fn put_all<K: Sink>(
         &mut self,
         page: &mut Page,
@@ -44,7 +44,7 @@ pub trait TextMaker: Drop {
         ensures ready { ready self.new };
 }
 
-/// One worker, who puts one line after another.
+/// One worker, which puts one line after another.
 #[derive(Clone, Copy, Drop)]
 pub struct OneWorker;
 
@@ -109,8 +109,8 @@ impl Piece {
         })
     }
 
-    /// Takes as many lines as there is room for, from one on, but none from another on,
-    /// and answers the next one.
+    /// Takes as many lines as there is room for, from one on and all before another, and returns
+    /// the number of the next one.
     fn take(&mut self, lines: Lines, from: usize, to: usize) -> usize
         requires ordered { from ≤ to }
         requires within { to ≤ length (texts lines) }
@@ -134,7 +134,7 @@ impl Piece {
         end
     }
 
-    /// Makes the lines into text, if they are lines of these, and there is memory for it.
+    /// Makes the lines into text, if they are lines of this kind and there is enough memory.
     fn make(&mut self, lines: Lines)
         ensures { IsMade (texts lines.entry) self.new }
     {
@@ -150,7 +150,8 @@ impl Piece {
             && self.page.flush(&mut self.text).is_ok();
     }
 
-    /// Puts the lines from one number up to another: by what was made, if that was of these lines.
+    /// Puts the lines from one number up to before another. If it was made of these lines, it puts
+    /// its own text.
     fn put<K: Sink>(
         &self,
         page: &mut Page,
@@ -184,7 +185,8 @@ fn new_pieces(alloc: Global, count: usize) -> Result<Vec<Piece>, NoMemory>
     Ok(pieces)
 }
 
-/// Deals lines to pieces, from one number on, but none from another on, and answers the next one.
+/// Deals lines to pieces, from one number on and all before another, and returns the number of the
+/// next one.
 fn deal(pieces: &mut [Piece], lines: Lines, from: usize, to: usize) -> usize
     requires ordered { from < to }
     requires within { to ≤ length (texts lines) }
@@ -199,7 +201,7 @@ fn deal(pieces: &mut [Piece], lines: Lines, from: usize, to: usize) -> usize
     if next == from { to } else { next }
 }
 
-/// Makes the lines of all pieces into text side by side, if two or more have lines.
+/// Makes the lines of all pieces into text in parallel, if two or more have lines.
 fn make_all<R: Threads + Sync>(rt: &R, pieces: &mut [Piece], lines: Lines)
     requires unmade { All (IsMade (texts lines)) pieces.old }
     ensures made { All (IsMade (texts lines.entry)) pieces.new }
@@ -218,7 +220,7 @@ fn make_all<R: Threads + Sync>(rt: &R, pieces: &mut [Piece], lines: Lines)
     );
 }
 
-/// Puts the lines from one number up to another, by what the pieces have of them.
+/// Puts the lines from one number up to before another, from the pieces as far as they have them.
 fn put_made<K: Sink>(
     pieces: &[Piece],
     page: &mut Page,
@@ -241,8 +243,8 @@ fn put_made<K: Sink>(
     lines.put(page, sink, next, to)
 }
 
-/// Workers who make pieces of a text side by side. A piece takes a few MiB; where these are
-/// wanting, its lines are put one by one.
+/// Workers that make pieces of a text in parallel. A piece takes a few MiB. If it runs out of
+/// memory, its lines are put one by one.
 #[derive(Drop)]
 pub struct Crew<'a, R> {
     rt: &'a R,
@@ -251,8 +253,8 @@ pub struct Crew<'a, R> {
 
 impl<'a, R: Threads + Sync> Crew<'a, R> {
     /// Workers for the text of a cactus: one for each piece that it fills, at eight bytes for each
-    /// number, but no more than so many. Each has a page of its own, and they are refused only
-    /// where these are wanting.
+    /// number, but at most `workers`. Each has a page of its own. It fails only if it runs out of
+    /// memory for the pages.
     pub fn for_cactus(
         rt: &'a R,
         alloc: Global,
@@ -272,8 +274,8 @@ impl<'a, R: Threads + Sync> Crew<'a, R> {
         Crew::new(rt, alloc, workers, numbers.saturating_mul(8))
     }
 
-    /// Workers for the text of a listing, as if it had three bytes for each vertex of each side;
-    /// else as by `for_cactus`.
+    /// Workers for the text of a listing, as from `for_cactus`, at three bytes for each vertex and
+    /// side.
     pub fn for_sides(
         rt: &'a R,
         alloc: Global,
@@ -290,7 +292,7 @@ impl<'a, R: Threads + Sync> Crew<'a, R> {
         Crew::new(rt, alloc, workers, size)
     }
 
-    /// Workers for a text of about so many bytes.
+    /// Workers for a text of about `size` bytes.
     fn new(rt: &'a R, alloc: Global, workers: u32, size: usize) -> Result<Crew<'a, R>, NoMemory>
         ensures { IfOk result (λ c. workers_of c ≡ min workers (size / 2097152)) }
     {
@@ -299,7 +301,7 @@ impl<'a, R: Threads + Sync> Crew<'a, R> {
         Ok(Crew { rt, pieces })
     }
 
-    /// Puts the lines from one number up to another.
+    /// Puts the lines from one number up to before another.
     fn put_run<K: Sink>(
         &mut self,
         page: &mut Page,
@@ -323,7 +325,7 @@ impl<'a, R: Threads + Sync> Crew<'a, R> {
         Ok(())
     }
 
-    /// Puts a line for which no piece has room: all its numbers are made like lines.
+    /// Puts a line for which no piece has room. All its numbers are made in the way of lines.
     fn put_long<K: Sink>(
         &mut self,
         page: &mut Page,

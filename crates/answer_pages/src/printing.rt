@@ -48,7 +48,7 @@ pub(crate) fn put_node<K: Sink>(
     page.put(sink, b"\n")
 }
 
-/// Puts the first line: the value, and how much there is of each kind.
+/// Puts the first line: the value, and the numbers of vertices, nodes, bridges and cycles.
 fn put_first_line<K: Sink>(
     page: &mut Page,
     sink: &mut K,
@@ -67,10 +67,9 @@ fn put_first_line<K: Sink>(
     put_line(page, sink, b"cactus", &counts)
 }
 
-/// The text of a flat cactus with a value: who makes its lines into text,
-/// the value, and the cactus.
+/// The text of a flat cactus with a value: the maker of its lines, the value, and the cactus.
 ///
-/// A maker with several workers makes a long text side by side; the text is the same.
+/// A maker with several workers makes a long text in parallel. The text is the same.
 #[derive(Drop)]
 pub struct CactusText<'a, M>(pub M, pub u64, pub &'a FlatCactus);
 
@@ -88,10 +87,10 @@ impl<M: TextMaker> Text for CactusText<'_, M> {
     }
 }
 
-/// Writes the text of a flat cactus with a value, by way of an empty page. It takes no memory.
+/// Writes the text of a flat cactus with a value, through an empty page. It takes time in
+/// proportion to the text, and no memory.
 ///
-/// Where a write fails, what was taken is a first part of the text.
-/// Time in proportion to the text.
+/// It fails only if a write fails. What was written then is a first part of the text.
 pub fn print_flat<K: Sink>(
     page: &mut Page,
     cactus: &FlatCactus,
@@ -108,10 +107,10 @@ pub fn print_flat<K: Sink>(
 
 /// Writes the text of a cactus with a value.
 ///
-/// The nodes are numbered in the order in which the tree is entered. All memory is taken before
-/// the first byte, the flat cactus and one page; where it is wanting nothing is written, and the
-/// sink stays as it was. Where a write fails, what was taken is a first part of the text. Time
-/// in proportion to the text.
+/// The nodes are numbered in the order in which the tree is entered. All memory, for the flat
+/// cactus and one page, is taken before the first byte. If it runs out of memory, nothing is
+/// written, and the sink is unchanged. If a write fails, what was written is a first part of the
+/// text. It takes time in proportion to the text.
 pub fn print<K: Sink>(
     alloc: Global,
     cactus: &Cactus,

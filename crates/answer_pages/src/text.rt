@@ -1,4 +1,4 @@
-//! What is promised of each text that goes through a page to a sink.
+//! What is promised of each text that is written through a page to a sink.
 
 ghost use Rattle.std.specs.Prelude.{⊤, ◌≡◌, ℕ, List, ◌++◌, [], OnOk, OnErr, IsErrOf};
 ghost use Rattle.std.specs.Io.KnownBytes.{Appends};
@@ -13,9 +13,9 @@ use std::alloc::{AllocError, Global};
 /// Why a text was not printed.
 #[derive(Clone, Copy, Debug, PartialEq, Eq, Drop)]
 pub enum PrintRefusal {
-    /// A write failed: a first part of the text was taken.
+    /// A write failed. A first part of the text was written.
     SinkFailed,
-    /// Memory was wanting: nothing was written.
+    /// There was not enough memory. Nothing was written.
     NoMemory,
 }
 
@@ -29,19 +29,19 @@ impl From<AllocError> for PrintRefusal {
 
 /// A text that can be put line by line.
 pub trait Text: Drop {
-    /// What it needs to be put.
+    /// What the text needs in order to be put.
     ghost ready: { Self → Type 0 } = { λ _. ⊤ };
 
-    /// The bytes that it has.
+    /// The bytes of the text.
     ghost bytes: { Self → List ℕ };
 
-    /// Puts all of it. Time in proportion to the text.
+    /// Puts all of it. It takes time in proportion to the text, and fails only if a write fails.
     fn put<K: Sink>(self, page: &mut Page, sink: &mut K) -> Result<(), SinkFailed>
         requires { ready self }
         ensures { Puts (page.old ++ bytes self) (K.taken sink.old) (K.taken sink.new) (K.faults sink.old) (K.faults sink.new) page.new result };
 }
 
-/// Writes a text by way of an empty page.
+/// Writes a text through an empty page.
 pub(crate) fn write_text<T: Text, K: Sink>(
     page: &mut Page,
     text: T,
@@ -57,11 +57,11 @@ pub(crate) fn write_text<T: Text, K: Sink>(
     page.flush(sink)
 }
 
-/// Writes a text by way of a page that is made for it.
+/// Writes a text through a page that is made for it.
 ///
-/// It takes the page before the first byte; where memory for it is wanting nothing is written, and
-/// the sink stays as it was. Where a write fails, what was taken is a first part of the text. Time
-/// in proportion to the text.
+/// The page is made before the first byte. If there is not enough memory for it, nothing is
+/// written, and the sink is unchanged. If a write fails, what was written is a first part of the
+/// text. It takes time in proportion to the text.
 pub fn print_text<T: Text, K: Sink>(
     alloc: Global,
     text: T,

@@ -1,5 +1,5 @@
-//! What becomes of a tree where two of its nodes become one:
-//! the cuts that part them go, and all others stay.
+//! What becomes of a tree if two of its nodes become one: the cuts that separate them go, and all
+//! others stay.
 
 ghost use Rattle.std.specs.Prelude.{ℕ, ◌≡◌, ◌≢◌, ◌<◌, ◌++◌, ◌∷◌, false, true, take, slice_get, IfOk};
 ghost use Rattle.rooted_cactus.specs.declared.tree.Node.{Node};
@@ -20,14 +20,14 @@ use cut_definitions::NoMemory;
 use rooted_cactus::{Blocks, Children, Node, VertexList};
 use std::alloc::Global;
 
-/// A node without a node right below it.
+/// A node from which one of the nodes right below it was taken out.
 #[derive(Drop)]
 pub struct Opened {
     /// The node with its other blocks.
     pub top: Node,
     /// The nodes of the block before the one that was taken out.
     pub before: Children,
-    /// The nodes of the block behind it.
+    /// The nodes of the block after it.
     pub after: Children,
 }
 
@@ -61,7 +61,8 @@ fn close(alloc: Global, opened: Opened, child: Node) -> Result<Node, NoMemory>
     Ok(node)
 }
 
-/// Merges a node, without the node to which a step leads, with one above; and gives that node.
+/// Merges a node, without the node to which a step leads, with one above. It returns the merged
+/// node, and the node to which the step leads.
 fn dissolve(alloc: Global, top: Node, node: Node, step: Step) -> Result<(Node, Node), NoMemory>
     requires { (y : Node) × HasChild node step y }
     ensures child { IfOk result (λ r. HasChild node step r.1) }
@@ -79,10 +80,10 @@ fn dissolve(alloc: Global, top: Node, node: Node, step: Step) -> Result<(Node, N
     Ok((top, child))
 }
 
-/// The node that has a vertex, to which the way leads,
-/// merged with all nodes above it up to the given one.
+/// The node that has a vertex, to which the way leads, merged with all nodes above it up to the
+/// given one.
 ///
-/// It moves the blocks and the nodes beside the way, in a loop.
+/// It moves only the blocks and nodes beside the way, in a loop.
 pub fn pull(alloc: Global, node: Node, v: u32, way: &[Step]) -> Result<Node, NoMemory>
     requires way { LeadsTo v node way.now }
     requires once { AreOnce (entered node) }
@@ -111,8 +112,8 @@ fn begin_in_one_block(first: &[Step], second: &[Step]) -> bool
     first.len() > 0 && second.len() > 0 && first[0].block == second[0].block
 }
 
-/// A node below which the ways to two vertices lead to different nodes of one block, the way to
-/// `u` to the earlier: these two become one.
+/// A node of which one block has the ways to two vertices, by different nodes; the way to `u`
+/// leads by the earlier one. These two nodes become one.
 fn join_children(
     alloc: Global,
     node: Node,
@@ -139,7 +140,7 @@ fn join_children(
     Ok(node)
 }
 
-/// A node below which the ways to two vertices part, without the cuts that part the vertices.
+/// A node at which the ways to two vertices separate, without the cuts that separate the vertices.
 fn join(
     alloc: Global,
     node: Node,
@@ -168,7 +169,7 @@ fn join(
     Ok(node)
 }
 
-/// Takes out the node to which a way leads, and opens the nodes above it, the uppermost first.
+/// Opens the nodes of a way, the uppermost first, and takes out the node to which the way leads.
 fn descend(alloc: Global, root: Node, way: &[Step]) -> Result<(Vec<Opened>, Node), NoMemory>
     requires way { (y : Node) × IsWay root way.now y }
     requires once { AreOnce (entered root) }
@@ -198,10 +199,11 @@ fn ascend(alloc: Global, levels: Vec<Opened>, node: Node) -> Result<Node, NoMemo
     Ok(node)
 }
 
-/// A node and all below it, without the cuts that part two vertices that are in it or below it.
+/// A node and all below it, without the cuts that separate two vertices that are in it or below
+/// it.
 ///
-/// It looks for the two nodes, and then moves the blocks and the nodes beside the
-/// ways to them, all in loops.
+/// It looks for the two nodes, and then moves the blocks and the nodes beside the ways to them.
+/// All is done by loops.
 pub fn grow_node(alloc: Global, root: Node, u: u32, v: u32) -> Result<Node, NoMemory>
     requires u_inside { below root u ≡ true }
     requires v_inside { below root v ≡ true }

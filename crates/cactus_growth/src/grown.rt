@@ -27,20 +27,21 @@ fn has_block(node: &Node) -> bool
     node.blocks.len() > 0
 }
 
-/// What is left of a cactus once an edge is inserted between two vertices `u` and `v`: the sides
-/// that part them go, and all others stay.
+/// What is left of a cactus after an edge is inserted between two vertices `u` and `v`. The sides
+/// that separate them go, and all others stay.
 ///
-/// `Gone` exactly where every side parts them. Else the kept cactus is over the same vertices, and
-/// its sides are exactly those that do not part them; it is normal where the given one is. The two
-/// are different and of 1 to n, and the cactus has a block. The nodes on the way between the two
-/// become one: bridges on the way go, and each cycle on it falls into two closed walks at that
-/// node (Dinitz and Westbrook, 1998).
+/// It returns `Gone` exactly if every side separates them. Otherwise the kept cactus is over the
+/// same vertices, and its sides are exactly those that do not separate them. It is normal if the
+/// given one is. The two vertices are different and of 1 to n, and the cactus has a block. The
+/// nodes on the way between the two become one. The bridges on the way go, and each cycle on it is
+/// split into two closed walks at that node (Dinitz and Westbrook, 1998).
 ///
-/// It looks for the two vertices and asks whether the cactus is normal before and after: a step
-/// for each node, block and vertex each time. It moves the blocks and nodes beside the ways to the
-/// two; only where something can be spared in what is left, the tree is put together anew. All by
-/// loops, so that a deep tree does not run out of stack. It takes memory in proportion to the
-/// nodes, and is refused only where that is wanting; the cactus is dropped then.
+/// It looks for the two vertices, and tests whether the cactus is normal before and after. Each of
+/// these takes a step for each node, block and vertex. It moves the blocks and nodes beside the
+/// ways to the two. Only if something can be spared in what is left, the whole tree is put
+/// together anew. All is done by loops, so that a deep tree does not overflow the call stack. It
+/// takes memory in proportion to the nodes, and fails only if it runs out of memory; the cactus is
+/// dropped then.
 pub fn grow(alloc: Global, cactus: Cactus, u: u32, v: u32) -> Result<Grown, NoMemory>
     requires some { 1 ≤ length (blocks cactus.root) }
     requires u_from_one { 1 ≤ u }
@@ -64,7 +65,7 @@ pub fn grow(alloc: Global, cactus: Cactus, u: u32, v: u32) -> Result<Grown, NoMe
     Ok(Grown::Kept(kept))
 }
 
-/// The cactus, without what can be spared where something can.
+/// The cactus, without what can be spared.
 fn trimmed(alloc: Global, cactus: Cactus) -> Result<Cactus, NoMemory>
     requires { HasNoEmptySide cactus }
     ensures n { IfOk result (λ c. c.vertices ≡ cactus.vertices) }

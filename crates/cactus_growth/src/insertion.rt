@@ -23,7 +23,7 @@ fn has_same_ends(first: &Edge, second: &Edge) -> bool
     first.u == second.u && first.v == second.v
 }
 
-/// The weight of an edge where it has the ends of another, and 0 where it has not.
+/// The weight of an edge if it has the ends of another, and 0 otherwise.
 fn weight_at(edge: &Edge, ends: &Edge) -> u64
     ensures { result ≡ (if same_ends edge.now ends.now then edge.now.w else 0) }
 {
@@ -42,7 +42,7 @@ fn weight_between(edges: &[Edge], ends: &Edge) -> u64
     weight
 }
 
-/// The number of the edges of an ascending list that come before an edge: they are its first ones.
+/// The number of the edges of an ascending list that come before an edge. They are its first ones.
 fn place_before(edges: &[Edge], ends: &Edge) -> usize
     requires { AllPairs IsBefore edges.now }
     ensures within { result ≤ length edges.now }
@@ -51,7 +51,7 @@ fn place_before(edges: &[Edge], ends: &Edge) -> usize
     edges.partition_point(|edge| comes_before(edge, ends))
 }
 
-/// The place in an ascending list from which on its edges come behind an edge.
+/// The place in an ascending list from which on its edges come after an edge.
 fn place_behind(edges: &[Edge], ends: &Edge) -> usize
     requires { AllPairs IsBefore edges.now }
     ensures within { result ≤ length edges.now }
@@ -60,7 +60,7 @@ fn place_behind(edges: &[Edge], ends: &Edge) -> usize
     edges.partition_point(|edge| !comes_before(ends, edge))
 }
 
-/// The edge between two vertices, the lesser first.
+/// The edge between two vertices, the smaller first.
 fn edge_between(u: u32, v: u32, w: u64) -> Edge
     ensures { result ≡ edge_between u v w }
 {
@@ -71,10 +71,10 @@ fn edge_between(u: u32, v: u32, w: u64) -> Edge
     }
 }
 
-/// The ascending list with an edge put in its place, where its weight is added to that
-/// of the edge with its ends.
+/// The ascending list with an edge put in its place. If there is an edge with its ends, their
+/// weights are added.
 ///
-/// The place is found by halving; the edges before it and behind it are copied whole.
+/// The place is found by binary search, and the edges before and after it are copied.
 fn inserted(alloc: Global, edges: &[Edge], added: &Edge) -> Result<Vec<Edge>, NoMemory>
     requires ascending { AllPairs IsBefore edges.now }
     requires total { sum_by (λ d. d.w) edges.now ≤ 2 ^ 61 }
@@ -95,9 +95,7 @@ fn inserted(alloc: Global, edges: &[Edge], added: &Edge) -> Result<Vec<Edge>, No
     Ok(list)
 }
 
-/// The weight of all edges of a list.
-///
-/// One pass over the edges. It takes no memory.
+/// The weight of all edges of a list, in O(m).
 pub fn total_weight(list: &EdgeList) -> u64
     ensures value { result ≡ sum_by (λ d. d.w) list.now.edges }
     ensures edge_list { IsEdgeList list.now }
@@ -110,9 +108,7 @@ pub fn total_weight(list: &EdgeList) -> u64
     weight
 }
 
-/// Whether an edge of a list joins `u` and `v`.
-///
-/// Its place is found by halving, so time O(log m). It takes no memory.
+/// Whether an edge of a list joins `u` and `v`, by binary search in O(log m).
 pub fn has_edge(list: &EdgeList, u: u32, v: u32) -> bool
     ensures { result ≡ is_joined (edge_between u v 0) list.now.edges }
 {
@@ -123,11 +119,11 @@ pub fn has_edge(list: &EdgeList, u: u32, v: u32) -> bool
     first < end
 }
 
-/// Whether the list with the weight `w` added between `u` and `v` is within the limits of a
-/// graph: its weights add up to at most 2^61, and it has at most 16,777,216 edges. So
-/// `with_edge` may be called.
+/// Whether the list with the weight `w` added between `u` and `v` is within the limits of a graph,
+/// so that `with_edge` may be called. Its weights may add up to at most 2^61, and it may have at
+/// most 16,777,216 edges.
 ///
-/// One pass over the edges, so time O(m). It takes no memory.
+/// It takes O(m), and no memory.
 pub fn is_within_limits(list: &EdgeList, u: u32, v: u32, w: u64) -> bool
     requires u_from_one { 1 ≤ u }
     requires u_to_n { u ≤ list.now.vertices }
@@ -142,10 +138,8 @@ pub fn is_within_limits(list: &EdgeList, u: u32, v: u32, w: u64) -> bool
     w <= MOST_WEIGHT - weight && (joined || list.len() < MOST_EDGES as usize)
 }
 
-/// The list with the weight `w` added between `u` and `v`:
-/// to the edge that joins them, or as a new edge.
-///
-/// Time and memory in proportion to the edges; it is refused only where memory is wanting.
+/// The list with the weight `w` added between `u` and `v`, to the edge that joins them or as a new
+/// edge. It takes O(m) steps and memory, and fails only if it runs out of memory.
 pub fn with_edge(
     alloc: Global,
     list: &EdgeList,

@@ -2,22 +2,24 @@
 
 ghost use Rattle.cactus_growth.specs.Laws.{LawOfConnection, LawOfKeptCuts, LawOfRise, LawOfWeights};
 
-/// What an insertion adds to the weight of a set.
+/// An insertion adds its weight to the weight of each set that separates its two vertices, and
+/// nothing to that of others.
 pub fn weights()
     ensures { LawOfWeights }
 {}
 
-/// An insertion between vertices that some minimum cut does not part.
+/// If some minimum cut does not separate the two vertices, the value stays, and the minimum cuts
+/// are exactly those that do not separate them.
 pub fn kept_cuts()
     ensures { LawOfKeptCuts }
 {}
 
-/// An insertion between vertices that every minimum cut parts.
+/// If every minimum cut separates the two vertices, the value rises.
 pub fn rise()
     ensures { LawOfRise }
 {}
 
-/// An insertion into a connected graph.
+/// A connected graph stays connected.
 pub fn connection()
     ensures { LawOfConnection }
 {}

@@ -26,8 +26,8 @@ fn hang(node: Node, block: Block) -> Result<Node, NoMemory>
     Ok(node)
 }
 
-/// The closed walk through the node above and some nodes in their order: a cycle or, where there
-/// is one node alone, a bridge.
+/// The closed walk through the node above and some nodes in their order: a cycle, or a bridge if
+/// there is only one node.
 fn closed(alloc: Global, nodes: Children) -> Result<Block, NoMemory>
     requires { 0 < length (nodes_in nodes) }
     ensures part { IfOk result (λ b. block_part b ≡ cycle_of (map part (nodes_in nodes))) }
@@ -42,7 +42,8 @@ fn closed(alloc: Global, nodes: Children) -> Result<Block, NoMemory>
     Ok(Block::Cycle(nodes))
 }
 
-/// A closed walk through a node and other nodes in their order: no block, a bridge or a cycle.
+/// The node with the closed walk through it and some nodes in their order below it. The walk is no
+/// block, a bridge or a cycle.
 pub fn hang_arc(alloc: Global, node: Node, nodes: Children) -> Result<Node, NoMemory>
     ensures { IfOk result (λ x. IsArcHung node (nodes_in nodes) x) }
 {
@@ -76,8 +77,8 @@ fn append(list: &mut VertexList, more: &VertexList) -> Result<(), NoMemory>
     Ok(())
 }
 
-/// Two nodes become one, with the blocks of both, and the vertices of the second
-/// behind those of the first.
+/// One node made of two, with the blocks of both. The vertices of the second come after those of
+/// the first.
 pub fn take_in(node: Node, other: Node) -> Result<Node, NoMemory>
     ensures { IfOk result (λ x. IsTakenIn node other x) }
 {
@@ -109,7 +110,7 @@ pub fn sorted(alloc: Global, node: Node) -> Result<Node, NoMemory>
     Ok(Node { vertices, blocks })
 }
 
-/// The blocks before a place, the one there, and those behind it.
+/// The blocks before a place, the one there, and those after it.
 pub fn taken_block(blocks: Blocks, place: usize) -> Result<(Blocks, Block, Blocks), NoMemory>
     requires { place < length (blocks_in blocks) }
     ensures parts { IfOk result (λ r. blocks_in blocks ≡ blocks_in r.0 ++ r.1 ∷ blocks_in r.2) }
@@ -121,7 +122,7 @@ pub fn taken_block(blocks: Blocks, place: usize) -> Result<(Blocks, Block, Block
     Ok((front, block, behind))
 }
 
-/// The children before a place, the one there, and those behind it.
+/// The children before a place, the one there, and those after it.
 pub fn taken_out(nodes: Children, place: usize) -> Result<(Children, Node, Children), NoMemory>
     requires { place < length (nodes_in nodes) }
     ensures parts { IfOk result (λ r. nodes_in nodes ≡ nodes_in r.0 ++ r.1 ∷ nodes_in r.2) }

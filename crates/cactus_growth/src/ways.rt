@@ -23,7 +23,7 @@ pub struct Step {
     pub child: usize,
 }
 
-/// A node below which is still to be looked at.
+/// A node with blocks, below which the search still has to look.
 #[derive(Drop)]
 pub struct Visit<'a> {
     pub node: &'a Node,
@@ -44,8 +44,8 @@ fn has_vertex(list: &VertexList, v: u32) -> bool
     found
 }
 
-/// Looks at a node: gives the step to it where it has a vertex. Where it has not, and a block is
-/// below it, it is put on the stack.
+/// Looks at a node. If it has the vertex, it returns the step to it. Otherwise the node is put on
+/// the stack if it has a block below it.
 fn visit_node<'a>(
     stack: &mut Vec<Visit<'a>>,
     node: &'a Node,
@@ -65,8 +65,8 @@ fn visit_node<'a>(
     Ok(None)
 }
 
-/// Looks at the nodes of a block: gives the step to one that has a vertex. Where none has, those
-/// with a block below them are put on the stack.
+/// Looks at the nodes of a block. If one has the vertex, it returns the step to it. Otherwise
+/// those with a block below them are put on the stack.
 fn visit_nodes<'a>(
     stack: &mut Vec<Visit<'a>>,
     nodes: &'a [Node],
@@ -86,8 +86,8 @@ fn visit_nodes<'a>(
     Ok(None)
 }
 
-/// Looks at the nodes right below a node, to which so many steps lead: gives the step to one that
-/// has a vertex. Where none has, those with a block below them are put on the stack.
+/// Looks at the nodes right below a node, to which `depth` steps lead. If one has the vertex, it
+/// returns the step to it. Otherwise those with a block below them are put on the stack.
 fn visit_below<'a>(
     stack: &mut Vec<Visit<'a>>,
     node: &'a Node,
@@ -107,10 +107,10 @@ fn visit_below<'a>(
 
 /// The steps from a node to the node that has a vertex, which is the node itself or below it.
 ///
-/// One step for each node and vertex until it is found, in a loop with a stack. A node is looked
-/// at before it would be put there, and one with no block below it never is. So it takes memory in
-/// proportion to the steps and to the nodes with a block below them that were looked at, and is
-/// refused only where that is wanting.
+/// It takes one step for each node and vertex until it is found, in a loop with a stack. Each node
+/// is looked at before it would be put on the stack, and one with no block below it never is. So
+/// it takes memory in proportion to the steps and to the nodes with a block below them that were
+/// looked at. It fails only if it runs out of memory.
 pub fn way_to(alloc: Global, root: &Node, v: u32) -> Result<Vec<Step>, NoMemory>
     requires { below root.now v ≡ true }
     ensures { IfOk result (λ way. LeadsTo v root.now way.items) }
@@ -142,7 +142,7 @@ fn is_same(a: &Step, b: &Step) -> bool
     a.block == b.block && a.child == b.child
 }
 
-/// How many of the first steps two ways have in common.
+/// The number of first steps that two ways have in common.
 pub fn shared_steps(first: &[Step], second: &[Step]) -> usize
     ensures first { result ≤ length first.now }
     ensures second { result ≤ length second.now }

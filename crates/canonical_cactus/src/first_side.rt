@@ -468,8 +468,8 @@ fn rank_cuts(
 /// the vertices. It is the first in the order of lists, in which a list comes before those that
 /// begin with it.
 ///
-/// It takes O(n log n) for a cactus of n vertices whose nodes are at most in proportion to n,
-/// however many cuts have the best balance and whatever the masses are. It takes memory in
+/// It takes O(n log n) for a cactus of n vertices whose nodes are at most in proportion to n. That
+/// holds however many cuts have the best balance and whatever the masses are. It takes memory in
 /// proportion to the nodes and to n, and fails only if it runs out of memory.
 pub fn first_best(alloc: Global, cactus: &Cactus, weights: &VertexWeights) -> Result<Side, NoMemory>
     requires some { blocks cactus.now.root ≢ [] }

@@ -16,7 +16,7 @@ use std::alloc::Global;
 /// empty node with two more bridges. A bridge to an empty node with one other block is replaced by
 /// that block. In a cycle, an empty node that has a bridge alone is replaced by the node below
 /// that bridge. Then the blocks of each node are put in the order of the least vertices below
-/// them, and a cycle is reversed if its last node has a smaller one than its first.
+/// them. A cycle is reversed if its last node has a smaller least vertex than its first.
 ///
 /// A cactus that is canonical is returned as it is. Otherwise the tree is taken apart and its
 /// nodes are moved. It takes O(n log n), in loops, so that a deep tree does not overflow the call

@@ -1,5 +1,5 @@
-//! What the jobs answer for a graph in several components:
-//! its minimum cuts are the unions of these.
+//! What the jobs reply for a graph in several components. Its minimum cuts are the unions of
+//! components.
 
 ghost use Rattle.std.specs.Prelude.{◌≡◌, ◌≤◌, IfOk, IfErr, length};
 ghost use Rattle.cut_definitions.specs.Components.{HasComponents};
@@ -20,7 +20,7 @@ use program_words::{Command, Job};
 use std::alloc::Global;
 use stop_lines::Stop;
 
-/// The text that tells how many components there are.
+/// The reply that says how many components there are.
 pub fn disconnected(alloc: Global, components: u32) -> Result<Reply, NoMemory>
     ensures text { IfOk result (λ reply. text_of reply ≡ disconnected_line components) }
     ensures printable { IfOk result IsPrintable }
@@ -29,7 +29,7 @@ pub fn disconnected(alloc: Global, components: u32) -> Result<Reply, NoMemory>
     Ok(Reply::Text(text))
 }
 
-/// The list of the unions that are asked for.
+/// The list of the unions that are asked for, or `TooManyUnions` if there are too many for a list.
 fn union_listing(
     alloc: Global,
     ask: Ask,
@@ -58,7 +58,7 @@ fn union_listing(
     })
 }
 
-/// The number of the unions.
+/// The number of the unions, or `CountTooLarge` if there are more than 127 components.
 fn union_count(alloc: Global, graph: &EdgeList, parts: &Components) -> Result<Reply, Stop>
     requires apart { IsApartGraph graph.now parts.now }
     ensures text { IfOk result (λ reply. IsUnionCount graph.now (length parts.now.parts) (text_of reply)) }
@@ -76,7 +76,7 @@ fn union_count(alloc: Global, graph: &EdgeList, parts: &Components) -> Result<Re
     Ok(Reply::Text(text))
 }
 
-/// A union of best balance.
+/// A union of best balance, or `BalanceTooLarge` if components and masses are too large.
 fn balanced_union(
     alloc: Global,
     graph: &EdgeList,
@@ -107,8 +107,7 @@ fn balanced_union(
     }
 }
 
-/// What a job on the cuts answers for a graph whose components are these,
-/// of which there are so many.
+/// The reply of a job on the cuts for a graph with these components, and with `count` of them.
 fn union_reply(
     alloc: Global,
     command: &Command,
@@ -146,7 +145,8 @@ fn union_reply(
     }
 }
 
-/// What a job on the cuts answers for a graph in several components, of which there are so many.
+/// The reply of a job on the cuts for a graph with `count` components, of which there are several.
+/// It fails if a limit on the unions is exceeded, or if it runs out of memory.
 pub fn apart_reply(
     alloc: Global,
     command: Command,

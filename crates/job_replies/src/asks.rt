@@ -1,4 +1,4 @@
-//! What a job asks of a listing, and those of some sides that are asked for.
+//! What a job asks of a listing, and those of some sides for which it asks.
 
 ghost use Rattle.std.specs.Prelude.{ℕ, ◌≡◌, ◌==◌, ◌&&◌, All, length};
 ghost use Rattle.std.specs.List.{filter};
@@ -37,7 +37,7 @@ fn has_number(side: &Side, v: u32) -> bool
     side.has(v)
 }
 
-/// What is asked of the sides over n.
+/// A question about the sides over n.
 #[derive(Drop)]
 struct Asked<'a> {
     n: u32,
@@ -61,7 +61,7 @@ impl Asked<'_> {
     }
 }
 
-/// Of some sides over n, the ones that are asked for, in their order. It takes no memory.
+/// Those of some sides over n that are asked for, in their order. It takes no memory.
 pub fn select_asked(ask: Ask, n: u32, mut sides: Vec<Side>) -> Vec<Side>
     requires over_n { All (λ s. s.vertices ≡ n) sides.items }
     requires within { IsAskWithin n ask }

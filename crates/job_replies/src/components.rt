@@ -1,4 +1,4 @@
-//! The components of a graph that has several, and the limit of a list of the unions of these.
+//! The components of a graph that has several, and the limit of a list of their unions.
 
 ghost use Rattle.std.specs.Prelude.{◌≤◌, ◌↔◌, IfOk, IsTrue, length};
 ghost use Rattle.cut_definitions.specs.Components.{HasComponents};
@@ -8,7 +8,7 @@ use component_cuts::{Components, laws};
 use cut_definitions::{EdgeList, NoMemory};
 use std::alloc::Global;
 
-// the most numbers of a list: as many for each side as there are vertices
+// the greatest number of sides times vertices in a list, 2^30
 const LARGEST: u128 = 1_073_741_824;
 
 /// Whether a list of all minimum cuts is within its limit.
@@ -24,7 +24,7 @@ pub fn are_unions_few(parts: &Components, n: u32) -> bool
     }
 }
 
-/// The components of a graph by its list of edges, of which there are so many.
+/// The components of a graph by its list of edges, if there are `count` of them.
 pub fn components_of(alloc: Global, graph: &EdgeList, count: u32) -> Result<Components, NoMemory>
     requires enough { 2 ≤ graph.now.vertices }
     requires components { HasComponents graph.now count }

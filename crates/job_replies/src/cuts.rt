@@ -31,7 +31,7 @@ use std::mem::forget;
 use stop_lines::Stop;
 use vertex_set::Side;
 
-/// All minimum cuts, by their sides in order, or their number where they are too many.
+/// All minimum cuts, by their sides in order, or their number if there are too many for a list.
 fn all_sides(alloc: Global, graph: &EdgeList, solved: &Solved) -> Result<Vec<Side>, ListRefusal>
     requires { IsSolved graph.now solved.now }
     ensures list { IfOk result (λ sides. IsList (2 ^ 30) graph.now.vertices Ask.All solved.now.cactus sides.items) }
@@ -44,8 +44,8 @@ fn all_sides(alloc: Global, graph: &EdgeList, solved: &Solved) -> Result<Vec<Sid
     lister.list(alloc, &solved.cactus)
 }
 
-/// The sides of the minimum cuts that are asked for, in order,
-/// or their number where they are too many.
+/// The sides of the minimum cuts that are asked for, in order, or their number if there are too
+/// many for a list.
 fn asked_sides(
     alloc: Global,
     ask: Ask,
@@ -93,8 +93,8 @@ fn listing_reply(
     }
 }
 
-/// The number of all minimum cuts of a solved graph, from the tree of its cactus:
-/// one step for each node and block.
+/// The number of all minimum cuts of a solved graph, from the tree of its cactus. It takes one
+/// step for each node and block, and fails only if it runs out of memory.
 pub fn count_of_cuts(alloc: Global, solved: &Solved) -> Result<u64, NoMemory>
     requires few { solved.now.cactus.vertices ≤ 4194304 }
     requires normal { is_normal solved.now.cactus.root ≡ true }
@@ -104,7 +104,7 @@ pub fn count_of_cuts(alloc: Global, solved: &Solved) -> Result<u64, NoMemory>
     solved.cactus.count_within(alloc)
 }
 
-/// The value and the number of all minimum cuts, which are given.
+/// The reply with a value and a number of minimum cuts. It fails only if it runs out of memory.
 pub fn number_reply(alloc: Global, value: u64, count: u64) -> Result<Reply, NoMemory>
     ensures text { IfOk result (λ reply. text_of reply ≡ count_text value count) }
     ensures printable { IfOk result IsPrintable }
@@ -113,7 +113,7 @@ pub fn number_reply(alloc: Global, value: u64, count: u64) -> Result<Reply, NoMe
     Ok(Reply::Text(text))
 }
 
-/// The number of all minimum cuts.
+/// The reply with the value and the number of all minimum cuts.
 fn count_reply(alloc: Global, graph: &EdgeList, solved: &Solved) -> Result<Reply, NoMemory>
     requires solved { IsSolved graph.now solved.now }
     ensures text { IfOk result (λ reply. text_of reply ≡ count_text (value graph.now) (length (mincuts graph.now))) }
@@ -126,7 +126,7 @@ fn count_reply(alloc: Global, graph: &EdgeList, solved: &Solved) -> Result<Reply
     Ok(reply)
 }
 
-/// The first of the most balanced minimum cuts, in the order of lists.
+/// The reply with the first of the most balanced minimum cuts, in the order of lists.
 fn balanced_reply(
     alloc: Global,
     graph: &EdgeList,
@@ -148,8 +148,8 @@ fn balanced_reply(
     })
 }
 
-/// What a job on the cuts of a connected graph answers, from all its minimum cuts,
-/// for a command that the caller keeps.
+/// The reply of a job on the cuts of a connected graph, from all its minimum cuts, for a command
+/// that the caller keeps.
 fn solved_reply(
     alloc: Global,
     command: &Command,
@@ -184,7 +184,8 @@ fn solved_reply(
     }
 }
 
-/// What a job on the cuts of a connected graph answers, from all its minimum cuts.
+/// The reply of a job on the cuts of a connected graph, from all its minimum cuts. It fails if a
+/// list has too many cuts, or if it runs out of memory.
 pub fn cuts_reply(
     alloc: Global,
     command: Command,
@@ -205,7 +206,7 @@ pub fn cuts_reply(
     solved_reply(alloc, &command, graph, weights, solved)
 }
 
-/// The canonical cactus of a solved graph.
+/// The canonical cactus of a solved graph, in O(n log n). It fails only if it runs out of memory.
 pub fn canonical_of(alloc: Global, solved: Solved) -> Result<Cactus, NoMemory>
     requires { HasNoEmptySide solved.cactus }
     ensures { (g : EdgeGraph) → IsSolved g solved → IfOk result (λ cactus. IsCactusOf g cactus) }
@@ -216,7 +217,7 @@ pub fn canonical_of(alloc: Global, solved: Solved) -> Result<Cactus, NoMemory>
     Ok(cactus)
 }
 
-/// All minimum cuts.
+/// The reply with all minimum cuts as a cactus.
 fn cactus_reply(
     alloc: Global,
     graph: &EdgeList,
@@ -233,7 +234,7 @@ fn cactus_reply(
     let value = solved.value;
     let cactus = canonical_of(alloc, solved)?;
     let flat = flatten(alloc, &cactus)?;
-    // the run ends soon: giving each node of a large cactus back would take a tenth of its time
+    // the run ends soon: freeing each node of a large cactus would take a tenth of its time
     forget(cactus);
     Ok(Reply::Cactus {
         value,
@@ -242,7 +243,7 @@ fn cactus_reply(
     })
 }
 
-/// The fewest unit edges that raise the value.
+/// The reply with the fewest unit edges that raise the value.
 fn augment_reply(alloc: Global, graph: &EdgeList, solved: Solved) -> Result<Reply, NoMemory>
     requires enough { 2 ≤ graph.now.vertices }
     requires solved { IsSolved graph.now solved }

@@ -1,4 +1,4 @@
-//! The end of a run: what was found is written, or it is told why there is nothing to write.
+//! The end of a run: what was found is written, or a line says why there is nothing to write.
 
 ghost use Rattle.std.specs.Prelude.{◌⊎◌, IfOk};
 ghost use Rattle.job_replies.specs.Endings.{IsBroken, IsReplied, IsStopped};
@@ -13,8 +13,9 @@ use std::mem::forget;
 use std::thread::Threads;
 use stop_lines::{Status, Stop};
 
-/// Writes the reply that was found to `out`, or tells on `err` why there is none or why it is not
-/// written, and answers how that ended. The memory of the reply is left to the end of the process.
+/// Writes the reply that was found to `out`. If there is none, or if there is not enough memory to
+/// write it, a line on `err` says why. It returns how that ended. The memory of the reply is left
+/// to the end of the process.
 pub fn finish<R: Threads + Sync, K: Sink, E: Sink>(
     rt: &R,
     alloc: Global,
@@ -30,8 +31,7 @@ pub fn finish<R: Threads + Sync, K: Sink, E: Sink>(
     match found {
         Ok(reply) => {
             let written = write_reply(rt, alloc, out, &reply);
-            // the run is over: giving each node of a large cactus back would
-            // take a tenth of its time
+            // the run is over: freeing each node of a large cactus would take a tenth of its time
             forget(reply);
             match written {
                 Ok(()) => Status::Ok,

@@ -1,4 +1,4 @@
-//! The graph that the job `trial` makes, and what it tells of that once it is solved.
+//! The graph that the job `trial` makes, and what the job prints of it once it is solved.
 
 ghost use Rattle.std.specs.Prelude.{◌≡◌, ◌≤◌, IfOk, string_bytes};
 ghost use Rattle.rooted_cactus.specs.Solving.{IsSolved};
@@ -16,7 +16,7 @@ use graph_maker::make;
 use rooted_cactus::Solved;
 use std::alloc::Global;
 
-/// The five lines.
+/// The text of five lines.
 fn facts_text(
     alloc: Global,
     n: u32,
@@ -54,7 +54,8 @@ fn describe(alloc: Global, graph: &EdgeList, solved: &Solved) -> Result<String, 
     facts_text(alloc, graph.n(), graph.len(), solved.value, count, balance)
 }
 
-/// The graph that is made for a number. It is connected.
+/// The graph that is made for a number of 12 to 100,000. It is connected. It fails only if it runs
+/// out of memory.
 pub fn made_for(alloc: Global, number: u32) -> Result<EdgeList, NoMemory>
     requires from { 12 ≤ number }
     requires to { number ≤ 100000 }
@@ -66,7 +67,8 @@ pub fn made_for(alloc: Global, number: u32) -> Result<EdgeList, NoMemory>
     make(alloc, number)
 }
 
-/// The reply that tells of a solved graph, which is taken over with what was found.
+/// The reply with five facts about a solved graph, which is taken over. It fails only if it runs
+/// out of memory.
 pub fn facts_reply(alloc: Global, graph: EdgeList, solved: Solved) -> Result<Reply, NoMemory>
     requires enough { 2 ≤ graph.vertices }
     requires solved { IsSolved graph solved }

@@ -1,5 +1,5 @@
-//! What the job `grow` keeps from step to step, what it tells after each,
-//! and its reply after the last.
+//! What the job `grow` keeps from step to step, what it prints of each step, and its reply after
+//! the last one.
 
 ghost use Rattle.std.specs.Prelude.{◌≡◌, ◌≤◌, List, IfErr, IfNone, IfOk, IfSome};
 ghost use Rattle.std.specs.List.{All};
@@ -33,7 +33,8 @@ pub struct Growing {
     pub solved: Solved,
 }
 
-/// What is told of a graph: its value and the number of its minimum cuts.
+/// What is printed of a graph: its value and the number of its minimum cuts. It takes one step for
+/// each node and block of the cactus, and fails only if it runs out of memory.
 pub fn step_for(alloc: Global, growing: &Growing) -> Result<Step, NoMemory>
     requires { IsGrowing growing.now }
     ensures { IfOk result (λ step. step ≡ step_of growing.now.graph) }
@@ -48,7 +49,8 @@ pub fn step_for(alloc: Global, growing: &Growing) -> Result<Step, NoMemory>
     })
 }
 
-/// The reply after all insertions, from the last graph and what is told of it after each.
+/// The reply after all insertions, from the last graph and what is printed of each step. It fails
+/// only if it runs out of memory.
 pub fn grown_reply(alloc: Global, growing: Growing, steps: Vec<Step>) -> Result<Reply, NoMemory>
     requires { IsGrowing growing }
     ensures text { (g : EdgeGraph) (is : List Insertion) → HasGrown g is growing steps.items → IfOk result (λ reply. IsGrowText g is (text_of reply)) }
@@ -67,8 +69,9 @@ pub fn grown_reply(alloc: Global, growing: Growing, steps: Vec<Step>) -> Result<
     })
 }
 
-/// The reply of `grow` that needs no minimum cuts: that of a graph in several components, and none
-/// for a connected one. Or the first insertion after which the graph would be too large.
+/// The reply of `grow` for a graph in several components, or `None` for a connected graph. It
+/// fails with the first insertion after which the graph would be too large, or if it runs out of
+/// memory.
 pub fn apart_growth(
     alloc: Global,
     insertions: &Insertions,

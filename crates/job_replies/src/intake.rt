@@ -12,7 +12,7 @@ use outside::Source;
 use std::alloc::Global;
 use stop_lines::Stop;
 
-/// Reads the source to its end, and the graph that its bytes give.
+/// Reads the source to its end, and returns the graph of its bytes.
 ///
 /// It stops at the first fault and at the first read that fails; nothing is read after that.
 pub fn take_in<S: Source>(alloc: Global, source: &mut S) -> Result<MetisGraph, Stop>

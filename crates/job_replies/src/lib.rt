@@ -1,11 +1,11 @@
-//! What the program `mincut` answers for a graph:
-//! the text of each job, why it may have none, and the writing of it.
+//! What the program `mincut` replies for a graph: the text of each job, why it may have none, and
+//! how it is written.
 //!
-//! The definitions and their laws are here, and all that a run does before and after the solver:
-//! the intake, which reads a graph, the vertices that a job names, the limits of insertions, and
-//! the way from a solved graph, from a graph in several components, or from the steps of a growth
-//! to what is written. A graph is solved above this crate, which needs no more of the solver than
-//! `rooted_cactus::Solved`; so all of this is proved beside the solver.
+//! The definitions and their laws are here, and all that a run does before and after the solver.
+//! That is the intake, which reads a graph, the vertices that a job names, the limits of
+//! insertions, and the way to what is written. That way begins with a solved graph, a graph in
+//! several components, or the steps of a growth. A graph is solved above this crate, which needs
+//! nothing of the solver but `rooted_cactus::Solved`. So all of this is proved beside the solver.
 #![tactic(auto)]
 
 mod apart;

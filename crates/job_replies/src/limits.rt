@@ -56,10 +56,10 @@ fn new_edges(
     }
 }
 
-/// The first insertion after which the graph would be too large.
+/// Fails with the first insertion after which the graph would be too large.
 ///
-/// One pass over the edges; then, for each insertion, its pair is looked for among the edges by
-/// halving and among the insertions before it. It takes no memory.
+/// It takes one pass over the edges. For each insertion it looks for the pair among the edges by
+/// binary search, and among all insertions before. It takes no memory.
 pub fn check_limits(insertions: &Insertions, list: &EdgeList) -> Result<(), Stop>
     requires in_range { AreInRange list.now.vertices insertions.now }
     requires insertions { All IsInsertion insertions.now }

@@ -8,7 +8,8 @@ use crate::reply::Reply;
 use cut_definitions::NoMemory;
 use std::alloc::Global;
 
-/// A graph of fewer than two vertices has no cut.
+/// The reply for a graph of fewer than two vertices, which has no cut. It fails only if it runs
+/// out of memory.
 pub fn no_cut(alloc: Global) -> Result<Reply, NoMemory>
     ensures text { IfOk result (λ reply. text_of reply ≡ no_cut_line) }
     ensures printable { IfOk result IsPrintable }
@@ -17,7 +18,7 @@ pub fn no_cut(alloc: Global) -> Result<Reply, NoMemory>
     Ok(Reply::Text(text))
 }
 
-/// The line that tells a value.
+/// The reply with a value. It fails only if it runs out of memory.
 pub fn value_text(alloc: Global, value: u64) -> Result<Reply, NoMemory>
     ensures text { IfOk result (λ reply. text_of reply ≡ value_line value) }
     ensures printable { IfOk result IsPrintable }

@@ -1,4 +1,4 @@
-//! The vertices that a job names, of which a graph may lack some.
+//! The vertices that a job names, some of which may not be in the graph.
 
 ghost use Rattle.std.specs.Prelude.{◌≡◌, IfSome, IsNone, true, false};
 ghost use Rattle.job_replies.specs.Jobs.{AreInRange, IsFirstOutside, IsInRange, IsOutside, IsOutsidePair};
@@ -40,7 +40,8 @@ fn check_insertions(insertions: &Insertions, n: u32) -> Option<u64>
     None
 }
 
-/// The first vertex that a job names that is not of 1 to n.
+/// The first vertex that a job names that is not of 1 to n, if there is one. One step for each
+/// vertex.
 pub fn first_outside(job: &Job, n: u32) -> Option<u64>
     ensures none { IsNone result → IsInRange job.now n }
     ensures some { IfSome result (IsOutside job.now n) }

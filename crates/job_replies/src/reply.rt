@@ -21,15 +21,15 @@ use vertex_set::Side;
 pub enum Reply {
     /// A text that is in memory.
     Text(String),
-    /// The weight of the minimum cuts, the flat cactus of them all,
-    /// and how many workers make the text.
+    /// The weight of the minimum cuts, the flat cactus of them all, and the number of workers that
+    /// make the text.
     Cactus {
         value: u64,
         cactus: FlatCactus,
         workers: u32,
     },
-    /// The weight of the minimum cuts, the sides of a list of them,
-    /// and how many workers make the text.
+    /// The weight of the minimum cuts, the sides of a list of them, and the number of workers that
+    /// make the text.
     Listing {
         value: u64,
         sides: Vec<Side>,
@@ -41,8 +41,8 @@ pub enum Reply {
         balance: u128,
         side: Side,
     },
-    /// What is told after each of some insertions, and all minimum cuts after the
-    /// last, with their weight.
+    /// What is printed of each of some insertions, and all minimum cuts after the last one, with
+    /// their weight.
     Growth {
         steps: Vec<Step>,
         solved: Solved,
@@ -66,9 +66,8 @@ fn write_text<K: Sink>(out: &mut K, text: &str) -> Result<(), PrintRefusal>
     }
 }
 
-/// Writes all of a reply.
-///
-/// Where memory is wanting nothing is written; a text takes none.
+/// Writes all of a reply. If it runs out of memory, nothing is written; for a reply that is in
+/// memory it takes none.
 pub fn write_reply<R: Threads + Sync, K: Sink>(
     rt: &R,
     alloc: Global,

@@ -1,4 +1,5 @@
-//! What is told beside the answers: a notice that the words ask for, and why there is no answer.
+//! What is written besides replies of jobs: a notice that the words ask for, and the line that
+//! says why there is no reply.
 
 ghost use Rattle.std.specs.Prelude.{◌≡◌, IfOk, IfErr};
 ghost use Rattle.job_replies.specs.Answers.{Writes};
@@ -12,7 +13,8 @@ use program_words::Notice;
 use std::alloc::Global;
 use stop_lines::{Status, Stop, line_for, status_for};
 
-/// Tells why there is nothing to write to `out`. It takes no memory.
+/// Writes the line that says why there is nothing to write to `out`, and returns the status. It
+/// takes no memory.
 pub fn tell<E: Sink>(err: &mut E, stop: Stop) -> Status
     ensures { Writes (status_of stop) (line_of stop) (E.taken err.old) (E.taken err.new) (E.faults err.old) (E.faults err.new) result }
 {
@@ -23,7 +25,7 @@ pub fn tell<E: Sink>(err: &mut E, stop: Stop) -> Status
     }
 }
 
-/// The text of a notice.
+/// The reply with the text of a notice. It fails only if it runs out of memory.
 pub fn notice_reply(alloc: Global, notice: Notice) -> Result<Reply, Stop>
     ensures text { IfOk result (λ reply. text_of reply ≡ notices.text_of notice) }
     ensures printable { IfOk result IsPrintable }

@@ -21,7 +21,7 @@ use std::thread::Threads;
 use stop_lines::Stop;
 use worker_team::Crew;
 
-/// The line of the job `value`.
+/// The reply of the job `value`.
 fn value_reply<R: Threads + Sync, G: Gate>(
     crew: &Crew<R, G>,
     list: EdgeList,
@@ -40,7 +40,7 @@ fn value_reply<R: Threads + Sync, G: Gate>(
     value_text(crew.threads.alloc, value)
 }
 
-/// The answer of a job on the cuts themselves.
+/// The reply of a job on the cuts themselves.
 fn reply_on_cuts<R: Threads + Sync, G: Gate>(
     crew: &Crew<R, G>,
     command: Command,
@@ -68,7 +68,7 @@ fn reply_on_cuts<R: Threads + Sync, G: Gate>(
     }
 }
 
-/// What a command that reads a graph answers for it, or why it has no answer.
+/// The reply of a command that reads a graph, or the reason why there is none.
 pub fn answer<R: Threads + Sync, G: Gate>(
     crew: &Crew<R, G>,
     command: Command,

@@ -1,5 +1,5 @@
-//! From the tree of the minimum cuts to the answer: of the jobs `cactus` and `count` by its arrays,
-//! where these tell it, and else by a cactus.
+//! From the tree of the minimum cuts to the reply. For the jobs `cactus` and `count` it goes by
+//! the arrays of the tree if they suffice; otherwise it makes a cactus.
 
 ghost use Rattle.std.specs.Prelude.{◌≡◌, ◌≤◌, ℕ, List, IfErr, IfOk, IfSome, length};
 ghost use Rattle.answer_pages.specs.Listings.{count_text};
@@ -21,8 +21,8 @@ use std::alloc::Global;
 use stop_lines::Stop;
 use tree_flattening::{canonical_flat, count_of_tree};
 
-/// The canonical cactus of the minimum cuts, made flat by the arrays of their tree, where that has
-/// just the nodes of the cactus.
+/// The canonical cactus of the minimum cuts, made flat by the arrays of their tree, if that has
+/// exactly the nodes of the cactus.
 fn flat_by_arrays(
     alloc: Global,
     list: &EdgeList,
@@ -37,7 +37,7 @@ fn flat_by_arrays(
     canonical_flat(alloc, &found.tree, list.n())
 }
 
-/// The number of the minimum cuts by the arrays of their tree, where no node of it is empty.
+/// The number of the minimum cuts by the arrays of their tree, if no node of it is empty.
 fn count_by_arrays(
     alloc: Global,
     list: &EdgeList,
@@ -55,7 +55,7 @@ fn count_by_arrays(
     Ok(Some(reply))
 }
 
-/// What a job answers by the arrays of the tree of all minimum cuts, where these tell it.
+/// The reply of a job by the arrays of the tree of all minimum cuts, if they suffice.
 fn reply_by_arrays(
     alloc: Global,
     command: &Command,
@@ -86,7 +86,7 @@ fn reply_by_arrays(
     }
 }
 
-/// What a job on the cuts of a connected graph answers, from the tree of all its minimum cuts.
+/// The reply of a job on the cuts of a connected graph, from the tree of all its minimum cuts.
 pub(crate) fn joined_reply(
     alloc: Global,
     command: Command,

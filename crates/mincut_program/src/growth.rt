@@ -1,8 +1,8 @@
 //! The job `grow`: insertions of edges, one after another, and the minimum cuts after each.
 //!
-//! The cactus of all minimum cuts is kept from step to step: an insertion leaves just the cuts
-//! that do not part its two vertices, as long as there is one, and then the value stays. Where
-//! none is left the graph is solved anew.
+//! The cactus of all minimum cuts is kept from step to step. As long as some minimum cut does not
+//! separate the two vertices of an insertion, exactly these cuts stay, and the value stays too. If
+//! none is left, the graph is solved anew.
 
 ghost use Rattle.std.specs.Prelude.{◌≡◌, ◌≤◌, IfOk, IfErr};
 ghost use Rattle.std.specs.List.{All};
@@ -28,7 +28,7 @@ use std::thread::Threads;
 use stop_lines::Stop;
 use worker_team::Crew;
 
-/// The list of a graph with one insertion. The graph is given back.
+/// The list of a graph with one insertion. The list of the graph before is dropped.
 fn inserted(
     alloc: Global,
     graph: EdgeList,
@@ -46,7 +46,7 @@ fn inserted(
     with_edge(alloc, &graph, u as u32, v as u32, w)
 }
 
-/// The graph with one insertion.
+/// The graph with one insertion, and its minimum cuts.
 fn grow_by<R: Threads + Sync, G: Gate>(
     crew: &Crew<R, G>,
     growing: Growing,
@@ -80,7 +80,7 @@ fn grow_by<R: Threads + Sync, G: Gate>(
     }
 }
 
-/// The graph after all insertions, and what is told of it after each.
+/// The graph after all insertions, and what is printed of each step.
 fn grow_all<R: Threads + Sync, G: Gate>(
     crew: &Crew<R, G>,
     insertions: &Insertions,
@@ -101,7 +101,7 @@ fn grow_all<R: Threads + Sync, G: Gate>(
     Ok((growing, steps))
 }
 
-/// The answer for a connected graph that stays within the limits.
+/// The reply for a connected graph that stays within the limits.
 fn growth_reply<R: Threads + Sync, G: Gate>(
     crew: &Crew<R, G>,
     insertions: &Insertions,
@@ -121,8 +121,8 @@ fn growth_reply<R: Threads + Sync, G: Gate>(
     grown_reply(crew.threads.alloc, growing, steps)
 }
 
-/// What the job `grow` answers for a graph, or the first insertion after which the
-/// graph would be too large.
+/// The reply of the job `grow` for a graph. It fails with the first insertion after which the
+/// graph would be too large, or if it runs out of memory.
 pub fn grow_reply<R: Threads + Sync, G: Gate>(
     crew: &Crew<R, G>,
     insertions: &Insertions,

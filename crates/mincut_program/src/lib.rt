@@ -1,8 +1,8 @@
-//! All that the program `mincut` does, over whatever source and sinks:
-//! its words, its jobs, and what it writes.
+//! All that the program `mincut` does, over any source and sinks: its words, its jobs, and what it
+//! writes.
 //!
-//! `run` does all of it; the program itself hands it its own words and streams. `read_words` and
-//! the laws of the jobs are handed on.
+//! `run` does all of it; the program itself passes its own words and streams. `read_words` and the
+//! laws of the jobs are exported again.
 #![tactic(auto)]
 
 mod answer;

@@ -21,7 +21,7 @@ use std::thread::Threads;
 use stop_lines::{Status, Stop};
 use worker_team::Crew;
 
-/// What a command that reads a graph answers for the one that the source gives.
+/// The reply of a command that reads a graph, for the graph of the source.
 fn reading_reply<R: Threads + Sync, S: Source, G: Gate>(
     crew: &Crew<R, G>,
     command: Command,
@@ -41,7 +41,7 @@ fn reading_reply<R: Threads + Sync, S: Source, G: Gate>(
     answer(crew, command, graph)
 }
 
-/// What a command answers. A trial leaves the source as it is.
+/// The reply of a command. A trial leaves the source as it is.
 fn job_reply<R: Threads + Sync, S: Source, G: Gate>(
     rt: &R,
     alloc: Global,
@@ -74,7 +74,7 @@ fn job_reply<R: Threads + Sync, S: Source, G: Gate>(
     }
 }
 
-/// What the words ask for. Nothing is written yet.
+/// The reply that the words ask for. Nothing is written yet.
 fn reply<R: Threads + Sync, S: Source, G: Gate>(
     rt: &R,
     alloc: Global,
@@ -102,15 +102,16 @@ fn reply<R: Threads + Sync, S: Source, G: Gate>(
     }
 }
 
-/// All that the program does, over whatever source and sinks: it reads the words, reads the source
-/// to its end, writes the text of the reply to `out` or the line that tells why there is none to
-/// `err`, and answers how it ended. The job `trial` makes its graph and reads nothing. The runtime
-/// starts the threads of the workers.
+/// All that the program does, over any source and sinks. It reads the words, and reads the source
+/// to its end. Then it writes the text of the reply to `out`, or the line that says why there is
+/// none to `err`. It returns how that ended. The job `trial` makes its graph and reads nothing.
+/// The runtime starts the threads of the workers.
 ///
-/// Memory is in proportion to the graph and to what is printed; where workers share large regions
-/// each has a graph of its own, and `balanced` on a graph of several components takes a table of
-/// at most 2^32 bits. The value takes a sweep of flows, each of which is local on most graphs;
-/// the jobs on all minimum cuts take a further sweep, which lists all but one of the parts of
+/// Memory is in proportion to the graph and to what is printed. If workers share large regions,
+/// each has a graph of its own. On a graph of several components `balanced` takes a table of at
+/// most 2^32 bits. The value takes a sweep of flows, each of which is local on most graphs. The
+/// jobs on all minimum cuts take a further sweep, which lists all but one of the parts of each
+/// region that it splits.
 /// each region that it splits.
 pub fn run<R: Threads + Sync, S: Source, K: Sink, E: Sink, G: Gate>(
     rt: &R,
@@ -121,12 +122,13 @@ pub fn run<R: Threads + Sync, S: Source, K: Sink, E: Sink, G: Gate>(
     err: &mut E,
     gate: &G,
 ) -> Status
-    // A run that writes no reply tells why: the status and the line are those of a stop that has
-    // its cause. Words that are no command and ask for no notice are bad; a fault is the first one
-    // of the bytes, and no read follows the one with which they fix it; a failed read is told
-    // where no fault was fixed before it; a vertex that is not there and a limit that is not kept
-    // are named after all was read; memory is wanting before anything is read, at a read that ends
-    // at most 65,536 bytes behind the end of the header, or once all was read, and nowhere else.
+    // If a run writes no reply, its line says why: the status and the line are those of a stop
+    // that has its cause. Words that are no command and ask for no notice are bad. A fault is the
+    // first one of the bytes, and nothing is read after the read with which they fix it. A failed
+    // read is reported if no fault was fixed before it. A vertex that is not there and a limit
+    // that is exceeded are named after all was read. Memory can run out before anything is read,
+    // at a read that ends at most 65,536 bytes after the end of the header, or once all was read,
+    // and nowhere else.
     ensures told { result ≢ Status.Ok → result ≢ Status.WriteFault → Told (texts words.now) (S.left source.old) (S.left source.new)
         (S.faults source.old) (S.faults source.new) (E.taken err.old) (E.taken err.new) result }
     ensures asks_nothing { AsksNothing (texts words.now) →
@@ -134,31 +136,32 @@ pub fn run<R: Threads + Sync, S: Source, K: Sink, E: Sink, G: Gate>(
         ⊎ ((result ≡ Status.WriteFault) × Rose (E.faults err.old) (E.faults err.new)) }
     ensures unread { ¬ ReadsGraph (texts words.now) → source.new ≡ source.old }
 
-    // A fault of writing comes only where a count rose, and a first part of the text was taken.
+    // A fault of writing comes only if a count of faults rose, and a first part of the text was
+    // written.
     ensures write_fault { result ≡ Status.WriteFault →
         (ReplyFailed (texts words.now) (S.left source.old) (K.taken out.old) (K.taken out.new) (K.faults out.old) (K.faults out.new) × (err.new ≡ err.old))
         ⊎ (TellingFailed (texts words.now) (S.left source.old) (S.left source.new) (S.faults source.old) (S.faults source.new)
         (E.taken err.old) (E.taken err.new) (E.faults err.old) (E.faults err.new) × (out.new ≡ out.old)) }
 
-    // A count that changed is told.
+    // A count of faults that changed shows in the status.
     ensures source_changed { S.faults source.new ≢ S.faults source.old →
         (result ≡ Status.ReadFault) ⊎ ((result ≡ Status.WriteFault) × Rose (E.faults err.old) (E.faults err.new)) }
     ensures out_changed { K.faults out.new ≢ K.faults out.old → result ≡ Status.WriteFault }
     ensures err_changed { E.faults err.new ≢ E.faults err.old → result ≡ Status.WriteFault }
 
     // At `Ok` the source was read to its end for a job that reads a graph, no count changed, the
-    // whole reply was taken, and nothing was told.
+    // whole reply was written, and nothing was written to `err`.
     ensures ok_end { result ≡ Status.Ok → ReadsGraph (texts words.now) → IsAtEnd (S.left source.new) }
     ensures ok_source { result ≡ Status.Ok → S.faults source.new ≡ S.faults source.old }
     ensures ok_out { result ≡ Status.Ok → K.faults out.new ≡ K.faults out.old }
     ensures ok_text { result ≡ Status.Ok → TakesReply (texts words.now) (S.left source.old) (K.taken out.old) (K.taken out.new) }
     ensures ok_err { result ≡ Status.Ok → err.new ≡ err.old }
 
-    // With another status nothing was replied, unless a write failed.
+    // With another status nothing was written to `out`, unless a write failed.
     ensures out_kept { result ≢ Status.Ok → result ≢ Status.WriteFault → out.new ≡ out.old }
 
-    // Where memory suffices and no count rose, a graph is answered, a vertex that is not there and
-    // a limit that is not kept are told, and a fault is refused.
+    // If memory suffices and no count rose, a graph within the limits has its reply, a vertex that
+    // is not there and a limit that is exceeded are reported, and a fault is refused.
     ensures accepted { (bytes : List ℕ) (graph : Graph) (command : Command) → command_of (texts words.now) ≡ Some command
         → S.left source.old ≡ Some bytes → graph_of bytes ≡ Ok graph
         → IsInRange command.job graph.vertices → (2 ≤ graph.vertices → IsWithin command (masses_of bytes) graph) → ¬ Rose (S.faults source.old) (S.faults source.new)

@@ -10,7 +10,7 @@ use outside::{Gate, NoMemory};
 use std::thread::Threads;
 use worker_team::Crew;
 
-/// A connected graph, given back, and its minimum cuts.
+/// A connected graph, which is returned, and its minimum cuts.
 pub(crate) fn solve_connected<R: Threads + Sync, G: Gate>(
     crew: &Crew<R, G>,
     list: EdgeList,

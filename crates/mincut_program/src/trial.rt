@@ -10,10 +10,9 @@ use outside::{Gate, NoMemory};
 use std::thread::Threads;
 use worker_team::Crew;
 
-/// The text for the graph that is made for a number: its numbers of vertices and edges, its value,
-/// the number of its minimum cuts and the greatest balance of one.
-///
-/// It is refused only where memory is wanting.
+/// The reply for the graph that is made for a number: its numbers of vertices and edges, its
+/// value, the number of its minimum cuts and the greatest balance of one. It fails only if it runs
+/// out of memory.
 pub fn trial_reply<R: Threads + Sync, G: Gate>(
     crew: &Crew<R, G>,
     number: u32,

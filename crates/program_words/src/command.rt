@@ -263,8 +263,8 @@ fn refusal_of(error: &clap::Error) -> WordsRefusal
     }
 }
 
-/// The command of the words after the program's name. It fails with `BadWords` only if they give
-/// no command, and otherwise only if it runs out of memory.
+/// The command of the words after the program's name. It fails with `BadWords` if they form no
+/// command, and otherwise only if it runs out of memory.
 pub fn read_words(alloc: Global, words: &[String]) -> Result<Command, WordsRefusal>
     ensures ok { IfOk result (λ command. command_of (texts words.now) ≡ Some command) }
     ensures workers { IfOk result (λ command. (1 ≤ command.workers) × (command.workers ≤ 64)) }

@@ -2,8 +2,7 @@
 ghost use Rattle.std.specs.Prelude.{◌≡◌};
 ghost use Rattle.program_words.specs.Numbers.{number_of};
 
-/// The number that 1 to 20 decimal digits write, if it is below 2^64, and otherwise none. One step
-/// for each digit.
+/// The number of 1 to 20 decimal digits, if it is below 2^64. One step for each digit.
 pub fn read_number(text: &str) -> Option<u64>
     ensures { result ≡ number_of text.now }
 {

@@ -39,8 +39,8 @@ impl Run {
     }
 }
 
-/// A tree, the vertices of each node, the first nodes of the blocks below it in the order of the
-/// least vertices of the blocks, and the least vertex at or under each node.
+/// A tree with the vertices of each node, and the least vertex at or under it. `heads` has the
+/// first nodes of the blocks below each node, in the order of the least vertices of the blocks.
 #[derive(Drop)]
 pub struct Arranged<'a> {
     tree: &'a FlatTree,
