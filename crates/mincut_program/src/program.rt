@@ -112,7 +112,6 @@ fn reply<R: Threads + Sync, S: Source, G: Gate>(
 /// most 2^32 bits. The value takes a sweep of flows, each of which is local on most graphs. The
 /// jobs on all minimum cuts take a further sweep, which lists all but one of the parts of each
 /// region that it splits.
-/// each region that it splits.
 pub fn run<R: Threads + Sync, S: Source, K: Sink, E: Sink, G: Gate>(
     rt: &R,
     alloc: Global,
@@ -126,9 +125,8 @@ pub fn run<R: Threads + Sync, S: Source, K: Sink, E: Sink, G: Gate>(
     // that has its cause. Words that are no command and ask for no notice are bad. A fault is the
     // first one of the bytes, and nothing is read after the read with which they fix it. A failed
     // read is reported if no fault was fixed before it. A vertex that is not there and a limit
-    // that is exceeded are named after all was read. Memory can run out before anything is read,
-    // at a read that ends at most 65,536 bytes after the end of the header, or once all was read,
-    // and nowhere else.
+    // that is exceeded are named after all was read. Memory runs out only before anything is read,
+    // at a read that ends at most 65,536 bytes after the end of the header, or once all was read.
     ensures told { result ≢ Status.Ok → result ≢ Status.WriteFault → Told (texts words.now) (S.left source.old) (S.left source.new)
         (S.faults source.old) (S.faults source.new) (E.taken err.old) (E.taken err.new) result }
     ensures asks_nothing { AsksNothing (texts words.now) →
@@ -149,7 +147,7 @@ pub fn run<R: Threads + Sync, S: Source, K: Sink, E: Sink, G: Gate>(
     ensures out_changed { K.faults out.new ≢ K.faults out.old → result ≡ Status.WriteFault }
     ensures err_changed { E.faults err.new ≢ E.faults err.old → result ≡ Status.WriteFault }
 
-    // At `Ok` the source was read to its end for a job that reads a graph, no count changed, the
+    // At `Ok`, a job that reads a graph has read the source to its end. No count changed, the
     // whole reply was written, and nothing was written to `err`.
     ensures ok_end { result ≡ Status.Ok → ReadsGraph (texts words.now) → IsAtEnd (S.left source.new) }
     ensures ok_source { result ≡ Status.Ok → S.faults source.new ≡ S.faults source.old }
@@ -160,8 +158,9 @@ pub fn run<R: Threads + Sync, S: Source, K: Sink, E: Sink, G: Gate>(
     // With another status nothing was written to `out`, unless a write failed.
     ensures out_kept { result ≢ Status.Ok → result ≢ Status.WriteFault → out.new ≡ out.old }
 
-    // If memory suffices and no count rose, a graph within the limits has its reply, a vertex that
-    // is not there and a limit that is exceeded are reported, and a fault is refused.
+    // Suppose that memory suffices and no count rose. Then a graph within the limits has its
+    // reply, a vertex that is not there and a limit that is exceeded are reported, and a fault is
+    // refused.
     ensures accepted { (bytes : List ℕ) (graph : Graph) (command : Command) → command_of (texts words.now) ≡ Some command
         → S.left source.old ≡ Some bytes → graph_of bytes ≡ Ok graph
         → IsInRange command.job graph.vertices → (2 ≤ graph.vertices → IsWithin command (masses_of bytes) graph) → ¬ Rose (S.faults source.old) (S.faults source.new)
