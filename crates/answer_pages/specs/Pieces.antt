@@ -14,7 +14,7 @@ IsMade ts p = p.is_made ≡ true → p.text.bytes.items ≡ joined_between ts p.
 abbrev pub numbers_in : Flat → ℕ
 numbers_in flat = length flat.nodes + flat.vertices + 3 * length flat.bridges + items_in flat.cycles
 
--- the number of vertices over which the first side stands; 0 where there is none
+-- the number of vertices over which the first side is; 0 if there is none
 abbrev pub vertices_of_first : List VertexList → ℕ
 vertices_of_first [] = 0
 vertices_of_first (side ∷ sides) = side.vertices

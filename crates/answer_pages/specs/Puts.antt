@@ -9,7 +9,8 @@ pub record IsSplit (bytes : List ℕ) (before now : Option (List ℕ)) (held : L
   pub parts : bytes ≡ gone ++ held
   pub taken : Appends before now gone
 
--- the bytes go to the sink by way of the page: what it held, and those behind it, were taken or are held; where a write failed, a first part of them was taken
+-- the bytes go to the sink through the page: what it held, and the bytes after that, were taken or are held; if a write failed, a
+-- first part of them was taken
 pub record Puts {T E : Type 0} (bytes : List ℕ) (before now : Option (List ℕ)) (m n : ℕ) (held : List ℕ) (result : Result T E) : Type 0 where
   pub ok : OnOk result (IsSplit bytes before now held)
   pub err : OnErr result (AppendsPrefix before now bytes)

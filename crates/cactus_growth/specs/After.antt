@@ -9,7 +9,8 @@ use Rattle.rooted_cactus.specs.Trees.{blocks}
 use Rattle.cactus_growth.specs.declared.grown.Grown.{Grown}
 use Rattle.cactus_growth.specs.declared.grown.Grown.TheVariants.{Kept, Gone}
 
--- a cactus over the same vertices, the sides of which, of which there is one or more, are those of another that do not part two vertices; it is normal where that is
+-- a cactus over the same vertices whose sides are those of another that do not separate two vertices; there is a side, and it is
+-- normal if the other one is
 pub record IsKept (u v : ℕ) (old new : Rooted) : Type 0 where
   pub vertices : new.vertices ≡ old.vertices
   pub sides : (side : List ℕ) → Contains (sides_of new) side ↔ (Contains (sides_of old) side × (parts (has side) u v ≡ false))
@@ -17,7 +18,7 @@ pub record IsKept (u v : ℕ) (old new : Rooted) : Type 0 where
   pub blocks : 1 ≤ length (blocks new.root)
   pub normal : is_normal old.root ≡ true → is_normal new.root ≡ true
 
--- each side of a cactus parts two vertices
+-- each side of a cactus separates two vertices
 abbrev pub PartsEachSide : ℕ → ℕ → Rooted → Type 0
 PartsEachSide u v c = (side : List ℕ) → Contains (sides_of c) side → parts (has side) u v ≡ true
 

@@ -92,7 +92,7 @@ pub record IsPulled (v : ℕ) (old x : Node) : Type 0 where
   pub wide : AreWide (widths old) → AreWide (widths x)
   pub own : (w : ℕ) → has (vertices old) w ≡ true → has (vertices x) w ≡ true
 
--- a node and all below it without the cuts that part two vertices
+-- a node and all below it without the cuts that separate two vertices
 pub record IsGrown (u v : ℕ) (old x : Node) : Type 0 where
   pub below : (w : ℕ) → (part x).below w ≡ (part old).below w
   pub cuts : (s : VertexSet) → Contains (part x).cuts s ↔ (Contains (part old).cuts s × (s u ≡ s v))

@@ -32,7 +32,7 @@ LeadsTo v x way = (y : Node) × IsWay x way y × (has (vertices y) v ≡ true)
 abbrev pub IsStepTo : ℕ → Node → Step → Type 0
 IsStepTo v x s = (y : Node) × HasChild x s y × (has (vertices y) v ≡ true)
 
--- a node below which is still to be looked at is right below a node to which so many steps lead
+-- a node below which the search still has to look is right below a node to which `depth` steps lead
 pub record IsBelow (x : Node) (depth : ℕ) (w : Visit) : Type 0 where
   pub deep : w.depth ≡ depth
   pub child : HasChild x w.step w.node.now

@@ -14,7 +14,7 @@ use Rattle.canonical_cactus.specs.declared.first_side.Ranked.{Ranked}
 use Rattle.canonical_cactus.specs.declared.first_side.Ends.{Ends}
 use Rattle.canonical_cactus.specs.declared.first_side.Search.{Search}
 
--- a list does not come after another in the order of lists, in which one that another begins with comes first
+-- a list does not come after another in the order of lists, in which a list comes before those that begin with it
 abbrev pub IsNoLater : List ℕ → List ℕ → Type 0
 IsNoLater side other = is_gt (slice_cmp nat_cmp side other) ≡ false
 
@@ -36,7 +36,7 @@ vertex_at k p = slice_index k.ranges.order.items p
 abbrev pub side_of : Ranked → Range → List ℕ
 side_of k r = side_at (count_of k) k.ranges.order.items r
 
--- the range has the balance that is wanted
+-- the range has the balance that is sought
 abbrev pub IsWanted : Ranked → Range → Type 0
 IsWanted k r = range_balance k.ranges r ≡ k.high
 
@@ -44,7 +44,8 @@ IsWanted k r = range_balance k.ranges r ≡ k.high
 abbrev pub IsBeyond : Range → Range → ℕ → Type 0
 IsBeyond r other p = (r.from ≤ p) × (p < r.to) × ((p < other.from) ⊎ (other.to ≤ p))
 
--- vertices of which each is there once, trees of minima over them and over what each wants to the greatest number of 32 bits, and a balance that a side can have
+-- vertices, each of which is there once, trees of minima over them and over their differences to the greatest number
+-- of 32 bits, and a balance that a side can have
 pub record IsRanked (k : Ranked) : Type 0 where
   pub once : AreOnce (count_of k) k.ranges.order.items
   pub half : 2 * k.high ≤ total_mass k.ranges
@@ -95,11 +96,11 @@ pub record IsWithin (k : Ranked) (bounds inner : Ends) : Type 0 where
   pub end : inner.end ≤ bounds.end
   pub block : bounds.end ≤ last_of k.ranges bounds.start
 
--- a vertex stands at a place from one border on that is before another border, and is at most a number
+-- a vertex of at most a given number is at a place from one border to before another
 abbrev pub HasUpTo : Ranked → ℕ → ℕ → ℕ → Type 0
 HasUpTo k from to vertex = (p : ℕ) × (place_at k from ≤ p) × (p < place_at k to) × (vertex_at k p ≤ vertex)
 
--- one end of a range was moved on, over borders of which the last one takes in a vertex that is at most a number
+-- one end of a range was moved on, over borders; the last of these took in a vertex of at most a given number
 abbrev pub IsTaken : Ranked → Ends → Ends → ℕ → Type 0
 IsTaken k old new vertex =
     ((new.start < old.start) × HasUpTo k new.start (new.start + 1) vertex × (new.end ≡ old.end))

@@ -23,7 +23,8 @@ least_of x = least_in (arranged x).vertices
 abbrev pub leasts_of : List Node → List (Option ℕ)
 leasts_of = map least_of
 
--- a bridge, or a cycle with three or more nodes below its upper one, of which the first has a lesser least vertex than the last
+-- a bridge, or a cycle with three or more nodes below its upper one, the first with a smaller least vertex than the
+-- last
 abbrev pub turned_step : Block-F Block Blocks Children Node → Bool
 turned_step (Bridge child) = true
 turned_step (Cycle nodes) = nat_le 3 (length (nodes_in nodes)) && rises (leasts (map arranged (nodes_in nodes)))
@@ -31,7 +32,7 @@ turned_step (Cycle nodes) = nat_le 3 (length (nodes_in nodes)) && rises (leasts 
 abbrev pub is_turned : Block → Bool
 is_turned b = turned_step (out-Block b)
 
--- the blocks of a node ascend by the least vertices below them, and each cycle of them is turned as it must be
+-- the blocks of a node ascend by the least vertices below them, and each cycle of them runs in the right direction
 abbrev pub stands : Node → Bool
 stands x = ascend (leasts (map arranged_block (blocks x))) && list_all is_turned (blocks x)
 
@@ -40,7 +41,7 @@ abbrev pub IsWalk : List Node → List Node → List Node → Type 0
 IsWalk before [] after = before ≡ after
 IsWalk before (x ∷ xs) after = (rest : List Node) × (before ≡ rest ++ x ∷ []) × IsWalk (rest ++ inner_below x) xs after
 
--- the nodes of a whole walk from the root; all in the tree stands in order just where the blocks of each of them do
+-- the nodes of a whole walk from the root; all in the tree is in order exactly if the blocks of each of them are
 pub record AreInner (root : Node) (nodes : List Node) : Type 0 where
   pub walk : IsWalk (root ∷ []) nodes []
   pub stand : list_all stands nodes ≡ (arranged root).in_order

@@ -15,7 +15,7 @@ abbrev pub LawOfOneTree : Type 0
 LawOfOneTree = (n : ℕ) (first second : Node) → IsCactus n first → IsCactus n second → is_canonical first ≡ true → is_canonical second ≡ true →
     HaveSameSides (over n first) (over n second) → plain first ≡ plain second
 
--- two canonical cactuses over the same vertices that have the same sides have one flat cactus
+-- two canonical cactuses over the same vertices that have the same sides have the same flat cactus
 abbrev pub LawOfOneFlat : Type 0
 LawOfOneFlat = (n : ℕ) (first second : Node) → IsCactus n first → IsCactus n second → is_canonical first ≡ true → is_canonical second ≡ true →
     HaveSameSides (over n first) (over n second) → flat_of (over n first) ≡ flat_of (over n second)

@@ -1,4 +1,5 @@
--- What a finished part of a tree shows of the part that it stands for: the same vertices below it and the same cuts, where no node can be spared, no cycle has three nodes, and all stands in order.
+-- What a finished part of a tree shows of the part that it stands for: the same vertices below it and the same cuts. No node can
+-- be spared, no cycle has three nodes, and all is in order.
 use Rattle.std.specs.Prelude.{ℕ, ◌≡◌, ◌≤◌, Bool, true, false, cond, nat_lt, List, [], ◌∷◌}
 use Rattle.cut_definitions.specs.Weight.{VertexSet}
 use Rattle.rooted_cactus.specs.declared.tree.Node.{Node}
@@ -70,6 +71,6 @@ abbrev pub ends_rise : List Placed → Bool
 ends_rise [] = false
 ends_rise (p ∷ ps) = nat_lt (or_zero p.least) (or_zero (last_of p ps).least)
 
--- the nodes in the order in which they are closed, with the last first where the ends do not rise
+-- the nodes in the order in which they are closed; the last is first if the ends do not rise
 abbrev pub faced : List Placed → List Placed
 faced ps = cond (ends_rise ps) ps (top_first ps)

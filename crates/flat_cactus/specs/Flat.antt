@@ -1,4 +1,4 @@
--- Flat cactuses, and how one is held: lists one after another in one, with the places where each begins.
+-- Flat cactuses, and how one is held: lists one after another in one list, with the places where each begins.
 use Rattle.std.specs.Prelude.{ℕ, ◌≡◌, ◌≤◌, ◌+◌, List, [], ◌∷◌, ◌++◌, drop, length, slice_range, slice_index_or}
 use Rattle.std.specs.List.{sum_by}
 

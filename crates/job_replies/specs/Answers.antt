@@ -1,4 +1,4 @@
--- When the program gives each of its answers.
+-- When the program ends with a reply, and when with a stop.
 use Rattle.std.specs.Prelude.{◌≡◌, ◌⊎◌, ℕ, List, Option}
 use Rattle.std.specs.Io.KnownBytes.{Appends}
 use Rattle.outside.specs.Faults.{Rose, AppendsPrefix}
@@ -46,14 +46,14 @@ pub record ReplyFailed (words : List (List ℕ)) (left taken_before taken_after 
   pub reply : IsReply words left text
   pub part_taken : AppendsPrefix taken_before taken_after text
 
--- a stop with its cause was told: its line was taken whole, and the status is that of the stop
+-- a stop with its cause was reported: its line was taken whole, and the status is that of the stop
 pub record Told (words : List (List ℕ)) (left_before left_now : Option (List ℕ)) (m n : ℕ) (taken_before taken_after : Option (List ℕ)) (result : Status) : Type 0 where
   pub stop : Stop
   pub status : result ≡ status_of stop
   pub cause : IsCause words left_before left_now m n stop
   pub line_taken : Appends taken_before taken_after (line_of stop)
 
--- a write failed of the line that tells why there is no answer: a first part of it was taken
+-- a write of the line that says why there is no reply failed: a first part of it was taken
 pub record TellingFailed (words : List (List ℕ)) (left_before left_now : Option (List ℕ)) (m n : ℕ)
     (taken_before taken_after : Option (List ℕ)) (before now : ℕ) : Type 0 where
   pub rose : Rose before now

@@ -1,4 +1,4 @@
--- What is answered for a graph in several components.
+-- What is replied for a graph in several components.
 use Rattle.std.specs.Prelude.{ℕ, ◌≡◌, ◌<◌, ◌≤◌, ◌-◌, ◌*◌, ◌+◌, ◌^◌, ⊤, List, length}
 use Rattle.cut_definitions.specs.Graph.{Graph, IsEdgeList}
 use Rattle.cut_definitions.specs.Cuts.{value, mincuts}
@@ -10,14 +10,14 @@ use Rattle.job_replies.specs.Asked.{cuts_for}
 use Rattle.stop_lines.specs.declared.stop.Stop.{Stop}
 use Rattle.stop_lines.specs.declared.stop.Stop.TheVariants.{TooManyUnions, CountTooLarge, BalanceTooLarge, NoMemory}
 
--- a graph of two or more vertices and its components, of which there are two or more
+-- a graph of two or more vertices and its components, which are two or more
 pub record IsApartGraph (g : Graph) (p : Parts) : Type 0 where
   pub edge_list : IsEdgeList g
   pub enough : 2 ≤ g.vertices
   pub components : AreComponents g p
   pub several : 2 ≤ length p.parts
 
--- a list of all minimum cuts of so many components has no more than 2^30 numbers
+-- a list of all minimum cuts of a graph with this many components has no more than 2^30 numbers
 abbrev pub AreUnionsFew : ℕ → ℕ → Type 0
 AreUnionsFew components n = (2 ^ (components - 1) - 1) * n ≤ 2 ^ 30
 

@@ -1,4 +1,4 @@
--- The minimum cuts that are asked for, and what a list of them is answered.
+-- The minimum cuts that are asked for, and the reply or the stop for a list of them.
 use Rattle.std.specs.Prelude.{ℕ, ◌≡◌, ◌<◌, ◌≤◌, ◌*◌, ◌^◌, ⊤, List, length}
 use Rattle.std.specs.List.{filter}
 use Rattle.cut_definitions.specs.Graph.{Graph}

@@ -9,7 +9,7 @@ use Rattle.job_replies.specs.Answers.{Failed, Writes, Wrote}
 use Rattle.job_replies.specs.declared.reply.Reply.{Reply}
 use Rattle.job_replies.specs.Replies.{text_of, TakesMemory}
 
--- the reply was written whole, and nothing is told
+-- the reply was written whole, and nothing is reported
 pub record IsReplied {E : Type 0} (found : Result Reply Stop) (taken_before taken_after : Option (List ℕ)) (before now : ℕ) (err_before err_after : E) (result : Status) : Type 0 where
   pub reply : Reply
   pub found_is : found ≡ Ok reply
@@ -17,7 +17,7 @@ pub record IsReplied {E : Type 0} (found : Result Reply Stop) (taken_before take
   pub wrote : Wrote (text_of reply) taken_before taken_after before now
   pub nothing_told : err_after ≡ err_before
 
--- a write of the reply failed, and nothing is told
+-- a write of the reply failed, and nothing is reported
 pub record IsBroken {E : Type 0} (found : Result Reply Stop) (taken_before taken_after : Option (List ℕ)) (before now : ℕ) (err_before err_after : E) (result : Status) : Type 0 where
   pub reply : Reply
   pub found_is : found ≡ Ok reply
@@ -25,12 +25,12 @@ pub record IsBroken {E : Type 0} (found : Result Reply Stop) (taken_before taken
   pub failed : Failed (text_of reply) taken_before taken_after before now
   pub nothing_told : err_after ≡ err_before
 
--- a stop is told: the one that was found, or that memory is wanting for writing the reply
+-- the stop that is reported: the one that was found, or that there is not enough memory to write the reply
 abbrev pub IsStopOf : Result Reply Stop → Stop → Type 0
 IsStopOf (Ok reply) stop = (stop ≡ NoMemory) × TakesMemory reply
 IsStopOf (Err found) stop = stop ≡ found
 
--- a stop is told, or a write of its line failed, and nothing is replied
+-- a stop is reported, or a write of its line failed, and nothing is replied
 pub record IsStopped {K : Type 0} (found : Result Reply Stop) (taken_before taken_after : Option (List ℕ)) (before now : ℕ) (out_before out_after : K) (result : Status) : Type 0 where
   pub stop : Stop
   pub stop_of : IsStopOf found stop

@@ -1,4 +1,4 @@
--- What the job `grow` answers.
+-- What the job `grow` replies.
 use Rattle.std.specs.Prelude.{ℕ, ◌≡◌, ◌≤◌, ◌⊎◌, ⊤, List}
 use Rattle.cut_definitions.specs.Components.{IsConnected, HasComponents}
 use Rattle.cut_definitions.specs.Graph.{Graph}

@@ -1,4 +1,4 @@
--- The graph after insertions of edges, one after another, and what is told of it.
+-- The graph after insertions of edges, one after another, and what is printed of it.
 use Rattle.std.specs.Prelude.{ℕ, ◌≤◌, ◌<◌, List, [], ◌∷◌, take, length}
 use Rattle.cut_definitions.specs.Graph.{Graph, IsEdgeList}
 use Rattle.cut_definitions.specs.Cuts.{value, mincuts}

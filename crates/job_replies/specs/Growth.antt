@@ -14,7 +14,7 @@ pub record IsGrowing (growing : Growing) : Type 0 where
   pub connected : IsConnected growing.graph
   pub solved : IsSolved growing.graph growing.solved
 
--- the graph after insertions, and what is told of it after each
+-- the graph after insertions, and what is printed of each step
 pub record HasGrown (g : Graph) (is : List Insertion) (after : Growing) (steps : List Step) : Type 0 where
   pub list : after.graph ≡ grown g is
   pub growing : IsGrowing after

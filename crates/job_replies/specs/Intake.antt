@@ -1,4 +1,4 @@
--- What was read of the bytes that the source had left, and what it gives.
+-- What was read of the bytes that the source had left, and what follows from it.
 use Rattle.std.specs.Prelude.{◌≡◌, ◌≤◌, ◌⊎◌, ℕ, List, [], ◌++◌, length, Option, None, Some, Ok, Err, IfSome, MatchOption}
 use Rattle.std.specs.Io.KnownBytes.{IsAtEnd}
 use Rattle.outside.specs.Faults.{Rose}
@@ -16,11 +16,11 @@ use Rattle.job_replies.specs.Jobs.{IsAnswerOf, IsStopFor}
 use Rattle.job_replies.specs.Trials.{IsTrialText}
 use Rattle.program_words.specs.Notices.{notice_of, text_of}
 
--- these bytes were read of those that were left, where the source tells them
+-- these bytes were read of those that were left, if the source tells which these are
 abbrev pub IsRead : Option (List ℕ) → Option (List ℕ) → List ℕ → Type 0
 IsRead before now bytes = IfSome before (λ all. (rest : List ℕ) × (now ≡ Some rest) × (all ≡ bytes ++ rest))
 
--- what one read gives at most
+-- the greatest length of one read
 abbrev pub IsOneRead : List ℕ → Type 0
 IsOneRead piece = length piece ≤ 65536
 
@@ -53,7 +53,7 @@ pub record IsAtHeader (before now : Option (List ℕ)) : Type 0 where
   pub read : IsRead before now (bytes ++ piece)
   pub header : HeaderEndsIn bytes piece
 
--- where memory may be wanting: before anything is read, at the read that has the end of the header, and once all was read
+-- where memory can run out: before anything is read, at the read that has the end of the header, and once all was read
 abbrev pub IsMemoryPlace : Option (List ℕ) → Option (List ℕ) → Type 0
 IsMemoryPlace before now = IsRead before now [] ⊎ (IsAtHeader before now ⊎ IsAtEnd now)
 
@@ -65,11 +65,12 @@ pub record IsStopped (words : List (List ℕ)) (bytes : List ℕ) (stop : Stop) 
   pub accepted : graph_of bytes ≡ Ok graph
   pub why : IsStopFor command (masses_of bytes) graph stop
 
--- the words read a graph, all was read, and for the graph of it the job has no text
+-- the words ask for a job that reads a graph, all was read, and the job has no text for this graph
 abbrev pub IsJobStop : List (List ℕ) → Option (List ℕ) → Option (List ℕ) → ℕ → ℕ → Stop → Type 0
 IsJobStop words before now m n stop = ReadsGraph words × (n ≡ m) × IsAtEnd now × IfSome before (λ bytes. IsStopped words bytes stop)
 
--- why there is no answer: by the words, the bytes that the source had left before and has now, and its count of faults before and now
+-- why there is no reply: by the words, by the bytes that the source had left before and has left now, and by its
+-- counts of faults
 abbrev pub IsCause : List (List ℕ) → Option (List ℕ) → Option (List ℕ) → ℕ → ℕ → Stop → Type 0
 IsCause words before now m n BadWords = AsksNothing words
 IsCause words before now m n (Refused fault) = ReadsGraph words × (n ≡ m) × IsRefused before now fault
@@ -82,13 +83,14 @@ IsCause words before now m n (CountTooLarge components) = IsJobStop words before
 IsCause words before now m n (BalanceTooLarge components total) = IsJobStop words before now m n (BalanceTooLarge components total)
 IsCause words before now m n (GrowTooLarge number) = IsJobStop words before now m n (GrowTooLarge number)
 
--- the text is what the command answers for the graph and the masses of the bytes
+-- the text is the reply of the command for the graph and the masses of the bytes
 pub record IsJobAnswer (command : Command) (bytes text : List ℕ) : Type 0 where
   pub graph : Graph
   pub accepted : graph_of bytes ≡ Ok graph
   pub answer : IsAnswerOf command (masses_of bytes) graph text
 
--- the text is what a job replies: a trial for the graph that it makes, whatever the source has left, and any other what the command answers for the bytes that it had left
+-- the text is the reply of a job: that of a trial for the graph that it makes, whatever the source has left, and that of any other
+-- job for the bytes that the source had left
 abbrev pub RepliesAs : Job → Command → Option (List ℕ) → List ℕ → Type 0
 RepliesAs (Trial number) command left text = IsTrialText number text
 RepliesAs _ command left text = IfSome left (λ bytes. IsJobAnswer command bytes text)
@@ -96,12 +98,12 @@ RepliesAs _ command left text = IfSome left (λ bytes. IsJobAnswer command bytes
 abbrev pub IsJobReply : Command → Option (List ℕ) → List ℕ → Type 0
 IsJobReply command left text = RepliesAs command.job command left text
 
--- the text is what the job of the words replies
+-- the text is the reply of the job of the words
 pub record IsAnswer (words : List (List ℕ)) (left : Option (List ℕ)) (text : List ℕ) : Type 0 where
   pub command : Command
   pub commanded : command_of words ≡ Some command
   pub answer : IsJobReply command left text
 
--- the text is that of the notice that the words ask for, or else that of their job
+-- the text is that of the notice that the words ask for, or that of their job if they ask for none
 abbrev pub IsReply : List (List ℕ) → Option (List ℕ) → List ℕ → Type 0
 IsReply words left text = MatchOption (notice_of words) (IsAnswer words left text) (λ notice. text ≡ text_of notice)

@@ -1,4 +1,4 @@
--- What the jobs answer for a graph.
+-- What the jobs reply for a graph.
 use Rattle.std.specs.Prelude.{ℕ, ◌≡◌, ◌⊎◌, ◌<◌, ◌≤◌, ◌+◌, ◌-◌, ◌*◌, ◌^◌, ⊤, true, List, ◌∷◌, ◌++◌, Option, Some, length, nat_le}
 use Rattle.std.specs.List.{All, filter}
 use Rattle.cut_definitions.specs.Graph.{Graph, IsVertex}
@@ -27,7 +27,7 @@ use Rattle.job_replies.specs.GrownGraphs.{grown, steps_of, IsFirstBeyond, StaysW
 use Rattle.answer_pages.specs.Listings.{listing_text, count_text, balanced_text}
 use Rattle.program_words.specs.Texts.{no_cut_line, disconnected_line, value_line}
 
--- the canonical cactus of a graph: the one over its vertices whose sides are just its minimum cuts
+-- the canonical cactus of a graph: the one over its vertices whose sides are exactly its minimum cuts
 pub record IsCactusOf (g : Graph) (cactus : Rooted) : Type 0 where
   pub is_cactus : IsCactus cactus.vertices cactus.root
   pub over : cactus.vertices ≡ g.vertices
@@ -41,14 +41,15 @@ pub record IsCactusText (g : Graph) (text : List ℕ) : Type 0 where
   pub shows : ShowsCuts g (flat_of cactus)
   pub text_is : text ≡ cactus_text (value g) (flat_of cactus)
 
--- the text of a best side, where the vertices have these masses; in a connected graph it is the first of them in the order of lists
+-- the text of a best side, if the vertices have these masses; in a connected graph it is the first of them in the
+-- order of lists
 pub record IsBalancedText (masses : List ℕ) (g : Graph) (text : List ℕ) : Type 0 where
   pub side : List ℕ
   pub best : IsBest masses (mincuts g) side
   pub first : IsConnected g → IsFirstBest masses (mincuts g) side
   pub text_is : text ≡ balanced_text (value g) (balance masses side) side
 
--- the text of the augmentation that the canonical cactus gives: its edges and sets, each list ascending
+-- the text of the augmentation of the canonical cactus: its edges and sets, each list ascending
 pub record IsAugmentText (g : Graph) (text : List ℕ) : Type 0 where
   pub plan : Augmentation
   pub least : IsLeastRaise g plan
@@ -64,7 +65,7 @@ pub record IsGrowText (g : Graph) (insertions : List Insertion) (text : List ℕ
   pub shows : ShowsCuts (grown g insertions) (flat_of cactus)
   pub text_is : text ≡ growth_text (steps_of g insertions) (value (grown g insertions)) (flat_of cactus)
 
--- of some cuts, the ones that a listing has: those that part two vertices, those of at least a balance, or all
+-- the cuts of a listing, out of some cuts: those that separate two vertices, those of at least a balance, or all
 abbrev pub asked_of : Job → Option ℕ → List ℕ → List (List ℕ) → List (List ℕ)
 asked_of (Part u v) least masses cuts = filter (λ s. parts (has s) u v) cuts
 asked_of Cuts (Some least) masses cuts = filter (λ s. nat_le least (balance masses s)) cuts
@@ -74,7 +75,7 @@ asked_of _ least masses cuts = cuts
 abbrev pub asked_cuts : Command → List ℕ → Graph → List (List ℕ)
 asked_cuts command masses g = asked_of command.job command.least masses (mincuts g)
 
--- the text of a job for a graph that has a cut, where a listing has these cuts; a trial has none for a graph that was read
+-- the text of a job for a graph that has a cut, if these are the cuts of a listing; a trial has no text for a graph that was read
 abbrev pub IsTextOf : Job → List (List ℕ) → List ℕ → Graph → List ℕ → Type 0
 IsTextOf Value cuts masses g text = text ≡ value_line (value g)
 IsTextOf Cactus cuts masses g text = IsCactusText g text
@@ -109,7 +110,8 @@ IsListed Cuts = ⊤
 IsListed (Part u v) = ⊤
 IsListed _ = ⊥
 
--- a listing has no more than 2^30 numbers, as many for each side as there are vertices; of two or more components all minimum cuts would have no more, whatever is asked for
+-- a listing has no more than 2^30 numbers, as many for each side as there are vertices; if there are two or more components, all
+-- minimum cuts have to keep this limit, whatever is asked for
 pub record IsListWithin (cuts : List (List ℕ)) (g : Graph) (components : ℕ) : Type 0 where
   pub asked : components < 2 → length cuts * g.vertices ≤ 2 ^ 30
   pub all : 2 ≤ components → (2 ^ (components - 1) - 1) * g.vertices ≤ 2 ^ 30
@@ -118,7 +120,9 @@ pub record IsListWithin (cuts : List (List ℕ)) (g : Graph) (components : ℕ) 
 abbrev pub total_of : List ℕ → ℕ
 total_of masses = mass masses (λ v. true)
 
--- the limits of a job where a graph has so many components: a list within its limit, 127 components for their number, 2^32 for the components times the sum of the masses and 1 for a balance of two or more, and the limits of a graph after each insertion
+-- the limits of a job on a graph with this many components: the limit of a list; 127 components for the number of cuts; 2^32 for
+-- the number of two or more components times one more than the sum of the masses, for a balance; and the limits of a graph after
+-- each insertion
 abbrev pub KeepsLimit : Job → List (List ℕ) → List ℕ → Graph → ℕ → Type 0
 KeepsLimit Cuts cuts masses g components = IsListWithin cuts g components
 KeepsLimit (Part u v) cuts masses g components = IsListWithin cuts g components
@@ -185,7 +189,7 @@ pub record IsAnswerOf (command : Command) (masses : List ℕ) (g : Graph) (text 
   pub in_range : IsInRange command.job g.vertices
   pub answer : IsUncut g text ⊎ (IsApart command masses g text ⊎ IsWhole command masses g text)
 
--- the cuts of a listing of a graph of one component are so many that their number times n is above 2^30
+-- a graph of one component has so many cuts in a listing that their number times n is above 2^30
 pub record IsOverLimit (command : Command) (masses : List ℕ) (g : Graph) (cuts n : ℕ) : Type 0 where
   pub in_range : IsInRange command.job g.vertices
   pub enough : 2 ≤ g.vertices
@@ -195,7 +199,7 @@ pub record IsOverLimit (command : Command) (masses : List ℕ) (g : Graph) (cuts
   pub over : n ≡ g.vertices
   pub large : 2 ^ 30 < cuts * n
 
--- the minimum cuts of a graph of several components are so many
+-- a graph of several components has so many minimum cuts that their number times n is above 2^30
 pub record IsOverUnions (command : Command) (g : Graph) (components n : ℕ) : Type 0 where
   pub in_range : IsInRange command.job g.vertices
   pub enough : 2 ≤ g.vertices
@@ -205,7 +209,7 @@ pub record IsOverUnions (command : Command) (g : Graph) (components n : ℕ) : T
   pub over : n ≡ g.vertices
   pub large : 2 ^ 30 < (2 ^ (components - 1) - 1) * n
 
--- there are so many components that the number of minimum cuts is not told
+-- there are so many components that the number of minimum cuts is not printed
 pub record IsOverCount (command : Command) (g : Graph) (components : ℕ) : Type 0 where
   pub enough : 2 ≤ g.vertices
   pub job : command.job ≡ Count

@@ -1,5 +1,5 @@
--- What is written of a cactus, of a side of best balance, and of an augmentation is a function of the graph, what a trial writes
--- is one of its number, and what any other job writes is one of the bytes read.
+-- What is written of a cactus, of a side of best balance, and of an augmentation is a function of the graph. What a
+-- trial writes is a function of its number, and what any other job writes is one of the bytes read.
 use Rattle.std.specs.Prelude.{ℕ, ◌≡◌, List, Ok}
 use Rattle.cut_definitions.specs.Graph.{Graph}
 use Rattle.cut_definitions.specs.Components.{IsConnected}
@@ -22,8 +22,8 @@ LawOfOneBalancedText = (masses : List ℕ) (g : Graph) → IsConnected g → (t 
 abbrev pub LawOfOneAugmentText : Type 0
 LawOfOneAugmentText = (g : Graph) (t u : List ℕ) → IsAugmentText g t → IsAugmentText g u → t ≡ u
 
--- for the bytes of a file all commands with one job and one least balance have one text, whatever their numbers of workers;
--- `balanced` where the graph is connected
+-- for the bytes of a file all commands with one job and one least balance have one text, whatever their numbers of
+-- workers; for `balanced` this holds if the graph is connected
 abbrev pub LawOfOneAnswer : Type 0
 LawOfOneAnswer = (first second : Command) → first.job ≡ second.job → first.least ≡ second.least → (bytes t u : List ℕ)
     → ((g : Graph) → graph_of bytes ≡ Ok g → first.job ≡ Balanced → IsConnected g)

@@ -1,4 +1,4 @@
--- Lists of neighbours, one for each vertex, and the graph that they give.
+-- Lists of neighbours, one for each vertex, and their graph.
 use Rattle.std.specs.Prelude.{ℕ, ◌≢◌, IsTrue, ◌+◌, ◌-◌, ◌≤◌, List, [], map, length, slice_index_or}
 use Rattle.std.specs.List.{All, AllPairs, filter, flat_map, range_with_len}
 use Rattle.cut_definitions.specs.declared.edge_list.Edge.{Edge}
@@ -20,7 +20,7 @@ edges_to names from count = filter (λ (e : Edge). has names e.v) (map (edge_fro
 abbrev pub graph_of_rows : ℕ → List (List ℕ) → Graph
 graph_of_rows n rows = record { vertices = n; edges = flat_map (λ from. edges_to (row rows from) from (n - from)) (range_with_len 1 n) }
 
--- a vertex may stand in the row of another that stands in its row
+-- a vertex that is in the row of another has that one in its own row
 pub record IsNeighbour (rows : List (List ℕ)) (u v : ℕ) : Type 0 where
   pub from_one : 1 ≤ v
   pub to_n : v ≤ length rows

@@ -1,4 +1,4 @@
--- What the body keeps, without where it lies in memory.
+-- What the body keeps, without its place in memory.
 use Rattle.std.specs.Prelude.{◌≢◌, ℕ, List, suc, ◌+◌, ◌*◌, ◌++◌, ◌<◌, ◌≤◌, length, nat_le, if◌then◌else◌}
 use Rattle.cut_definitions.specs.declared.edge_list.Edge.{Edge}
 use Rattle.metis_reader.specs.declared.header.Header.{Header}
@@ -11,7 +11,7 @@ use Rattle.metis_reader.specs.Meeting.{with_met}
 use Rattle.metis_reader.specs.Regions.{waiting_from}
 use Rattle.metis_reader.specs.Profile as profile
 
--- how many words stand before the vertex weights, and how many before the neighbours
+-- how many words come before the vertex weights, and how many before the neighbours
 abbrev pub sizes_of : Header → ℕ
 sizes_of h = if h.format.has_sizes then 1 else 0
 
@@ -37,14 +37,14 @@ greater_of b = b.greater.items
 abbrev pub waiting_of : Waiting → List Edge
 waiting_of w = waiting_from 0 w.owners.items w.weights.items w.packed.items
 
--- the entries to lesser neighbours, in some order
+-- the entries to smaller neighbours, in some order
 abbrev pub lesser_of : Body → List Edge
 lesser_of b = with_met b.greater.items b.cursors.items (b.lesser.items ++ waiting_of b.waiting)
 
 abbrev pub entry_count : Body → ℕ
 entry_count b = b.entries
 
--- in the present vertex line an entry with this neighbour may stand
+-- the present vertex line may have a further entry with this neighbour
 pub record CanEnter (b : Body) (v : ℕ) : Type 0 where
   pub from_one : 1 ≤ v
   pub to_n : v ≤ b.header.vertices

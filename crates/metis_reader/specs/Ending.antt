@@ -48,7 +48,7 @@ state_graph s = shown_by (record { vertices = 0; edges = [] }) graph_shown s
 abbrev pub state_masses : State → List ℕ
 state_masses s = shown_by [] (λ header done. all_masses done) s
 
--- the end of the last line, where no line feed ends it: its faults, the state behind it, and the number of lines
+-- the end of the last line, if no line feed ends it: its faults, the state after it, and the number of lines
 abbrev pub last_line : Reading → List Finding
 last_line r = elim r.part [ Words ↦ line_end r.state r.word r.next (suc r.ended) | _ ↦ [] ]
 

@@ -9,7 +9,7 @@ use Rattle.metis_reader.specs.File.{is_kept, from_header, fixed}
 use Rattle.metis_reader.specs.Reading.{start, bytes_findings, reading_from}
 use Rattle.metis_reader.specs.Holding.{Holds}
 
--- the end of the header's line is among the bytes: before some line feed stands a header
+-- the end of the header's line is among the bytes: there is a header before some line feed
 pub record HasHeader (bytes : List ℕ) : Type 0 where
   pub before : List ℕ
   pub behind : List ℕ
@@ -31,7 +31,7 @@ StandsBy (Some (Fault f)) reader bytes = fixed bytes ≡ Some f
 unfoldable pub StandsFor : Reader → List ℕ → Type 0
 StandsFor reader bytes = StandsBy reader.refusal reader bytes
 
--- the refusal that the reader answered, if any
+-- the refusal that the reader returned, if any
 unfoldable pub answered : Reader → Option ReadRefusal
 answered reader = reader.refusal
 

@@ -28,7 +28,7 @@ all_entries vertices = flat_map (λ (v : VertexLine). v.entries) vertices
 abbrev pub all_masses : List VertexLine → List ℕ
 all_masses vertices = map (λ (v : VertexLine). v.mass) vertices
 
--- The tests of the end of the input: of the lines of two vertices that a fault may be told of, that of the lesser one.
+-- The tests of the end of the input. Each reports the first line with its fault, which is that of the smallest vertex.
 
 abbrev pub is_to : Entry → Entry → Bool
 is_to d e = d.to == e.to
@@ -43,7 +43,7 @@ is_mate e d = d.from == e.to && d.to == e.from && d.weight == e.weight
 abbrev pub lacks_mate : List Entry → Entry → Bool
 lacks_mate all e = not (list_any (is_mate e) all)
 
--- the kind, at the first of these lines of which the test holds
+-- the kind of the fault, at the first of these lines for which the test holds
 abbrev pub first_line : (VertexLine → Bool) → FaultKind → ℕ → List VertexLine → List Finding
 first_line test kind end [] = []
 first_line test kind end (v ∷ vertices) =
@@ -56,7 +56,7 @@ end_findings header end count vertices =
     ++ first_line (λ v. has_repeat v.entries) Repeated end vertices
     ++ first_line (λ v. list_any (lacks_mate (all_entries vertices)) v.entries) Unsymmetric end vertices
 
--- The faults of the lines behind the header that are no comments, so many vertex lines first.
+-- The faults of the lines after the header that are no comments; the first of them are vertex lines.
 abbrev pub body_findings : Header → ℕ → ℕ → List Entry → List Line → List Finding
 body_findings header vertex zero before lines = extra_findings lines
 body_findings header vertex (suc left) before [] = []
@@ -72,7 +72,7 @@ abbrev pub from_header : List Line → List Line
 from_header [] = []
 from_header (line ∷ lines) = elim line.words [ [] ↦ from_header lines | word ∷ words ↦ line ∷ lines ]
 
--- the faults of these lines, of which the first is the header, in a text of so many lines that ends at this place
+-- the faults of these lines, the first of which is the header, in a text with `count` lines that ends at this place
 abbrev pub file_findings : ℕ → ℕ → List Line → List Finding
 file_findings end count [] = found_at end count (NoHeader ∷ [])
 file_findings end count (line ∷ lines) =
@@ -81,7 +81,7 @@ file_findings end count (line ∷ lines) =
     ++ body_findings header 1 header.vertices [] lines
     ++ end_findings header end count (vertex_lines header 1 header.vertices lines)
 
--- byte 2^33 + 1, and the line that it stands in
+-- byte 2^33 + 1, and the line that it is in
 abbrev pub too_long : List ℕ → List Finding
 too_long bytes =
     found_at (suc (2 ^ 33)) (suc (length (filter is_line_feed (take (2 ^ 33) bytes)))) (where_true (nat_lt (2 ^ 33) (length bytes)) InputTooLong)
@@ -122,7 +122,7 @@ edge_list (line ∷ lines) =
       edges = edges_of header.vertices (all_entries (vertex_lines header 1 header.vertices lines));
     }
 
--- the mass of each vertex: its first weight, or 1 where the format says that vertices have none
+-- the mass of each vertex: its first weight, or 1 if the format says that vertices have none
 abbrev pub mass_list : List Line → List ℕ
 mass_list [] = []
 mass_list (line ∷ lines) =
@@ -137,6 +137,6 @@ masses_of bytes = mass_list (from_header (filter is_kept (lines bytes)))
 unfoldable pub graph_of : List ℕ → Result Graph Fault
 graph_of bytes = elim (first (findings bytes)) [ Some f ↦ Err (fault_of f) | None ↦ Ok (edge_list (from_header (filter is_kept (lines bytes)))) ]
 
--- the fault that the bytes fix, whatever follows: the first one, where its place is within them
+-- the fault that the bytes fix, whatever follows: the first one, if its place is within them
 unfoldable pub fixed : List ℕ → Option Fault
 fixed bytes = elim (first (findings bytes)) [ Some f ↦ (if nat_le f.place (length bytes) then Some (fault_of f) else None) | None ↦ None ]

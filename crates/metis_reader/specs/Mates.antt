@@ -19,15 +19,15 @@ end_of Greater u v = v
 abbrev pub is_pair : ℕ → ℕ → Edge → Bool
 is_pair u v e = e.u == u && e.v == v
 
--- how often a pair stands in a list
+-- how often a pair is in a list
 abbrev pub times : ℕ → ℕ → List Edge → ℕ
 times u v edges = sum_by (λ (e : Edge). if is_pair u v e then 1 else 0) edges
 
--- some pair with this vertex at its one end stands twice
+-- some pair that has this vertex at one end is there twice
 abbrev pub Repeats : End → ℕ → List Edge → Type 0
 Repeats end x edges = (u : ℕ) × (v : ℕ) × (end_of end u v ≡ x) × (2 ≤ times u v edges)
 
--- no such pair stands twice
+-- no such pair is there twice
 abbrev pub IsOnce : End → ℕ → List Edge → Type 0
 IsOnce end x edges = (u v : ℕ) → end_of end u v ≡ x → times u v edges ≤ 1
 
@@ -39,8 +39,8 @@ IsMatched end x edges others = (e : Edge) → Contains edges e → end_of end e.
 abbrev pub Lacks : End → ℕ → List Edge → List Edge → Type 0
 Lacks end x edges others = (e : Edge) × Contains edges e × (end_of end e.u e.v ≡ x) × (Contains others e → ⊥)
 
--- the entries to greater neighbours stand in the lines of their lesser ends, those to lesser neighbours, mirrored, in the
--- lines of their greater ends
+-- the entries to greater neighbours are in the lines of their smaller ends; those to smaller neighbours, mirrored, are
+-- in the lines of their greater ends
 abbrev pub RepeatsAt : ℕ → List Edge → List Edge → Type 0
 RepeatsAt x greater lesser = Repeats Lesser x greater ⊎ Repeats Greater x lesser
 
@@ -57,13 +57,13 @@ abbrev pub IsAtMost : Option ℕ → ℕ → Type 0
 IsAtMost None x = ⊥
 IsAtMost (Some f) x = f ≤ x
 
--- the lesser of a vertex that was found, if any, and another
+-- the smaller of a vertex that was found, if any, and another
 pub record IsLesserOf (found : Option ℕ) (vertex : ℕ) (lesser : Option ℕ) : Type 0 where
   pub vertex_above : IsAtMost lesser vertex
   pub found_above : (x : ℕ) → IsAtMost found x → IsAtMost lesser x
   pub either : (lesser ≡ found) ⊎ (lesser ≡ Some vertex)
 
--- the lesser of two vertices that were found, if any
+-- the smaller of two vertices that were found, if any
 pub record IsLesserOfBoth (found other lesser : Option ℕ) : Type 0 where
   pub found_above : (x : ℕ) → IsAtMost found x → IsAtMost lesser x
   pub other_above : (x : ℕ) → IsAtMost other x → IsAtMost lesser x

@@ -1,4 +1,4 @@
--- The line numbers of the vertex lines, of which only those are kept that do not follow on the one before.
+-- The line numbers of the vertex lines. Only those are kept that do not directly follow the one before.
 use Rattle.std.specs.Prelude.{ℕ, zero, suc, ◌+◌, ◌-◌, nat_le, if◌then◌else◌, List, [], ◌∷◌, ◌++◌}
 use Rattle.metis_reader.specs.declared.line_numbers.Run.{Run}
 

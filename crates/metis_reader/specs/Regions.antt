@@ -2,7 +2,7 @@
 use Rattle.std.specs.Prelude.{ℕ, suc, ◌+◌, ◌*◌, ◌/◌, ◌%◌, ◌==◌, if◌then◌else◌, List, [], ◌∷◌, get_or}
 use Rattle.cut_definitions.specs.declared.edge_list.Edge.{Edge}
 
--- the entry that stands as this number at this place
+-- the entry that this number stands for at this place
 abbrev pub entry_at : List ℕ → List ℕ → ℕ → ℕ → Edge
 entry_at owners weights place packed = record {
   u = get_or owners (place / 1024) 0 * 1024 + packed / 4194304 + 1;

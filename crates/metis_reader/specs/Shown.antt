@@ -25,7 +25,7 @@ BeginsWith kind kinds = (others : List FaultKind) × (kinds ≡ kind ∷ others)
 abbrev pub is_upward : Entry → Bool
 is_upward e = nat_lt e.from e.to
 
--- the edge of an entry, told from its other end
+-- the edge of an entry, seen from its other end
 abbrev pub mirrored : Entry → Edge
 mirrored e = record { u = e.to; v = e.from; w = e.weight }
 

@@ -1,4 +1,4 @@
--- A tree of nodes whose blocks and cycles stand in the order of a canonical cactus.
+-- A tree of nodes whose blocks and cycles are in the order of a canonical cactus.
 use Rattle.std.specs.Prelude.{ℕ, ◌≡◌, ◌-◌, ◌<◌, ◌≤◌, ◌⊎◌, if◌then◌else◌, nat_lt, false, List, [], ◌∷◌, ◌++◌, length, map, reverse, slice_index, slice_index_or}
 use Rattle.std.specs.List.{Contains, range_with_len}
 use Rattle.std.specs.List.Sorted.{IsPermutation, IsNonDecreasingBy}
@@ -17,20 +17,20 @@ pub record AreLeasts (n : ℕ) (a : NodeArrays) (l : LeastVertices) : Type 0 whe
   pub nodes : (i : ℕ) → i < length a.links.uppers → l.nodes i ≡ least (own_of n a i ++ map l.blocks (heads_of a.links i))
   pub blocks : (h : ℕ) → 1 ≤ h → h < length a.links.uppers → is_follower a.links.follows h ≡ false → l.blocks h ≡ least (map l.nodes (run_of a.links h))
 
--- the last of several numbers, or a number where there is none
+-- the last of several numbers, or another number if there is none
 abbrev pub last_or : ℕ → List ℕ → ℕ
 last_or x [] = x
 last_or x (y ∷ ys) = last_or y ys
 
--- the nodes of a cycle from the end that has the lesser vertex at or under it
+-- the nodes of a cycle from the end that has the smaller vertex at or under it
 abbrev pub faced : (ℕ → ℕ) → ℕ → List ℕ → List ℕ
 faced least_at h run = if nat_lt (least_at (last_or h run)) (least_at h) then reverse run else run
 
--- nodes of a block, from one number up to another, which is not among them; from the last to the first where they are turned
+-- nodes of a block, from one number up to before another; from the last to the first if they are turned
 abbrev pub run_list : Run → List ℕ
 run_list r = if r.is_turned then reverse (range_with_len r.first (r.end - r.first)) else range_with_len r.first (r.end - r.first)
 
--- the plan that the arrays of an arrangement tell
+-- the plan of the arrays of an arrangement
 abbrev pub plan_of : Arranged → Plan
 plan_of x = record {
   count = length x.tree.now.uppers;
@@ -43,7 +43,7 @@ plan_of x = record {
 abbrev pub AreFilled : ℕ → NodeArrays → Type 0
 AreFilled n a = (i : ℕ) → i < length a.links.uppers → 1 ≤ length (own_of n a i)
 
--- these are the vertices of each node, of which none is empty, so there are no more nodes than vertices
+-- these are the vertices of each node; none is empty, so there are no more nodes than vertices
 pub record AreOwn (n : ℕ) (a : NodeArrays) (members : List (List ℕ)) : Type 0 where
   pub few : length a.links.uppers ≤ n
   pub laid : AreLaid a.links.uppers a.links.follows
@@ -51,11 +51,11 @@ pub record AreOwn (n : ℕ) (a : NodeArrays) (members : List (List ℕ)) : Type 
   pub own : (i : ℕ) → i < length a.links.uppers → slice_index_or members i [] ≡ own_of n a i
   pub filled : AreFilled n a
 
--- no cycle has three nodes, with the one above: none has two that follow each other and no more
+-- no cycle has three nodes, with the one above: nowhere exactly two nodes follow each other
 abbrev pub HasNoTriangle : TreeLinks → Type 0
 HasNoTriangle t = (h : ℕ) → 1 ≤ h → h < length t.uppers → is_follower t.follows h ≡ false → length (run_of t h) ≡ 2 → ⊥
 
--- the blocks of each node by their least vertices, and each cycle from the lesser end
+-- the blocks of each node by their least vertices, and each cycle from the smaller end
 pub record IsArranged (n : ℕ) (a : NodeArrays) (l : LeastVertices) (p : Plan) : Type 0 where
   pub count : p.count ≡ length a.links.uppers
   pub own : (i : ℕ) → i < p.count → p.own i ≡ own_of n a i
@@ -96,7 +96,7 @@ pub record IsOrdered (n : ℕ) (a : NodeArrays) (x : Arranged) : Type 0 where
 abbrev pub IsUnfit : ℕ → NodeArrays → Type 0
 IsUnfit n a = (n < length a.links.uppers) ⊎ (¬ (AreFilled n a) ⊎ ¬ (HasNoTriangle a.links))
 
--- a tree is sorted, where the vertices of the nodes are given lists: the blocks below each node ascend by their least vertex
+-- a tree whose nodes have the given vertices is sorted: the blocks below each node ascend by their least vertex
 pub record IsSorted (t : TreeLinks) (members : List (List ℕ)) (x : Arranged) : Type 0 where
   pub blocks : List ℕ
   pub all : HasAll x

@@ -23,7 +23,7 @@ pub record IsPlan (p : Plan) : Type 0 where
   pub few_heads : (i : ℕ) → i < p.count → length (p.heads i) < 2 ^ 63
   pub few_nodes : (h : ℕ) → h < p.count → length (p.run h) < 2 ^ 63
 
--- the nodes and blocks of a tree are those that a plan tells
+-- the nodes and blocks of a tree are those of a plan
 pub record IsDrawn (p : Plan) (node : ℕ → Node) (block : ℕ → Block) : Type 0 where
   pub own : (i : ℕ) → i < p.count → vertices (node i) ≡ p.own i
   pub hung : (i : ℕ) → i < p.count → blocks (node i) ≡ map block (p.heads i)
@@ -38,7 +38,7 @@ own_of n a i = filter (λ v. a.homes v == i) (range_with_len 1 n)
 abbrev pub heads_of : TreeLinks → ℕ → List ℕ
 heads_of t i = filter (λ h. not (is_follower t.follows h) && (slice_index t.uppers h == i)) (range_with_len 1 (length t.uppers - 1))
 
--- a node and those that follow it in a cycle, at most so many
+-- a node and those that follow it in a cycle, up to a greatest number of them
 abbrev pub run_from : ℕ → TreeLinks → ℕ → List ℕ
 run_from zero t h = h ∷ []
 run_from (suc more) t h = h ∷ (if is_follower t.follows (h + 1) then run_from more t (h + 1) else [])

@@ -27,7 +27,7 @@ pub record AreSizes (p : Plan) (sizes : List ℕ) : Type 0 where
   pub len : length sizes ≡ p.count
   pub each : (i : ℕ) → i < p.count → slice_index sizes i ≡ 1 + size_below p sizes i
 
--- the numbers of several roots, where what is below each follows it
+-- the numbers of several roots, if what is below each follows it
 abbrev pub roots_at : List ℕ → ℕ → List ℕ → List ℕ
 roots_at sizes first [] = []
 roots_at sizes first (j ∷ js) = first ∷ roots_at sizes (first + slice_index sizes j) js
