@@ -77,13 +77,13 @@ members_put a all done rest v e =
 
 -- ---- the last page
 
--- what is behind an empty page, once what is held was written out too
+-- what holds from an empty page on, once what is held was written out too
 pub flushed : {T E : Type 0} {page h1 h2 : List ℕ} {t0 t1 t2 : Option (List ℕ)} {m k n : ℕ} {r : Result T E} (b : List ℕ)
     → page ≡ [] → IsSplit (page ++ b) t0 t1 h1 → k ≡ m → Puts h1 t1 t2 k n h2 r → Puts b t0 t2 m n h2 r
 flushed {page = page} {h1 = h1} b none p e q =
     puts_as (append-nil (page ++ b) ∙ ap (λ (l : List ℕ). l ++ b) none) (puts_after [] p e (puts_as (sym (append-nil h1)) q))
 
--- what is behind an empty page, where a write failed before
+-- what holds from an empty page on, if a write failed before
 pub not_flushed : {T E T2 E2 : Type 0} {page h : List ℕ} {t0 t1 : Option (List ℕ)} {m n : ℕ} {e : E} {x : E2} {r : Result T2 E2} (b : List ℕ)
     → page ≡ [] → r ≡ Err x → Puts {T = T} (page ++ b) t0 t1 m n h (Err e) → Puts b t0 t1 m n h r
 not_flushed {page = page} {h = h} b none is p =

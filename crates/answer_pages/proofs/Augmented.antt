@@ -1,4 +1,4 @@
--- The parts of the text of an augmentation, behind what was there.
+-- The parts of the text of an augmentation, after what was there.
 use Rattle.std.proofs.Common.{◌≡◌, ℕ, List, [], ◌∷◌, ◌++◌, length, ap, ◌∙◌, append_assoc}
 use Rattle.std.specs.Prelude.{codes}
 use Rattle.std.specs.List.{flat_map}
@@ -18,7 +18,7 @@ three_of_five p a b c d e = simp append_assoc
 pub all_five : (p a b c d e : List ℕ) → ((((p ++ a) ++ b) ++ c) ++ d) ++ e ≡ p ++ (a ++ b ++ c ++ d ++ e)
 all_five p a b c d e = simp append_assoc
 
--- the text by edges and a number of sets that were told
+-- the text by other terms for the edges and the number of sets
 pub parts_told : (p : List ℕ) (value : ℕ) (a : Augmentation) (edges : List (ℕ × ℕ)) (sets : ℕ) → edges ≡ a.edges → sets ≡ length a.sets
     → p ++ (line (codes "value") (value ∷ []) ++ line (codes "edges") (length edges ∷ []) ++ flat_map edge_line edges ++ line (codes "sets") (sets ∷ []) ++ flat_map set_line a.sets)
     ≡ p ++ augment_text value a

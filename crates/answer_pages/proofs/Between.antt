@@ -47,7 +47,7 @@ between_one ts i h =
     let one : (i + 1) - i ≡ 1 = omega arith in
     ap (λ n. concat (take n (drop i ts))) one ∙ ap concat (one_at ts i h) ∙ append-nil (get_or ts i [])
 
--- one more line was put behind those from a number on
+-- one more line was put after those from a number on
 pub line_put : (a : List ℕ) {h1 h2 : List ℕ} {t0 t1 t2 : Option (List ℕ)} (ts : List (List ℕ)) (from i : ℕ) → from ≤ i → i < length ts
     → IsSplit (a ++ joined_between ts from i) t0 t1 h1 → IsSplit (h1 ++ get_or ts i []) t1 t2 h2 → IsSplit (a ++ joined_between ts from (i + 1)) t0 t2 h2
 line_put a ts from i low h p q =
@@ -55,7 +55,7 @@ line_put a ts from i low h p q =
     ∙ ap (λ (l : List ℕ). a ++ l) (ap (λ (l : List ℕ). joined_between ts from i ++ l) (sym (between_one ts i h)) ∙ between_join ts from i (i + 1) low (omega arith)))
     (split_then (get_or ts i []) p q)
 
--- the lines from a number on, one more, and those behind it are the lines of the whole range
+-- the lines from a number on, one more, and those after it are the lines of the whole range
 pub lines_behind : (a : List ℕ) (ts : List (List ℕ)) (from i to : ℕ) → from ≤ i → i < to → to ≤ length ts
     → ((a ++ joined_between ts from i) ++ get_or ts i []) ++ joined_between ts (i + 1) to ≡ a ++ joined_between ts from to
 lines_behind a ts from i to low high h =
@@ -67,19 +67,19 @@ lines_behind a ts from i to low high h =
     ∙ ap (λ (l : List ℕ). l ++ joined_between ts (i + 1) to) (between_join ts from i (i + 1) low (omega arith))
     ∙ between_join ts from (i + 1) to (omega (arith, low)) (omega (arith, high)))
 
--- further lines were put behind those from a number on
+-- further lines were put after those from a number on
 pub range_put : (a : List ℕ) {h1 h2 : List ℕ} {t0 t1 t2 : Option (List ℕ)} (ts : List (List ℕ)) (from mid to : ℕ) → from ≤ mid → mid ≤ to
     → IsSplit (a ++ joined_between ts from mid) t0 t1 h1 → IsSplit (h1 ++ joined_between ts mid to) t1 t2 h2 → IsSplit (a ++ joined_between ts from to) t0 t2 h2
 range_put a ts from mid to low high p q =
     split_as (append_assoc a (joined_between ts from mid) (joined_between ts mid to) ∙ ap (λ (l : List ℕ). a ++ l) (between_join ts from mid to low high))
     (split_then (joined_between ts mid to) p q)
 
--- two ranges of lines, one behind the other, are the lines of both
+-- two ranges of lines, one after the other, are the lines of both
 pub range_end : (a : List ℕ) (ts : List (List ℕ)) (from mid to : ℕ) → from ≤ mid → mid ≤ to
     → (a ++ joined_between ts from mid) ++ joined_between ts mid to ≡ a ++ joined_between ts from to
 range_end a ts from mid to low high = append_assoc a (joined_between ts from mid) (joined_between ts mid to) ∙ ap (λ (l : List ℕ). a ++ l) (between_join ts from mid to low high)
 
--- three ranges of lines, one behind another, are the lines of all
+-- three ranges of lines, one after another, are the lines of all
 pub range_behind : (a : List ℕ) (ts : List (List ℕ)) (from mid end to : ℕ) → from ≤ mid → mid ≤ end → end ≤ to
     → ((a ++ joined_between ts from mid) ++ joined_between ts mid end) ++ joined_between ts end to ≡ a ++ joined_between ts from to
 range_behind a ts from mid end to low there high =

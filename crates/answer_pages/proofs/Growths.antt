@@ -36,7 +36,7 @@ pub steps_put : (a : List ℕ) (xs : List Step) (i : ℕ) (x : Step) → x ≡ g
     → ((a ++ step_lines 1 (take i xs)) ++ step_line (i + 1) x) ++ step_lines (i + 1 + 1) (drop (i + 1) xs) ≡ a ++ step_lines 1 xs
 steps_put a xs i x is h = ap (λ (l : List ℕ). l ++ step_lines (i + 1 + 1) (drop (i + 1) xs)) (step_put a xs i x is h) ∙ rest_put a xs (i + 1) (omega (arith, h))
 
--- the parts of a line behind what was there
+-- the parts of a line after what was there
 pub entry_first : (p a b c d e f g : List ℕ) → (p ++ (a ++ b)) ++ ((c ++ d) ++ (e ++ f) ++ g) ≡ p ++ (a ++ b ++ c ++ d ++ e ++ f ++ g)
 entry_first p a b c d e f g = simp append_assoc
 

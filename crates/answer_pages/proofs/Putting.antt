@@ -1,4 +1,4 @@
--- One call after another: what is put by both, and what is put where one of them failed.
+-- One call after another: what is put by both, and what is put if one of them failed.
 use Rattle.std.proofs.Common.{◌≡◌, ℕ, ◌+◌, ◌<◌, ◌≤◌, List, [], ◌∷◌, ◌++◌, length, get_or, take, drop, ap, subst, ◌∙◌, sym, append_assoc, append-nil, refl, arith}
 use Rattle.std.specs.Prelude.{Option, Result, Ok, Err, OnOk, OnErr}
 use Rattle.std.specs.List.{flat_map}
@@ -65,7 +65,7 @@ puts_failed {b = b} {t0 = t0} {t1 = t1} {m = m} {n = n} c h2 is p =
       cause = record { never_falls = p.cause.never_falls; ok = tt; failed = p.cause.failed };
     })
 
--- what is held after a call that went well, with further bytes behind it
+-- what is held after a call that went well, with further bytes after it
 pub puts_more : {T E T2 E2 : Type 0} {b h h2 : List ℕ} {t0 t1 : Option (List ℕ)} {m n : ℕ} (x : T) {y : T2} (c : List ℕ)
     → h2 ≡ h ++ c → Puts {T = T} {E = E} b t0 t1 m n h (Ok x) → Puts {T = T2} {E = E2} (b ++ c) t0 t1 m n h2 (Ok y)
 puts_more {b = b} {h = h} x c is p = record {
@@ -78,7 +78,7 @@ puts_more {b = b} {h = h} x c is p = record {
   cause = record { never_falls = p.cause.never_falls; ok = p.cause.ok; failed = tt };
 }
 
--- the parts of a line behind what was there
+-- the parts of a line after what was there
 pub three_parts : (a b c d : List ℕ) → ((a ++ b) ++ c) ++ d ≡ a ++ ((b ++ c) ++ d)
 three_parts a b c d = ap (λ (l : List ℕ). l ++ d) (append_assoc a b c) ∙ append_assoc a (b ++ c) d
 
@@ -109,7 +109,7 @@ entries_put f a xs i x is h = ap (λ (l : List ℕ). l ++ flat_map f (drop (i + 
 pub all_put : {X : Type 0} (f : X → List ℕ) (a : List ℕ) (xs : List X) (i : ℕ) → length xs ≤ i → a ++ flat_map f (take i xs) ≡ a ++ flat_map f xs
 all_put f a xs i h = ap (λ ys. a ++ flat_map f ys) (take_all i xs h)
 
--- the parts of the line of a node behind what was there
+-- the parts of the line of a node after what was there
 pub node_word : (a b c d e : List ℕ) → (a ++ b) ++ (c ++ d ++ e) ≡ a ++ (b ++ (c ++ d) ++ e)
 node_word a b c d e = simp append_assoc
 
@@ -122,7 +122,7 @@ node_parts a b c d e = simp append_assoc
 pub line_word : (a b c d : List ℕ) → (a ++ b) ++ (c ++ d) ≡ a ++ (b ++ c ++ d)
 line_word a b c d = simp append_assoc
 
--- the parts of a text behind what was there
+-- the parts of a text after what was there
 pub text_first : (a b c d e : List ℕ) → (a ++ b) ++ (c ++ d ++ e) ≡ a ++ (b ++ c ++ d ++ e)
 text_first a b c d e = simp append_assoc
 
@@ -132,7 +132,7 @@ text_second a b c d e = simp append_assoc
 pub text_parts : (a b c d e : List ℕ) → (((a ++ b) ++ c) ++ d) ++ e ≡ a ++ (b ++ c ++ d ++ e)
 text_parts a b c d e = simp append_assoc
 
--- where nothing is held any more all was taken
+-- if nothing is held any more all was taken
 pub all_taken : {T E : Type 0} (r : Result T E) (b h : List ℕ) (t0 t1 : Option (List ℕ)) → OnOk r (IsSplit b t0 t1 h) → OnOk r (h ≡ []) → OnOk r (Appends t0 t1 b)
 all_taken (Ok x) b h t0 t1 p e =
     let whole : b ≡ p.gone = p.parts ∙ ap (λ (l : List ℕ). p.gone ++ l) e ∙ append-nil p.gone in

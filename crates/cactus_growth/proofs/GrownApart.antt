@@ -29,7 +29,7 @@ use Rattle.cactus_growth.proofs.WaysDown.{way_inside, one_of_all, below_at}
 block_listed : (b : Block) (v : ℕ) → (block_part b).below v ≡ of_lists (entered_block b) v
 block_listed b v = ap (λ (t : VertexSet). t v) (block_laid b).below
 
--- where no vertex is in two nodes, one is below one block alone
+-- if no vertex is in two nodes, one is below one block alone
 one_block : (bs : List Block) (v i j : ℕ) (b c : Block) → AreOnce (flat_map entered_block bs) → slice_get bs i ≡ Some b → slice_get bs j ≡ Some c → (block_part b).below v ≡ true → (block_part c).below v ≡ true → i ≡ j
 one_block [] v i j b c once f g h k = cc
 one_block (x ∷ xs) v zero zero b c once f g h k = refl
@@ -75,7 +75,7 @@ module _ (u v : ℕ) (node : Node) (once : AreOnce (entered node)) where
   blocks_once : AreOnce (flat_map entered_block (blocks node))
   blocks_once w = omega (arith, once w, ap (times w) (entered_out node), times_more w (vertices node) (flat_map entered_block (blocks node)))
 
-  -- where the ways to two vertices do not begin in one block, no cut has both
+  -- if the ways to two vertices do not begin in one block, no cut has both
   none_has_both : (us vs : List Step) → LeadsTo u node us → LeadsTo v node vs → ((s t : Step) → slice_get us 0 ≡ Some s → slice_get vs 0 ≡ Some t → s.block ≢ t.block) →
       (s : VertexSet) → Contains (part node).cuts s → s u ≡ true → s v ≡ true → ⊥
   none_has_both [] vs lu lv apart s c e f =

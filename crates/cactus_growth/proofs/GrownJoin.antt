@@ -1,4 +1,4 @@
--- Two nodes of one block become one: the cuts that part two vertices below them go.
+-- Two nodes of one block become one: the cuts that separate two vertices below them go.
 use Rattle.std.proofs.Common.{◌≡◌, ℕ, ◌+◌, ◌≤◌, ◌↔◌, ◌⊎◌, inl, inr, Bool, true, false, cond, ◌||◌, List, ◌∷◌, ◌++◌, map, refl, ap, ◌∙◌, sym, subst, arith}
 use Rattle.std.specs.List.{Contains, flat_map}
 use Rattle.std.proofs.lemmas.List.{map-append, append_assoc}

@@ -1,4 +1,4 @@
--- A node above one that lost the cuts that part two vertices.
+-- A node above one that lost the cuts that separate two vertices.
 use Rattle.std.proofs.Common.{◌≡◌, ℕ, ◌≤◌, inl, inr, true, false, ◌||◌, List, [], ◌∷◌, ◌++◌, map, refl, ap, ◌∙◌, sym, subst, arith}
 use Rattle.std.specs.List.{All, Contains, flat_map}
 use Rattle.std.proofs.lemmas.Bool.{false_from_ne_true}
@@ -46,7 +46,7 @@ among_below before after child v h =
 pub opened_inside : (old top child : Node) (before after : List Node) (v : ℕ) → IsOpened old top before child after → (part child).below v ≡ true → (part old).below v ≡ true
 opened_inside old top child before after v o h = o.below v ∙ ap (λ k. (part top).below v || k) (among_below before after child v h) ∙ or-true ((part top).below v)
 
--- ---- the node of the walk that has both vertices below it was put back without the cuts that part them
+-- ---- the node of the walk that has both vertices below it was put back without the cuts that separate them
 module _ (u v : ℕ) (old top child y x : Node) (before after : List Node) (o : IsOpened old top before child after) (once : AreOnce (entered old)) (has_u : (part child).below u ≡ true) (has_v : (part child).below v ≡ true)
     (g : IsGrown u v child y) (k : IsArcHung top (before ++ y ∷ after) x) where
   abbrev walk : List Node
@@ -134,7 +134,7 @@ module _ (u v : ℕ) (old top child y x : Node) (before after : List Node) (o : 
     own = λ w h. ap (λ l. has l w) k.own ∙ ap (λ l. has l w) (sym o.own) ∙ h;
   }
 
--- no cut is told by which of the two vertices comes first
+-- the order of the two vertices makes no difference to the cuts
 pub grown_turned : (u v : ℕ) (old x : Node) → IsGrown v u old x → IsGrown u v old x
 grown_turned u v old x g = record {
   below = g.below;

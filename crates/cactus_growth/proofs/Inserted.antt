@@ -27,7 +27,7 @@ sum_filter f p x xs =
     (λ (e : p x ≡ false). rw e (omega arith))
     (cases_Bool (p x))
 
--- an edge comes before another, has its ends, or comes behind it
+-- an edge comes before another, has its ends, or comes after it
 abbrev pub Kinds : Bool → Bool → Bool → Type 0
 Kinds before there behind = ((before ≡ true) × (there ≡ false) × (behind ≡ false)) ⊎ (((before ≡ false) × (there ≡ true) × (behind ≡ false)) ⊎ ((before ≡ false) × (there ≡ false) × (behind ≡ true)))
 

@@ -1,4 +1,4 @@
--- What a cactus is once the cuts that part two vertices are gone.
+-- What a cactus is once the cuts that separate two vertices are gone.
 use Rattle.std.proofs.Common.{◌≡◌, ℕ, ◌≤◌, ◌↔◌, inl, inr, Bool, true, false, List, [], ◌∷◌, length, map, refl, ap, ◌∙◌, sym, subst, arith}
 use Rattle.std.specs.Prelude.{not, if◌then◌else◌}
 use Rattle.std.specs.List.{Contains, filter, range_with_len, flat_map}

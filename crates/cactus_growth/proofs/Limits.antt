@@ -1,4 +1,4 @@
--- The list after an insertion is an edge list where its weights and its edges are within the limits.
+-- The list after an insertion is an edge list if its weights and its edges are within the limits.
 use Rattle.std.proofs.Common.{◌≡◌, ℕ, ◌+◌, ◌<◌, ◌≤◌, ◌^◌, ◌↔◌, inl, inr, ⊎_elim, Bool, true, false, ◌&&◌, List, [], ◌∷◌, length, ltb, eqb, arith, length-append}
 use Rattle.std.specs.Prelude.{if◌then◌else◌, ◌≢◌, not}
 use Rattle.std.specs.List.{All, AllPairs, filter, sum_by}

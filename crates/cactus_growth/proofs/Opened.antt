@@ -51,7 +51,7 @@ below_listed xs u = ap (λ (t : VertexSet). t u) (cycle_laid (map part xs) (map 
 pub node_listed : (x : Node) (u : ℕ) → (part x).below u ≡ of_lists (entered x) u
 node_listed x u = ap (λ (t : VertexSet). t u) (laid_out x).below
 
--- where no vertex is in two nodes, one below a node is below none of the others
+-- if no vertex is in two nodes, one below a node is below none of the others
 pub other_nodes : (xs ys all : List Node) (x : Node) → all ≡ xs ++ x ∷ ys → AreOnce (flat_map entered all) → (v : ℕ) → (part x).below v ≡ true →
     (all_of (belows (map part xs)) v ≡ false) × (all_of (belows (map part ys)) v ≡ false)
 other_nodes xs ys all x e once v h =
@@ -80,7 +80,7 @@ blocks_listed (b ∷ bs) v =
     ap (λ k. k || all_of (belows (map block_part bs)) v) (ap (λ (t : VertexSet). t v) (block_laid b).below)
     ∙ ap (λ k. of_lists (entered_block b) v || k) (blocks_listed bs v) ∙ sym (of_append (entered_block b) (flat_map entered_block bs) v)
 
--- where a vertex is in one node alone, the cuts below that node lack it
+-- if a vertex is in one node alone, the cuts below that node lack it
 pub own_lacks : (x : Node) (v : ℕ) → has (vertices x) v ≡ true → times v (entered x) ≤ 1 → (s : VertexSet) → Contains (part x).cuts s → s v ≡ false
 own_lacks x v inside once s c =
     let none : all_of (belows (map block_part (blocks x))) v ≡ false = false_from_ne_true (all_of (belows (map block_part (blocks x))) v) (λ z. omega (

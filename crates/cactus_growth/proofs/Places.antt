@@ -13,7 +13,7 @@ use Rattle.cut_definitions.specs.declared.edge_list.Edge.{Edge}
 use Rattle.cut_definitions.specs.Graph.{IsBefore}
 use Rattle.cactus_growth.specs.Insertion.{comes_before, inserted, same_ends, weight_there}
 
--- ---- filters of a list in which all that pass a test stand together
+-- ---- filters of a list in which all that pass a test are together
 filter_all : {X : Type 0} (p : X → Bool) (xs : List X) → All (λ x. p x ≡ true) xs → filter p xs ≡ xs
 filter_all p [] h = refl
 filter_all p (x ∷ xs) h =
@@ -95,7 +95,7 @@ behind_parted e xs h i j d l m k =
 pub turned_point : {X : Type 0} (p : X → Bool) (xs : List X) (i : ℕ) → IsPartitionPoint (λ y. not (p y) ≡ true) (λ y. not (p y) ≡ false) xs i → IsPartitionPoint (λ y. p y ≡ false) (λ y. p y ≡ true) xs i
 turned_point p xs i h = (λ k d l m. not-true (p (get_or xs k d)) (h.0 k d l m), λ k d l m. not-false (p (get_or xs k d)) (h.1 k d l m))
 
--- ---- the edges before the place, there and behind it
+-- ---- the edges before the place, there and after it
 module _ (e : Edge) (xs : List Edge) (first end : ℕ) (front : first ≤ length xs) (back : end ≤ length xs)
     (before : IsPartitionPoint (λ d. comes_before d e ≡ true) (λ d. comes_before d e ≡ false) xs first)
     (behind : IsPartitionPoint (λ d. comes_before e d ≡ false) (λ d. comes_before e d ≡ true) xs end) where
@@ -145,7 +145,7 @@ module _ (e : Edge) (xs : List Edge) (first end : ℕ) (front : first ≤ length
   abbrev with_weight : ℕ → Edge
   with_weight w = record { u = e.u; v = e.v; w = e.w + w }
 
-  -- what is before the place, the edge with the weight that is there, and what is behind the place
+  -- what is before the place, the edge with the weight that is there, and what is after the place
   pub put_together : (empty front_only more whole : List Edge) (w : ℕ) → w ≡ weight_there e (slice_range xs first end) → empty ≡ [] → front_only ≡ empty ++ take first xs → more ≡ front_only ++ with_weight w ∷ [] →
       whole ≡ more ++ slice_range xs end (length xs) → whole ≡ inserted e xs
   put_together empty front_only more whole w k a b c d =

@@ -24,12 +24,12 @@ along_from t n ms = along_is (either t n) ms ∙ sym (either_assoc t n (all_of m
 whole : (t n : VertexSet) (ms : List VertexSet) (f j : VertexSet) → j ≡ either (along n ms) f → either t j ≡ either (along (either t n) ms) f
 whole t n ms f j e = ap (either t) e ∙ either_assoc t (along n ms) f ∙ ap (λ z. either z f) (sym (along_from t n ms))
 
--- the unions that end at a set or behind it
+-- the unions that end at a set or after it
 pub past : (t : VertexSet) (ms : List VertexSet) (j : VertexSet) (qs : List VertexSet) (s : VertexSet) → Contains (from_here (either (along t ms) j) qs) s → Contains (from_here t (ms ++ j ∷ qs)) s
 past t [] j qs s c = Contains-there t (from_here (either t j) qs) s c
 past t (m ∷ ms) j qs s c = Contains-there t (from_here (either t m) (ms ++ j ∷ qs)) s (past (either t m) ms j qs s c)
 
--- are those that have a vertex of the set, where it is in none before
+-- are those that have a vertex of the set, if it is in none before
 pub reached : (t : VertexSet) (ms : List VertexSet) (f : VertexSet) (qs : List VertexSet) (v : ℕ) → t v ≡ false → all_of ms v ≡ false → (s : VertexSet) → s v ≡ true →
     Contains (from_here t (ms ++ f ∷ qs)) s → Contains (from_here (either (along t ms) f) qs) s
 reached t [] f qs v out none s inside c = elim (Contains-cons_cases t (from_here (either t f) qs) s c) [

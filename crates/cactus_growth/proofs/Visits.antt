@@ -45,7 +45,7 @@ visited_both v x depth xs ys old mid new h k = record {
 pub child_of : (x : Node) (b : Block) (xs : List Node) (s : Step) (y : Node) → slice_get (blocks x) s.block ≡ Some b → nodes_of b ≡ xs → slice_get xs s.child ≡ Some y → HasChild x s y
 child_of x b xs s y here n a = record { block = b; here = here; there = ap (λ l. slice_get l s.child) n ∙ a }
 
--- what a call says of the step that it found, and where it found none
+-- what a call says of the step that it found, and if it found none
 pub some_says : {X : Type 0} (P : X → Type 0) (o : Option X) (x : X) → o ≡ Some x → IfSome o P → P x
 some_says P o x e h = subst (λ r. IfSome r P) e h
 
@@ -85,7 +85,7 @@ leaf_below : (x : Node) (v : ℕ) → Lacks v x → is_inner x ≡ false → (pa
 leaf_below x v n i =
     below_at x v ∙ ap (λ k. k || all_of (belows (map block_part (blocks x))) v) n ∙ ap (λ bs. all_of (belows (map block_part bs)) v) (no_blocks x i)
 
--- where no node of a list has a vertex itself, those with a block below them have all that is below
+-- if no node of a list has a vertex itself, those with a block below them have all that is below
 inner_below : (xs : List Node) (v : ℕ) → All (Lacks v) xs → all_of (belows (map part (filter is_inner xs))) v ≡ all_of (belows (map part xs)) v
 inner_below [] v h = refl
 inner_below (x ∷ xs) v h =

@@ -47,7 +47,7 @@ begun_more t (x ∷ xs) ys s c = elim (Contains-cons_cases t (from_here (either 
 abbrev pub Parted : List Part → Part → List Part → VertexSet → Type 0
 Parted xs p ys s = Contains (cycle_cuts xs) s ⊎ (Contains p.cuts s ⊎ Contains (cycle_cuts ys) s)
 
--- a cut of a cycle that lacks a vertex of one child is one of the walk before it, of the child, or of the walk behind it
+-- a cut of a cycle that lacks a vertex of one child is one of the walk before it, of the child, or of the walk after it
 pub cycle_without : (xs : List Part) (p : Part) (ys : List Part) (v : ℕ) → p.below v ≡ true → (s : VertexSet) → s v ≡ false →
     Contains (cycle_cuts (xs ++ p ∷ ys)) s → Parted xs p ys s
 cycle_without [] p ys v h s e c = elim (cycle_cases p ys s c) [
@@ -62,7 +62,7 @@ cycle_without (x ∷ xs) p ys v h s e c = elim (cycle_cases x (xs ++ p ∷ ys) s
   ]
 ]
 
--- a cut of the walk before a child, of the child, or of the walk behind it is a cut of the cycle
+-- a cut of the walk before a child, of the child, or of the walk after it is a cut of the cycle
 pub cycle_before : (xs ys : List Part) (s : VertexSet) → Contains (cycle_cuts xs) s → Contains (cycle_cuts (xs ++ ys)) s
 cycle_before [] ys s c = absurd (Contains-nil s c)
 cycle_before (x ∷ xs) ys s c = elim (cycle_cases x xs s c) [

@@ -23,19 +23,19 @@ use Rattle.canonical_cactus.proofs.Compared.{AreLeastBeyond, at_place, come_toge
 pub place_no_less : (k : Ranked) (start a b : ℕ) → start ≤ a → a ≤ b → b ≤ last_of k.ranges start → place_at k a ≤ place_at k b
 place_no_less k start a b sa ab within = no_less k.ranges.borders.items start a b k.ranges.chained sa ab within
 
--- each border behind another is at a place within the list
+-- each border after another is at a place within the list
 pub place_fits : (k : Ranked) (start b : ℕ) → start < b → b ≤ last_of k.ranges start → place_at k b ≤ count_of k
 place_fits k start b sb within =
     place_within (count_of k) k.ranges.borders.items b k.ranges.within (behind_there (count_of k) k.ranges.borders.items start b k.ranges.within sb within)
 
--- a range between two borders behind another is a range of the list
+-- a range between two borders after another is a range of the list
 pub range_fits : (k : Ranked) (start a b top : ℕ) → start ≤ a → a ≤ b → b ≤ top → start < top → top ≤ last_of k.ranges start → IsRangeOf (count_of k) (range_between k.ranges.borders.items a b)
 range_fits k start a b top sa ab bt st within =
     let fits = place_fits k start top st within in
     let low = place_no_less k start b top (omega (arith, sa, ab)) bt within in
     (place_no_less k start a b sa ab (omega (arith, bt, within)), omega (arith, fits, low))
 
--- a border behind another, in its block, is in the list of borders
+-- a border after another, in its block, is in the list of borders
 pub border_in : (k : Ranked) (start b top : ℕ) → b ≤ top → start < top → top ≤ last_of k.ranges start → b < length k.ranges.borders.items
 border_in k start b top bt st within =
     omega (arith, bt, behind_there (count_of k) k.ranges.borders.items start top k.ranges.within st within)
@@ -51,7 +51,7 @@ vertex_bound k p ranked l =
     let v : IsVertex (count_of k) (get_or k.ranges.order.items p 0) = All-get_or (IsVertex (count_of k)) k.ranges.order.items p 0 (omega (arith, l)) k.ranges.vertices in
     omega (arith, v.1, k.ranges.few)
 
--- a vertex stands at one place
+-- a vertex is at one place
 pub one_place : (k : Ranked) (p q : ℕ) → IsRanked k → p < count_of k → q < count_of k → vertex_at k p ≡ vertex_at k q → p ≡ q
 one_place k p q ranked pl ql e =
     let at : Range = range p (p + 1) in
@@ -168,14 +168,14 @@ has_here k a b vertex least span ranked is fits tells up bound = elim tells.ther
       (w.0, omega (arith, w.1, ap (λ (r : Range). r.from) is), to, omega (arith, ranked.least_is w.0 (omega (arith, to, fits)), w.3, up))
 ]
 
--- a border before whose place a place is, and one that is not behind it
+-- a border before whose place a place is, and one that is not after it
 pub apart_borders : (k : Ranked) (a b q : ℕ) → place_at k a ≤ q → q < place_at k b → a ≡ b → ⊥
 apart_borders k a b q from to e =
     let same : place_at k a ≡ place_at k b = ap (place_at k) e in
     omega (arith, from, to, same)
 
 -- ---- two sides
--- the side with the least vertex that only one of the two has comes first where the other has a greater one
+-- the side with the least vertex that only one of the two has comes first if the other has a greater one
 pub least_decides : (k : Ranked) (r other : Range) (q g : ℕ) → IsRanked k → r.to ≤ count_of k → other.to ≤ count_of k → IsBeyond r other q → ((p : ℕ) → IsBeyond r other p → vertex_at k q ≤ vertex_at k p) →
     ((p : ℕ) → IsBeyond other r p → vertex_at k q < vertex_at k p) → other.from ≤ g → g < other.to → vertex_at k q < vertex_at k g → IsNoLater (side_of k r) (side_of k other)
 least_decides k r other q g ranked fits other_fits beyond own others from to greater =
@@ -187,7 +187,7 @@ least_decides k r other q g ranked fits other_fits beyond own others from to gre
           comes_first k r other (vertex_at k q) rest.0 g ranked fits other_fits (omega (arith, w.2, vertex_bound k w.0 ranked (omega (arith, w.1.1, other_fits)))) (omega (arith, w.2, others w.0 w.1)) are from to greater
     ]
 
--- a side comes first where the other has all its vertices and further ones that are greater than these
+-- a side comes first if the other has all its vertices and further ones that are greater than these
 pub begins_with : (k : Ranked) (r other : Range) → IsRanked k → r.to ≤ count_of k → other.to ≤ count_of k → ((p : ℕ) → IsBeyond r other p → ⊥) →
     ((p q : ℕ) → IsBeyond other r p → r.from ≤ q → q < r.to → vertex_at k q ≤ vertex_at k p) → IsNoLater (side_of k r) (side_of k other)
 begins_with k r other ranked fits other_fits none greater =
@@ -206,7 +206,7 @@ empty_first k r other ranked fits other_fits none =
     begins_with k r other ranked fits other_fits (λ p beyond. omega (arith, beyond.0, beyond.1, none)) (λ p q beyond a b. absurd (omega (arith, a, b, none)))
 
 -- ---- ranges around another one
--- a longer range that takes in the least vertex around comes first where a greater one is inside
+-- a longer range that takes in the least vertex around comes first if a greater one is inside
 pub step_first : (k : Ranked) (bounds old : Ends) (s e s2 e2 vertex q g : ℕ) → IsRanked k → IsWithin k bounds old → bounds.start ≤ s2 → s2 ≤ s → s ≤ old.start → old.end ≤ e → e ≤ e2 → e2 ≤ bounds.end →
     ((p : ℕ) → IsBeyond (range_at k bounds) (range_at k old) p → vertex ≤ vertex_at k p) → vertex_at k q ≤ vertex → IsBeyond (range_between k.ranges.borders.items s2 e2) (range_between k.ranges.borders.items s e) q →
     place_at k old.start ≤ g → g < place_at k old.end → vertex < vertex_at k g → IsNoLater (side_between k s2 e2) (side_between k s e)
@@ -296,7 +296,7 @@ joined_next k bounds inner old new vertex g ranked is will low high taken least 
       ]
 ]
 
--- where no greater vertex is inside than the least around, the range comes first itself
+-- if no greater vertex is inside than the least around, the range comes first itself
 pub joined_end : (k : Ranked) (bounds inner ends : Ends) (vertex : ℕ) → IsRanked k → IsWithin k bounds ends → ((p : ℕ) → IsBeyond (range_at k bounds) (range_at k ends) p → vertex ≤ vertex_at k p) →
     ((q : ℕ) → place_at k ends.start ≤ q → q < place_at k ends.end → vertex_at k q ≤ vertex) → AreJoined k bounds inner ends →
     (s e : ℕ) → bounds.start ≤ s → s ≤ inner.start → inner.end ≤ e → e ≤ bounds.end → IsNoLater (side_between k ends.start ends.end) (side_between k s e)

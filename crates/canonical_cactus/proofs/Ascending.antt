@@ -99,7 +99,7 @@ ascend_back x (z ∷ zs) y h =
     let rest = ascend_back z zs y both.1 in
     (and_from (list_all (nat_lt x) (z ∷ zs)) (ascend (z ∷ zs)) (all_fewer x (z ∷ zs) y both.0).0 rest.0, rest.1)
 
--- one more number at the end of a list, where the first flag says whether the list is empty
+-- one more number at the end of a list; i is 0 exactly if the list is empty
 pub ascend_more : (xs : List ℕ) (i y : ℕ) → (i ≡ 0 → xs ≡ []) → (0 < i → 0 < length xs) → ascend (xs ++ y ∷ []) ≡ (ascend xs && ((i == 0) || nat_lt (last_or_zero xs) y))
 ascend_more [] i y none some = elim (cases_eq i 0) [
   | inl e ↦ sym (ap (λ b. b || nat_lt 0 y) (eq-eqb i 0 e))

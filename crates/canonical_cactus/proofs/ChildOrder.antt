@@ -1,4 +1,4 @@
--- Cycles: the order of the children behind the first one, from the sets of the cuts alone.
+-- Cycles: the order of the children after the first one, from the sets of the cuts alone.
 use Rattle.std.proofs.Common.{◌≡◌, inl, inr, List, [], ◌∷◌, sym, refl, ◌∙◌, ap, subst}
 use Rattle.std.specs.List.{Contains}
 use Rattle.std.proofs.lemmas.Bool.{or_cases, or_left, or_right}
@@ -63,7 +63,7 @@ grown s (p ∷ ps) (q ∷ qs) rp rq ap' aq f =
     let rest : belows ps ≡ belows qs = grown s1 ps qs rp.3 rq.3 (grown_apart s p ps rp ap') aq1 h in
     ap (λ b. b ∷ belows ps) e ∙ ap (λ bs. q.below ∷ bs) rest
 
--- the children behind the first one, by the cuts that have the first
+-- the children after the first one, by the cuts that have the first
 pub cycle_order : (p q : Part) (ps qs : List Part) → IsRow (p ∷ ps) → IsRow (q ∷ qs) → p.below ≡ q.below → SameFamily (cycle_cuts (p ∷ ps)) (cycle_cuts (q ∷ qs)) → belows ps ≡ belows qs
 cycle_order p q ps qs rp rq e f =
     let there : IsIn p.below q.below = λ v h. sym (ap (λ (s : VertexSet). s v) e) ∙ h in

@@ -141,7 +141,7 @@ own_alone k r other own others ranked fits bound less are = elim are.own_there [
   | inr w ↦ alone k r other w.0 own ranked fits w.1 w.2
 ]
 
--- the range with the lesser one comes first where the other has a greater vertex
+-- the range with the smaller one comes first if the other has a greater vertex
 pub comes_first : (k : Ranked) (r other : Range) (own others q : ℕ) → IsRanked k → r.to ≤ count_of k → other.to ≤ count_of k → others ≤ 4294967295 → own < others → AreLeastBeyond k r other own others →
     other.from ≤ q → q < other.to → own < vertex_at k q → IsNoLater (side_of k r) (side_of k other)
 comes_first k r other own others q ranked fits other_fits bound less are from to greater =
@@ -154,7 +154,7 @@ comes_first k r other own others q ranked fits other_fits bound less are from to
     (λ u a b. alike k r other own others u ranked are a (omega (arith, b, x.high)) b (omega (arith, b, less))) x.low (omega (arith, x.high)) greater (omega (arith, v.1))
     (at_place k q ranked there other ∙ inside_yes other q from to))
 
--- the range with the lesser one comes behind where the other has no greater vertex, being the longer one
+-- the range with the smaller one comes later if the other has no greater vertex, since it is the longer one
 pub comes_behind : (k : Ranked) (r other : Range) (own others : ℕ) → IsRanked k → r.to ≤ count_of k → others ≤ 4294967295 → own < others → AreLeastBeyond k r other own others →
     ((q : ℕ) → other.from ≤ q → q < other.to → vertex_at k q ≤ own) → IsNoLater (side_of k other) (side_of k r)
 comes_behind k r other own others ranked fits bound less are none =

@@ -1,4 +1,4 @@
--- Whether all in a tree stands in order, told by the nodes that have blocks below them, one after another.
+-- Whether all in a tree is in order, by the nodes that have blocks below them, one after another.
 use Rattle.std.proofs.Common.{◌≡◌, ℕ, zero, suc, ◌+◌, ◌-◌, ◌≤◌, ◌<◌, inl, inr, Bool, true, false, ◌&&◌, ◌||◌, ◌==◌, Option, Some, List, [], ◌∷◌, ◌++◌, length, map, take, drop, ap, ◌∙◌, sym, subst, refl, arith}
 use Rattle.std.specs.Prelude.{nat_le, nat_lt, cond, slice_get}
 use Rattle.std.specs.List.{filter, flat_map, list_all}
@@ -84,7 +84,7 @@ blocks_in_order (b ∷ bs) =
     ∙ four_and (is_turned b) (list_all in_order (nodes_of b)) (list_all is_turned bs) (list_all in_order (flat_map nodes_of bs))
     ∙ ap (λ k. (is_turned b && list_all is_turned bs) && k) (sym (list_all-append in_order (nodes_of b) (flat_map nodes_of bs)))
 
--- a node that has no block below it stands in order
+-- a node that has no block below it is in order
 leaf_arranged : (x : Node) → is_inner x ≡ false → arranged x ≡ record { vertices = vertices x; in_order = true }
 leaf_arranged x h =
     arranged_out x
@@ -193,7 +193,7 @@ all_above u x (y ∷ ys) l h =
     let both = and_parts (nat_lt x y) (list_all (nat_lt x) ys) h in
     and_from (nat_lt u y) (list_all (nat_lt u) ys) (lt-ltb u y (omega (arith, l, ltb-true x y both.0))) (all_above u x ys l both.1)
 
--- one more number at the front, where the flag says whether the list is empty
+-- one more number at the front; i is 0 exactly if the list is empty
 pub ascend_front : (y : ℕ) (xs : List ℕ) (i : ℕ) → (i ≡ 0 → xs ≡ []) → (0 < i → 0 < length xs) → ascend (y ∷ xs) ≡ (ascend xs && ((i == 0) || nat_lt y (first_or_zero xs)))
 ascend_front y [] i none some = elim (cases_eq i 0) [
   | inl e ↦ sym (ap (λ b. b || nat_lt y 0) (eq-eqb i 0 e))
@@ -222,7 +222,7 @@ pub last_front : (y : ℕ) (xs : List ℕ) → 0 < length xs → last_or_zero (y
 last_front y [] h = absurd (omega (arith, h))
 last_front y (x ∷ xs) h = refl
 
--- the parts from a place on are none just where the place is the end
+-- from the end of a list on there are no parts
 pub none_behind : {X : Type 0} (f : X → Arranged) (xs : List X) (i : ℕ) → length xs ≤ i → leasts (map f (drop i xs)) ≡ []
 none_behind f [] zero h = refl
 none_behind f [] (suc i) h = refl

@@ -18,7 +18,7 @@ node_kept tree p x i a b c h =
     let right : get_or (set tree p x) (2 * i + 1) 0 ≡ get_or tree (2 * i + 1) 0 = get_or-set_other tree p (2 * i + 1) x 0 c in
     rw (here, left, right) h
 
--- a node that is given the lesser of the two below
+-- a node that is given the smaller of the two below
 node_made : (tree : List ℕ) (p : ℕ) → 1 ≤ p → p < length tree → NodeIs (set tree p (min (get_or tree (2 * p) 0) (get_or tree (2 * p + 1) 0))) p
 node_made tree p one l =
     let x = min (get_or tree (2 * p) 0) (get_or tree (2 * p + 1) 0) in
@@ -49,7 +49,7 @@ climb_start m first last low high = record {
   nodes = λ i from to. inr (i, from, to, refl);
 }
 
--- the lesser of two numbers is one of them
+-- the smaller of two numbers is one of them
 lesser_one : (tree : List ℕ) (first last v w : ℕ) → IsOneOf tree first last v → IsOneOf tree first last w → IsOneOf tree first last (min v w)
 lesser_one tree first last v w a b = elim (min_cases v w) [
   | inl e ↦ subst (IsOneOf tree first last) (sym e) a
@@ -96,7 +96,7 @@ climb_step m first last low high least tree l h =
           (lesser_one t first last (get_or t (2 * i) 0) (get_or t (2 * i + 1) 0) (h.nodes (2 * i) (omega (arith, a)) (omega (arith, b))) (h.nodes (2 * i + 1) (omega (arith, a)) (omega (arith, b))));
     }
 
--- where no node is left the number is the least
+-- if no node is left the number is the least
 pub climb_done : (m : Minima) (from to low high least : ℕ) → high ≤ low → IsClimb m (m.size + from) (m.size + to) low high least → IsLeast m from to least
 climb_done m from to low high least past h = record {
   no_less = λ p a b. h.no_less least (omega arith) (λ i c d. absurd (omega (arith, past, c, d))) (m.size + p) (omega (arith, a)) (omega (arith, b));

@@ -209,7 +209,7 @@ up_back rs (p ∷ ps) a e g w =
       | inr more ↦ rises_back place_key p ps (omega (arith, more, ends_differ rs p ps a g some))
     ]
 
--- nodes as they may stand in a cycle have the same ends
+-- nodes as they may be in a cycle have the same ends
 last_kept : (p : Placed) (ps : List Placed) → last_of (in_cycle p) (map in_cycle ps) ≡ in_cycle (last_of p ps)
 last_kept p [] = refl
 last_kept p (q ∷ qs) = last_kept q qs

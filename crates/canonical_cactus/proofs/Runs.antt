@@ -46,7 +46,7 @@ ends_in_run k first start s e run last from to behind within none = elim (cases_
   | inr l ↦ l
 ]
 
--- with mass, they end behind it, and have their mass from its last border on
+-- with mass, they end after it, and have their mass from its last border on
 pub ends_behind : (k : Ranked) (mass first start s e : ℕ) → IsRun k first start → 0 < mass → first ≤ s → s ≤ start → s < e → e ≤ last_of k.ranges s → mass_between k.ranges s e ≡ mass →
     (start < e) × (e ≤ last_of k.ranges start) × (mass_between k.ranges start e ≡ mass)
 ends_behind k mass first start s e run some from to behind within is =

@@ -32,7 +32,7 @@ search_begins k mass found is = record {
   heavy = record { within = omega arith; less = λ e a b. absurd (omega (arith, b)) };
 }
 
--- behind the last border all ranges of the mass were compared
+-- after the last border all ranges of the mass were compared
 pub search_ends : (k : Ranked) (mass start : ℕ) (s : Search) → start ≡ length k.ranges.borders.items → IsFirstBefore k mass start s →
     (i e : ℕ) → i < length k.ranges.borders.items → i < e → e ≤ last_of k.ranges i → mass_between k.ranges i e ≡ mass → IsNotAfter k s.found (range_between k.ranges.borders.items i e)
 search_ends k mass start s all is i e there behind within mass_is = elim (cases_lt i s.first) [

@@ -65,7 +65,7 @@ hung_shows r p h l spare stays n = elim (cases_Bool (is_spare (vertices p.node) 
       hung_kept r p y.0 h y.2 y.1 l f n
 ]
 
--- a node as it may stand in a cycle
+-- a node as it may be in a cycle
 abbrev pub in_cycle : Placed → Placed
 in_cycle p = record { node = trimmed_node p.node; least = p.least }
 

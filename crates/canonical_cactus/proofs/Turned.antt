@@ -1,4 +1,4 @@
--- A cycle that is turned round has the same cuts.
+-- A cycle that is reversed has the same cuts.
 use Rattle.std.proofs.Common.{◌≡◌, ℕ, inl, inr, true, List, [], ◌∷◌, ◌++◌, ap, ◌∙◌, sym, subst}
 use Rattle.std.specs.List.{Contains}
 use Rattle.std.proofs.lemmas.Bool.{or_cases, or_left, or_right}

@@ -1,4 +1,4 @@
--- What is answered for a graph, in the words of the jobs.
+-- What is replied for a graph, in the words of the jobs.
 use Rattle.std.proofs.Common.{◌≡◌, ℕ, List, [], ◌∷◌, get_or, ◌<◌, ◌≤◌, ◌^◌, ◌∙◌, append_assoc, append-nil, arith, refl, sym, ap, subst, inr, Result, Ok, Err}
 use Rattle.std.proofs.lemmas.List.Elements.{All-contains, Contains-get_or}
 use Rattle.std.specs.Fmt.{decimal}
@@ -57,7 +57,7 @@ one_component g count two counted none few =
 pub connected_of : (g : Graph) → HasComponents g 1 → IsConnected g
 connected_of g one = (law_of_one_component g 1 one).0 refl
 
--- ---- what a graph is answered
+-- ---- what is replied for a graph
 
 -- the minimum cuts that a job lists are those that its ask lets through
 pub all_let_through : (xs : List (List ℕ)) → filter (lets ask.All) xs ≡ xs

@@ -30,7 +30,7 @@ read_more (Some all) (Some left) (Some rest) bytes piece r c = (
   r.2 ∙ (let same : left ≡ r.0 = cc (r.1) in ap (λ xs. bytes ++ xs) (sym same ∙ c) ∙ sym (append_assoc bytes piece rest)),
 )
 
--- where nothing is left, all was read
+-- if nothing is left, all was read
 pub read_all : (before now : Option (List ℕ)) (bytes : List ℕ) → IsRead before now bytes → IsAtEnd now → IfSome before (λ all. all ≡ bytes)
 read_all None now bytes r e = tt
 read_all (Some all) None bytes r e = cc (r.1)
@@ -53,7 +53,7 @@ read_kept (Some all) (Some left) None bytes r k = absurd k
 read_kept (Some all) (Some left) (Some rest) bytes r k =
     let same : left ≡ r.0 = cc (r.1) in (rest, refl, r.2 ∙ ap (λ xs. bytes ++ xs) (sym same ∙ sym k))
 
--- the cause where a read failed
+-- the cause if a read failed
 pub read_cause : (words : List (List ℕ)) → ReadsGraph words → (before now next : Option (List ℕ)) (m n k : ℕ) → n ≡ m → Rose n k → (bytes : List ℕ) →
     IsRead before now bytes → Keeps now next → fixed bytes ≡ None → IsCause words before next m k ReadFailed
 read_cause words command before now next m n k same rose bytes read kept none =
@@ -95,7 +95,7 @@ fewer before now total bytes room n b e some fits =
     let all = length-take-le n room fits in
     omega arith
 
--- what holds of the stop of a refusal holds of an answer that hands the refusal on
+-- what holds of the stop of a refusal holds of a result that passes the refusal on
 pub handed_on : {T : Type 0} (P : Stop → Type 0) (answer : Result T Stop) (refusal : ReadRefusal) →
     IsErrAnd answer (λ stop. stop ≡ stop_of refusal) → P (stop_of refusal) → IfErr answer P
 handed_on P (Ok x) refusal h holds = tt

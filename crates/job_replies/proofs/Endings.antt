@@ -1,4 +1,4 @@
--- What a run promises, by what it found and how that was written or told.
+-- What a run promises, by what it found and how that was written or reported.
 use Rattle.std.proofs.Common.{◌≡◌, ℕ, ◌⊎◌, ◌≤◌, List, Option, Some, None, Result, Ok, Err, ⊎_elim, inl, inr, refl, sym, ◌∙◌, subst, ap}
 use Rattle.std.specs.Prelude.{◌≢◌, IfOk, IfErr, IsErrOf}
 use Rattle.std.specs.Io.KnownBytes.{IsAtEnd}
@@ -22,7 +22,7 @@ use Rattle.job_replies.specs.declared.reply.Reply.{Reply}
 use Rattle.job_replies.specs.Endings.{IsBroken, IsReplied, IsStopOf, IsStopped}
 use Rattle.job_replies.specs.Replies.{text_of, TakesMemory}
 
--- all that a run promises, but that the source stays where nothing is read
+-- all that a run promises, except that the source stays if nothing is read
 pub record RunEnds {K E : Type 0} (k_taken : K → Option (List ℕ)) (k_faults : K → ℕ) (e_taken : E → Option (List ℕ)) (e_faults : E → ℕ)
     (words : List (List ℕ)) (left now : Option (List ℕ)) (m n : ℕ) (out out_after : K) (err err_after : E) (result : Status) : Type 0 where
   pub told : result ≢ status.Ok → result ≢ status.WriteFault → Told words left now m n (e_taken err) (e_taken err_after) result
@@ -60,14 +60,14 @@ pub record RunEnds {K E : Type 0} (k_taken : K → Option (List ℕ)) (k_faults 
 
 -- ---- causes
 
--- what is told has its cause
+-- what is reported has its cause
 cause_of : (words : List (List ℕ)) (left now : Option (List ℕ)) (m n : ℕ) (found : Result Reply Stop) → IfOk found (λ reply. TakesMemory reply → IsAtEnd now) → IfOk found (λ reply. n ≡ m) →
     IfErr found (IsCause words left now m n) → (s : Stop) → IsStopOf found s → IsCause words left now m n s
 cause_of words left now m n (Ok reply) ready same cause s of =
     subst (λ (t : Stop). IsCause words left now m n t) (sym of.0) (same, inr (inr (ready of.1)))
 cause_of words left now m n (Err e) ready same cause s of = subst (λ (t : Stop). IsCause words left now m n t) (sym of) cause
 
--- a count of the source that rose is told as a failed read
+-- a count of the source that rose is reported as a failed read
 changed_is : (words : List (List ℕ)) (left now : Option (List ℕ)) (m n : ℕ) → (AsksNothing words → n ≡ m) → (s : Stop) → IsCause words left now m n s → n ≢ m → status_of s ≡ status.ReadFault
 changed_is words left now m n quiet stop.BadWords cause changed = absurd (changed (quiet cause))
 changed_is words left now m n quiet (stop.Refused fault) cause changed = absurd (changed cause.1)

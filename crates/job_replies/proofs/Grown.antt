@@ -24,7 +24,7 @@ use Rattle.rooted_cactus.specs.Solving.{IsSolved}
 use Rattle.answer_pages.specs.declared.growth_pages.Step.{Step}
 use Rattle.job_replies.proofs.Inserted.{grown_next, parts_between, steps_more, still_connected}
 
--- the cuts of a cactus that do not part the two vertices of an insertion are the minimum cuts after it
+-- the cuts of a cactus that do not separate the two vertices of an insertion are the minimum cuts after it
 pub kept_solved : (g : Graph) (i : Insertion) (solved : Solved) (kept : Rooted) → LawOfKeptCuts → IsSolved g solved → IsInsertion i → IsKept i.0 i.1 solved.cactus kept →
     IsSolved (with_insertion g i) (record { value = solved.value; cactus = kept })
 kept_solved g i solved kept law s is k =

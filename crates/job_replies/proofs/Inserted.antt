@@ -1,4 +1,4 @@
--- Graphs after insertions, and what is answered for them.
+-- Graphs after insertions, and what is replied for them.
 use Rattle.std.proofs.Common.{◌≡◌, ℕ, ◌+◌, ◌<◌, ◌≤◌, Bool, true, false, List, [], ◌∷◌, ◌++◌, length, take, drop, append_assoc, min, max, refl, sym, ◌∙◌, ap, subst, arith, inr, ⊎_elim, Some}
 use Rattle.std.specs.Prelude.{slice_get}
 use Rattle.std.specs.List.{All, Contains}
@@ -41,7 +41,7 @@ xor_turned true false s u v p q = rw (p, q) refl
 xor_turned false true s u v p q = rw (p, q) refl
 xor_turned false false s u v p q = rw (p, q) refl
 
--- the lesser and the greater of two vertices are parted where the two are
+-- the smaller and the greater of two vertices are separated if the two are
 pub parts_between : (s : VertexSet) (u v : ℕ) → parts s (min u v) (max u v) ≡ parts s u v
 parts_between s u v =
     ⊎_elim

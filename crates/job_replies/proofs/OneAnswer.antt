@@ -92,7 +92,7 @@ one_text command masses g t u connected a b =
     first)
     a
 
--- of two commands with one job and one least balance the one answers what the other does
+-- what one of two commands with one job and one least balance replies, the other replies too
 module _ (first second : Command) (job : first.job ≡ second.job) (least : first.least ≡ second.least) (masses : List ℕ) (g : Graph) (t : List ℕ) where
   same_cuts : asked_cuts second masses g ≡ asked_cuts first masses g
   same_cuts =

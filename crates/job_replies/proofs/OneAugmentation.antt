@@ -1,4 +1,4 @@
--- Of the texts of an augmentation a graph has one: the end nodes of its canonical cactus stand in one order.
+-- A graph has one text of an augmentation: the end nodes of its canonical cactus are in one order.
 use Rattle.std.proofs.Common.{◌≡◌, ℕ, inl, true, List, [], ◌∷◌, map, ap, ◌∙◌, sym, subst, refl}
 use Rattle.std.specs.List.{Contains}
 use Rattle.std.specs.Ordering.{nat_cmp}
@@ -35,7 +35,7 @@ use Rattle.job_replies.proofs.OneText.{same_sides}
 abbrev Lists : Type 0
 Lists = List (List ℕ)
 
--- what is read off a node where it lies below a block, and where it is the root
+-- what is read off a node that is below a block, and off the root
 abbrev ends : Node → Lists × Lists
 ends x = (leaves x, end_sets x)
 

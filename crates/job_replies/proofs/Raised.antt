@@ -1,4 +1,4 @@
--- The cactus of a graph that has a cut is normal where it is canonical, and has a block.
+-- The cactus of a graph that has a cut is normal if it is canonical, and has a block.
 use Rattle.std.proofs.Common.{◌≡◌, ◌≤◌, true, length}
 use Rattle.cut_definitions.specs.Graph.{Graph}
 use Rattle.rooted_cactus.specs.Normal.{is_normal}

@@ -1,4 +1,4 @@
--- The edges that the canonical cactus of a graph gives raise its value, and no fewer do.
+-- The edges of the augmentation of the canonical cactus of a graph raise its value, and no fewer do.
 use Rattle.std.proofs.Common.{◌≡◌, ℕ, ◌≤◌, refl}
 use Rattle.cut_definitions.specs.Cuts.{value}
 use Rattle.cut_definitions.specs.Graph.{Graph}

@@ -1,4 +1,4 @@
--- What was replied, and what was told where there is no reply.
+-- What was replied, and what was reported if there is no reply.
 use Rattle.std.proofs.Common.{◌++◌, ◌∷◌, ◌≡◌, ℕ, ◌⊎◌, ◌≤◌, ◌<◌, ◌+◌, ◌-◌, ◌*◌, ◌^◌, length, arith, inl, inr, ⊎_elim, List, Option, Some, None, Result, Ok, Err, refl, sym, ◌∙◌, subst, ap}
 use Rattle.std.specs.Prelude.{◌≢◌, IsSome, IfSome, IfOk, MatchOption}
 use Rattle.std.specs.Io.KnownBytes.{Appends}
@@ -53,7 +53,7 @@ has_command words command is = rw is refl
 reading_command : (words : List (List ℕ)) → ReadsGraph words → HasCommand words
 reading_command words reads = has_command words reads.command reads.commanded
 
--- nothing is said of a command where the words ask for a notice
+-- nothing is said of a command if the words ask for a notice
 pub only_notice : {T E : Type 0} (words : List (List ℕ)) (notice : Notice) → notice_of words ≡ Some notice → (answer : Result T E) (P : Type 0) →
     IfOk answer (λ _. ReadsGraph words → P)
 only_notice words notice is (Ok x) P = λ reads. absurd (off (no_notice words (reading_command words reads)))
@@ -107,7 +107,7 @@ answered words command left bytes text graph is reading from accepted reply =
     let a : IsJobAnswer command bytes text = reading_replied command.job command left bytes text reading from (replied words command left text is reply) in
     subst (λ (y : Graph). IsAnswerOf command (masses_of bytes) y text) (ok_is a.graph graph (sym a.accepted ∙ accepted)) a.answer
 
--- no reply stands where the bytes have a fault
+-- there is no reply if the bytes have a fault
 pub no_reply : (words : List (List ℕ)) (left : Option (List ℕ)) (bytes text : List ℕ) (fault : Fault) → ReadsGraph words → left ≡ Some bytes → graph_of bytes ≡ Err fault →
     IsReply words left text → ⊥
 no_reply words left bytes text fault reads from wrong reply =
@@ -231,9 +231,9 @@ pub too_large_reply : (command : Command) (masses : List ℕ) (g : Graph) (text 
 too_large_reply command masses g text a two large =
     ⊎_elim (λ few. omega (arith, few.few, two)) (⊎_elim (λ apart. large apart.within) (λ whole. large whole.within)) a.answer
 
--- ---- what was told
+-- ---- what was reported
 
--- a stop with its cause that was told, whole or in part
+-- a stop with its cause that was reported, whole or in part
 pub record Telling (words : List (List ℕ)) (left now : Option (List ℕ)) (m n : ℕ) (before after : Option (List ℕ)) (p q : ℕ) (result : Status) : Type 0 where
   pub stop : Stop
   pub cause : IsCause words left now m n stop
@@ -252,7 +252,7 @@ no_write_fault (stop.BalanceTooLarge c total) e = cc
 no_write_fault (stop.GrowTooLarge number) e = cc
 
 module _ (words : List (List ℕ)) (left now : Option (List ℕ)) (m n : ℕ) (before after : Option (List ℕ)) (p q : ℕ) (result : Status) where
-  -- what was taken where no write failed
+  -- what was taken if no write failed
   whole : (s : Stop) → Writes (status_of s) (line_of s) before after p q result → result ≢ status.WriteFault →
       (result ≡ status_of s) × Appends before after (line_of s)
   whole s w fine = ⊎_elim (λ t. (t.0, t.1.text_taken)) (λ t. absurd (fine t.0)) w
@@ -267,11 +267,11 @@ module _ (words : List (List ℕ)) (left now : Option (List ℕ)) (m n : ℕ) (b
       (λ w. record { rose = w.1.rose; stop = t.stop; cause = t.cause; part_taken = w.1.part_taken })
       t.writes
 
-  -- where no write failed the status is that of the stop
+  -- if no write failed the status is that of the stop
   calm : (t : Telling words left now m n before after p q result) → ¬ Rose p q → result ≡ status_of t.stop
   calm t no_fault = ⊎_elim (λ w. w.0) (λ w. absurd (no_fault w.1.rose)) t.writes
 
-  -- a trial is told of want of memory alone
+  -- a trial reports nothing but that memory ran out
   pub trial_told : (command : Command) (number : ℕ) → command_of words ≡ Some command → command.job ≡ Trial number → ¬ Rose p q →
       Telling words left now m n before after p q result → (result ≡ status.Ok) ⊎ (result ≡ status.OutOfMemory)
   trial_told command number is trial tells t = of t.stop t.cause (calm t tells)
@@ -309,7 +309,7 @@ module _ (words : List (List ℕ)) (left now : Option (List ℕ)) (m n : ℕ) (b
     stop_for command graph is accepted (stop.BalanceTooLarge c total) cause = inr (stopped words command left bytes graph (stop.BalanceTooLarge c total) is from accepted cause.3)
     stop_for command graph is accepted (stop.GrowTooLarge number) cause = inr (stopped words command left bytes graph (stop.GrowTooLarge number) is from accepted cause.3)
 
-    -- for a graph whose job has a text only memory can be wanting
+    -- for a graph whose job has a text, only memory can run out
     pub graph_told : (command : Command) (graph : Graph) → command_of words ≡ Some command → graph_of bytes ≡ Ok graph → IsInRange command.job graph.vertices →
         (2 ≤ graph.vertices → IsWithin command (masses_of bytes) graph) → (result ≡ status.Ok) ⊎ (result ≡ status.OutOfMemory)
     graph_told command graph is accepted inside within = of t.stop (stop_for command graph is accepted t.stop t.cause) (calm t tells)
@@ -318,7 +318,7 @@ module _ (words : List (List ℕ)) (left now : Option (List ℕ)) (m n : ℕ) (b
         of s (inl memory) e = inr (e ∙ ap status_of memory)
         of s (inr why) e = inr (e ∙ ap status_of (limit_stops command (masses_of bytes) graph s why inside within))
 
-    -- a vertex that is not there is told
+    -- a vertex that is not there is reported
     pub outside_told : (command : Command) (graph : Graph) → command_of words ≡ Some command → graph_of bytes ≡ Ok graph → (IsInRange command.job graph.vertices → ⊥) →
         (result ≡ status.BadVertex) ⊎ (result ≡ status.OutOfMemory)
     outside_told command graph is accepted outside = of t.stop (stop_for command graph is accepted t.stop t.cause) (calm t tells)
@@ -336,7 +336,7 @@ module _ (words : List (List ℕ)) (left now : Option (List ℕ)) (m n : ℕ) (b
         of (stop.Refused fault) (inr why) e = absurd why
         of stop.ReadFailed (inr why) e = absurd why
 
-    -- a limit that is not kept is told
+    -- a limit that is exceeded is reported
     pub over_limit_told : (command : Command) (graph : Graph) → command_of words ≡ Some command → graph_of bytes ≡ Ok graph → IsInRange command.job graph.vertices →
         (result ≡ over_status command.job) ⊎ (result ≡ status.OutOfMemory)
     over_limit_told command graph is accepted inside = of t.stop (stop_for command graph is accepted t.stop t.cause) (calm t tells)
@@ -354,7 +354,7 @@ module _ (words : List (List ℕ)) (left now : Option (List ℕ)) (m n : ℕ) (b
         of (stop.Refused fault) (inr why) e = absurd why
         of stop.ReadFailed (inr why) e = absurd why
 
-    -- for a fault the bytes are refused, or memory is wanting
+    -- for a fault the bytes are refused, or memory runs out
     pub fault_is_told : (fault : Fault) → graph_of bytes ≡ Err fault → (result ≡ status.Refused) ⊎ (result ≡ status.OutOfMemory)
     fault_is_told fault wrong = of t.stop t.cause (calm t tells)
       where

@@ -33,7 +33,7 @@ AllPairs-from_AscendsBelow xs n all steps i j d before inside =
     let short : AscendsBelow xs (length xs) = λ k d low high. steps k d low (omega arith) in
     subst (λ k. IsBefore (get_or xs i d) (get_or xs k d)) e (ascends_between xs short (j - suc i) i d (omega arith))
 
--- Rows that ascend, one behind the other.
+-- Rows that ascend, one after the other.
 
 ascend-head : (x : Edge) (xs : List Edge) → AllPairs IsBefore (x ∷ xs) → All (IsBefore x) xs
 ascend-head x xs up = All-from_get_or (IsBefore x) xs x (λ i lt. up 0 (suc i) x (omega arith) (omega arith))

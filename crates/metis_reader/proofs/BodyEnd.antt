@@ -117,7 +117,7 @@ few_masses b = omega (arith, b.masses_of_lines, b.lines, b.header.few_vertices)
 pub one_for_each : (b : Body) → b.header.vertices ≤ length b.numbers.items → length b.masses.items ≡ b.header.vertices
 one_for_each b all = omega (arith, b.masses_of_lines, b.lines)
 
--- where edges have no weights in the file, each weighs 1
+-- if edges have no weights in the file, each weighs 1
 pub each_weighs_one : (b : Body) (sorted : List Edge) → IsPermutation (greater_of b) sorted → b.header.format.has_edge_weights ≡ false → All (λ (e : Edge). e.w ≡ 1) sorted
 each_weighs_one b sorted moved none =
     let P : Edge → Type 0 = IsEdgeWithin b.header.vertices in
@@ -125,7 +125,7 @@ each_weighs_one b sorted moved none =
     (All-append P (met_from 0 b.cursors.items b.greater.items) (b.lesser.items ++ waiting_of b.waiting) (All-met P 0 b.cursors.items b.greater.items b.greater_within) b.lesser_within)
     moved (sym b.total_is ∙ b.unit_weights none ∙ b.counted)
 
--- what is told of the graph beside it
+-- the measures of the graph
 pub body_measured : (b : Body) (sorted : List Edge) (g : Graph) (m : Measures) → b.header.vertices ≤ length b.numbers.items → g ≡ record { vertices = b.header.vertices; edges = sorted }
     → IsPermutation (greater_of b) sorted → IsPermutation (lesser_of b) sorted → AllPairs IsBefore sorted
     → m.least_degree ≡ b.least_degree → m.lightest ≡ lightest_of sorted → m.heaviest ≡ heaviest_of sorted → AreMeasures g m

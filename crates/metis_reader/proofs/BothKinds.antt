@@ -1,4 +1,4 @@
--- The entries of both kinds: to a greater neighbour, and to a lesser one.
+-- The entries of both kinds: to a greater neighbour, and to a smaller one.
 use Rattle.std.proofs.Common.{◌≡◌, ◌≤◌, ◌<◌, ◌+◌, ℕ, Bool, true, false, not, List, [], ◌∷◌, map, reverse, arith, inl, inr, subst, sym, ap, refl, ◌∙◌}
 use Rattle.std.specs.Prelude.{nat_lt, ◌==◌, ◌&&◌, if◌then◌else◌}
 use Rattle.std.specs.List.{Contains, filter, list_any}
@@ -129,7 +129,7 @@ down_at_least u v (e ∷ es) le =
           omega arith
     ]
 
--- the lesser ones are kept in the opposite order
+-- the smaller ones are kept in the opposite order
 back_times : (u v : ℕ) (xs : List Edge) → times u v (reverse xs) ≡ times u v xs
 back_times u v xs = times_moved u v xs (reverse xs) (IsPermutation-reverse xs)
 

@@ -21,7 +21,7 @@ use Rattle.cut_definitions.proofs.Values.{min_cases}
 use Rattle.metis_reader.specs.declared.measures.Measures.{Measures}
 use Rattle.metis_reader.specs.Measures.{AreLineWeights, AreMeasures, heaviest_of, least_of, lightest_of, line_weight}
 
--- what an entry to a greater neighbour adds to the line of a vertex, and one to a lesser neighbour
+-- what an entry to a greater neighbour adds to the line of a vertex, and one to a smaller neighbour
 abbrev from_term : ℕ → Edge → ℕ
 from_term v e = if v == e.u then e.w else 0
 
@@ -145,7 +145,7 @@ line_up lines least before total greater lesser more others e is is_more same ol
     line_grows lines least before total e.w (line_weight greater lesser) (line_weight more others)
     (λ v. ap (λ xs. line_weight xs others v) is_more ∙ ap (λ xs. line_weight (greater ++ e ∷ []) xs v) same ∙ weight_up greater lesser e v ∙ ap (λ k. line_weight greater lesser v + k) (at_present lines e.u e.w v is)) old
 
--- or one to a lesser neighbour
+-- or one to a smaller neighbour
 pub line_down : (lines least before total : ℕ) (greater lesser others : List Edge) (e : Edge) → e.v ≡ suc lines → IsPermutation (lesser ++ e ∷ []) others
     → AreLineWeights lines least before total (line_weight greater lesser) → AreLineWeights lines least before (total + e.w) (line_weight greater others)
 line_down lines least before total greater lesser others e is moved old =
@@ -200,7 +200,7 @@ least_degree g (suc n) least f is same some each is_least =
           omega arith;
     }
 
--- What is told of a graph whose lines are all read, and whose entries are met.
+-- The measures of a graph whose lines are all read, and whose entries are met.
 pub measures_are : (lines n least before total : ℕ) (greater lesser sorted : List Edge) (g : Graph) (m : Measures) → AreLineWeights lines least before total (line_weight greater lesser)
     → lines ≤ n → n ≤ lines → g ≡ record { vertices = n; edges = sorted } → IsEdgeList (record { vertices = n; edges = sorted }) → IsPermutation greater sorted → IsPermutation lesser sorted
     → m.least_degree ≡ least → m.lightest ≡ lightest_of sorted → m.heaviest ≡ heaviest_of sorted → AreMeasures g m
@@ -218,7 +218,7 @@ measures_are lines n least before total greater lesser sorted g m weights few al
       heaviest = heaviest;
     })
 
--- Where edges have no weights, each is 1.
+-- If edges have no weights, each is 1.
 
 at_least_one : (xs : List Edge) → All (λ (e : Edge). 1 ≤ e.w) xs → length xs ≤ sum_by (λ (e : Edge). e.w) xs
 at_least_one [] h = omega arith
@@ -238,7 +238,7 @@ each_is_one (e ∷ xs) h sum =
     let all : sum_by (λ (e : Edge). e.w) (e ∷ xs) ≡ suc (length xs) = sum in
     All-cons (λ (e : Edge). e.w ≡ 1) e xs (omega arith) (each_is_one xs tails (omega arith))
 
--- where the weights of two lists add up to their lengths
+-- if the weights of two lists add up to their lengths
 pub all_of_both : (n m : ℕ) (xs ys sorted : List Edge) → All (IsEdgeWithin n) xs → All (IsEdgeWithin m) ys → IsPermutation xs sorted
     → sum_by (λ (e : Edge). e.w) xs + sum_by (λ (e : Edge). e.w) ys ≡ length xs + length ys → All (λ (e : Edge). e.w ≡ 1) sorted
 all_of_both n m xs ys sorted in_xs in_ys moved sum =

@@ -130,7 +130,7 @@ digits_read (b ∷ digits) r all apart =
       ended = more.ended ∙ ap (λ (s : Reading). s.ended) step.1;
     }
 
--- and what a reader holds behind them
+-- and what a reader holds after them
 pub digits_held : (parser : Parser) (line : ℕ) (part : LinePart) (word longer : Word) (r : Reading) (digits : List ℕ) → list_all is_digit digits ≡ true → (part ≡ Comment → ⊥)
     → ((bytes : List ℕ) → IsWord word bytes → IsWord longer (bytes ++ digits)) → Holds parser line part word r
     → (bytes_findings r digits ≡ []) × Holds parser line (part_behind part digits) longer (reading_from r digits)
@@ -145,7 +145,7 @@ digits_held parser line part word longer r digits all apart grows holds =
       },
     )
 
--- where nothing is read, all stays as it was
+-- if nothing is read, all stays as it was
 pub none_read : (parser : Parser) (line : ℕ) (part : LinePart) (word : Word) (r : Reading) (from : ℕ) (bytes : List ℕ) → Holds parser line part word r →
     (bytes_findings r (run from from bytes) ≡ []) × Holds parser line part word (reading_from r (run from from bytes))
 none_read parser line part word r from bytes holds =

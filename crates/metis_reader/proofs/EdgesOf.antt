@@ -15,7 +15,7 @@ use Rattle.metis_reader.specs.File.{edge_of, edges_of, is_from}
 use Rattle.metis_reader.proofs.Rows.{is_entry, entry_times, entry_cons, is_entry_from, is_entry_of}
 use Rattle.metis_reader.proofs.BothKinds.{upward, up_has, up_from, up_true}
 
--- each edge comes before all behind it
+-- each edge comes before all that follow it
 abbrev pub Climbs : List Edge → Type 0
 Climbs [] = Unit {0}
 Climbs (e ∷ es) = ((f : Edge) → Contains es f → IsBefore e f) × Climbs es

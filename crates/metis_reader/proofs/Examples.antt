@@ -129,7 +129,7 @@ one_vertex : graph_of (map byte (codes "1 0//")) ≡ graph 1 ([])
 unfolding graph_of
 one_vertex = refl
 
--- a word is judged when the byte behind it is met
+-- a word is judged when the byte after it is met
 not_yet : fixed (map byte (codes "3 x")) ≡ None
 unfolding fixed
 not_yet = refl

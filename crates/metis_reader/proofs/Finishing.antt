@@ -40,7 +40,7 @@ last_line_refused reader bytes refusal f still h e =
     (end_parts r ∙ ap (λ fs. fs ++ final_findings (end_state r) r.next (line_count r)) first.2)
     ∙ ap (λ f. Err f) first.3
 
--- or memory was wanting for a header that the end of the input ends
+-- or memory ran out for a header that the end of the input ends
 pub last_line_memory : (reader : Reader) (bytes : List ℕ) (refusal : ReadRefusal)
     → RefusedFirst refusal (last_line (reading_from start bytes)) (ByteEndsHeader (reading_from start bytes) 10)
     → refusal ≡ NoMemory → HeaderEndsIn bytes (10 ∷ [])

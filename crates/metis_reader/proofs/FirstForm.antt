@@ -1,4 +1,4 @@
--- A text of the first form is a file without fault, and of the same graph.
+-- A text of the first form is a file without a fault, and has the same graph.
 use Rattle.std.proofs.Common.{◌≡◌, ◌≤◌, ◌*◌, ◌^◌, ◌+◌, ℕ, suc, Bool, true, List, [], ◌∷◌, ◌++◌, length, take, refl, ap, sym, ◌∙◌, subst, arith, Some, None, Ok, Err, sum_by}
 use Rattle.std.specs.Prelude.{Result, if◌then◌else◌}
 use Rattle.std.specs.List.{filter}
@@ -63,7 +63,7 @@ record IsAccepted (end count : ℕ) (lines : List Line) (graph : Graph) : Type 0
   pub same_graph : edge_list lines ≡ graph
   pub same_lines : from_header lines ≡ lines
 
--- the faults with these of the header's line, and with so many vertex lines
+-- the faults, from those of the header's line, the header and the number of vertex lines
 abbrev findings_at : ℕ → ℕ → List Line → List Finding → Header → ℕ → List Finding
 findings_at end count lines fs header k = fs ++ body_findings header 1 k [] lines ++ end_findings header end count (vertex_lines header 1 k lines)
 
@@ -95,7 +95,7 @@ accepted_by n m end count line a b lines rows is h short p q n_is m_is =
       same_lines = refl;
     }
 
--- lines with these numbers have no fault, and the graph of the rows behind the header
+-- lines with these numbers have no fault, and the graph of the rows after the header
 accepted : (n m end count : ℕ) (lines : List Line) (rows : List (List ℕ)) → IsAnnounced n m rows → Reads lines ((n ∷ m ∷ []) ∷ rows)
     → sum_by length rows ≤ 2_000_000 → IsAccepted end count lines (graph_of_rows n rows)
 accepted n m end count [] rows is h short = absurd h

@@ -23,7 +23,7 @@ take_drop n xs = sym (take-append-drop n xs)
 all_findings : (bytes : List ℕ) → findings bytes ≡ too_long bytes ++ (bytes_findings start bytes ++ input_end (reading_from start bytes))
 all_findings bytes = ap (λ fs. too_long bytes ++ fs) (sym (text_law bytes) ∙ input_parts start bytes)
 
--- what is found behind some bytes stands behind them
+-- what is found after some bytes has a later place
 later_from : (front back : List ℕ) (p : ℕ) → p ≤ suc (length front)
     → AllFrom p (bytes_findings (reading_from start front) back ++ input_end (reading_from start (front ++ back)))
 later_from front back p le =
@@ -44,11 +44,11 @@ found_first : (long : Bool) (limit line : ℕ) (f : Finding) (others : List Find
 found_first true limit line f others le h = first_second (after_limit limit line) f others (omega arith) h
 found_first false limit line f others le h = first_head f others h
 
--- the fault of a byte behind these
+-- the fault of a byte after these
 abbrev pub too_long_at : List ℕ → Fault
 too_long_at bytes = record { kind = InputTooLong; line = suc (length (filter is_line_feed bytes)) }
 
--- The bytes within the limit, and those behind it.
+-- The bytes within the limit, and those after it.
 abbrev pub limit_line : List ℕ → ℕ
 limit_line bytes = suc (length (filter is_line_feed (take (2 ^ 33) bytes)))
 
@@ -116,7 +116,7 @@ fixed_within bytes f others e =
     (first_within (take (2 ^ 33) bytes) (drop (2 ^ 33) bytes) (nat_lt (2 ^ 33) (length bytes)) (2 ^ 33) (limit_line bytes) f others (front_length (2 ^ 33) bytes) e))
     (omega arith)
 
--- Where there is none, one byte more is it.
+-- If the bytes up to the limit have no fault, the next byte is one.
 pub fixed_behind : (bytes : List ℕ) → 2 ^ 33 < length bytes → bytes_findings start (take (2 ^ 33) bytes) ≡ []
     → fixed bytes ≡ Some (too_long_at (take (2 ^ 33) bytes))
 fixed_behind bytes long e =

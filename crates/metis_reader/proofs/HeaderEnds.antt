@@ -1,4 +1,4 @@
--- The header's end is among the bytes exactly where a reading of them is behind it.
+-- The header's end is among the bytes exactly if a reading of them has passed it.
 use Rattle.std.proofs.Common.{◌≡◌, ◌≢◌, ℕ, zero, suc, Bool, true, false, List, [], ◌∷◌, ◌++◌, refl, ap, sym, ◌∙◌, subst, append_assoc}
 use Rattle.std.specs.Prelude.{◌==◌}
 use Rattle.std.specs.List.{filter}
@@ -72,7 +72,7 @@ pub behind_bytes : (r : Reading) (bs : List ℕ) → IsBehind r.state → IsBehi
 behind_bytes r [] h = h
 behind_bytes r (b ∷ bs) h = behind_bytes (after_byte r b) bs (behind_byte r b h)
 
--- Lines that have a header lead behind it, and no others do.
+-- Lines that have a header lead past it, and no others do.
 
 header_line : (number : ℕ) (comment : Bool) (words : List Piece) (place : ℕ) (ls : List Line)
     → (from_header ls ≢ [] → IsBehind (lines_state (AtHeader []) ls))
@@ -105,7 +105,7 @@ feed_state Start s word ended next h = behind_byte (record { state = s; part = S
 feed_state Words s word ended next h = h
 feed_state Comment s word ended next h = h
 
--- a reading of bytes that have the header's end is behind it
+-- a reading of bytes that have the header's end has passed it
 pub has_header_behind : (bytes : List ℕ) → HasHeader bytes → IsBehind (reading_from start bytes).state
 has_header_behind bytes has =
     let r : Reading = reading_from start has.before in
@@ -135,7 +135,7 @@ no_words_end (b ∷ bytes) place h = h
 behind_no_start : (s : State) → IsBehind s → s ≡ AtHeader [] → ⊥
 behind_no_start s h e = subst IsBehind e h
 
--- where the header ends at a line feed, the lines before that have a header
+-- if the header ends at a line feed, the lines before that have a header
 ends_by : (part : LinePart) (s : State) (word : List ℕ) (ended next : ℕ) → part ≢ Comment → EndsHeader (word_end_state s word next)
     → end_state (record { state = s; part = part; word = word; ended = ended; next = next }) ≡ AtHeader [] → ⊥
 ends_by Start s word ended next apart ends e = no_words_end word next (subst (λ s. EndsHeader (word_end_state s word next)) e ends)

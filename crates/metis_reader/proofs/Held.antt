@@ -1,4 +1,4 @@
--- Which entries wait, where a place is filled, emptied or added.
+-- Which entries wait, when a place is filled, emptied or added.
 use Rattle.std.proofs.Common.{◌≡◌, ◌≢◌, ◌≤◌, ◌<◌, ◌+◌, ◌*◌, ◌/◌, ◌%◌, ◌-◌, ℕ, zero, suc, List, [], ◌∷◌, ◌++◌, length, drop, get_or, set, arith, inl, inr, refl, subst, sym, ap, ◌∙◌}
 use Rattle.std.specs.Prelude.{◌==◌, ◌⊎◌, replicate, if◌then◌else◌}
 use Rattle.std.specs.List.Sorted.{IsPermutation}
@@ -12,7 +12,7 @@ use Rattle.metis_reader.specs.Regions.{entry_at, waiting_from}
 abbrev held : ℕ → Edge → List Edge → List Edge
 held p e es = if p == 0 then es else e ∷ es
 
--- at these places stand the same entries
+-- the same entries are at these places
 abbrev pub SameAt : ℕ → List ℕ → List ℕ → List ℕ → List ℕ → List ℕ → Type 0
 SameAt place owners weights others heavies ps = (i : ℕ) → i < length ps
     → (get_or ps i 0 ≡ 0) ⊎ (entry_at others heavies (place + i) (get_or ps i 0) ≡ entry_at owners weights (place + i) (get_or ps i 0))
@@ -168,7 +168,7 @@ next_some i owners weights ps lt some =
 pub none_behind : (i : ℕ) (owners weights ps : List ℕ) → length ps ≤ i → waiting_from i owners weights (drop i ps) ≡ []
 none_behind i owners weights ps le = ap (λ qs. waiting_from i owners weights qs) (drop_all i ps le)
 
--- What the table keeps, where an entry came.
+-- What the table keeps, when an entry comes.
 pub one_more_held : (held : ℕ) (o o' w w0 w' wn p p0 p' pn : List ℕ) (e : Edge) → held ≡ length (waiting_from 0 o w p) → o' ≡ o → w0 ≡ w → p0 ≡ p → wn ≡ w' → pn ≡ p'
     → IsPermutation (e ∷ waiting_from 0 o' w0 p0) (waiting_from 0 o' w' p') → held + 1 ≡ length (waiting_from 0 o wn pn)
 one_more_held held o o' w w0 w' wn p p0 p' pn e counted is_o is_w is_p is_wn is_pn moved =

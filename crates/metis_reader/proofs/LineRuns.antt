@@ -1,4 +1,4 @@
--- The numbers of runs of lines, where a line comes.
+-- The numbers of runs of lines, when a line comes.
 use Rattle.std.proofs.Common.{◌≡◌, ◌≤◌, ◌<◌, ◌+◌, ◌-◌, ◌^◌, ℕ, zero, suc, Bool, true, false, List, [], ◌∷◌, ◌++◌, length, take, get_or, arith, inl, inr, refl, sym, ap, ◌∙◌}
 use Rattle.std.specs.Prelude.{min, nat_le, if◌then◌else◌}
 use Rattle.std.specs.List.{All}

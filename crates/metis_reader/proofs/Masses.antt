@@ -7,7 +7,7 @@ use Rattle.metis_reader.specs.Profile.{Header, value, value_or, first_weight, ha
 use Rattle.metis_reader.specs.File.{vertex_lines, all_masses, mass_list, edge_list}
 use Rattle.metis_reader.specs.Machine.{with_mass}
 
--- the mass behind these words, where so many leading words are still to come
+-- the mass after these words, with this number of leading words still to come
 abbrev pub mass_from : Header → ℕ → ℕ → List Piece → ℕ
 mass_from header zero mass words = mass
 mass_from header (suc leading) mass [] = mass
@@ -19,7 +19,7 @@ at_first header mass leading word e = rw (eq-eqb (suc leading + header.sizes) he
 at_other : (header : Header) (mass leading : ℕ) (word : Piece) → suc leading + header.sizes ≢ header.leading → with_mass header mass leading word ≡ mass
 at_other header mass leading word e = rw (ne_eqb (suc leading + header.sizes) header.leading e) refl
 
--- behind the first weight it stays
+-- after the first weight it stays
 stays : (header : Header) (leading mass : ℕ) (words : List Piece) → leading + header.sizes < header.leading → mass_from header leading mass words ≡ mass
 stays header zero mass words lt = refl
 stays header (suc leading) mass [] lt = refl
@@ -32,7 +32,7 @@ none_left : (n d : ℕ) → value_or n (drop d []) ≡ n
 none_left n zero = refl
 none_left n (suc d) = refl
 
--- behind some words, where so many sizes are still to come
+-- after some words, with this number of sizes still to come
 mass_is : (header : Header) (leading mass seen sizes : ℕ) (words : List Piece) → leading + seen ≡ header.leading → seen + sizes ≡ header.sizes
     → mass_from header leading mass words ≡ value_or mass (drop sizes (take leading words))
 mass_is header zero mass seen sizes words e f = sym (none_left mass sizes)
@@ -48,7 +48,7 @@ mass_is header (suc leading) mass seen (suc sizes) (word ∷ words) e f =
 pub first_mass : (header : Header) (words : List Piece) → mass_from header header.leading 1 words ≡ first_weight header words
 first_mass header words = mass_is header header.leading 1 0 header.sizes words (omega arith) (omega arith)
 
--- Where vertices have no weights, each mass is 1.
+-- If vertices have no weights, each mass is 1.
 
 no_weight : (k : ℕ) (words : List Piece) → value_or 1 (drop k (take k words)) ≡ 1
 no_weight zero words = refl
@@ -72,7 +72,7 @@ masses_read (line ∷ lines) = all_masses (vertex_lines (header_of line.words) 1
 unweighted : (words : List Piece) → has_flag 1 (format_of words) ≡ false → (header_of words).leading ≡ (header_of words).sizes
 unweighted words e = ap (λ (b : Bool). size_words (format_of words) + (if b then weights_of words else 0)) e ∙ omega arith
 
--- where there are as many as vertices, they are the masses of the file
+-- if there are as many as vertices, they are the masses of the file
 pub masses_are : (lines : List Line) (masses : List ℕ) → masses_read lines ≡ masses → length masses ≡ (edge_list lines).vertices → mass_list lines ≡ masses
 masses_are [] masses e n = e
 masses_are (line ∷ lines) masses e n = by_flag (has_flag 1 (format_of line.words)) refl

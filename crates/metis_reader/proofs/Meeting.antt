@@ -1,4 +1,4 @@
--- Which entries were met, where edges or cursors come or move.
+-- Which entries were met, when edges or cursors come or move.
 use Rattle.std.proofs.Common.{◌≡◌, ◌≤◌, ◌<◌, ◌-◌, ◌+◌, ℕ, suc, zero, Bool, true, false, List, [], ◌∷◌, ◌++◌, length, take, drop, get_or, set, arith, inl, inr, refl, subst, sym, ap, ◌∙◌, take-append-drop}
 use Rattle.std.specs.Prelude.{nat_lt, if◌then◌else◌}
 use Rattle.std.specs.List.{All}
@@ -56,7 +56,7 @@ same_met k cursors others (x ∷ xs) all =
     ap (λ c. kept (nat_lt k c) x (met_from (suc k) others xs)) (All-head P x xs all)
     ∙ ap (λ r. kept (is_met_at cursors k x) x r) (same_met (suc k) cursors others xs (All-tail P x xs all))
 
--- A row ends: its cursor comes, which stands where it begins.
+-- A row ends: it gets a cursor, which is at its beginning.
 
 front : (cursors : List ℕ) (start i : ℕ) → i < length cursors → get_or (cursors ++ start ∷ []) i 0 ≡ get_or cursors i 0
 front cursors start i h = grind (arith, common_steps)

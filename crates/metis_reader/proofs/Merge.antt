@@ -43,7 +43,7 @@ absent others e j low high h =
       | inr behind ↦ IsBefore-irreflexive e (subst (λ x. IsBefore e x) h.2 (high h.0 e behind h.1))
     ]
 
--- nor is it one where it has the ends of the edge at j and another weight
+-- nor is it one if it has the ends of the edge at j and another weight
 absent_weight : (others : List Edge) (e : Edge) (j : ℕ) → Ascends others → j < length others → (get_or others j e).u ≡ e.u → (get_or others j e).v ≡ e.v
     → (get_or others j e).w ≢ e.w → Contains others e → ⊥
 absent_weight others e j up lt su sv other h =
@@ -209,7 +209,7 @@ pub merge_some : (greater lesser : List Edge) (i j : ℕ) (found : Option ℕ) �
 merge_some greater lesser i j None hi hj m = tt
 merge_some greater lesser i j (Some x) hi hj m = merge_end greater lesser i j x hi hj m
 
--- what is known where nothing was found
+-- what is known if nothing was found
 pub never_none : (found : Option ℕ) (x : ℕ) (P : Type 0) → IsAtMost found x → IfNone found P
 never_none None x P h = absurd h
 never_none (Some f) x P h = tt

@@ -1,4 +1,4 @@
--- What a parser shows behind a neighbour without a fault.
+-- What a parser shows after a neighbour without a fault.
 use Rattle.std.proofs.Common.{◌≡◌, ℕ, true, false, List, [], ◌∷◌, ◌++◌, sym, ◌∙◌, ap, subst, append_assoc}
 use Rattle.metis_reader.specs.Text.{Piece}
 use Rattle.metis_reader.specs.Profile.{Header, Entry, value, neighbour_faults}

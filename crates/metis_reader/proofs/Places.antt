@@ -14,7 +14,7 @@ use Rattle.metis_reader.specs.File.{VertexLine, first, earlier, first_line, end_
 use Rattle.metis_reader.specs.Machine.{State, AtHeader, InLine, AtWeight, After, final_findings, word_faults, line_faults}
 use Rattle.metis_reader.specs.Reading.{Reading, word_end, word_end_state, line_end, line_end_state, byte_findings, byte_findings_by, after_byte, after_byte_by, input_end, reading_from, bytes_findings, input_findings}
 
--- all of these stand at this place, or none before it
+-- all of these are at this place, or none before it
 abbrev pub AllAt : ℕ → List Finding → Type 0
 AllAt p [] = Unit {0}
 AllAt p (f ∷ fs) = (f.place ≡ p) × AllAt p fs

@@ -1,4 +1,4 @@
--- The edges of a text of the first form: a pair of vertices has one entry where the lesser one's row has the greater one.
+-- The edges of a text of the first form: a pair of vertices has one entry if the smaller one's row has the greater one.
 use Rattle.std.proofs.Common.{◌≡◌, ◌≢◌, ◌<◌, ◌≤◌, ◌-◌, ℕ, zero, suc, ◌+◌, Bool, false, List, [], ◌∷◌, ◌++◌, length, map, get_or, refl, ap, sym, ◌∙◌, subst, arith, inl, inr, ⊎_elim}
 use Rattle.std.specs.Prelude.{◌==◌, if◌then◌else◌}
 use Rattle.std.specs.List.{filter, flat_map, range_with_len}
@@ -12,7 +12,7 @@ use Rattle.metis_reader.specs.File.{is_from, edge_of, edges_of}
 use Rattle.metis_reader.specs.Adjacency.{row, edge_from, edges_to, graph_of_rows}
 use Rattle.metis_reader.proofs.PlainRows.{entry, row_entries, rows_entries, Distinct, Sound}
 
--- the entry, where the row names the vertex
+-- the entry, if the row names the vertex
 abbrev pub entry_where : Bool → ℕ → ℕ → List Entry
 entry_where named u v = if named then entry u v ∷ [] else []
 
@@ -46,7 +46,7 @@ own_row u v (w ∷ vs) d =
       | inr f ↦ rw (own u v w, f) rest
     ]
 
--- from u to v there is one entry where the row of u names v, and else none
+-- from u to v there is one entry if the row of u names v, and none otherwise
 pub entries_from : (n k u v : ℕ) (rows : List (List ℕ)) → Sound n k rows → k ≤ u → u < k + length rows
     → filter (is_from u v) (rows_entries k rows) ≡ entry_where (has (get_or rows (u - k) []) v) u v
 entries_from n k u v [] s low high = absurd (omega arith)

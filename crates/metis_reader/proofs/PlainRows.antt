@@ -42,7 +42,7 @@ abbrev pub Fits : ℕ → ℕ → List ℕ → Type 0
 Fits n u [] = Unit {0}
 Fits n u (v ∷ vs) = (1 ≤ v) × (v ≤ n) × (v ≢ u) × Fits n u vs
 
--- each number stands once
+-- each number is there once
 abbrev pub Distinct : List ℕ → Type 0
 Distinct [] = Unit {0}
 Distinct (v ∷ vs) = (has vs v ≡ false) × Distinct vs

@@ -1,4 +1,4 @@
--- A word of digits, and the blank or the line feed that ends it, behind the bytes up to a place.
+-- A word of digits, and the blank or the line feed that ends it, after the bytes up to a place.
 use Rattle.std.proofs.Common.{◌≡◌, ◌≢◌, ◌<◌, ◌≤◌, ◌+◌, ℕ, suc, true, List, [], ◌∷◌, ◌++◌, length, take, drop, get_or, refl, sym, subst, arith}
 use Rattle.std.specs.Prelude.{◌==◌}
 use Rattle.std.specs.List.{list_all}

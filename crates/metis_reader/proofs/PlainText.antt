@@ -15,7 +15,7 @@ use Rattle.metis_reader.specs.Profile.{value}
 use Rattle.metis_reader.specs.FirstForm.{number_of, onto, numbers_of, row_of, rows_of_lines, rows_of}
 use Rattle.metis_reader.proofs.Digits.{digit_from}
 
--- Fields: what stands behind the last separator is dropped where it is empty.
+-- Fields: what follows the last separator is dropped if it is empty.
 
 abbrev pub kept : List ℕ → List (List ℕ)
 kept [] = []
@@ -45,7 +45,7 @@ fields_split p (b ∷ bytes) =
       | inr f ↦ rw f (ap (with_front b) (fields_split p bytes) ∙ in_front b (slice_split p bytes))
     ]
 
--- Where all are there, each is.
+-- If all are there, each is.
 
 pub record Both {X : Type 0} (o : Option X) (others : Option (List X)) (all : List X) : Type 0 where
   pub first : X

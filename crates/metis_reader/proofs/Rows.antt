@@ -38,7 +38,7 @@ any_true p (y ∷ xs) x h e =
     (λ t. or_right (p y) (list_any p xs) (any_true p xs x t e))
     (Contains-cons_cases y xs x h)
 
--- How often a neighbour stands in the line of a vertex.
+-- How often a neighbour is in the line of a vertex.
 
 abbrev pub is_entry : ℕ → ℕ → Entry → Bool
 is_entry x v e = e.from == x && e.to == v
@@ -117,7 +117,7 @@ entry_more k t e es =
       | inr f ↦ let here : entry_times k t (e ∷ es) ≡ 0 + entry_times k t es = entry_cons k t e es false f in omega arith
     ]
 
--- a line repeats a neighbour exactly where that stands there twice
+-- a line repeats a neighbour exactly if that is there twice
 once_in_line : (k : ℕ) (es : List Entry) → FromVertex k es → ((t : ℕ) → entry_times k t es ≤ 1) → has_repeat es ≡ false
 once_in_line k [] h once = refl
 once_in_line k (e ∷ es) h once =
@@ -141,7 +141,7 @@ twice_in_line k t (e ∷ es) h =
           or_right (list_any (is_to e) es) (has_repeat es) (twice_in_line k t es (omega arith))
     ]
 
--- The first line of which a test holds.
+-- The first line for which a test holds.
 
 abbrev pub repeats : VertexLine → Bool
 repeats v = has_repeat v.entries

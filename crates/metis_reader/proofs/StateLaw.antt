@@ -11,7 +11,7 @@ use Rattle.metis_reader.specs.Reading.{start, word_end_state, line_end_state, re
 use Rattle.metis_reader.specs.Ending.{end_state}
 use Rattle.metis_reader.proofs.TextLaw.{front, later, fields_more, words_blank, words_last, state_word, is_word-push, blank_no_percent, piece, is_word, lines_behind}
 
--- the state behind some lines
+-- the state after some lines
 abbrev pub lines_state : State → List Line → State
 lines_state s [] = s
 lines_state s (line ∷ lines) = lines_state (after_line (line_state s line.words) line.number) lines

@@ -141,7 +141,7 @@ shows_line a b header done all here line same numbers masses greater lesser weig
   total = λ has. weight ∙ shows.total has;
 }
 
--- The entries to lesser neighbours: those that were met, those that were not, and those that wait.
+-- The entries to smaller neighbours: those that were met, those that were not, and those that wait.
 
 swapped : (a l w : List Edge) → IsPermutation (a ++ (l ++ w)) (l ++ (a ++ w))
 swapped a l w =

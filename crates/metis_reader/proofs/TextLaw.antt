@@ -13,7 +13,7 @@ use Rattle.metis_reader.specs.File.{is_kept, file_findings, from_header}
 use Rattle.metis_reader.specs.Machine.{State, AtHeader, line_faults, after_line, final_findings, line_state, line_findings, lines_findings}
 use Rattle.metis_reader.specs.Reading.{start, word_end, word_end_state, line_end, line_end_state, input_findings}
 
--- the bytes before the first separator, and the fields behind it
+-- the bytes before the first separator, and the fields after it
 abbrev pub front : (ℕ → Bool) → List ℕ → List ℕ
 front p [] = []
 front p (b ∷ bytes) = if p b then [] else b ∷ front p bytes

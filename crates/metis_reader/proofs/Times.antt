@@ -1,4 +1,4 @@
--- How often a pair stands in an ascending list of edges.
+-- How often a pair is in an ascending list of edges.
 use Rattle.std.proofs.Common.{◌≡◌, ◌≤◌, ◌<◌, ◌-◌, ◌+◌, ◌⊎◌, ℕ, zero, suc, Bool, true, false, List, [], ◌∷◌, length, get_or, arith, Option, None, Some, IfNone, IfSome, inl, inr, subst, sym, ap, refl, ◌∙◌}
 use Rattle.std.specs.Prelude.{if◌then◌else◌}
 use Rattle.std.specs.List.{AllPairs}
@@ -33,7 +33,7 @@ times_none u v (e ∷ xs) h =
       | inr f ↦ let here : times u v (e ∷ xs) ≡ 0 + times u v xs = times_cons u v e xs false f in omega arith
     ]
 
--- a pair stands at most once where it stands at no two places
+-- a pair is there at most once if it is at no two places
 pub times_once : (u v : ℕ) (xs : List Edge) → ((i j : ℕ) (d : Edge) → i < j → j < length xs → is_pair u v (get_or xs i d) ≡ true → is_pair u v (get_or xs j d) ≡ true → ⊥) → times u v xs ≤ 1
 times_once u v [] h = omega arith
 times_once u v (e ∷ xs) h =
@@ -63,7 +63,7 @@ times_some u v (e ∷ xs) (suc k) d lt p =
     let more : times u v xs ≤ times u v (e ∷ xs) = times_more u v e xs in
     omega arith
 
--- and at least twice where it stands at two
+-- and at least twice if it is at two
 pub times_twice : (u v : ℕ) (xs : List Edge) (i j : ℕ) (d : Edge) → i < j → j < length xs → is_pair u v (get_or xs i d) ≡ true → is_pair u v (get_or xs j d) ≡ true → 2 ≤ times u v xs
 times_twice u v [] i j d lt lt' p q = absurd (omega arith)
 times_twice u v (e ∷ xs) i zero d lt lt' p q = absurd (omega arith)
@@ -79,7 +79,7 @@ times_twice u v (e ∷ xs) (suc i) (suc j) d lt lt' p q =
 same_no_before : (u v : ℕ) (d e : Edge) → d.u ≡ u → d.v ≡ v → e.u ≡ u → e.v ≡ v → IsBefore d e → ⊥
 same_no_before u v d e p q r s h = grind arith
 
--- in a strictly ascending list each pair stands at most once
+-- in a strictly ascending list each pair is there at most once
 pub once_strict : (xs : List Edge) → AllPairs IsBefore xs → (u v : ℕ) → times u v xs ≤ 1
 once_strict xs up u v = times_once u v xs (λ i j d lt lt' p q.
     let a = is_pair_from u v (get_or xs i d) p in

@@ -34,7 +34,7 @@ last_of_part h p lt =
     let at : h + (p - h - 1) ≡ p - 1 = omega (arith, lt) in
     ap (λ (m : ℕ). last_or h (range_with_len h m)) more ∙ last_of_range h (p - h - 1) ∙ at
 
--- a cycle from the end that has the lesser number
+-- a cycle from the end that has the smaller number
 pub faced_range : (f : ℕ → ℕ) (h p : ℕ) → h < p → faced f h (range_with_len h (p - h)) ≡ cond (nat_lt (f (p - 1)) (f h)) (reverse (range_with_len h (p - h))) (range_with_len h (p - h))
 faced_range f h p lt = ap (λ (j : ℕ). cond (nat_lt (f j) (f h)) (reverse (range_with_len h (p - h))) (range_with_len h (p - h))) (last_of_part h p lt)
 
@@ -60,7 +60,7 @@ turned_at r k turned lt =
     ∙ ap (λ (m : ℕ). slice_index xs (m - 1 - k)) long
     ∙ get_or-range_with_len r.first (r.end - r.first) (r.end - r.first - 1 - k) 0 (omega (arith, lt)) ∙ at
 
--- no node follows another where there is none
+-- no node follows another if there is none
 pub none_beyond : (t : TreeLinks) → length t.follows ≡ length t.uppers → (k : ℕ) → length t.uppers ≤ k → is_follower t.follows k ≡ false
 none_beyond t same k far = get_or_past t.follows k false (omega (arith, same, far))
 

@@ -1,4 +1,4 @@
--- What a plan in order tells is the canonical cactus of the sides of the arrays.
+-- The tree of a plan in order is the canonical cactus of the sides of the arrays.
 use Rattle.std.proofs.Common.{◌≡◌, ℕ, zero, suc, ◌+◌, ◌-◌, ◌<◌, ◌≤◌, ◌&&◌, ◌==◌, Bool, true, false, not, if◌then◌else◌, List, [], ◌∷◌, length, reverse, ap, sym, refl, subst, arith, eqb-true, nat_lt}
 use Rattle.std.specs.Prelude.{slice_index}
 use Rattle.std.specs.List.{Contains, filter, range_with_len}
@@ -39,7 +39,7 @@ some_member : {X : Type 0} (xs : List X) → 1 ≤ length xs → (x : X) × Cont
 some_member [] h = absurd (omega (arith, h))
 some_member (x ∷ xs) h = (x, Contains-here x xs)
 
--- where a list stands under a test
+-- a list that is there only if a test holds
 length_if : {X : Type 0} (b : Bool) (xs : List X) → length (if b then xs else []) ≤ length xs
 length_if true xs = omega arith
 length_if false xs = omega arith

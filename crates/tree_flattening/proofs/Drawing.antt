@@ -1,4 +1,4 @@
--- Each plan tells a tree of nodes.
+-- Each plan has a tree of nodes.
 use denote.RawPtr.{null_ptr}
 use Rattle.std.proofs.Common.{◌≡◌, ℕ, zero, suc, ◌+◌, ◌^◌, ◌<◌, ◌≤◌, not, ◌==◌, List, [], ◌∷◌, length, map, ap, ◌∙◌, sym, refl, arith, ne_eqb, ◌⊎◌, inl, inr}
 use Rattle.std.specs.List.{Contains}
@@ -33,7 +33,7 @@ box x = record { ptr = null_ptr; alloc = heap; value = x }
 vector : {X : Type 0} (xs : List X) → length xs < 2 ^ 63 → Vec X Global
 vector xs few = record { ptr = null_ptr; len = length xs; cap = length xs; alloc = heap; items = xs; ok = (refl, omega arith); small = few }
 
--- a list in a vector, or none where it is too long for one
+-- a list in a vector, or none if it is too long for one
 hold_by : {X : Type 0} (xs : List X) → (length xs < 2 ^ 63) ⊎ (2 ^ 63 ≤ length xs) → Vec X Global
 hold_by xs (inl few) = vector xs few
 hold_by xs (inr many) = vector [] (omega arith)

@@ -61,7 +61,7 @@ root_added sizes run i f0 f g up root h is a b =
     ∙ ap holding (ap (λ k. roots_at sizes n front ++ k ∷ []) is ∙ sym (roots_more sizes n front (get_or run i 0)) ∙ ap (roots_at sizes n) (sym (take_more run i 0 h)))
 
 -- ---- trees of a plan
--- the first of several, where one alone is known
+-- the first of several, if there is only one
 only_first : {X : Type 0} (f : ℕ → X) (js : List ℕ) (x : X) → map f js ≡ x ∷ [] → f (slice_index js 0) ≡ x
 only_first f [] x e = absurd (omega (arith, ap length e))
 only_first f (j ∷ []) x e = only (f j) x e

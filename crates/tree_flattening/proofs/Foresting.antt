@@ -1,4 +1,4 @@
--- The trees of the first nodes of some arrays, where each has just the blocks that begin at a number or later: the last blocks are hung first.
+-- The trees of the first nodes of some arrays, if each has just the blocks that begin at a number or later: the last blocks are hung first.
 use Rattle.std.proofs.Common.{◌≡◌, ℕ, zero, suc, ◌+◌, ◌-◌, ◌<◌, ◌≤◌, ⊎_elim, Bool, true, false, not, eqb, List, [], ◌∷◌, ◌++◌, length, map, reverse, get_or, take, drop, refl, sym, ◌∙◌, subst, ap, arith}
 use Rattle.std.specs.List.{filter, range_with_len}
 use Rattle.std.proofs.lemmas.Bool.{cases_eq, cases_lt}

@@ -75,11 +75,11 @@ late_cut t i k p l m = ap (filter (is_head t i)) (range_cut k p (length t.uppers
 pub late_end : (t : TreeLinks) (i : ℕ) → late t (length t.uppers) i ≡ []
 late_end t i = let none : length t.uppers - length t.uppers ≡ 0 = omega arith in ap (λ (d : ℕ). filter (is_head t i) (range_with_len (length t.uppers) d)) none
 
--- where no node from one number up to another is the first of a block below a node
+-- if no node from one number up to another is the first of a block below a node
 pub late_same : (t : TreeLinks) (i k p : ℕ) → k ≤ p → p ≤ length t.uppers → ((h : ℕ) → k ≤ h → h < p → is_head t i h ≡ false) → late t k i ≡ late t p i
 late_same t i k p l m none = late_cut t i k p l m ∙ ap (λ hs. hs ++ late t p i) (none_passed (is_head t i) (p - k) k (λ h a b. none h a (omega (arith, b, l))))
 
--- where the first of them is, and no other
+-- if the first of them is, and no other
 pub late_more : (t : TreeLinks) (i k p : ℕ) → k < p → p ≤ length t.uppers → is_head t i k ≡ true → ((h : ℕ) → k < h → h < p → is_head t i h ≡ false) → late t k i ≡ k ∷ late t p i
 late_more t i k p l m here none =
     late_cut t i k p (omega (arith, l)) m

@@ -40,7 +40,7 @@ trimmed_blocks m x =
     ap (λ y. blocks_in y.blocks) (out-roll-Node (record { vertices = vertices x; blocks = roll-Blocks (record { items = first_items m (out-Blocks (out-Node x).blocks).items }) }))
     ∙ ap (λ y. y.items.items) (out-roll-Blocks (record { items = first_items m (out-Blocks (out-Node x).blocks).items }))
 
--- a node with so many of its blocks; with all of them it is the node itself
+-- a node with only some of its blocks; with all of them it is the node itself
 pub keep : ℕ → Node → Node
 keep m x = cond (leb (length (blocks x)) m) x (trimmed m x)
 

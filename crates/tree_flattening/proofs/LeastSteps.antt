@@ -27,7 +27,7 @@ map_there k xs ys (p ∷ ps) same there =
     ap (λ x. x ∷ map (slice_index ys) ps) (same p (there p (Contains-here p ps)))
     ∙ ap (λ l. slice_index xs p ∷ l) (map_there k xs ys ps same (λ q h. there q (Contains-there p ps q h)))
 
--- what is said of a node stays where only numbers below the next are written
+-- what is said of a node stays if only numbers below the next are written
 pub node_stays : (members heads : List (List ℕ)) (count i : ℕ) (nodes blocks nodes1 blocks1 : List ℕ) → AreBelow count heads → i < count → slice_index nodes1 i ≡ slice_index nodes i → SameFrom (i + 1) blocks blocks1 →
     IsLeastOfNode members heads nodes blocks i → IsLeastOfNode members heads nodes1 blocks1 i
 node_stays members heads count i nodes blocks nodes1 blocks1 below lt same after h =

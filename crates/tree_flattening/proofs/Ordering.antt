@@ -1,4 +1,4 @@
--- A tree whose blocks and cycles stand in order shows what the tree with the blocks and cycles from the last node on shows.
+-- A tree whose blocks and cycles are in order shows what the tree with the blocks and cycles from the last node on shows.
 use Rattle.std.proofs.Common.{◌≡◌, ℕ, zero, suc, ◌+◌, ◌<◌, ◌≤◌, inl, inr, true, false, not, ◌==◌, Some, None, List, [], ◌∷◌, ◌++◌, length, map, reverse, ap, ◌∙◌, sym, refl, subst, arith}
 use Rattle.std.specs.Prelude.{◌&&◌}
 use Rattle.std.specs.List.{Contains, list_all}

@@ -1,4 +1,5 @@
--- A tree of minimum cuts in which no node is empty has one for each two nodes that begin and end a run of one block, the same node twice among them.
+-- If no node of a tree of minimum cuts is empty, there is one cut for each two nodes that begin and end a run of one block; they
+-- may be the same node.
 use Rattle.std.proofs.Common.{◌≡◌, ℕ, zero, suc, ◌+◌, ◌-◌, ◌<◌, ◌≤◌, ◌⊎◌, inl, inr, Bool, true, false, ◌&&◌, ◌||◌, not, eqb, ltb, List, [], ◌∷◌, ◌++◌, length, map, ap, refl, sym, ◌∙◌, subst, arith, length-append}
 use Rattle.std.specs.Prelude.{◌==◌, IsTrue, if◌then◌else◌, slice_index}
 use Rattle.std.specs.List.{Contains, range_with_len}
@@ -55,7 +56,7 @@ record IsRun (follows : List Bool) (last : ℕ) (r : Run) : Type 0 where
   within : r.0 + r.1 ≤ last
   followed : AreInCycle (is_follower follows) r.0 (r.0 + r.1)
 
--- those with fewer than so many followers that end with a node
+-- the runs that end with a node and have fewer followers than a number
 abbrev ends_at : ℕ → ℕ → List Run
 ends_at last zero = []
 ends_at last (suc k) = (last - k, k) ∷ ends_at last k
@@ -249,7 +250,7 @@ is_side n a r nodes run = record {
   };
 }
 
--- each node but the root hangs from one with a lesser number
+-- each node but the root hangs from one with a smaller number
 abbrev Descend : List ℕ → ℕ → Type 0
 Descend u size = (i : ℕ) → 1 ≤ i → i < size → slice_index u i < i
 
@@ -294,7 +295,7 @@ run_upper a first (suc k) j nodes low at lt cycle =
 step_up : (x k : ℕ) (r : Bool) → k < x → (eqb x k || (ltb k x && r)) ≡ r
 step_up x k r h = grind (arith, nat_tests)
 
--- what is below a lesser node hangs from one that is below it
+-- what is below a smaller node hangs from one that is below it
 climb : (u : List ℕ) (size : ℕ) → Descend u size → (x k : ℕ) → k < x → x < size → is_below u k x ≡ true → is_below u k (slice_index u x) ≡ true
 climb u size down x k less lt h = sym (step_up x k (is_below u k (slice_index u x)) less) ∙ sym (below_step u size down x k (omega (arith, less)) lt) ∙ h
 

@@ -21,7 +21,7 @@ pub record IsHead (t : TreeLinks) (i h : ℕ) : Type 0 where
   pub first : is_follower t.follows h ≡ false
   pub upper : slice_index t.uppers h ≡ i
 
--- each node but the root hangs from one with a lesser number
+-- each node but the root hangs from one with a smaller number
 abbrev pub AreAfter : TreeLinks → Type 0
 AreAfter t = (i : ℕ) → 1 ≤ i → i < length t.uppers → slice_index t.uppers i < i
 

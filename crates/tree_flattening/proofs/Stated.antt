@@ -1,4 +1,5 @@
--- What is shown of trees in arrays: that a plan tells a tree, and that one in order is the canonical cactus of the sides of the arrays.
+-- What is shown of trees in arrays: a plan has a tree, and that of a plan in order is the canonical cactus of the sides of the
+-- arrays.
 use Rattle.std.proofs.Common.{ℕ, ◌≡◌, ◌↔◌, ◌^◌, ◌<◌, ◌≤◌, true, length, reverse}
 use Rattle.std.specs.List.{Contains, filter, range_with_len}
 use Rattle.cut_definitions.specs.Weight.{VertexSet}
@@ -11,7 +12,7 @@ use Rattle.node_tree.specs.TreeSets.{IsTreeSide}
 use Rattle.tree_flattening.specs.Plans.{Plan, IsPlan, IsDrawn, own_of, heads_of, run_of}
 use Rattle.tree_flattening.specs.Arranged.{LeastVertices, AreLeasts, AreFilled, HasNoTriangle, IsArranged}
 
--- each plan tells a tree
+-- each plan has a tree
 abbrev pub LawOfDrawing : Type 0
 LawOfDrawing = (p : Plan) → IsPlan p → (node : ℕ → Node) × (block : ℕ → Block) × IsDrawn p node block
 
@@ -27,7 +28,7 @@ pub record IsLaidOut (n : ℕ) (a : NodeArrays) : Type 0 where
 abbrev pub plain_plan : ℕ → NodeArrays → Plan
 plain_plan n a = record { count = length a.links.uppers; own = own_of n a; heads = λ i. reverse (heads_of a.links i); run = λ h. reverse (run_of a.links h) }
 
--- what a plan tells is the canonical cactus of the sides of the arrays
+-- the tree of a plan in order is the canonical cactus of the sides of the arrays
 pub record IsCanonicalTree (n : ℕ) (a : NodeArrays) (p : Plan) : Type 0 where
   pub node : ℕ → Node
   pub block : ℕ → Block

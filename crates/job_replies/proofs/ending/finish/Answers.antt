@@ -1,4 +1,4 @@
--- Memory that is wanting for writing the reply is told.
+-- If memory runs out while the reply is written, that is reported.
 use Rattle.std.proofs.Common.{◌≡◌, Result, inr, refl, rules, subst, sym}
 use Rattle.stop_lines.specs.declared.stop.Stop.{Stop}
 use Rattle.stop_lines.specs.declared.stop.Stop.TheVariants.{NoMemory}

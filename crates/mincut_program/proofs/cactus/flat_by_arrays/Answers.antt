@@ -18,7 +18,7 @@ use Rattle.job_replies.specs.Jobs.{IsCactusText}
 use Rattle.job_replies.proofs.Answering.{canonical_text}
 use Rattle.mincut_program.proofs.cactus.flat_by_arrays.Goals as goal
 
--- the flat canonical cactus of the tree of all minimum cuts tells the text of the graph
+-- the flat canonical cactus of the tree of all minimum cuts has the text of the graph
 told : (g : Graph) (a : NodeArrays) (n v : ℕ) (o : Option Flat) → IsGraph g → 2 ≤ g.vertices → IsTreeOfAll g a → n ≡ g.vertices → v ≡ value g → LawOfFlatForm → LawOfFlatSides →
     IfSome o (IsCanonicalFlat n a) → IfSome o (λ f. IsCactusText g (cactus_text v f))
 told g a n v None is enough all over least form law h = tt

@@ -1,4 +1,4 @@
--- The graph after the insertions so far, and what was told after each.
+-- The graph after the insertions so far, and what is printed of each step.
 use Rattle.std.proofs.Common.{take}
 use Rattle.job_replies.specs.Growth.{HasGrown}
 use Rattle.mincut_program.proofs.growth.grow_all.Given as goal

@@ -1,4 +1,4 @@
--- What was found, and how it was written or told, is all that a run promises.
+-- What was found, and how it was written or reported, is all that a run promises.
 use Rattle.std.proofs.Common.{ap}
 use Rattle.program_words.specs.Words.{texts}
 use Rattle.job_replies.proofs.Endings.{run_ends}

@@ -1,4 +1,4 @@
--- The ranges of the mass are those in the run where it is 0, and else those that end at the borders with that mass before them.
+-- If the mass is 0, its ranges are those in the run; otherwise they end at the borders with that mass before them.
 use Rattle.std.proofs.Common.{◌≡◌, ◌≤◌, arith}
 use Rattle.cactus_walk.specs.Weighing.{last_of}
 use Rattle.canonical_cactus.proofs.Around.{same_last}

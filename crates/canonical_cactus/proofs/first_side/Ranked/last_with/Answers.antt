@@ -1,4 +1,4 @@
--- A part without such a vertex is passed, and the part where the search ends has one.
+-- A part without such a vertex is passed, and the part at which the search ends has one.
 use Rattle.std.proofs.Common.{◌≡◌, ◌+◌, ◌-◌, ◌<◌, inl, inr, ap, subst, arith}
 use Rattle.std.proofs.lemmas.Bool.{cases_eq}
 use Rattle.rooted_cactus.specs.CutRanges.{Range}

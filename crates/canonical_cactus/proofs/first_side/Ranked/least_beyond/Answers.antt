@@ -1,11 +1,11 @@
--- What one range has and another has not is what is before the other and what is behind it.
+-- What is in one range and not in another is what is before the other and what is after it.
 use Rattle.std.proofs.Common.{◌≡◌, ℕ, ◌⊎◌, inl, inr, min, ◌∙◌, sym, subst, arith}
 use Rattle.std.proofs.lemmas.Bool.{cases_lt}
 use Rattle.cactus_walk.specs.Weighing.{range_of}
 use Rattle.canonical_cactus.specs.FirstBest.{IsBeyond, vertex_at}
 use Rattle.canonical_cactus.proofs.first_side.Ranked.least_beyond.Goals as goal
 
--- the lesser of two numbers is one of them
+-- the smaller of two numbers is one of them
 lesser : (P : ℕ → Type 0) (v w m : ℕ) → m ≡ min v w → P v → P w → P m
 lesser P v w m e a b = elim (cases_lt v w) [
   | inl l ↦ subst P (let q : v ≡ m = omega (arith, e, l) in q) a

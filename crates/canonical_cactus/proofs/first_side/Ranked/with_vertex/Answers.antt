@@ -1,4 +1,4 @@
--- The vertex is before the range, or else behind it.
+-- The vertex is before the range or after it.
 use Rattle.std.proofs.Common.{◌≤◌, inl, inr, ap, arith}
 use Rattle.std.proofs.lemmas.Bool.{cases_eq}
 use Rattle.rooted_cactus.specs.CutRanges.{Range}

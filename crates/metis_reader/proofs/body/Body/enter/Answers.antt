@@ -107,12 +107,12 @@ returns-then-vertex-neighbour-clause-shows c = λ header done all shows.
     (subst (λ v. nat_lt v c.args.neighbour ≡ true) is (rises c.vertex-vertex.result c.args.neighbour c.if-vertex-neighbour.true))
     (up_items at ∙ ap (λ (u : ℕ). c.args.self.now.greater.items ++ record { u = u; v = c.args.neighbour; w = c.args.w } ∷ []) is) (up_met at) refl shows
 
--- An entry to a lesser one.
+-- An entry to a smaller one.
 
 other : (n v : ℕ) → (n ≡ v → ⊥) → n ≤ v → n < v
 other n v apart le = grind arith
 
--- one more entry to a lesser neighbour
+-- one more entry to a smaller neighbour
 record Grew (b : Body) (e : Edge) (l : List Edge) : Type 0 where
   counted : b.entries + 1 ≡ length b.greater.items + length (with_met b.greater.items b.cursors.items l)
   weighed : b.total + e.w ≡ sum_by (λ (e : Edge). e.w) b.greater.items + sum_by (λ (e : Edge). e.w) (with_met b.greater.items b.cursors.items l)
