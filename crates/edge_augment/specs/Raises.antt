@@ -21,7 +21,9 @@ pub record IsMinimalCutSet (g : Graph) (set : List ℕ) : Type 0 where
 abbrev pub AreVertexPairs : Graph → List (ℕ × ℕ) → Type 0
 AreVertexPairs g pairs = All (λ p. IsVertex g.vertices p.0 × IsVertex g.vertices p.1) pairs
 
--- the sets are the minimal ones, and no two share a vertex; the edges, of which there are half as many, rounded up, have exactly one end in some side of each minimum cut; they raise the value, and no fewer unit edges do; whatever unit edges raise it, each set has one end of some of them in it alone
+-- The sets are the minimal ones, and no two share a vertex. There are half as many edges, rounded up, and each minimum
+-- cut separates the ends of one of them. The edges raise the value, and no fewer unit edges do. If any unit edges
+-- raise it, then each set has exactly one end of some of them.
 pub record IsLeastRaise (g : Graph) (plan : Augmentation) : Type 0 where
   pub sets : (set : List ℕ) → Contains plan.sets set ↔ IsMinimalCutSet g set
   pub disjoint : AllPairs AreDisjoint plan.sets

@@ -74,7 +74,8 @@ pub record IsCycleBelow (count : ℕ) (cycle : List ℕ) : Type 0 where
 abbrev pub IsBridgeBelow : ℕ → ℕ × ℕ → Type 0
 IsBridgeBelow count b = (b.0 < b.1) × (b.1 < count)
 
--- the vertices of each node ascend and are of 1 to n, each vertex of 1 to n is in exactly one node, vertex 1 is in node 0; bridges and cycles join nodes that there are, all of them, and by no more edges than that takes
+-- The vertices of each node ascend and are of 1 to n. Each vertex of 1 to n is in exactly one node, and vertex 1 is in
+-- node 0. Bridges and cycles join nodes that exist. They join all nodes, and by no more edges than that takes.
 pub record IsWellFormed (flat : Flat) : Type 0 where
   pub ascending : All (IsAscendingWithin 1 flat.vertices) flat.nodes
   pub in_one_node : (v : ℕ) → 1 ≤ v → v ≤ flat.vertices → length (filter (λ l. has l v) flat.nodes) ≡ 1

@@ -34,7 +34,7 @@ fn values_are_printed(rt: HostRuntime) -> Result<(), Fail> {
     Ok(())
 }
 
-// The cactus of the triangle has a node without vertices, and so has that of the complete graph.
+// The cactuses of the triangle and of the complete graph have a node without vertices.
 const CACTUSES: &[(&[u8], &str)] = &[
     (
         TRIANGLE,

@@ -7,7 +7,7 @@ use std::sync::atomic::{AtomicU64, Ordering};
 use std::test::Fail;
 use std::thread::Threads;
 
-/// Which calls fail, and how many bytes each read gives.
+/// Which calls fail, and the greatest number of bytes of each read.
 #[derive(Clone, Copy)]
 pub struct Script<'a> {
     pub cuts: &'a [usize],
@@ -16,7 +16,7 @@ pub struct Script<'a> {
     pub tells: &'a [u64],
 }
 
-/// No read or write fails, and each read gives all that it can.
+/// No read or write fails, and each read returns as many bytes as it can.
 pub const HONEST: Script = Script {
     cuts: &[],
     reads: &[],

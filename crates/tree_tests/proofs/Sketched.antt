@@ -63,7 +63,7 @@ back_wide (x ∷ xs) ys h = back_wide xs ys (All-tail (λ (k : ℕ). 2 ≤ k) x 
 pushed : {X : Type 0} (f : Node → List X) (old new : List Node) (x : Node) → new ≡ old ++ x ∷ [] → flat_map f new ≡ flat_map f old ++ f x
 pushed f old new x e = ap (flat_map f) e ∙ flat_map-append f old (x ∷ []) ∙ ap (λ l. flat_map f old ++ l) (append-nil (f x))
 
--- a node without blocks more
+-- one more node without blocks
 pub node_entered : (old new : List Node) (x : Node) (own : List ℕ) → new ≡ old ++ x ∷ [] → vertices x ≡ own → blocks x ≡ [] → flat_map entered new ≡ flat_map entered old ++ own ∷ []
 node_entered old new x own e v b = pushed entered old new x e ∙ ap (λ ls. flat_map entered old ++ ls) (leaf_entered x own v b)
 
@@ -71,7 +71,7 @@ pub node_wide : (old new : List Node) (x : Node) → new ≡ old ++ x ∷ [] →
 node_wide old new x e b w =
     subst IsWide (sym (pushed widths old new x e ∙ ap (λ l. flat_map widths old ++ l) (leaf_widths x b) ∙ append-nil (flat_map widths old))) w
 
--- the only one of some nodes
+-- the only node of a list
 pub alone : {X : Type 0} (f : Node → List X) (old new : List Node) (x : Node) → old ≡ new ++ x ∷ [] → length new ≡ 0 → flat_map f old ≡ f x
 alone f old new x e n = pushed f new old x e ∙ ap (λ l. flat_map f l ++ f x) (nil_from_length new n)
 
@@ -86,7 +86,7 @@ pub cut_off : (old front rest nodes : List Node) (at : ℕ) (r : Option Node) (x
 cut_off old front rest nodes at r x f n e s =
     sym (take-append-drop at old) ∙ ap (λ l. l ++ drop at old) (sym f ∙ popped front rest r x e s) ∙ ap (λ l. (rest ++ x ∷ []) ++ l) (sym n)
 
--- no list of the ones is empty, if none of the others is, which are the same
+-- none of these lists is empty, if the others, which are the same, are not
 pub same_nonempty : (xs ys : List (List ℕ)) → ((l : List ℕ) → Contains xs l ↔ Contains ys l) → All (λ l. 0 < length l) xs → All (λ l. 0 < length l) ys
 same_nonempty xs ys f h = All-from_each (λ (l : List ℕ). 0 < length l) ys (λ l m. All-contains (λ (l : List ℕ). 0 < length l) xs l h ((f l).1 m))
 

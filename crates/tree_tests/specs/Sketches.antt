@@ -1,4 +1,4 @@
--- What a sketch tells of the nodes of a cactus.
+-- What a sketch says of the nodes of a cactus.
 use Rattle.std.specs.Prelude.{ℕ, ◌==◌, ◌-◌, ◌≤◌, slice_index, List, length, map}
 use Rattle.std.specs.List.{All, filter, flat_map, range_with_len}
 use Rattle.rooted_cactus.specs.declared.tree.Node.{Node}

@@ -1,4 +1,4 @@
-//! Trees of minimum cuts in arrays, made flat without boxes and with them, and counted.
+//! Trees of minimum cuts in arrays: made flat from the arrays and through boxes, and counted.
 
 ghost use Rattle.std.specs.Prelude.{◌≤◌};
 ghost use Rattle.cactus_solver.specs.SolvedLists.{IsTreeSolved};
@@ -23,8 +23,8 @@ const PLAIN: [&str; 4] = [
     "7 8\n2 4 5 7\n1 3\n2 4\n3 1\n1 6\n5 7\n6 1\n",
 ];
 
-/// A triangle, whose cactus is a star, and a complete graph of four,
-/// whose tree has a node without vertices.
+/// A triangle, whose cactus is a star, and a complete graph of four vertices, whose tree has a
+/// node without vertices.
 const OTHER: [&str; 2] = ["3 3\n2 3\n1 3\n1 2\n", "4 6\n2 3 4\n1 3 4\n1 2 4\n1 2 3\n"];
 
 /// Whether two flat cactuses are the same.
@@ -45,7 +45,7 @@ fn are_same(a: &FlatCactus, b: &FlatCactus) -> bool {
     true
 }
 
-/// Whether the arrays tell the same flat cactus as the boxes, or nothing at all.
+/// Whether the arrays have the same flat cactus as the boxes, if `plain`, and none otherwise.
 fn tells(alloc: Global, text: &str, plain: bool) -> Result<bool, NoMemory> {
     let Some(list) = edges_of(alloc, text) else {
         return Ok(false);
@@ -60,7 +60,8 @@ fn tells(alloc: Global, text: &str, plain: bool) -> Result<bool, NoMemory> {
     }
 }
 
-/// Whether the arrays of a solved tree tell the same flat cactus as its boxes, or nothing at all.
+/// Whether the arrays of a solved tree have the same flat cactus as its boxes, if `plain`, and
+/// none otherwise.
 fn agrees(alloc: Global, list: &EdgeList, found: SolvedTree, plain: bool) -> Result<bool, NoMemory>
     requires enough { 2 ≤ list.now.vertices }
     requires solved { IsTreeSolved list.now found }
@@ -76,7 +77,7 @@ fn agrees(alloc: Global, list: &EdgeList, found: SolvedTree, plain: bool) -> Res
     }
 }
 
-/// The number of the minimum cuts by the arrays of their tree, where these tell it.
+/// The number of the minimum cuts by the arrays of their tree, if these suffice.
 fn count_by_text(alloc: Global, text: &str) -> Result<Option<u64>, NoMemory> {
     let Some(list) = edges_of(alloc, text) else {
         return Ok(None);

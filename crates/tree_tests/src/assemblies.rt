@@ -1,4 +1,4 @@
-//! The cactus of a chain and of the cactuses of its parts.
+//! The cactus made of a chain and the cactuses of its parts.
 
 ghost use Rattle.std.specs.Prelude.{◌≡◌, ◌≢◌, ◌<◌, ◌≤◌, ◌^◌, ◌∷◌, ◌++◌, [], IfOk, OnOk, length};
 ghost use Rattle.std.specs.List.{filter, range_with_len};
@@ -16,7 +16,7 @@ use std::alloc::Global;
 use std::test::Fail;
 use weighted_graph::Graph;
 
-/// Whether a vertex is in a part, and is no end of the chain.
+/// Whether a vertex is in a part, and is not an end of the chain.
 fn is_own(chain: &Chain, number: u32, v: u32) -> bool
     requires from_one { 1 ≤ v }
     requires to_n { v ≤ length chain.now.numbers }
@@ -25,7 +25,7 @@ fn is_own(chain: &Chain, number: u32, v: u32) -> bool
     chain.part_of(v) == number && v != chain.s() && v != chain.t()
 }
 
-/// Appends the vertex, where it is in the part and is no end of the chain.
+/// Appends the vertex, if it is in the part and is not an end of the chain.
 fn add_own(list: &mut VertexList, chain: &Chain, number: u32, v: u32) -> Result<(), NoMemory>
     requires from_one { 1 ≤ v }
     requires to_n { v ≤ length chain.now.numbers }
@@ -38,7 +38,7 @@ fn add_own(list: &mut VertexList, chain: &Chain, number: u32, v: u32) -> Result<
     Ok(())
 }
 
-/// The vertices of a part other than the ends of the chain.
+/// The vertices of a part, without the ends of the chain.
 fn own_list(alloc: Global, chain: &Chain, number: u32) -> Result<VertexList, NoMemory>
     ensures { IfOk result (λ l. l ≡ filter (is_own chain.now number) (range_with_len 1 (length chain.now.numbers))) }
 {
@@ -75,8 +75,8 @@ fn single_parts(alloc: Global, chain: &Chain) -> Result<Vec<PartCactus>, Fail>
     Ok(parts)
 }
 
-/// The cactus of the chain from vertex 1 to t of a graph of this value,
-/// with the cactus of one node for each part.
+/// The cactus of the chain from vertex 1 to t of a graph of this value, from a cactus of one node
+/// for each part.
 fn assembled(alloc: Global, graph: &Graph, t: u32, least: u64) -> Result<Cactus, Fail>
     requires joined { IsJoined graph.now 1 t }
     requires apart { 1 ≢ t }
@@ -88,7 +88,7 @@ fn assembled(alloc: Global, graph: &Graph, t: u32, least: u64) -> Result<Cactus,
     Ok(assemble(alloc, &chain, parts)?)
 }
 
-/// Whether the cactus has so many vertices and just these sides.
+/// Whether the cactus has this number of vertices and exactly these sides.
 fn is_of(alloc: Global, cactus: &Cactus, n: u32, sides: &[&[u32]]) -> Result<bool, NoMemory> {
     let found = all_sides(alloc, cactus)?;
     Ok(cactus.n() == n && are_same(&found, sides))

@@ -35,7 +35,7 @@ const ROWS: &[Row] = &[
     },
 ];
 
-/// Whether the augmentation of the cactus has just these edges and sets.
+/// Whether the augmentation of the cactus has exactly these edges and sets.
 fn is_augmented(alloc: Global, row: &Row) -> Result<bool, Fail> {
     let cactus = cactus_of(alloc, &row.sketch)?;
     if !cactus.is_normal() || cactus.root().blocks.len() == 0 {

@@ -10,7 +10,7 @@ use cut_definitions::{NoMemory, VertexWeights};
 use std::alloc::Global;
 use std::test::Fail;
 
-/// A mass for vertex 1, and 1 for each of the others of n.
+/// A mass for vertex 1, and mass 1 for each of the other vertices of n.
 fn masses(alloc: Global, first: u64, n: usize) -> Result<VertexWeights, NoMemory>
     requires some { 1 ≤ n }
     requires few { n ≤ 4194304 }
@@ -21,8 +21,8 @@ fn masses(alloc: Global, first: u64, n: usize) -> Result<VertexWeights, NoMemory
     Ok(VertexWeights::from_list(list))
 }
 
-/// A cactus, the mass of vertex 1 where all others have the mass 1, the best sides, the first of
-/// them first, and their balance.
+/// A cactus, the mass of vertex 1 if all others have mass 1, the best sides, the first of them
+/// first, and their balance.
 struct Row {
     sketch: Sketch,
     first: u64,
@@ -31,7 +31,7 @@ struct Row {
 }
 
 const ROWS: &[Row] = &[
-    // a ring of four falls into halves
+    // a ring of four is divided into halves
     Row {
         sketch: ONE_RING,
         first: 1,
@@ -45,7 +45,7 @@ const ROWS: &[Row] = &[
         sides: &[&[3, 4]],
         balance: 2,
     },
-    // a ring of seven falls into three and four
+    // a ring of seven is divided into three and four
     Row {
         sketch: LONG_RING,
         first: 1,
@@ -60,7 +60,7 @@ const ROWS: &[Row] = &[
         ],
         balance: 3,
     },
-    // all vertices are counted, and not those below a cycle alone
+    // all vertices are counted, not only those below a cycle
     Row {
         sketch: RING_BELOW,
         first: 1,
@@ -76,8 +76,8 @@ const ROWS: &[Row] = &[
     },
 ];
 
-/// Whether a best side is among those of the row, with their balance,
-/// and the first best side is the first of them.
+/// Whether a best side is among those of the row, with their balance, and the first best side is
+/// the first of them.
 fn is_balanced(alloc: Global, row: &Row) -> Result<bool, Fail> {
     let cactus = cactus_of(alloc, &row.sketch)?;
     if cactus.n() == 0 || cactus.root().blocks.len() == 0 || row.sides.is_empty() {

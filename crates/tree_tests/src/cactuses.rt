@@ -25,8 +25,8 @@ pub(crate) fn is_among(side: &Side, lists: &[&[u32]]) -> bool {
     bit_among(side, lists) != 0
 }
 
-/// The bit at the place of the side among the lists, of which there are at most 64;
-/// 0 where it is none of them.
+/// The bit at the place of the side among the lists, of which there are at most 64, or 0 if it is
+/// none of them.
 fn bit_among(side: &Side, lists: &[&[u32]]) -> u64 {
     let mut bit = 1;
     for vertices in lists {
@@ -38,8 +38,8 @@ fn bit_among(side: &Side, lists: &[&[u32]]) -> u64 {
     0
 }
 
-/// Whether a walk over the cactus gives just these sides, as lists of their vertices, each once,
-/// and then says, whenever it is asked, that there is no more.
+/// Whether a walk over the cactus returns exactly these sides, as lists of their vertices, each
+/// once, and then says that there are no more, whenever it is asked.
 pub(crate) fn has_sides(
     alloc: Global,
     cactus: &Cactus,
@@ -77,7 +77,7 @@ fn one_node_has_all_vertices(rt: HostRuntime) -> Result<(), Fail> {
     Ok(())
 }
 
-/// Whether a walk over the cactus of one node leaves the room as it is.
+/// Whether a walk over the cactus of one node leaves the side that is passed to it as it is.
 fn leaves_room(alloc: Global) -> Result<bool, NoMemory> {
     let cactus = Cactus::single(alloc, 2)?;
     let mut room = Side::empty(alloc, 2)?;
@@ -103,7 +103,7 @@ fn a_walk_gives_each_side_of_a_ring_once(rt: HostRuntime) -> Result<(), Fail> {
     Ok(())
 }
 
-/// Whether the root has these vertices and a bridge down to a node with those.
+/// Whether the root has the upper vertices, and a bridge down to a node with the lower ones.
 fn is_bridge_between(root: &Node, upper: &[u32], lower: &[u32]) -> bool {
     if root.blocks.len() == 0 {
         return false;
@@ -116,8 +116,8 @@ fn is_bridge_between(root: &Node, upper: &[u32], lower: &[u32]) -> bool {
     }
 }
 
-/// The cactus of 1, with a bridge down to 2, with the vertices of the classes 1,
-/// 1 and 2 in place of these.
+/// The cactus of 1, with a bridge down to 2, in which these two classes are replaced by the
+/// vertices of the classes 1, 1 and 2.
 fn spread_out(alloc: Global) -> Result<Cactus, Fail> {
     let narrow = cactus_of(alloc, &ONE_BRIDGE)?;
     if narrow.n() != 2 {
@@ -140,8 +140,8 @@ fn classes_are_spread(rt: HostRuntime) -> Result<(), Fail> {
     Ok(())
 }
 
-/// The cuts of the ring are ranges: its nodes begin at the places 1,
-/// 2 and 3, and the last ends at 4.
+/// The cuts of the ring are ranges. Its nodes begin at the places 1, 2 and 3, and the last one
+/// ends at 4.
 fn are_ring_places(places: &CutPlaces) -> bool {
     places.order.as_slice() == [1, 2, 3, 4].as_slice()
         && places.borders.len() == 4
@@ -172,7 +172,7 @@ fn is_in_order(alloc: Global, root: &Node, vertices: &[u32]) -> Result<bool, NoM
     Ok(order.as_slice() == vertices)
 }
 
-/// Whether the vertices of the tree stand in one order, and under other names in the other.
+/// Whether the vertices of the tree are in one order, and under other names in the other.
 fn is_renamed(alloc: Global) -> Result<bool, Fail> {
     let root = cactus_of(alloc, &RING_AND_BRIDGE)?.into_root();
     let before = is_in_order(alloc, &root, &[1, 3, 4, 2])?;
@@ -188,13 +188,13 @@ fn the_vertices_of_a_tree_are_renamed(rt: HostRuntime) -> Result<(), Fail> {
     Ok(())
 }
 
-/// Whether the only node of a list has this vertex alone.
+/// Whether a list has one node, which has only this vertex.
 fn has_one(list: &Children, v: u32) -> bool {
     list.len() == 1 && list.at(0).vertices.as_slice() == [v].as_slice()
 }
 
-/// Whether a ring of two nodes comes apart into one with 3 and one with 4, and is put together
-/// again in the other order.
+/// Whether a ring of two nodes is taken apart into one with 3 and one with 4, and is put together
+/// in the other order.
 fn comes_apart(ring: Children) -> Result<bool, NoMemory> {
     let mut ring = ring;
     if ring.len() != 2 {
@@ -207,7 +207,8 @@ fn comes_apart(ring: Children) -> Result<bool, NoMemory> {
     Ok(apart && has_one(&rest, 4) && has_one(&last, 3))
 }
 
-/// Whether a bridge is the last block, and the only one before it a ring that comes apart.
+/// Whether a bridge is the last block, and the only one before it is a ring that can be taken
+/// apart.
 fn is_taken_apart(root: &mut Node) -> Result<bool, NoMemory> {
     let bridge = matches!(root.blocks.pop(), Some(Block::Bridge(_)));
     let Some(Block::Cycle(ring)) = root.blocks.pop() else {

@@ -1,4 +1,4 @@
-//! Canonical cactuses, those that are not, and what they become.
+//! Canonical cactuses, others, and what becomes of these.
 
 ghost use Rattle.rooted_cactus.specs.Different.{HasNoEmptySide};
 
@@ -15,15 +15,15 @@ use cut_definitions::{NoMemory, VertexWeights};
 use std::alloc::Global;
 use std::test::Fail;
 
-/// Whether a cactus is told to be canonical, or not to be, both by calls and by loops.
+/// Whether a cactus is said to be canonical, or not to be, both by calls and by loops.
 fn is_told(alloc: Global, sketch: &Sketch, canonical: bool) -> Result<bool, Fail> {
     let cactus = cactus_of(alloc, sketch)?;
     let within = is_canonical_within(alloc, &cactus)?;
     Ok(is_canonical(&cactus) == canonical && within == canonical)
 }
 
-/// A ring and a star in order are canonical;
-/// a turned ring, a turned star and a cycle of three nodes are not.
+/// A ring and a star in order are canonical. A reversed ring, a reversed star and a cycle of three
+/// nodes are not.
 const TOLD: &[(Sketch, bool)] = &[
     (ONE_RING, true),
     (STAR, true),
@@ -51,13 +51,13 @@ struct Row {
 const RING: &[&[u32]] = &[&[2], &[2, 3], &[2, 3, 4], &[3], &[3, 4], &[4]];
 
 const ROWS: &[Row] = &[
-    // a turned ring is turned back
+    // a reversed ring is reversed again
     Row {
         sketch: TURNED_RING,
         nodes: 4,
         sides: RING,
     },
-    // a ring in order is given back
+    // a ring in order is returned as it is
     Row {
         sketch: ONE_RING,
         nodes: 4,
@@ -71,7 +71,7 @@ const ROWS: &[Row] = &[
     },
 ];
 
-/// Whether the cactus becomes a canonical one of so many nodes, with just these sides.
+/// Whether the cactus becomes a canonical one with this number of nodes and exactly these sides.
 fn becomes(alloc: Global, row: &Row) -> Result<bool, Fail> {
     let cactus = canonical(alloc, cactus_of(alloc, &row.sketch)?)?;
     let shown = has_sides(alloc, &cactus, row.sides)?;
@@ -95,7 +95,7 @@ const STAR_LISTS: Lists = Lists {
     cycles: &[],
 };
 
-/// Whether 2 alone is the first of the best sides, where each of the three vertices weighs 1.
+/// Whether 2 alone is the first of the best sides, if each of the three vertices weighs 1.
 fn has_first_two(alloc: Global, cactus: &Cactus) -> Result<bool, NoMemory> {
     if cactus.n() != 3 || cactus.root().blocks.len() == 0 {
         return Ok(false);

@@ -9,7 +9,7 @@ use cut_definitions::NoMemory;
 use std::alloc::Global;
 use std::test::Fail;
 
-/// Whether the cactus is normal, with just these sides, and both counts answer their number.
+/// Whether the cactus is normal, with exactly these sides, and both counts return their number.
 fn counts(alloc: Global, cactus: &Cactus, sides: &[&[u32]]) -> Result<bool, NoMemory>
     requires { cactus.now.vertices ≤ 4194304 }
 {
@@ -43,8 +43,8 @@ fn each_side_of_a_normal_cactus_counts_once(rt: HostRuntime) -> Result<(), Fail>
     Ok(())
 }
 
-/// A cactus of so many nodes, whether it is normal, and the number of nodes and the sides of the
-/// normal one that it becomes.
+/// A cactus with its number of nodes, whether it is normal, and the number of nodes and the sides
+/// of the normal one that it becomes.
 struct Row {
     sketch: Sketch,
     nodes: u64,
@@ -62,7 +62,7 @@ const ROWS: &[Row] = &[
         left: 4,
         sides: RING,
     },
-    // spare nodes are left out
+    // nodes that can be spared are left out
     Row {
         sketch: TWO_SPARE,
         nodes: 7,
@@ -72,8 +72,8 @@ const ROWS: &[Row] = &[
     },
 ];
 
-/// Whether the cactus is as the row says, and becomes a normal one of so many nodes, with just
-/// these sides, each counted once.
+/// Whether the cactus is as the row says, and becomes a normal one with its number of nodes and
+/// exactly its sides, each counted once.
 fn becomes(alloc: Global, row: &Row) -> Result<bool, Fail> {
     let cactus = cactus_of(alloc, &row.sketch)?;
     let is_told = cactus.is_normal() == row.is_normal && cactus.nodes() == row.nodes;

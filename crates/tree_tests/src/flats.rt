@@ -86,7 +86,7 @@ fn push_bridges(flat: &mut FlatCactus, bridges: &[(u64, u64)]) -> Result<(), NoM
     Ok(())
 }
 
-/// The flat cactus that was filled with the lists.
+/// The flat cactus that is filled with the lists.
 pub(crate) fn filled(alloc: Global, lists: &Lists) -> Result<FlatCactus, NoMemory> {
     let mut flat = FlatCactus::new(alloc, lists.n);
     push_nodes(&mut flat, lists.nodes)?;
@@ -133,7 +133,7 @@ const FLATTENED: &[(Sketch, Lists)] = &[
             cycles: &[&[0, 1, 2, 3]],
         },
     ),
-    // a way, a ring and a bridge, in the order of entering
+    // a path, a ring and a bridge, in the order of entering
     (
         NESTED,
         Lists {

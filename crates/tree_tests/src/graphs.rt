@@ -16,8 +16,8 @@ pub(crate) fn edges_of(alloc: Global, text: &str) -> Option<EdgeList> {
     }
 }
 
-/// A connected graph, its value, and the sides of its minimum cuts,
-/// as lists of the vertices apart from vertex 1.
+/// A connected graph, its value, and the sides of its minimum cuts, as lists of the vertices that
+/// are separated from vertex 1.
 #[derive(Clone, Copy)]
 pub struct Known {
     pub name: &'static str,
@@ -26,7 +26,7 @@ pub struct Known {
     pub sides: &'static [&'static [u32]],
 }
 
-/// The graphs that the solver is tried on.
+/// The graphs on which the solver is tried.
 pub const GRAPHS: [Known; 11] = [
     Known {
         name: "a triangle",

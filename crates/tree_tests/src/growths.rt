@@ -7,7 +7,7 @@ use cut_definitions::{Edge, EdgeList};
 use std::alloc::Global;
 use std::test::Fail;
 
-/// The list with the weight of an edge added, where it is within the limits.
+/// The list with the weight of an edge added, if it is within the limits.
 fn with_added(alloc: Global, list: &EdgeList, edge: &Edge) -> Result<EdgeList, Fail> {
     let Edge { u, v, w } = *edge;
     let n = list.n();
@@ -35,7 +35,7 @@ struct Row {
 }
 
 const ROWS: &[Row] = &[
-    // weight is added
+    // weight is added to an edge
     Row {
         n: 4,
         added: &[
@@ -45,7 +45,7 @@ const ROWS: &[Row] = &[
         ],
         edges: &[Edge { u: 1, v: 2, w: 8 }, Edge { u: 3, v: 4, w: 1 }],
     },
-    // or an edge is made
+    // or a new edge is made
     Row {
         n: 4,
         added: &[
@@ -107,8 +107,8 @@ fn has_two_bridges(node: &Node, own: &[u32], first: u32, second: u32) -> bool {
             || leads_to(node.blocks.at(0), second) && leads_to(node.blocks.at(1), first))
 }
 
-/// Whether the ring of four nodes, with 1 and 3 in one, has two bridges,
-/// and no cut once 2 and 4 are joined too.
+/// Whether the ring of four nodes has two bridges once 1 and 3 are in one node, and no cut once 2
+/// and 4 are joined too.
 fn falls_into_bridges(alloc: Global) -> Result<bool, Fail> {
     let ring = cactus_of(alloc, &ONE_RING)?;
     if ring.n() != 4 || ring.root().blocks.len() == 0 {

@@ -1,6 +1,6 @@
-//! Tests of the crates from the solver on, through their public calls: chains, assemblies and
-//! the tree of the minimum cuts, over small graphs whose minimum cuts are known; and the
-//! cactus, its canonical form, listings, balances, augmentations, growth and texts, over small
+//! Tests of the crates from the solver on, through their public calls. Chains, assemblies and the
+//! tree of the minimum cuts are tried on small graphs whose minimum cuts are known. The cactus,
+//! its canonical form, listings, balances, augmentations, growth and texts are tried on small
 //! trees whose sides are known.
 #![tactic(auto)]
 

@@ -44,7 +44,7 @@ fn listed_all(alloc: Global, cactus: &Cactus) -> Result<Vec<Side>, Fail>
     list_by(alloc, cactus, &lister)
 }
 
-/// The sides that part two vertices, by a closure that tests it.
+/// The sides that separate two vertices, by a closure that tests it.
 fn listed_parting(alloc: Global, cactus: &Cactus, u: u32, v: u32) -> Result<Vec<Side>, Fail>
     requires ask { IsAskWithin cactus.now.vertices (Parting u v) }
     requires few { cactus.now.vertices ≤ 4194304 }
@@ -69,7 +69,7 @@ fn two_pairs(alloc: Global) -> Result<EdgeList, NoMemory>
     Ok(graph)
 }
 
-/// The minimum cuts of a graph in two, three or four components; none for another one.
+/// The minimum cuts of a graph in two, three or four components, and no cuts for any other graph.
 fn unions_of(alloc: Global, graph: &EdgeList) -> Result<Vec<Side>, NoMemory>
     requires { graph.now.vertices ≤ 4 }
     ensures { IfOk result (λ v. All (λ s. s.vertices ≡ graph.now.vertices) v.items) }
@@ -81,8 +81,8 @@ fn unions_of(alloc: Global, graph: &EdgeList) -> Result<Vec<Side>, NoMemory>
     parts.sides(alloc)
 }
 
-/// The minimum cuts of a graph in several components that part two
-/// vertices, selected by a closure.
+/// The minimum cuts of a graph in several components that separate two vertices, selected by a
+/// closure.
 fn selected_parting(alloc: Global, graph: &EdgeList, u: u32, v: u32) -> Result<Vec<Side>, NoMemory>
     requires few { graph.now.vertices ≤ 4 }
     requires ask { IsAskWithin graph.now.vertices (Parting u v) }
@@ -98,7 +98,7 @@ fn selected_parting(alloc: Global, graph: &EdgeList, u: u32, v: u32) -> Result<V
     Ok(lister.select(unions))
 }
 
-/// The sides of a least balance, by a closure that has the weights for itself.
+/// The sides of a least balance, by a closure that has its own copy of the weights.
 fn listed_least(
     alloc: Global,
     cactus: &Cactus,
@@ -130,7 +130,7 @@ fn are_listed(sides: &[Side], lists: &[&[u32]]) -> bool {
     sides.len() == lists.len()
 }
 
-/// Whether the sides of the cactus that part 2 and 4 are these, in this order.
+/// Whether the sides of the cactus that separate 2 and 4 are these, in this order.
 fn parts(alloc: Global, cactus: &Cactus, lists: &[&[u32]]) -> Result<bool, Fail> {
     if cactus.n() != 4 {
         return Ok(false);
@@ -152,7 +152,7 @@ const LISTED: &[(Sketch, &[&[u32]])] = &[
     // one node has no side
     (ONE_NODE, &[]),
     (ONE_RING, &[&[2], &[2, 3], &[2, 3, 4], &[3], &[3, 4], &[4]]),
-    // A repeat comes once: both cycles have the side 2, 3.
+    // A repeated side comes once: both cycles have the side 2, 3.
     (TWO_RINGS, &[&[2], &[2, 3], &[2, 3, 4], &[3], &[4]]),
 ];
 
@@ -166,7 +166,7 @@ fn all_sides_of_a_cactus_come_once(rt: HostRuntime) -> Result<(), Fail> {
     Ok(())
 }
 
-/// Whether the sides of the cactus of a least balance of 2 are these, in this order, where the
+/// Whether these are the sides of the cactus with a balance of at least 2, in this order, if the
 /// first vertex has most of the mass.
 fn are_balanced(alloc: Global, cactus: &Cactus, lists: &[&[u32]]) -> Result<bool, Fail> {
     if cactus.n() != 4 {
@@ -195,7 +195,7 @@ fn unions_of_two_pairs_are_selected(rt: HostRuntime) -> Result<(), Fail> {
     Ok(())
 }
 
-/// Of 2, of 2 and 3, and of 3 the first two.
+/// Of the sides 2; 2 and 3; and 3, the first two are selected.
 #[test]
 fn unions_of_three_vertices_are_selected(rt: HostRuntime) -> Result<(), Fail> {
     let graph = EdgeList::new(rt.alloc(), 3);

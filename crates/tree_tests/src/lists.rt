@@ -7,13 +7,14 @@ use std::alloc::Global;
 use std::test::Fail;
 use worker_team::Alone;
 
-/// The weight of the edge from a vertex of the path to the next:
-/// the first and the last are lighter.
+/// The weight of the edge from a vertex of the path to the next one. The first and the last edge
+/// are lighter.
 fn weight_after(v: u32) -> u32 {
     if v == 1 || v == 1_100 { 3 } else { 5 }
 }
 
-/// A file with a path of 1,101 vertices, without the edge after one of them if that is named.
+/// A file with a path of 1,101 vertices, without the edge after one of them if that vertex is
+/// named.
 pub(crate) fn path(alloc: Global, gap: Option<u32>) -> Result<String, NoMemory> {
     let edges = if gap.is_some() { 1_099 } else { 1_100 };
     let mut text = format!(in alloc; "1101 {edges} 1\n")?;
@@ -31,7 +32,7 @@ pub(crate) fn path(alloc: Global, gap: Option<u32>) -> Result<String, NoMemory> 
     Ok(text)
 }
 
-/// What is found of the path.
+/// What the solver finds of the path.
 fn solved_path(alloc: Global, gap: Option<u32>) -> Result<Option<SolvedList<Solved>>, NoMemory> {
     let text = path(alloc, gap)?;
     let Some(list) = edges_of(alloc, &text) else {

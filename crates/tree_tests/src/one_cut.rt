@@ -35,7 +35,7 @@ fn swept_below(alloc: Global, text: &str, bound: u64) -> Result<Option<LightestC
     lightest_cut_below(alloc, &graph, 0, bound)
 }
 
-/// Whether a side has just the vertices of a list, each of which is there once.
+/// Whether a side has exactly the vertices of a list, each of which is there once.
 fn has_just(side: &Side, list: &[u32]) -> bool {
     for v in list {
         if *v < 1 || *v > side.n() || !side.has(*v) {
@@ -45,7 +45,7 @@ fn has_just(side: &Side, list: &[u32]) -> bool {
     side.len() as usize == list.len()
 }
 
-/// Whether a side is one of several lists.
+/// Whether a side has exactly the vertices of one of several lists.
 fn is_among(side: &Side, lists: &[&[u32]]) -> bool {
     let mut is_found = false;
     for list in lists {

@@ -1,4 +1,4 @@
-//! The tree of the minimum cuts by sets that grow in ranges of a few vertices each: it has the
+//! The tree of the minimum cuts by sets that grow in ranges of a few vertices each. It has the
 //! sides that the sweep alone finds.
 
 ghost use Rattle.std.specs.Prelude.{◌≡◌, ◌≤◌};
@@ -16,7 +16,7 @@ use std::test::Fail;
 use std::thread::Threads;
 use weighted_graph::{Graph, laws};
 
-/// Ranges of one vertex or more, however many edges join them.
+/// Limits by which ranges have one vertex or more, however many edges join them.
 const TINY: Limits = Limits {
     most_ranges: 8,
     least_range: 1,
@@ -27,7 +27,7 @@ const TINY: Limits = Limits {
     first_tries: 300,
 };
 
-/// Graphs of which most vertices are alone in their minimum cuts, or in none.
+/// Graphs in which most vertices are alone in their minimum cuts, or in none.
 const MESHES: [(&str, &str); 6] = [
     (
         "a torus of 4 by 5",
@@ -52,7 +52,7 @@ const MESHES: [(&str, &str); 6] = [
     ),
 ];
 
-/// Whether each list of one stands in the other.
+/// Whether each list of the first is in the second.
 fn are_among(some: &[Vec<u32>], all: &[Vec<u32>]) -> bool {
     for list in some {
         let mut is_found = false;
@@ -73,8 +73,8 @@ fn have_same_sides(alloc: Global, one: &Solved, other: &Solved) -> Result<bool, 
     Ok(are_among(&sides, &others) && are_among(&others, &sides))
 }
 
-/// How many of these numbers of workers had sets grow; none where a tree of theirs has other sides
-/// than that of the sweep alone.
+/// For how many of these numbers of workers sets grew, or `None` if a tree of theirs has other
+/// sides than that of the sweep alone.
 fn grown_times<R: Threads + Sync>(
     rt: &R,
     alloc: Global,
@@ -102,9 +102,9 @@ fn grown_times<R: Threads + Sync>(
     Ok(Some(grown))
 }
 
-/// For how many of one, two, three and four workers sets grow in the graph of a file;
-/// none if it is not a connected graph of two or more vertices, or a tree has other
-/// sides than that of the sweep.
+/// For how many of one, two, three and four workers sets grow in the graph of a file. It returns
+/// `None` if that is not a connected graph of two or more vertices, or a tree has other sides than
+/// that of the sweep.
 fn grown_by_text<R: Threads + Sync>(
     rt: &R,
     alloc: Global,

@@ -1,5 +1,5 @@
-//! Graphs whose vertices are numbered far from their neighbours,
-//! on more vertices than the nearer caches hold.
+//! Graphs whose vertices have numbers far from those of their neighbours, on more vertices than
+//! fit into the nearer caches.
 
 use crate::graphs::edges_of;
 use cactus_solver::{Cuts, SolvedList, solve_list};
@@ -12,12 +12,12 @@ use worker_team::{Alone, Crew};
 
 const MANY: u32 = 70_001;
 
-/// The vertex so many steps after another, around all of them.
+/// The vertex that comes `steps` numbers after another, around all of them.
 fn after(v: u32, steps: u32) -> u32 {
     (v.saturating_sub(1).saturating_add(steps)) % MANY + 1
 }
 
-/// A file with a ring in which each vertex has its neighbours so many numbers away.
+/// A file with a ring in which each vertex is joined to those `steps` numbers away.
 fn ring(alloc: Global, steps: u32) -> Result<String, NoMemory> {
     let mut text = format!(in alloc; "{MANY} {MANY}\n")?;
     for v in 1..MANY + 1 {
@@ -45,7 +45,7 @@ fn star(alloc: Global) -> Result<String, NoMemory> {
     Ok(text)
 }
 
-/// The labels of vertex 1 and the vertices beside it on the ring of 33,000 steps, where the graph
+/// The labels of vertex 1 and of the vertices beside it on the ring of 33,000 steps, if the graph
 /// of a file is renumbered.
 fn first_labels(alloc: Global, text: &str) -> Result<Option<[u32; 3]>, Fail> {
     let Some(list) = edges_of(alloc, text) else {

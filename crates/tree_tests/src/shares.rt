@@ -1,4 +1,4 @@
-//! A graph whose large regions are solved side by side.
+//! A graph whose large regions are solved in parallel.
 
 use cactus_solver::solve;
 use cut_definitions::{EdgeList, NoMemory};
@@ -10,7 +10,7 @@ use std::thread::Threads;
 use weighted_graph::{Graph, laws};
 use worker_team::Crew;
 
-// Four rings of so many vertices, one vertex of each in a fifth ring of four.
+// Four rings of this many vertices; one vertex of each is in a fifth ring, of four vertices.
 const LONG: u32 = 20_001;
 
 /// Feeds a number of up to six digits and a blank.

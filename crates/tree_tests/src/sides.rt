@@ -15,7 +15,7 @@ fn members(alloc: Global, side: &Side) -> Result<Vec<u32>, NoMemory> {
     Ok(list)
 }
 
-/// All sides of a cactus, in the order of a walk. A side may stand twice.
+/// All sides of a cactus, in the order of a walk. A side may come twice.
 pub(crate) fn all_sides(alloc: Global, cactus: &Cactus) -> Result<Vec<Vec<u32>>, NoMemory> {
     let mut sides = Vec::new(alloc);
     let mut room = Side::empty(alloc, cactus.n())?;

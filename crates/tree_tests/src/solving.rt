@@ -15,13 +15,13 @@ use std::thread::Threads;
 use weighted_graph::{Graph, laws};
 use worker_team::{Alone, Crew};
 
-/// Whether the value and just the sides were found.
+/// Whether the value and exactly the sides were found.
 fn agrees(alloc: Global, solved: &Solved, known: &Known) -> Result<bool, NoMemory> {
     let sides = all_sides(alloc, &solved.cactus)?;
     Ok(solved.value == known.value && are_same(&sides, known.sides))
 }
 
-/// Whether the solver finds what is known, where it is told the value.
+/// Whether the solver finds what is known, if it is given the value.
 fn is_solved_at<R: Threads + Sync>(
     crew: &Crew<R, OpenGate>,
     graph: &Graph,
@@ -48,7 +48,8 @@ fn is_solved_by_list(alloc: Global, list: EdgeList, known: &Known) -> Result<boo
     }
 }
 
-/// Whether the solver finds the value and just the sides, by rows and for a value that is told.
+/// Whether the solver finds the value and exactly the sides, by rows, also if it is given the
+/// value.
 fn is_solved<R: Threads + Sync>(
     rt: &R,
     alloc: Global,

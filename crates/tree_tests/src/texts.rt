@@ -52,8 +52,8 @@ fn a_cactus_is_printed(rt: HostRuntime) -> Result<(), Fail> {
     Ok(())
 }
 
-/// A sink with room for so many bytes, in which the writes of some numbers fail, after a value and
-/// a flat cactus were printed, and whether they were printed whole.
+/// A sink after a value and a flat cactus were printed to it, and whether they were printed whole.
+/// The sink has room for `room` bytes, and its writes with some numbers fail.
 fn printed_into(
     alloc: Global,
     room: usize,
@@ -93,7 +93,7 @@ fn bridges_and_cycles_are_printed(rt: HostRuntime) -> Result<(), Fail> {
     Ok(())
 }
 
-/// Takes one byte at each write, and fails once it has no room.
+/// A sink that takes one byte at each write, and fails once it has no room.
 #[derive(Drop)]
 struct Narrow {
     bytes: Vec<u8>,
@@ -120,8 +120,8 @@ impl Sink for Narrow {
     }
 }
 
-/// Whether a sink with so much room takes so much of the text,
-/// and fails once where that is not the whole.
+/// Whether a sink with this much room takes this much of the text, and fails once if that is not
+/// the whole text.
 fn takes_first_part(alloc: Global, flat: &FlatCactus, room: usize) -> Result<bool, NoMemory> {
     let mut sink = Narrow {
         bytes: Vec::new(alloc),
@@ -149,7 +149,7 @@ fn a_first_part_is_taken(rt: HostRuntime) -> Result<(), Fail> {
     Ok(())
 }
 
-/// A way of 3000 bridges.
+/// A path of 3000 bridges.
 fn long_way(alloc: Global) -> Result<FlatCactus, NoMemory> {
     let mut flat = FlatCactus::new(alloc, 1);
     for i in 0..3000 {
@@ -158,7 +158,7 @@ fn long_way(alloc: Global) -> Result<FlatCactus, NoMemory> {
     Ok(flat)
 }
 
-/// Whether the text is printed whole, and up to the page whose write fails.
+/// Whether the text is printed whole, or up to the page whose write fails.
 fn goes_out_in_pages(alloc: Global, flat: &FlatCactus) -> Result<bool, NoMemory> {
     let (whole, is_whole) = printed_into(alloc, 60000, &[], flat, 7)?;
     let (part, is_part_whole) = printed_into(alloc, 60000, &[1], flat, 7)?;
@@ -179,7 +179,7 @@ fn a_long_text_goes_out_in_pages(rt: HostRuntime) -> Result<(), Fail> {
     Ok(())
 }
 
-/// Whether the text is read, and what was read printed as the text.
+/// Whether the text is read, and what was read is printed as the same text.
 fn is_read(alloc: Global, text: &str) -> Result<bool, NoMemory> {
     match read(alloc, text.as_bytes()) {
         Ok(file) => is_flat_printed(alloc, &file.cactus, file.value, text),

@@ -1,5 +1,5 @@
-//! The cactuses of the tests: each told by a sketch, which is a constant,
-//! and made by one function.
+//! The cactuses of the tests. Each is described by a sketch, which is a constant, and made by one
+//! function.
 
 ghost use Rattle.std.specs.Prelude.{◌≡◌, ◌<◌, ◌≤◌, ◌^◌, ◌++◌, ◌∷◌, [], ℕ, true, IfOk, OnOk, length, slice_index};
 ghost use Rattle.std.specs.List.{All, flat_map};
@@ -90,44 +90,45 @@ pub const TWO_AND_ONE: Sketch = Sketch {
     ends: &[&[], &[1]],
 };
 
-/// The cactus of 1, with a bridge down to an empty node,
-/// and from there bridges down to 2 and to 3.
+/// The cactus of 1, with a bridge down to an empty node, and from there bridges down to 2 and to
+/// 3.
 pub const STAR: Sketch = Sketch {
     homes: &[0, 2, 3],
     ends: &[&[], &[], &[1], &[1, 1]],
 };
 
-/// The cactus of 1, with a bridge down to an empty node,
-/// and from there bridges down to 3 and then to 2.
+/// The cactus of 1, with a bridge down to an empty node, and from there bridges down to 3 and then
+/// to 2.
 pub const TURNED_STAR: Sketch = Sketch {
     homes: &[0, 3, 2],
     ends: &[&[], &[], &[1], &[1, 1]],
 };
 
-/// The cactus of 1, with a way of two bridges down to 5 and 6, then a cycle through 2, which has 3
-/// below a bridge, and 4, then a bridge down to 7.
+/// The cactus of 1 with three blocks. The first is a bridge down to 5, which has a bridge down to
+/// 6. The second is a cycle through 2, which has a bridge down to 3, and 4. The third is a bridge
+/// down to 7.
 pub const NESTED: Sketch = Sketch {
     homes: &[0, 3, 4, 5, 1, 2, 6],
     ends: &[&[], &[], &[1, 1], &[], &[1], &[2], &[1]],
 };
 
-/// The cactus of 1, with a cycle through an empty node,
-/// which has a cycle through 2 and 3, and through 4.
+/// The cactus of 1, with a cycle through an empty node, which has a cycle through 2 and 3, and
+/// through 4.
 pub const TWO_RINGS: Sketch = Sketch {
     homes: &[0, 2, 3, 4],
     ends: &[&[], &[], &[], &[2], &[2]],
 };
 
-/// The cactus of 1, with a cycle through 2, 3 and an empty node,
-/// and below that a cycle through 4, 5 and 6.
+/// The cactus of 1, with a cycle through 2, 3 and an empty node, and below that a cycle through 4,
+/// 5 and 6.
 pub const RINGS_AT_AN_EMPTY_NODE: Sketch = Sketch {
     homes: &[0, 1, 2, 4, 5, 6],
     ends: &[&[], &[], &[], &[], &[], &[], &[3, 3]],
 };
 
-/// The cactus of 1, with a bridge down to an empty node, which has a cycle through 2 and 3,
-/// and with a cycle through an empty node, which has a bridge down to 4, and through 5: both
-/// empty nodes can be spared.
+/// The cactus of 1 with two blocks. The first is a bridge down to an empty node, which has a cycle
+/// through 2 and 3. The second is a cycle through an empty node, which has a bridge down to 4, and
+/// 5. Both empty nodes can be spared.
 pub const TWO_SPARE: Sketch = Sketch {
     homes: &[0, 2, 3, 5, 6],
     ends: &[&[], &[], &[], &[2, 1], &[], &[1], &[2]],
@@ -206,7 +207,7 @@ fn close_blocks(alloc: Global, trees: &mut Children, counts: &[usize]) -> Result
     Ok(())
 }
 
-/// The trees that all nodes of a sketch make.
+/// The trees that are made of all nodes of a sketch.
 fn trees_of(alloc: Global, sketch: &Sketch) -> Result<Children, Fail>
     requires { length sketch.now.homes.now < 2 ^ 32 }
     ensures entered { IfOk result (λ t. flat_map entered (nodes_in t) ≡ lists_of sketch.now.homes.now (length sketch.now.ends.now)) }
@@ -246,7 +247,7 @@ fn has_no_empty_side(alloc: Global, cactus: &Cactus) -> Result<bool, NoMemory>
     Ok(true)
 }
 
-/// The root of the only tree that all nodes of a sketch make.
+/// The root of the only tree that is made of all nodes of a sketch.
 fn root_of(alloc: Global, sketch: &Sketch) -> Result<Node, Fail>
     requires { length sketch.now.homes.now < 2 ^ 32 }
     ensures entered { IfOk result (λ x. entered x ≡ lists_of sketch.now.homes.now (length sketch.now.ends.now)) }
@@ -260,7 +261,7 @@ fn root_of(alloc: Global, sketch: &Sketch) -> Result<Node, Fail>
     Ok(root)
 }
 
-/// The cactus of a sketch, none of whose sides is empty.
+/// The cactus of a sketch. None of its sides is empty.
 pub fn cactus_of(alloc: Global, sketch: &Sketch) -> Result<Cactus, Fail>
     ensures few { IfOk result (λ c. c.vertices ≤ 4194304) }
     ensures sides { IfOk result (λ c. HasNoEmptySide c) }

@@ -9,7 +9,7 @@ use max_flow::Outcome;
 use region_flow::RegionFlow;
 use weighted_graph::Graph;
 
-/// Whether flows into vertex 3 of the triangle, from the source with just vertex 1, reach 5 and no
+/// Whether flows into vertex 3 of the triangle, from the source with only vertex 1, reach 5 and no
 /// more.
 fn reaches_five(graph: &Graph, flow: &mut RegionFlow) -> bool
     requires flow { IsRegionFlow graph.now flow.old }

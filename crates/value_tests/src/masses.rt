@@ -31,7 +31,7 @@ fn are_masses(weights: &VertexWeights, masses: &[u64]) -> bool {
     true
 }
 
-/// Whether a text that comes in pieces of this length has just these masses.
+/// Whether a text that comes in pieces of this length has exactly these masses.
 fn has_masses(alloc: Global, text: &[u8], length: usize, masses: &[u64]) -> bool {
     match graph(alloc, text, length) {
         Ok(graph) => are_masses(&graph.weights, masses),

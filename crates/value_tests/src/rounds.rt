@@ -169,7 +169,7 @@ fn the_bound_falls_to_a_prefix(rt: HostRuntime) {
 const THREE_BY_THREE: &str = "6 9\n4 5 6\n4 5 6\n4 5 6\n1 2 3\n1 2 3\n1 2 3\n";
 
 /// Whether no edge passes a certificate at 3, and yet a round that opens with the degree of vertex
-/// 1 keeps this bound, 3, and one worker marks an edge. Of several workers, each may scan so
+/// 1 keeps this bound, 3. One worker has to mark an edge. Of several workers, each may scan so
 /// little before the others take the rest that no link reaches the bound.
 fn marks_by_links<R: Threads + Sync>(rt: &R, alloc: Global, workers: u32) -> bool
     requires { (1 ≤ workers) × (workers ≤ 64) }

@@ -39,7 +39,8 @@ fn mark_heavy(board: &Board, graph: &Graph, mut seat: BoardSeat, edge: usize) ->
     seat
 }
 
-/// Four threads mark an edge each, and their seats are joined; none if a thread cannot be started.
+/// Lets four threads mark an edge each, and joins their seats. It returns `None` if a thread
+/// cannot be started.
 fn four_threads<R: Threads + Wait + Sync>(
     rt: &R,
     board: &Board,
