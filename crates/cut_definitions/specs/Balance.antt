@@ -17,7 +17,7 @@ mass_of masses v = get_or masses (v - 1) 0
 unfoldable pub mass : List ℕ → VertexSet → ℕ
 mass masses s = sum_by (λ v. if s v then mass_of masses v else 0) (range_with_len 1 (length masses))
 
--- the lesser of the mass of a side and that of all other vertices
+-- the smaller of the mass of a side and that of all other vertices
 abbrev pub balance : List ℕ → List ℕ → ℕ
 balance masses side = min (mass masses (has side)) (mass masses (complement (has side)))
 

@@ -13,7 +13,7 @@ pub record IsConnected (g : Graph) : Type 0 where
 abbrev pub AreJoined : Graph → ℕ → ℕ → Type 0
 AreJoined g u v = (s : VertexSet) → weight g s ≡ 0 → s u ≡ s v
 
--- the number of components: that of the vertices that are joined to no lesser vertex
+-- the number of components: that of the vertices that are joined to no smaller vertex
 pub record HasComponents (g : Graph) (count : ℕ) : Type 0 where
   pub firsts : List ℕ
   pub ascending : IsAscendingWithin 1 g.vertices firsts

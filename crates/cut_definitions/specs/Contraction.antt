@@ -25,7 +25,7 @@ pub record IsLabels (labels : List ℕ) : Type 0 where
 abbrev pub class : List ℕ → ℕ → VertexSet
 class labels c v = label labels v == c
 
--- the pairs of numbers from 1 to n, the lesser first, ascending
+-- the pairs of numbers from 1 to n, the smaller first, ascending
 abbrev pub pairs : ℕ → List (ℕ × ℕ)
 pairs n = flat_map (λ i. map (λ j. (i, j)) (range_with_len (i + 1) (n - i))) (range_with_len 1 n)
 

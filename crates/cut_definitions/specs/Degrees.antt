@@ -4,11 +4,11 @@ use Rattle.cut_definitions.specs.Graph.{Graph}
 use Rattle.cut_definitions.specs.Weight.{weight}
 use Rattle.cut_definitions.specs.Scan.{single}
 
--- no vertex has a lesser degree
+-- no vertex has a smaller degree
 abbrev pub HasDegrees : Graph → ℕ → Type 0
 HasDegrees g low = (v : ℕ) → 1 ≤ v → v ≤ g.vertices → low ≤ weight g (single v)
 
--- the least degree: that of some vertex, and no vertex has a lesser one
+-- the least degree: that of some vertex, and no vertex has a smaller one
 pub record IsLeastDegree (g : Graph) (low : ℕ) : Type 0 where
   pub vertex : ℕ
   pub from_one : 1 ≤ vertex

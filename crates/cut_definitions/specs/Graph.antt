@@ -16,7 +16,7 @@ IsVertex n v = (1 ≤ v) × (v ≤ n)
 abbrev pub IsBefore : Edge → Edge → Type 0
 IsBefore d e = (d.u < e.u) ⊎ ((d.u ≡ e.u) × (d.v < e.v))
 
--- an edge of positive weight between two vertices of 1 to n, the lesser first
+-- an edge of positive weight between two vertices of 1 to n, the smaller first
 abbrev pub IsEdgeWithin : ℕ → Edge → Type 0
 IsEdgeWithin n e = (1 ≤ e.u) × (e.u < e.v) × (e.v ≤ n) × (1 ≤ e.w)
 

@@ -58,7 +58,7 @@ bridge_layout p = record { size = p.size; ranges = λ k. record { from = k; to =
 abbrev pub cycle_layout : List Layout → Layout
 cycle_layout ps = record { size = size_along ps; ranges = λ k. interval_ranges (sizes_in ps) k ++ ranges_along ps k }
 
--- a node has the first number, and what is below it those behind
+-- a node has the first number, and what is below it those that follow
 abbrev pub node_layout : Layout → Layout
 node_layout p = record { size = p.size + 1; ranges = λ k. p.ranges (k + 1) }
 

@@ -33,7 +33,7 @@ pub record SameLists (ls ms : List (List ℕ)) : Type 0 where
 abbrev pub AreWide : List ℕ → Type 0
 AreWide ks = (k : ℕ) → Contains ks k → 2 ≤ k
 
--- a node with the same vertices, whose blocks are as they must be
+-- a node with the same vertices, whose blocks are valid
 pub record ShowsNode (r : Read) (x : Node) : Type 0 where
   pub own : vertices x ≡ slice_index_or r.lists 0 []
   pub below : (part x).below ≡ r.part.below
