@@ -3,6 +3,7 @@
 A made part stands between the lines `<!-- NAME: made by bench/measure.py -->` and `<!-- end of NAME -->`.
 """
 import os
+import statistics
 import textwrap
 
 import contenders
@@ -12,7 +13,7 @@ import solve
 from checks import running
 from results import phrase, title
 
-README, PAGE = 'README.md', 'docs/PERFORMANCE.md'
+README, PAGE, CHANGING = 'README.md', 'docs/PERFORMANCE.md', 'docs/CONTRIBUTING.md'
 README_FAMILIES = ('ring', 'torus', 'tetrahedra', 'attachment', 'random_unweighted', 'regular', 'network')
 PLOTTED = ('ring', 'torus', 'grid', 'tree', 'tetrahedra', 'random_unweighted', 'random_dense', 'attachment', 'regular', 'hypercube',
            'ring_of_cliques', 'network')
@@ -21,12 +22,13 @@ SHORTENED = ('cactus', 'value')     # the jobs whose times with several workers 
 STEEP = 1.2             # exponents of growth that are named
 WIDTH = 118             # characters of a line
 SLOW = 5                # how many of the slowest kinds are named
-FASTER = 0.9            # where four workers take less of the time of one, the kind is named
+FASTER = 0.9            # if four workers take less of the time of one, the kind is named
 NAMED = 4               # so many of these kinds at most
+MILLION = (9e5, 1.1e6)  # about a million edges
 NOTHING = ['*Not measured yet: `bench/measure.py` makes this part.*']
 PLOTS = {
-    'performance-value.svg': ('seconds of the processor', 'The job value beside other programs, processor time by edges'),
-    'performance-memory.svg': ('MB', 'The job value beside other programs, peak memory by edges'),
+    'performance-value.svg': ('seconds of the processor', 'The job value and other programs, processor time by edges'),
+    'performance-memory.svg': ('MB', 'The job value and other programs, peak memory by edges'),
     'performance-jobs.svg': ('seconds of the processor', 'The jobs value, count and cactus, processor time by edges'),
 }
 
@@ -178,14 +180,14 @@ def share_words(all_shares):
 
 
 def workers_words(found):
-    """Two sentences: where four workers take how much of the time of one."""
+    """A sentence: how much of the time of one worker four take."""
     _, rows = found[results.RUNS]
-    first, second = (share_words(shares(rows, job)) for job in SHORTENED)
-    return paragraph(f'For `{SHORTENED[0]}`, four workers take these parts of the elapsed time of one: {first}.', f'For `{SHORTENED[1]}`: {second}.')
+    first, second = (f'`{job}` {share_words(shares(rows, job))}' for job in SHORTENED)
+    return paragraph(f'Elapsed time with four workers, divided by that with one: {first}; {second}.')
 
 
 def workers_part(found):
-    """The two sentences, and the jobs with 1, 2 and 4 workers, by the clock and in processor time."""
+    """The sentence, and the jobs with 1, 2 and 4 workers, by the clock and in processor time."""
     _, rows = found[results.RUNS]
     lines = []
     for family in families_in(rows):
@@ -199,6 +201,18 @@ def workers_part(found):
     return [*workers_words(found), '', *table(head, lines)]
 
 
+def million_words(rows):
+    """How long the graphs of about a million edges take."""
+    some = [largest_of(rows, family) for family in families_in(rows)]
+    some = [graph for graph in some if MILLION[0] <= graph[0]['edges'] <= MILLION[1]]
+    times = {job: [time for graph in some if (time := figure(own_row(graph, job), 'processor_s')) is not None] for job in ('value', 'cactus')}
+    if not all(times.values()):
+        return ''
+    middle, most = ([seconds(of(times[job])) for job in ('value', 'cactus')] for of in (statistics.median, max))
+    return (f'With about a million edges `value` takes {middle[0]} s and `cactus` {middle[1]} s (median of {kinds(len(some))} of graphs), '
+            f'at most {most[0]} s and {most[1]} s.')
+
+
 def speed_part(found):
     """The seven rows of README."""
     about, rows = found[results.RUNS]
@@ -210,8 +224,8 @@ def speed_part(found):
     limit, day = about['limit_s'], about['date'].split()[0]
     words = paragraph(f'Seconds of the processor with one worker, reading and printing included; {about["processor"]}, {day}.',
                       f'LEMON and igraph find the value alone; "> {limit}" means more than {limit} s, measured or foreseen from smaller graphs.')
-    trial = [*paragraph(trial_words(about)), ''] if trial_words(about) else []
-    return [*trial, *table(['Graph', 'Edges', '`value`', '`count`', '`cactus`', 'LEMON', 'igraph'], lines), '', *words]
+    first = paragraph(trial_words(about), million_words(rows))
+    return [*first, '', *table(['Graph', 'Edges', '`value`', '`count`', '`cactus`', 'LEMON', 'igraph'], lines), '', *words]
 
 
 def memory_part(found):
@@ -248,7 +262,7 @@ def slow_part(found):
     slowest = [f'{phrase(family)} ({seconds(time)})' for time, family in sorted(each, reverse=True)[:SLOW]]
     growing = f'above {STEEP} on {", ".join(steep)}' if steep else f'at most {STEEP} on all kinds'
     return paragraph(f'Slowest for their size, in seconds of `cactus` for a million edges: {", ".join(slowest)}.',
-                     f'The exponent of growth in the number of edges, of the steepest of the three jobs, is {growing}.')
+                     f'Taken as a power of the number of edges, the time of the steepest of the three jobs has an exponent {growing}.')
 
 
 def insertions_part(found):
@@ -264,24 +278,42 @@ def insertions_part(found):
 
 
 def measured_apart(found, name):
-    """A sentence on a measurement of another commit than the main one, if it is of another."""
+    """A sentence on a measurement of another commit or on another processor than the main one."""
     about, main = found[name][0], found[results.RUNS][0]
-    if not main or about['commit'] == main['commit']:
+    if not main or (about['commit'], about['processor']) == (main['commit'], main['processor']):
         return []
-    return paragraph(f'Measured on {about["date"][:10]}, of the crates of commit {about["commit"]}.')
+    return paragraph(f'Measured on {about["date"][:10]} with the crates of commit {about["commit"]}: {about["processor"]}, {about["processors"]} processors.')
+
+
+def proving_rows(found):
+    return {row['what']: row for row in found[results.PROVING][1]}
+
+
+def proving_words(found):
+    """How long the proofs take, for a reader who only checks."""
+    about, rows = found[results.PROVING][0], proving_rows(found)
+    first, gate = rows['first run'], rows['gate']
+    return paragraph(f'On {first["processors"]} processors of {about["machine"]} the first takes {first["clock_minutes"]} minutes, and the second '
+                     f'{gate["clock_minutes"]} from nothing.')
+
+
+def gate_words(found):
+    """Where the time of the gate goes."""
+    rows = {what: row['processor_minutes'] for what, row in proving_rows(found).items()}
+    return paragraph(f'From nothing, {rows["proofs"]} of its {rows["gate"]} processor minutes go to proofs, {rows["tests"]} to tests and '
+                     f'{rows["edits"]} to planted bugs.')
 
 
 def calls_part(found):
-    """The calls of the library on small graphs, in a line."""
+    """The calls of the library on small graphs."""
     _, rows = found[results.CALLS]
-    sizes = dict.fromkeys((row['vertices'], row['edges']) for row in rows)
-    told = []
+    sizes = list(dict.fromkeys((row['vertices'], row['edges']) for row in rows))
+    lines = []
     for name in dict.fromkeys(row['call'] for row in rows):
-        times = [f'{row["microseconds"]:,.0f}' for row in rows_where(rows, call=name)]
-        told.append(f'{name} {"/".join(times)}')
-    graphs = ', '.join(f'{n:,} vertices and {m:,} edges' for n, m in sizes)
-    return [*paragraph(f'Microseconds of the processor for one call, on graphs of {graphs}: {"; ".join(told)}.'), '',
-            *measured_apart(found, results.CALLS)]
+        times = {(row['vertices'], row['edges']): f'{row["microseconds"]:,.0f}' for row in rows_where(rows, call=name)}
+        lines.append([name, *(times.get(size, '–') for size in sizes)])
+    head = ['Vertices/edges', *(f'{n:,}/{m:,}' for n, m in sizes)]
+    return [*table(head, lines), '', *measured_apart(found, results.CALLS)]
 
 
 def large_part(found):
@@ -316,7 +348,8 @@ def picture(found, name):
 # The documents
 
 PARTS = {
-    README: {'speed': (results.RUNS, speed_part), 'workers': (results.RUNS, workers_words)},
+    README: {'speed': (results.RUNS, speed_part), 'workers': (results.RUNS, workers_words), 'proving': (results.PROVING, proving_words)},
+    CHANGING: {'proving': (results.PROVING, gate_words)},
     PAGE: {'about': (results.RUNS, about_part), 'graphs': (results.RUNS, graphs_part), 'memory': (results.RUNS, memory_part),
            'workers': (results.RUNS, workers_part), 'slow': (results.RUNS, slow_part), 'insertions': (results.INSERTIONS, insertions_part),
            'large': (results.LARGEST, large_part), 'calls': (results.CALLS, calls_part)},
@@ -365,7 +398,7 @@ def told(wrong):
 
 
 def write(folder):
-    """Writes the documents and plots; answers the status."""
+    """Writes the documents and plots; returns the status."""
     files, wrong = made_files(folder)
     for path, text in files.items():
         with open(os.path.join(running.TOP, path), 'w', encoding='utf-8') as out:
@@ -382,7 +415,7 @@ def content(path):
 
 
 def check(folder):
-    """Says which documents and plots are not what the results give; answers the status."""
+    """Says which documents and plots are not what the results give; returns the status."""
     files, wrong = made_files(folder)
     stale = [path for path, text in files.items() if content(path) != text]
     return told(wrong + [f'{path} is not what bench/results gives: bench/measure.py --write' for path in stale])

@@ -3,11 +3,12 @@ The second line names the columns."""
 import csv
 import os
 
-RUNS, INSERTIONS, LARGEST, CALLS = 'runs', 'insertions', 'largest', 'calls'
+RUNS, INSERTIONS, LARGEST, CALLS, PROVING = 'runs', 'insertions', 'largest', 'calls', 'proving'
 RUN_COLUMNS = ('family', 'vertices', 'edges', 'job', 'contender', 'workers', 'outcome', 'value', 'count', 'processor_s', 'clock_s', 'search_s',
                'peak_mb', 'runs', 'load_start', 'load_end', 'others', 'error')
-COLUMNS = {RUNS: RUN_COLUMNS, INSERTIONS: (*RUN_COLUMNS, 'insertions'), LARGEST: RUN_COLUMNS, CALLS: ('call', 'vertices', 'edges', 'microseconds')}
-WHOLE = {'vertices', 'edges', 'workers', 'value', 'count', 'runs', 'insertions'}
+COLUMNS = {RUNS: RUN_COLUMNS, INSERTIONS: (*RUN_COLUMNS, 'insertions'), LARGEST: RUN_COLUMNS, CALLS: ('call', 'vertices', 'edges', 'microseconds'),
+           PROVING: ('what', 'processors', 'clock_minutes', 'processor_minutes')}
+WHOLE = {'vertices', 'edges', 'workers', 'value', 'count', 'runs', 'insertions', 'processors', 'clock_minutes', 'processor_minutes'}
 FRACTIONS = {'processor_s': 4, 'clock_s': 4, 'search_s': 4, 'peak_mb': 1, 'load_start': 2, 'load_end': 2, 'others': 2, 'microseconds': 1}
 
 # The families that are measured: what a table and what a sentence calls their graphs.
@@ -17,8 +18,8 @@ KINDS = {
     'grid': ('square grid', 'square grids'),
     'tree': ('random tree', 'random trees'),
     'tetrahedra': ('mesh of tetrahedra', 'meshes of tetrahedra'),
-    'random_unweighted': ('random, 8 edges a vertex', 'random graphs with 8 edges a vertex'),
-    'random_sparse': ('random, 3 edges a vertex, weights', 'random weighted graphs'),
+    'random_unweighted': ('random, 8 edges per vertex', 'random graphs with 8 edges per vertex'),
+    'random_sparse': ('random, 3 edges per vertex, weights', 'random weighted graphs'),
     'random_dense': ('half of all pairs, weights', 'dense weighted graphs'),
     'dense_clusters': ('two dense clusters, weights', 'dense weighted clusters'),
     'attachment': ('preferential attachment', 'preferential attachment'),

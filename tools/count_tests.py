@@ -1,10 +1,11 @@
 #!/usr/bin/env python3
-"""Counts what docs/TESTING.md says of the tests, and writes the numbers into it.
+"""Counts what the pages say of tests, planted bugs, definitions and what is trusted, and writes the numbers into the pages.
 
 usage: count_tests.py [--check]
 
-A number of that page is between <!--NAME--> and <!--/-->. With --check nothing is written: there is a line for each number that differs,
-and the status is 1 then. Lines are counted without empty ones. The inputs of a check are those that it takes if no number is named.
+A number of a page is between <!--NAME--> and <!--/-->. With --check nothing is written: there is a line for each number that differs,
+and the status is 1 then. Lines are counted without empty ones, but those of definitions as crates/DEFINITION_FILES.md counts them. The
+inputs of a check are those that it takes if no number is given.
 """
 import argparse
 import os
@@ -12,9 +13,16 @@ import re
 import sys
 
 from checks import jobs
+from definition_files import in_order
+from definition_files import lines_of as all_lines_of
+from definition_pages import RUN
 from list_crates import ROOT, layers, read
 
-PAGE = 'docs/TESTING.md'
+PAGES = ('README.md', 'docs/PROVED.md', 'docs/TESTING.md')
+# What is trusted for the standard streams, and the shim of the C library.
+STREAMS = ('crates/outside/src/std_source.rt', 'crates/outside/src/std_sink.rt', 'crates/mincut/src/main.rt')
+SHIM = ('bindings/c/mincut.c', 'bindings/c/places.c')
+DEFINITION = re.compile(r'`(\w+)/(\w+\.antt)`')
 NUMBER = re.compile(r'<!--(\w+)-->(.*?)<!--/-->')
 STAND_IN = 'stand_in.c'
 
@@ -60,6 +68,21 @@ def counted_edits():
             'crates_edits': len({path.split('/')[1] for path in edits})}
 
 
+def clauses_of_run():
+    """The names of the clauses of the contract of `run`."""
+    return re.findall(r'^    ensures (\w+)', read(RUN).partition('pub fn run<')[2].partition('\n{')[0], re.M)
+
+
+def counted_contract():
+    """What somebody reads who checks the contract of `run`: its clauses, the definitions below it, and those of them that
+    docs/DEFINITIONS.md explains; and how much is trusted beside it."""
+    below = in_order(RUN, {})
+    explained = {f'crates/{crate}/specs/{file}' for crate, file in DEFINITION.findall(read('docs/DEFINITIONS.md'))} & set(below)
+    return {'clauses': len(clauses_of_run()), 'definition_files': len(below), 'definition_lines': sum(map(all_lines_of, below)),
+            'explained_files': len(explained), 'explained_lines': sum(map(all_lines_of, explained)),
+            'stream_lines': lines_in(STREAMS), 'shim_lines': lines_in(SHIM)}
+
+
 def counted_tests():
     crates = [path for crate in groups()['tests'] for path in files_below(f'crates/{crate}/src', '.rt')]
     scripts = [path for path in files_below('tools', '.py') if os.path.basename(path).startswith('test_')]
@@ -89,28 +112,30 @@ def counted_inputs():
 
 def counted():
     """All numbers, by their names."""
-    numbers = {**counted_lines(), **counted_edits(), **counted_tests(), **counted_inputs()}
+    numbers = {**counted_lines(), **counted_edits(), **counted_contract(), **counted_tests(), **counted_inputs()}
     for part in ('crates', 'code', 'specs', 'proofs'):
         numbers[f'{part}_all'] = sum(numbers[f'{part}_{group}'] for group in groups())
     return numbers
 
 
 def wrong_counts():
-    """A line for each number of the page that differs, or that nothing counts."""
+    """A line for each number of the pages that differs, or that nothing counts."""
     numbers = counted()
-    for name, text in NUMBER.findall(read(PAGE)):
-        if name not in numbers:
-            yield f'{PAGE}: nothing counts {name}'
-        elif text != f'{numbers[name]:,}':
-            yield f'{PAGE}: {name} is {numbers[name]:,}, and not {text}'
+    for page in PAGES:
+        for name, text in NUMBER.findall(read(page)):
+            if name not in numbers:
+                yield f'{page}: nothing counts {name}'
+            elif text != f'{numbers[name]:,}':
+                yield f'{page}: {name} is {numbers[name]:,}, and not {text}'
 
 
 def write_counts():
     numbers = counted()
     told = {name: f'{number:,}' for name, number in numbers.items()}
-    text = NUMBER.sub(lambda found: f'<!--{found[1]}-->{told.get(found[1], found[2])}<!--/-->', read(PAGE))
-    with open(f'{ROOT}/{PAGE}', 'w', encoding='utf-8') as file:
-        file.write(text)
+    for page in PAGES:
+        text = NUMBER.sub(lambda found: f'<!--{found[1]}-->{told.get(found[1], found[2])}<!--/-->', read(page))
+        with open(f'{ROOT}/{page}', 'w', encoding='utf-8') as file:
+            file.write(text)
 
 
 def main():

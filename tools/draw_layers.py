@@ -1,11 +1,15 @@
 #!/usr/bin/env python3
-"""Draws the layers of crates.txt: the crates of each, and on which other layers they stand. What stands beside the program has a colour
-of its own, and so has what is trusted."""
-import argparse
-import os
+"""Draws the layers of crates.txt: the crates of each, and which other layers they use. Crates beside the program have a colour of their
+own, and so has what is trusted.
+
+usage: draw_layers.py [--check]    --check: writes nothing; ends with 1 if the picture is not up to date
+"""
+import sys
 from html import escape
 
-ROOT = os.path.dirname(os.path.dirname(os.path.abspath(__file__)))
+from made_pages import ROOT, run
+
+PICTURE = 'docs/layers.svg'
 WIDTH, LEFT, LETTER, BOX, GAP = 980, 14, 7.1, 24, 8
 # What is trusted beside the contracts of the toolchain's libraries.
 FOUNDATION = ['logic and prover', 'compiler', 'C library and system calls', 'processor']
@@ -14,7 +18,7 @@ TRUSTED, BINDINGS = {'outside', 'mincut'}, {'Library': ['bindings in C, C++ and 
 
 
 def layers():
-    """The title of each layer, its crates, the layers, by their number, that they use, and whether it stands beside the program."""
+    """The title of each layer, its crates, the layers, by their number, that they use, and whether it is beside the program."""
     found, layer_of, half = [], {}, 0
     with open(f'{ROOT}/crates.txt', encoding='utf-8') as file:
         for line in list(file)[1:]:
@@ -65,9 +69,9 @@ def drawn(found):
                        [(name, 'trusted') for name in [*FOUNDATION, libraries]], 12)
     for number, (title, names, uses, is_beside) in enumerate(found):
         below = [found[other][0] for other in sorted(uses - {number})]
-        stands = f'stands on {", ".join(below)}' if below else 'stands on the toolchain alone'
+        used = f'uses {", ".join(below)}' if below else 'uses the toolchain alone'
         boxes = [(name, 'trusted' if name in TRUSTED else 'crate') for name in names] + [(name, 'trusted') for name in BINDINGS.get(title, [])]
-        drawing, top = layer(title, stands, 'beside' if is_beside else 'layer', boxes, top)
+        drawing, top = layer(title, used, 'beside' if is_beside else 'layer', boxes, top)
         parts += drawing
     style = ('.layer{fill:#f4f6f8;stroke:#c3ccd5}.beside{fill:#fbf3e4;stroke:#d9c08c}.trust{fill:#fdf1ef;stroke:#dba79f}'
              '.crate{fill:#fff;stroke:#5b7083}.trusted{fill:#f7c9c2;stroke:#b0554a}.title{font:bold 14px sans-serif;fill:#1d2b36}'
@@ -76,13 +80,9 @@ def drawn(found):
     return '\n'.join([head, f'<style>{style}</style>', *parts, '</svg>', ''])
 
 
-def main():
-    parser = argparse.ArgumentParser(description=__doc__)
-    parser.add_argument('file', nargs='?', default=f'{ROOT}/docs/layers.svg', help='the drawing; docs/layers.svg if none is named')
-    target = parser.parse_args().file
-    with open(target, 'w', encoding='utf-8') as file:
-        file.write(drawn(layers()))
+def picture():
+    return drawn(layers())
 
 
 if __name__ == '__main__':
-    main()
+    sys.exit(run(PICTURE, picture()))

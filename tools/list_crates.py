@@ -1,10 +1,16 @@
 #!/usr/bin/env python3
 """Writes crates/README.md by crates.txt and the heads of the crates: one row for each crate, with what it is, where to begin reading it,
-and which crates call it."""
+and which crates call it.
+
+usage: list_crates.py [--check]    --check: writes nothing; ends with 1 if the page is not up to date
+"""
 import os
 import re
+import sys
 
-ROOT = os.path.dirname(os.path.dirname(os.path.abspath(__file__)))
+from made_pages import ROOT, run
+
+PAGE = 'crates/README.md'
 # So many callers are named; if there are more, how many they are.
 MOST_CALLERS = 10
 # The file in the src/ of each crate to begin with, if that is not its lib.rt or main.rt.
@@ -77,10 +83,5 @@ def page():
     return '\n'.join(rows).rstrip() + '\n'
 
 
-def main():
-    with open(f'{ROOT}/crates/README.md', 'w', encoding='utf-8') as file:
-        file.write(page())
-
-
 if __name__ == '__main__':
-    main()
+    sys.exit(run(PAGE, page()))

@@ -1,9 +1,9 @@
 #!/usr/bin/env python3
-"""Writes crates/WRONG_BODIES.md by the files of crates/*/must-fail: one row for each edit that the proofs must refuse.
+"""Writes crates/WRONG_BODIES.md from the files of crates/*/must-fail: one row for each planted bug, which the proofs must refuse.
 
 usage: wrong_bodies.py [--check]    --check: writes nothing; ends with 1 if the page is not up to date
 
-An edit is told by the line of its file that stands before 'file:', or else by the name of the file.
+What a bug does is in the line of its file before 'file:', or else in the name of the file.
 """
 import os
 import sys
@@ -15,16 +15,16 @@ PAGE = 'crates/WRONG_BODIES.md'
 IN_GATE, BESIDE = '.edit', '.edit.md'
 # Of a changed line so many characters are shown, and so many of them before the first change.
 LONGEST, BEFORE = 64, 24
-HEAD = """# Wrong bodies
+HEAD = """# Planted bugs
 
-`tools/wrong_bodies.py` writes this page by `crates/*/must-fail`. Each row is a small bug, an edit of one or two lines
-of code, that the proofs must refuse. The gate, `rt ci`, tries {gate} of the {all} edits, and `tools/edits` tries all.
-[DECISIONS.md](../docs/DECISIONS.md), 'Which edits the gate tries', says how they were chosen. Of a long line the page shows
-the part that changes.
+`tools/wrong_bodies.py` writes this page from `crates/*/must-fail`. Each row is a planted bug, an edit of one or two lines
+of code, that the proofs must refuse. The gate, `rt ci`, tries {gate} of all {all}, and `tools/edits` tries all.
+[DECISIONS.md](../docs/DECISIONS.md), 'Which planted bugs the gate tries', says how these were chosen. Of a long line the
+page shows the part that changes.
 
-Two wrong bodies no edit can write, since no contract can refuse them. Tests of `crates/program_tests/src/answers.rt`
-refuse both: `run` always answers out of memory (`values_are_printed`), and the workers of a round run one after
-another (`two_workers_meet`).
+Two bugs are not here, since no contract can refuse them: `run` always returns out of memory, and the workers of a round
+run one after another. Tests in `crates/program_tests/src/answers.rt` find both (`values_are_printed` and
+`two_workers_meet`).
 """
 
 Edit = namedtuple('Edit', 'path what file pairs is_in_gate')
@@ -81,7 +81,7 @@ def page():
     parts = [HEAD.format(gate=sum(edit.is_in_gate for edit in every), all=len(every))]
     for crate, edits in by_crate.items():
         if edits:
-            parts.append(f'\n## {crate}\n\n| What the body does | File | Change | Tried by |\n|---|---|---|---|\n')
+            parts.append(f'\n## {crate}\n\n| What the bug does | File | Change | Tried by |\n|---|---|---|---|\n')
             parts += [f'{row(edit)}\n' for edit in edits]
     return ''.join(parts)
 
