@@ -1,7 +1,8 @@
 #!/usr/bin/env python3
-"""Looks for sentences of the documents that are no longer true, as far as a script can: names of files, pages, calls, jobs and
-statuses that are gone or missing, limits and counts that differ from the sources, links that lead nowhere, words about an earlier
-build, seconds and megabytes that no measurement has, and lines and pages that are too long.
+"""Looks for sentences of the documents that are no longer true, as far as a script can: names of files, pages, calls, jobs, statuses and
+faults that are gone or missing, limits and counts that differ from the sources, links that lead nowhere, literature that no list has,
+words about an earlier build, paths of one machine, times and megabytes that no measurement has, words that are not plain English, and
+sentences, lines and pages that are too long.
 
 usage: check_docs.py
 
@@ -15,10 +16,11 @@ import subprocess
 import sys
 
 import definition_pages
+import draw_layers
+import list_crates
 import python_reference
 import wrong_bodies
-from count_tests import wrong_counts
-from list_crates import BEGINNINGS, page
+from count_tests import clauses_of_run, wrong_counts
 from made_pages import is_up_to_date
 from versions import wrong_versions
 
@@ -31,20 +33,31 @@ MADE = re.compile(r'^(out/|crates/\w+/out/|/|report\.html|plan|picture\.svg|plan
 PLACES = re.compile(r'`((?:crates|docs|tools|bench|examples|python|bindings|include)/[\w./-]+|\./\w+)`')
 LINKS = re.compile(r'\]\(([^)#:]+)\)')
 # Most words of a page, and most characters of a line that is not in a table.
-PAGE_WORDS = {README: 1150, 'docs/TUTORIAL.md': 1500, 'docs/CACTUS.md': 900, 'docs/REFERENCE.md': 1300, 'docs/PYTHON.md': 1600,
-              'docs/LIBRARY.md': 900, 'docs/ALGORITHM.md': 1000, 'docs/PERFORMANCE.md': 1800, 'docs/TESTING.md': 930, 'docs/PROVED.md': 2000,
+PAGE_WORDS = {README: 1150, 'docs/TUTORIAL.md': 1500, 'docs/CACTUS.md': 900, 'docs/REFERENCE.md': 1400, 'docs/PYTHON.md': 1600,
+              'docs/LIBRARY.md': 900, 'docs/ALGORITHM.md': 1100, 'docs/PERFORMANCE.md': 1600, 'docs/TESTING.md': 930, 'docs/PROVED.md': 2000,
               'docs/DEFINITIONS.md': 1500, 'docs/DECISIONS.md': 2500, 'docs/CONTRIBUTING.md': 2300, 'python/README.md': 600}
 # Most words of README and docs together, without the pages that are lists made of the crates.
 ALL_WORDS, LISTS = 21_000, {'crates/WRONG_BODIES.md', 'crates/DEFINITION_FILES.md'}
 LINE = 120
+# Most words of a sentence, and the pages whose sentences are not looked at yet.
+SENTENCE, NOT_YET = 30, {'docs/LIBRARY.md', 'docs/PYTHON.md'}
 HISTORY = 'CHANGELOG.md'
+# Words for which there is a plain or a more usual one, with that word.
+UNUSUAL = {'lesser': 'smaller', 'wanting': 'missing', 'gives back': 'returns', 'gave back': 'returned', 'is told': 'is said', 'are told': 'are said',
+           'weakest place': 'minimum cut', 'weakest places': 'minimum cuts', 'small bug': 'planted bug', 'small bugs': 'planted bugs',
+           'wrong bodies': 'planted bugs', 'access node': 'access site', 'access nodes': 'access sites', 'so far as': 'if', 'whereof': 'of which'}
+ODD_WORDS = re.compile(rf'\b(?:{"|".join(UNUSUAL)})\b', re.I)
+# Paths of one machine.
+HOMES = re.compile(r'(?<![\w.])/(?:home|root|work|Users)/[\w./-]*')
+# An author, or several, and the year of what they published.
+CITED = re.compile(r'((?:[A-Z][a-z]+(?:, | and ))*[A-Z][a-z]+),? \(?((?:19[3-9]|20[01])\d)\b')
 EARLIER = re.compile(r'\b(?:earlier|former|previous|later|last) (?:builds?|states?|versions?|gates?|programs?)\b|\bbefore this\b|\bin (?:a )?(?:trials?|models?)\b'
                      r'|\b(?:was|were) (?:measured|proved|slower|faster) before\b|\b(?:was|were) left out\b|\bat first it\b|\bused to be\b', re.I)
 RESULTS = f'{ROOT}/bench/results'
-FIGURE = re.compile(r'\b(\d[\d,]*(?:\.\d+)?) ?(seconds?|s|milliseconds?|ms|microseconds?|MB|megabytes?|GB|gigabytes?)\b')
-UNITS = {'s': 1, 'seconds': 1, 'second': 1, 'ms': 1e-3, 'millisecond': 1e-3, 'microsecond': 1e-6, 'MB': 1, 'megabyte': 1, 'GB': 1000, 'gigabyte': 1000}
-# What a page says of seconds and megabytes without a measurement: limits, units, and what the toolchain needs.
-NOT_MEASURED = {'8 GB', '6 GB', '1 MB', '0.02 s'}
+FIGURE = re.compile(r'\b(\d[\d,]*(?:\.\d+)?) ?(hours?|minutes?|seconds?|s|milliseconds?|ms|microseconds?|MB|megabytes?|GB|gigabytes?)\b')
+UNITS = {'hour': 60, 'minute': 1, 's': 1, 'seconds': 1, 'second': 1, 'ms': 1e-3, 'millisecond': 1e-3, 'microsecond': 1e-6, 'MB': 1, 'megabyte': 1, 'GB': 1000, 'gigabyte': 1000}
+# What a page says of times and megabytes without a measurement: limits, units, what the toolchain needs, and the first build of the library.
+NOT_MEASURED = {'8 GB', '6 GB', '1 MB', '0.02 s', '30 minutes'}
 # A part that a script makes and compares itself.
 MADE_PART = re.compile(r'<!-- (\w+): made by .*?<!-- end of \1 -->', re.S)
 # Names in examples that a user would have given.
@@ -98,7 +111,7 @@ def wrong_clauses():
     for call, crate in re.findall(r'`(\w+)` of `(\w+)`', read('docs/PROVED.md')):
         if not is_defined(call, sources(crate)):
             yield f'docs/PROVED.md: {crate} has no {call}'
-    clauses = set(re.findall(r'^    ensures (\w+)', read(definition_pages.RUN).partition('pub fn run<')[2], re.M))
+    clauses = set(clauses_of_run())
     told = {name for line in read('docs/PROVED.md').partition('| Clause |')[2].partition('\n\n')[0].splitlines()[2:]
             for name in re.findall(r'`(\w+)`', line.split(' | ')[0])}
     yield from (f'docs/PROVED.md: no row for the clause {name} of `run`' for name in sorted(clauses - told))
@@ -162,6 +175,37 @@ def wrong_lines():
                 yield f'{path}: line {number} has {len(shown)} characters'
 
 
+def sentences(text):
+    """The sentences of a page without its made parts and code; each cell of a table and each item of a list stands for itself."""
+    text = re.sub(r'<!--.*?-->', '', MADE_PART.sub('\n', text))
+    lines = [line for line in text.splitlines() if not line.startswith('    ')]
+    pieces = re.split(r'\n(?=\s*(?:[-*#|]|\d+\.)\s?)|\n\s*\n', '\n'.join(lines))
+    cells = [cell for piece in pieces for cell in (piece.split('|') if piece.startswith('|') else [piece])]
+    return [sentence for cell in cells for sentence in re.split(r'(?<=[.!?:;])\s+(?=[A-Z`(*\[\d])', ' '.join(cell.split()))]
+
+
+def wrong_sentences():
+    """Sentences that are too long, words that are not plain English, and paths of one machine."""
+    for path in present_pages():
+        for sentence in [] if path in NOT_YET else sentences(read(path)):
+            words = len(sentence.split())
+            if words > SENTENCE:
+                yield f'{path}: a sentence of {words} words: {sentence[:60]} ..'
+            yield from (f"{path}: '{found[0]}', for which '{UNUSUAL[found[0].lower()]}' is usual: {sentence[:60]} .." for found in ODD_WORDS.finditer(sentence))
+        yield from (f'{path}: the path {found}' for found in HOMES.findall(read(path)))
+
+
+def missing_literature():
+    """Authors and years for which the list of docs/ALGORITHM.md has no line."""
+    entries = read('docs/ALGORITHM.md').partition('## Literature')[2].splitlines()
+    for path in present_pages():
+        if path.startswith('docs/') or path == README:
+            for names, year in CITED.findall(' '.join(read(path).partition('## Literature')[0].split())):
+                authors = re.split(r', | and ', names)
+                if not any(year in entry and all(author in entry for author in authors) for entry in entries):
+                    yield f'docs/ALGORITHM.md: no literature for {names} {year} of {path}'
+
+
 def measured_numbers():
     """All numbers of the results, as they are and without their units."""
     found = set()
@@ -173,7 +217,7 @@ def measured_numbers():
 
 
 def wrong_figures():
-    """Seconds and megabytes that are not a rounded number of a result, beside the made parts."""
+    """Times and megabytes outside the made parts that are not a rounded number of a result."""
     if not os.path.isdir(RESULTS):
         return
     results = measured_numbers()
@@ -209,31 +253,30 @@ def wrong_numbers():
             yield f'docs/REFERENCE.md: the limit {limit} is not that of cut_definitions'
         if limit not in read(README):
             yield f'{README}: the limit {limit} is missing'
-    counted = subprocess.run([f'{ROOT}/tools/definition_files.py'], capture_output=True, text=True, check=True).stdout.splitlines()[-1].split()
-    wanted = f'{counted[3]} files of {int(counted[0]):,} lines'
-    if wanted not in read('docs/PROVED.md'):
-        yield f'docs/PROVED.md: the definitions are {wanted}'
+    faults = set(re.findall(r'codes "(\w+)"', read('crates/stop_lines/specs/Stops.antt').partition('kind_name_of :')[2].partition('\n\n')[0]))
+    told = set(re.findall(r'`([A-Z]\w+)`', read('docs/REFERENCE.md').partition('## Faults of the input')[2].partition('\n\nThe first fault')[0]))
+    yield from (f'docs/REFERENCE.md: the fault {fault} is missing' for fault in sorted(faults - told))
+    yield from (f'docs/REFERENCE.md: no fault has the name {fault}' for fault in sorted(told - faults))
 
 
 def wrong_pages():
-    if page() != read('crates/README.md'):
-        yield 'crates/README.md: tools/list_crates.py writes another page'
-    for crate, name in BEGINNINGS.items():
+    for crate, name in list_crates.BEGINNINGS.items():
         if not os.path.exists(f'{ROOT}/crates/{crate}/src/{name}.rt'):
             yield f'tools/list_crates.py: there is no {crate}/src/{name}.rt to begin with'
-    for script in (definition_pages, wrong_bodies):
+    for script in (definition_pages, list_crates, wrong_bodies):
         if not is_up_to_date(script.PAGE, script.page()):
             yield f'{script.PAGE}: tools/{script.__name__}.py writes another page'
+    if not is_up_to_date(draw_layers.PICTURE, draw_layers.picture()):
+        yield f'{draw_layers.PICTURE}: tools/draw_layers.py draws another picture'
     if not python_reference.is_current():
         yield 'docs/PYTHON.md: tools/python_reference.py writes another reference'
 
 
-def wrong_edits():
-    folders = [f'{ROOT}/crates/{crate}/must-fail' for crate in crates()]
-    files = [name for folder in folders if os.path.isdir(folder) for name in os.listdir(folder)]
-    count = sum(name.endswith('.edit') for name in files)
-    told = [(README, f'refuses {count} planted bugs'), ('docs/PROVED.md', f'[{len(files)} small bugs](../crates/WRONG_BODIES.md)')]
-    yield from (f"{path}: of the edits it should say '{text}'" for path, text in told if text not in ' '.join(read(path).split()))
+def uncounted():
+    """Numbers of things in the sources that no script writes."""
+    for path, pattern in ((README, r'refuses \d+ planted'), (README, r'\d+ lines for the standard'), ('docs/PROVED.md', r'\b\d[\d,]* (?:lines|files|clauses)\b'),
+                          ('docs/PROVED.md', r'\[\d+ planted')):
+        yield from (f"{path}: '{found}' is not between the marks of tools/count_tests.py" for found in re.findall(pattern, ' '.join(read(path).split())))
 
 
 def wrong_measurements():
@@ -243,8 +286,9 @@ def wrong_measurements():
 
 
 def main():
-    found = [line for check in (wrong_places, unlinked_pages, wrong_clauses, wrong_definitions, wrong_rows, wrong_names, wrong_lines, wrong_figures,
-                                wrong_lengths, wrong_numbers, wrong_edits, wrong_pages, wrong_counts, wrong_versions, wrong_measurements)
+    found = [line for check in (wrong_places, unlinked_pages, wrong_clauses, wrong_definitions, wrong_rows, wrong_names, wrong_lines, wrong_sentences,
+                                missing_literature, wrong_figures, wrong_lengths, wrong_numbers, uncounted, wrong_pages, wrong_counts, wrong_versions,
+                                wrong_measurements)
              for line in check()]
     print('\n'.join(found) if found else 'nothing found')
     return 1 if found else 0
