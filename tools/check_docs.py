@@ -1,8 +1,8 @@
 #!/usr/bin/env python3
 """Looks for sentences of the documents that are no longer true, as far as a script can: names of files, pages, calls, jobs, statuses and
 faults that are gone or missing, limits and counts that differ from the sources, links that lead nowhere, literature that no list has,
-words about an earlier build, paths of one machine, times and megabytes that no measurement has, words that are not plain English, and
-sentences, lines and pages that are too long.
+words about an earlier build, paths of one machine, times and megabytes that no measurement has, words that are not plain English, texts
+of commands and pictures of cactuses that tools/plain_mincut.py finds otherwise, and sentences, lines and pages that are too long.
 
 usage: check_docs.py
 
@@ -14,6 +14,7 @@ import os
 import re
 import subprocess
 import sys
+import tempfile
 
 import definition_pages
 import draw_layers
@@ -49,6 +50,9 @@ UNUSUAL = {'lesser': 'smaller', 'wanting': 'missing', 'gives back': 'returns', '
 ODD_WORDS = re.compile(rf'\b(?:{"|".join(UNUSUAL)})\b', re.I)
 # Paths of one machine.
 HOMES = re.compile(r'(?<![\w.])/(?:home|root|work|Users)/[\w./-]*')
+# A command of a page on a small graph, and in a paragraph.
+COMMAND = re.compile(r'(?:\./mincut [^|>`]*< examples/\S+|mincut-graph \w+ examples/[^|>`]*)$')
+INLINE = re.compile(r'`(\./mincut [^|>`]*< examples/[\w.]+)`[^`]*\bprints$')
 # An author, or several, and the year of what they published.
 CITED = re.compile(r'((?:[A-Z][a-z]+(?:, | and ))*[A-Z][a-z]+),? \(?((?:19[3-9]|20[01])\d)\b')
 EARLIER = re.compile(r'\b(?:earlier|former|previous|later|last) (?:builds?|states?|versions?|gates?|programs?)\b|\bbefore this\b|\bin (?:a )?(?:trials?|models?)\b'
@@ -206,6 +210,61 @@ def missing_literature():
                     yield f'docs/ALGORITHM.md: no literature for {names} {year} of {path}'
 
 
+def pieces(text):
+    """The paragraphs of a page and the pieces of its code, each with whether it is code."""
+    found = []
+    for block in re.split(r'\n\s*\n', text.strip('\n')):
+        lines = block.splitlines()
+        is_code = all(line.startswith('    ') for line in lines)
+        found.append((is_code, '\n'.join(line[4:] for line in lines) if is_code else ' '.join(lines)))
+    return found
+
+
+def shown_texts(path):
+    """(command, what the page says it prints, whether that is only how the text begins) of each command on a small graph."""
+    found = [*pieces(read(path)), (False, ''), (False, '')]
+    for (is_code, piece), (is_text, text), (is_later, later) in zip(found, found[1:], found[2:]):
+        inline = None if is_code else INLINE.search(piece)
+        command = piece if is_code and COMMAND.match(piece) else inline[1] if inline else None
+        if command and is_text and not COMMAND.match(text):
+            yield command, text.removesuffix('\n..'), text.endswith('\n..')
+        elif command and text == 'begins with' and is_later:
+            yield command, later, True
+
+
+def printed(command):
+    """What a command prints, by tools/plain_mincut.py, which tries all sides."""
+    plain = f'{ROOT}/tools/plain_mincut.py'
+    words, _, file = command.partition(' < ')
+    if words.startswith('./mincut '):
+        with open(f'{ROOT}/{file}', encoding='utf-8') as graph:
+            return subprocess.run([sys.executable, plain, *words.split()[1:]], stdin=graph, capture_output=True, text=True, check=True).stdout
+    env = {**os.environ, 'MINCUT': plain, 'PYTHONPATH': f'{ROOT}/python'}
+    return subprocess.run([sys.executable, '-m', 'mincut_graph', *words.split()[1:], '--no-library'], cwd=ROOT, env=env, capture_output=True, text=True, check=True).stdout
+
+
+def wrong_texts():
+    for path in present_pages():
+        for command, text, is_begun in shown_texts(path):
+            right = printed(command).rstrip('\n')
+            if right != text and not (is_begun and right.startswith(f'{text}\n')):
+                yield f"{path}: '{command}' prints another text"
+
+
+def wrong_pictures():
+    """Pictures of the carrier network that are not what tools/draw_cactus.py makes."""
+    graph = 'examples/network.graph'
+    with tempfile.TemporaryDirectory() as folder:
+        with open(f'{folder}/plan', 'w', encoding='utf-8') as plan:
+            plan.write(printed(f'./mincut augment < {graph}'))
+        for picture, more in (('docs/network-cactus.svg', []), ('docs/network-plan.svg', ['--plan', f'{folder}/plan'])):
+            subprocess.run([sys.executable, f'{ROOT}/tools/draw_cactus.py', f'{folder}/drawn.svg', '--graph', f'{ROOT}/{graph}', *more],
+                           input=printed(f'./mincut cactus < {graph}'), text=True, check=True)
+            with open(f'{folder}/drawn.svg', encoding='utf-8') as drawn:
+                if not is_up_to_date(picture, drawn.read()):
+                    yield f'{picture}: tools/draw_cactus.py draws another picture'
+
+
 def measured_numbers():
     """All numbers of the results, as they are and without their units."""
     found = set()
@@ -287,7 +346,7 @@ def wrong_measurements():
 
 def main():
     found = [line for check in (wrong_places, unlinked_pages, wrong_clauses, wrong_definitions, wrong_rows, wrong_names, wrong_lines, wrong_sentences,
-                                missing_literature, wrong_figures, wrong_lengths, wrong_numbers, uncounted, wrong_pages, wrong_counts, wrong_versions,
+                                missing_literature, wrong_texts, wrong_pictures, wrong_figures, wrong_lengths, wrong_numbers, uncounted, wrong_pages, wrong_counts, wrong_versions,
                                 wrong_measurements)
              for line in check()]
     print('\n'.join(found) if found else 'nothing found')
