@@ -300,7 +300,7 @@ def proving_words(found):
 def gate_words(found):
     """Where the time of the gate goes."""
     rows = {what: row['processor_minutes'] for what, row in proving_rows(found).items()}
-    return paragraph(f'From nothing, {rows["proofs"]} of its {rows["gate"]} processor minutes go to proofs, {rows["tests"]} to tests and '
+    return paragraph(f'Of the {rows["gate"]} processor minutes of the gate from nothing, {rows["proofs"]} go to proofs, {rows["tests"]} to tests and '
                      f'{rows["edits"]} to planted bugs.')
 
 
