@@ -21,13 +21,13 @@ JOBS = {'value': 'the least weight of a cut', 'count': 'the number of all minimu
         'cactus': 'all minimum cuts at once, as nodes, bridges and cycles', 'cuts': 'each minimum cut: the side without the first vertex',
         'part': 'the minimum cuts that separate two vertices', 'balanced': 'a minimum cut of greatest balance',
         'levels': 'the parts that minimum cuts leave whole, each cut again, and so on',
-        'sites': 'a table of the vertices: degree, capacity, in how many weakest places, level',
-        'links': 'a table of the links: in how many weakest places each is',
+        'sites': 'a table of the vertices: degree, capacity, in how many minimum cuts, level',
+        'links': 'a table of the links: in how many minimum cuts each is',
         'failures': 'value and count after each single link fails, the worst first',
         'what-if': 'value, count and a most balanced cut before and after links are added or removed',
         'augment': 'the fewest new links that raise the value, or a good set of candidates',
         'grow': 'value and count after each of some inserted edges',
-        'report': 'one page with the graph, its cactus and its weakest places, for a browser'}
+        'report': 'one page with the graph, its cactus and its minimum cuts, for a browser'}
 EPILOG = """statuses: 0 answered; 1 the file is not a usable graph; 2 wrong words; 4 the answer could not be written; 5 out of memory;
 6, 8, 9, 10 an answer above a limit; 7 a column or a vertex that does not exist; 11 no program; 12 no answer: one vertex, or several
 components; 13 time limit; 130 interrupted"""

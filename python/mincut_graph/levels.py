@@ -1,4 +1,4 @@
-"""What lies below the first weakest places: the parts that minimum cuts leave whole, each cut by its own minimum cuts again.
+"""What comes after the first minimum cuts: the parts that minimum cuts leave whole, each cut by its own minimum cuts again.
 
 Let c be the value of a graph. A set of vertices whose own subgraph has a value above c is parted by no minimum cut of the graph, since
 such a cut would cut that subgraph by c or less. So it lies within one node of the cactus, and going down from node to node finds, for

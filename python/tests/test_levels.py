@@ -1,4 +1,4 @@
-"""What lies below the first weakest places: against all sets of vertices, and against networkx."""
+"""What comes after the first minimum cuts: against all sets of vertices, and against networkx."""
 import os
 import random
 

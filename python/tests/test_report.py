@@ -295,7 +295,7 @@ def test_pick_in_chromium(opened, tmp_path):
     assert coloured(page, 'vertex', 'side') == [0, 1, 2, 3, 4, 10] or len(coloured(page, 'vertex', 'side')) == 6
     page.picture(tmp_path / 'picked.png')
     page.press('Escape')
-    assert coloured(page, 'vertex', 'side') == [] and 'No place' in page.run("document.getElementById('told').textContent")
+    assert coloured(page, 'vertex', 'side') == [] and 'No cut' in page.run("document.getElementById('told').textContent")
     # New links, and a closer look.
     page.click('#plan')
     assert page.run("document.querySelector('.plan').classList.contains('shown')")
@@ -378,7 +378,7 @@ def cut(page):
 
 @needs_browser
 def test_each_thing_is_picked_at_three_zooms(opened):
-    """A leaf is its bridge, a vertex its smallest place, a link all that it is in; all by the mouse, and at most 6 pixels beside."""
+    """A leaf is its bridge, a vertex its smallest cut, a link all that it is in; all by the mouse, and at most 6 pixels beside."""
     cuts = MinimumCuts(read_graph(EXAMPLES / 'network.graph'))
     page = opened(cuts)
     cactus = Program().cactus(cuts.graph)
@@ -389,15 +389,15 @@ def test_each_thing_is_picked_at_three_zooms(opened):
     whole = next(k for k, (i, j, _) in enumerate(cuts.graph.edges) if (i, j) == (0, 1))
     for turns in ZOOMS:
         for beside in (-5.9, 0, 5.9):
-            for what, words in ((f'[data-edge="{bridge}"]', 'Lighter side: 1 vertex: 12.'), (f'[data-node="{leaf}"]', 'The smallest place with node'),
-                                ('[data-vertex="11"]', 'The smallest place with 12.'),
-                                (f'[data-link="{link}"]', 'The link 9 – 12 (4) is in 1 weakest place of 21.')):
+            for what, words in ((f'[data-edge="{bridge}"]', 'Lighter side: 1 vertex: 12.'), (f'[data-node="{leaf}"]', 'The smallest cut with node'),
+                                ('[data-vertex="11"]', 'The smallest cut with 12.'),
+                                (f'[data-link="{link}"]', 'The link 9 – 12 (4) is in 1 minimum cut of 21.')):
                 x, y, right, down = zoomed(page, what, turns)
                 page.click_at(x + beside * right, y + beside * down)
                 assert words in told(page) and cut(page) == [bridge] and coloured(page, 'vertex', 'side') == [11], (turns, beside, what)
         x, y, *_ = zoomed(page, f'[data-link="{whole}"]', turns)
         page.click_at(x, y)
-        assert 'The link 1 – 2 (10) is in no weakest place' in told(page) and cut(page) == []
+        assert 'The link 1 – 2 (10) is in no minimum cut' in told(page) and cut(page) == []
 
 
 @needs_browser
@@ -452,7 +452,7 @@ def test_one_cut_at_an_empty_node_of_two_cycles(opened):
 def test_links_of_many_places(opened):
     page = opened(found_in_ring(12))
     page.click('[data-link="5"]')
-    assert 'is in 11 weakest places of 66; this is number 1' in told(page)
+    assert 'is in 11 minimum cuts of 66; this is number 1' in told(page)
     assert page.run("document.querySelectorAll('tr.place:not([hidden])').length") == 11
     first = coloured(page, 'vertex', 'side')
     page.run("Array.from(document.querySelectorAll('#told button')).find((one) => one.textContent === 'Next').id = 'next'")
@@ -509,7 +509,7 @@ def test_drag_and_pinch(opened):
     x, y = page.middle('#graph')
     page.drag((x, y), (x + 60, y + 30))
     after = page.run(view)
-    assert after[0] < before[0] and after[1] < before[1] and after[2:] == before[2:] and 'No place' in told(page)
+    assert after[0] < before[0] and after[1] < before[1] and after[2:] == before[2:] and 'No cut' in told(page)
     scroll = page.run('scrollY')
     page.wheel(x, y, 120)
     page.frames(8)
@@ -569,7 +569,7 @@ def test_save(opened, tmp_path):
     assert name == 'a-test-places.csv' and rows == [['place', 'balance', 'lighter side', 'from', 'to', 'weight'],
                                                     ['1', '1', 'Sion, gare', 'Sion, gare', 'Bern', '3'], ['1', '1', 'Sion, gare', 'Sion, gare', 'Zürich', '4']]
     rows = list(csv.reader(saved('[data-list="links"] [data-csv]')[1].decode('utf-8-sig').splitlines()))
-    assert rows[0] == ['From', 'To', 'Weight', 'Weakest places'] and ['Sion, gare', 'Bern', '3', '1'] in rows
+    assert rows[0] == ['From', 'To', 'Weight', 'Minimum cuts'] and ['Sion, gare', 'Bern', '3', '1'] in rows
     page.media('', 'dark')
     for pane in ('graph', 'cactus'):
         name, content = saved(f'.pane:has(#{pane}) [data-save="svg"]')
@@ -612,7 +612,7 @@ def test_phone(opened, tmp_path):
     x, y, *_ = where(page, '[data-vertex="4"]')
     page.tap(x + 8, y)
     page.frames()
-    assert 'The smallest place with a rather long name of a site 4.' in told(page)
+    assert 'The smallest cut with a rather long name of a site 4.' in told(page)
 
 
 @needs_browser
@@ -647,9 +647,9 @@ def test_all_by_the_keyboard(opened):
             assert page.run('document.activeElement.dataset.vertex') == '2'
             assert page.run("getComputedStyle(document.activeElement.querySelector('circle')).strokeWidth") == '5px'
             page.press('Enter')
-            assert 'The smallest place with 3.' in told(page) and page.run('document.activeElement.dataset.vertex') == '2'
+            assert 'The smallest cut with 3.' in told(page) and page.run('document.activeElement.dataset.vertex') == '2'
             page.press('Escape')
-            assert 'No place' in told(page)
+            assert 'No cut' in told(page)
         if 'edge' in stops[-1]:
             page.press('Enter')
             assert cut(page) or 'second edge' in told(page)
@@ -694,14 +694,14 @@ def test_levels_and_changes(opened):
     page.run("Array.from(document.querySelectorAll('#told button')).find((one) => one.textContent === 'Mark as failed').id = 'fail'")
     page.click('#fail')
     said = "document.getElementById('changed').innerText"
-    assert page.run(said) == 'With these changes the value is 1, with 1 weakest place; it was 1.'
+    assert page.run(said) == 'With these changes the value is 1, with 1 minimum cut; it was 1.'
     assert page.run("document.querySelectorAll('.link.failed').length") == 1
     for name, text in (('from', '0'), ('to', 'stub'), ('weight', '3')):
         page.run(f"document.querySelector('#what-if [name={name}]').value = ''")
         page.click(f'#what-if [name={name}]')
         page.write(text)
     page.click('[data-change="add"]')
-    assert page.run(said) == 'With these changes the value is 2, with 4 weakest places; it was 1.'
+    assert page.run(said) == 'With these changes the value is 2, with 4 minimum cuts; it was 1.'
     page.click('#changes button')
     assert page.run(said).endswith("mincut-graph what-if 'my links.csv' --add 0,stub,3")
 

@@ -1,4 +1,4 @@
-"""The report: one page with a graph, its cactus and its weakest places, that opens in a browser without a network."""
+"""The report: one page with a graph, its cactus and its minimum cuts, that opens in a browser without a network."""
 from __future__ import annotations
 
 from typing import TYPE_CHECKING, Any

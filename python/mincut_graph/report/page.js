@@ -14,7 +14,7 @@
       }
     });
     all('.pane, #told').forEach((one) => one.classList.remove('picked'));
-    say(['No place is picked.']);
+    say(['No cut is picked.']);
     pictures.forEach((picture) => picture.later());
   }
 
@@ -119,8 +119,8 @@
   function showSmallest(i, name, more) {
     const removed = smallestWith(i);
     const lighter = cutOf(removed).nodes[i];
-    const heading = lighter ? `The smallest place with ${name}.`
-      : `${name[0].toUpperCase()}${name.slice(1)} is on the heavier side of each weakest place; here that side is smallest.`;
+    const heading = lighter ? `The smallest cut with ${name}.`
+      : `${name[0].toUpperCase()}${name.slice(1)} is on the heavier side of each minimum cut; here that side is smallest.`;
     show(removed, [heading, ...more]);
   }
 
@@ -143,19 +143,19 @@
       clear();
       told.classList.add('picked');
       const why = data.nodes.length === 0 ? '' : ': its ends stay together in each of them';
-      say([`The link ${linkName(k)} is in no weakest place${why}.`], [button('Clear', clearAll), ...fails]);
+      say([`The link ${linkName(k)} is in no minimum cut${why}.`], [button('Clear', clearAll), ...fails]);
       return;
     }
     const { places, count } = placesBetween(a, b);
     const keys = new Set(places.map((removed) => removed.join(' ')));
     const turn = (at) => {
-      const heading = `The link ${linkName(k)} is in ${counted(count, 'weakest place', 'weakest places')} of ${total()}`;
+      const heading = `The link ${linkName(k)} is in ${counted(count, 'minimum cut', 'minimum cuts')} of ${total()}`;
       const steps = places.length < 2 ? [] : [button('Next', () => turn((at + 1) % places.length)),
         button('Previous', () => turn((at + places.length - 1) % places.length))];
       const which = places.length < 2 ? '' : `; this is number ${(at + 1).toLocaleString('en')}, by balance`;
       show(places[at], [`${heading}${which}.`], [...steps, ...fails], true);
     };
-    lists.places.limit((row) => keys.has(row.dataset.edges), `Only places with the link ${linkName(k)}.`);
+    lists.places.limit((row) => keys.has(row.dataset.edges), `Only cuts with the link ${linkName(k)}.`);
     turn(0);
   }
 

@@ -85,13 +85,13 @@ def facts(found: Findings) -> str:
         sizes = sorted(map(len, found.components), reverse=True)
         return ''.join([fact('Value', amounts.text(0), 'the graph is not connected: nothing has to fail to cut it in two'),
                         fact('Components', f'{len(sizes):,}', 'parts without a link between them'),
-                        fact('Largest component', f'{sizes[0]:,}', f'of {len(graph.names):,} vertices; its weakest places: --largest')])
+                        fact('Largest component', f'{sizes[0]:,}', f'of {len(graph.names):,} vertices; its minimum cuts: --largest')])
     unit = ('vertex' if found.balance == 1 else 'vertices') if graph.masses is None else 'mass'
     links = counted(len(found.plan), 'new link', 'new links')
     raises = 'raises' if len(found.plan) == 1 else 'raise'
     value, more = amounts.text(found.cactus.value), amounts.text(found.cactus.value + 1)
     return ''.join([fact('Value', value, 'the least weight of links that must fail to cut the graph in two'),
-                    fact('Weakest places', f'{found.count:,}', 'different minimum cuts of that weight'),
+                    fact('Minimum cuts', f'{found.count:,}', 'different cuts of that weight'),
                     fact('Most balanced', f'{found.balance:,}', f'{unit} on the lighter side of one of them: {shown(graph, found.side)}'),
                     fact('Fewest new links', f'{len(found.plan):,}', f'{links} of weight {amounts.text(1)} {raises} the value to {more}')])
 
@@ -105,7 +105,7 @@ def how(found: Findings, drawn: bool, cactus_drawn: bool) -> str:
     ways = ['a row of a list']
     if drawn:
         ways.insert(0, 'a vertex (its component)' if found.cactus is None
-                    else 'a vertex (its smallest place) or a link (all places that it is in) of the graph')
+                    else 'a vertex (its smallest cut) or a link (all cuts that it is in) of the graph')
     if cactus_drawn:
         ways.insert(0, 'a bridge, a leaf, two nodes or two edges of one cycle of the cactus')
     drag = (' <span class="mouse">Drag to move a picture, hold Ctrl and turn the wheel to change its size, press Escape to clear.</span>'
@@ -145,27 +145,27 @@ def sections(found: Findings, drawn: bool) -> str:
     """The lists, each with its heading."""
     parts = []
     if len(found.components) > 1:
-        text = ('Nothing connects these. A name that is written in two ways is often the cause; else --largest gives the weakest places of '
+        text = ('Nothing connects these. A name that is written in two ways is often the cause; else --largest shows the minimum cuts of '
                 'the largest component.')
         parts.append(section('Components', text, table('components', ['##', '#Vertices', 'Names'], component_rows(found))))
     if found.cactus is not None:
         heads = ['##', '#Balance', '#Vertices', 'Lighter side', 'Links that are cut', 'In the cactus']
-        text = f'By balance, which is the lesser mass of the two sides: {escape(places_told(found))}.'
-        parts.append(section('Weakest places', text, table('places', heads, place_rows(found))))
+        text = f'By balance, which is the smaller mass of the two sides: {escape(places_told(found))}.'
+        parts.append(section('Minimum cuts', text, table('places', heads, place_rows(found))))
         rows, count = link_rows(found)
         first = f'; the first {len(rows):,}' if len(rows) < count else ''
-        text = f'{counted(count, "link is", "links are")} in some weakest place{first}.'
-        parts.append(section('Links in weakest places', text, table('links', ['From', 'To', '#Weight', '#Weakest places'], rows)))
+        text = f'{counted(count, "link is", "links are")} in some minimum cut{first}.'
+        parts.append(section('Links in minimum cuts', text, table('links', ['From', 'To', '#Weight', '#Minimum cuts'], rows)))
     if found.levels:
-        text = 'What the minimum cuts part, each part alone again, and so on. The value is that of the part by itself.'
+        text = 'The parts that minimum cuts leave, each cut again by its own minimum cuts, and so on. The value is that of the part by itself.'
         parts.append(section('Levels', text, level_table(found)))
     if drawn and found.cactus is not None:
         form = (HERE / 'what_if.html').read_text('utf-8')
         parts.append(section('What if', 'Links that fail or are new, and the value then.', form))
     if found.cactus is not None:
         parts.append(section('Fewest new links', plan_told(found, drawn), plan_tables(found)))
-        text = 'The vertices of one node of the cactus stay together in each weakest place.'
-        parts.append(section('What no minimum cut parts', text, table('nodes', ['#Node', '#Vertices', 'Names'], node_rows(found))))
+        text = 'No minimum cut separates the vertices of one node of the cactus.'
+        parts.append(section('What no minimum cut separates', text, table('nodes', ['#Node', '#Vertices', 'Names'], node_rows(found))))
     return ''.join(parts)
 
 
@@ -185,5 +185,5 @@ def plan_told(found: Findings, drawn: bool) -> str:
     together = ', all together, raise' if len(found.plan) > 1 else ' raises'
     text = (f'{counted(len(found.plan), "link", "links")} of weight {amounts.text(1)}{together} the value from {amounts.text(value)} to '
             f'{amounts.text(value + 1)}. Fewer links cannot do this: each of the {counted(len(found.sets), "set", "sets")} in the second '
-            'table is one side of a weakest place and needs the end of a new link, no two share a vertex, and a link has two ends.')
+            'table is one side of a minimum cut and needs an end of a new link, no two share a vertex, and a link has two ends.')
     return f'{escape(text)} {switch}'

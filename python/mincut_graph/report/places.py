@@ -1,4 +1,4 @@
-"""The weakest places of a cactus in the order of their balance, most balanced first."""
+"""The minimum cuts of a cactus in the order of their balance, most balanced first."""
 from __future__ import annotations
 
 import heapq
@@ -13,7 +13,7 @@ from ..graph import Graph
 @dataclass(frozen=True)
 class Place:
     """One minimum cut. `edges`: the edges of the cactus that are cut, one bridge or two edges of a cycle, by their places in
-    `Cactus.edges()`. The side without vertex 0 is `order[low:high]` of `Places`. `balance`: the lesser of the masses of both sides."""
+    `Cactus.edges()`. The side without vertex 0 is `order[low:high]` of `Places`. `balance`: the smaller of the masses of both sides."""
     edges: tuple[int, ...]
     low: int
     high: int

@@ -88,7 +88,7 @@
       if (pairs.length + this.added.length === 0) {
         this.said.textContent = 'Nothing is changed. Pick a link in the graph to mark it as failed, or name the two ends above.';
       } else if (found !== undefined) {
-        const places = Number.isInteger(found.places) ? `, with ${counted(found.places, 'weakest place', 'weakest places')}` : '';
+        const places = Number.isInteger(found.places) ? `, with ${counted(found.places, 'minimum cut', 'minimum cuts')}` : '';
         this.said.textContent = `With these changes the value is ${amount(found.value)}${places}; it was ${amount(data.value)}.`;
       } else {
         this.said.replaceChildren('The value with these changes was not computed for this page. This command finds it: ',
