@@ -127,7 +127,7 @@ def about_part(found):
     return [*paragraph(trial_words(about), f'{about["program"]} with the crates of commit {about["commit"]}, on {about["date"]}: {machine}.',
                        f'The load was {load}, after {about["minutes"]} minutes.',
                        f'Other work kept at most {busiest:.1f} processors busy during any measurement.'), '',
-            *paragraph(f'Beside it: {about["peers"] or "nothing"}. Programs in C++ were built by {about["compiler"]} with `{about["flags"]}`.',
+            *paragraph(f'Compared with: {about["peers"] or "nothing"}. Programs in C++ were built by {about["compiler"]} with `{about["flags"]}`.',
                        f'All programs ran with `GLIBC_TUNABLES={about["tunables"]}`, as `./mincut` sets it.',
                        f'The least of {about["repetitions"]} runs counts, or of fewer if they take long.')]
 

@@ -1,9 +1,9 @@
 #!/usr/bin/env python3
-"""Writes crates/DEFINITION_FILES.md by the files of crates/*/specs: one row for each, with the first sentence of its comment.
+"""Writes crates/DEFINITION_FILES.md from the files of crates/*/specs: one row for each, with the first sentence of its comment.
 
 usage: definition_pages.py [--check]    --check: writes nothing; ends with 1 if the page is not up to date
 
-The files that the contract of `run` stands on come first, in the order in which tools/definition_files.py prints them.
+The files that the contract of `run` uses come first, in the order in which tools/definition_files.py prints them.
 """
 import os
 import re
@@ -16,13 +16,14 @@ PAGE = 'crates/DEFINITION_FILES.md'
 RUN = 'crates/mincut_program/src/program.rt'
 HEAD = """# The files of definitions
 
-`tools/definition_pages.py` writes this page by the comments of `crates/*/specs`. [DEFINITIONS.md](../docs/DEFINITIONS.md) has
-the words that matter most. In all there are {files} files of {lines:,} lines.
+`tools/definition_pages.py` writes this page from the comments of `crates/*/specs`.
+[DEFINITIONS.md](../docs/DEFINITIONS.md) explains the words that matter most. In all there are {files} files with {lines:,}
+lines.
 
-## What the contract of `run` stands on
+## What the contract of `run` uses
 
-{run_files} files of {run_lines:,} lines, those that others use first. `tools/definition_files.py FILE` prints them for
-any other source file.
+{run_files} files with {run_lines:,} lines; a file that others use comes before them. `tools/definition_files.py FILE`
+prints such a list for any other source file.
 """
 
 
