@@ -1,6 +1,6 @@
 """The made parts of the documents and the plots, from the files of bench/results.
 
-A made part stands between the lines `<!-- NAME: made by bench/measure.py -->` and `<!-- end of NAME -->`.
+A made part is between the lines `<!-- NAME: made by bench/measure.py -->` and `<!-- end of NAME -->`.
 """
 import os
 import statistics

@@ -1,7 +1,7 @@
 #!/usr/bin/env python3
-"""Prints the files of definitions that the contracts of a source file stand on, those that others use first, with their lines.
+"""Prints the files of definitions that the contracts of a source file use, with their lines; a file that others use comes before them.
 
-usage: definition_files.py [FILE]    FILE: crates/mincut_program/src/program.rt where none is named
+usage: definition_files.py [FILE]    FILE: crates/mincut_program/src/program.rt if none is given
 
 It follows the imports of the file and of each file of definitions below a specs/ that these lead to. What a definition imports from
 the standard library or from a struct is not followed.
@@ -15,7 +15,7 @@ NAME = re.compile(r'Rattle((?:\.\w+)+)')
 
 
 def file_of(name):
-    """The file of definitions that an imported name stands in, or None."""
+    """The file of definitions that has an imported name, or None."""
     crate, *path = name.strip('.').split('.')
     for end in range(len(path), 1, -1):
         file = f'crates/{crate}/{"/".join(path[:end])}.antt'
