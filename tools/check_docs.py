@@ -57,7 +57,7 @@ INLINE = re.compile(r'`(\./mincut [^|>`]*< examples/[\w.]+)`[^`]*\bprints$')
 CITED = re.compile(r'((?:[A-Z][a-z]+(?:, | and ))*[A-Z][a-z]+),? \(?((?:19[3-9]|20[01])\d)\b')
 EARLIER = re.compile(r'\b(?:earlier|former|previous|later|last) (?:builds?|states?|versions?|gates?|programs?)\b|\bbefore this\b|\bin (?:a )?(?:trials?|models?)\b'
                      r'|\b(?:was|were) (?:measured|proved|slower|faster) before\b|\b(?:was|were) left out\b|\bat first it\b|\bused to be\b', re.I)
-RESULTS = f'{ROOT}/bench/results'
+RESULTS, PROVING = f'{ROOT}/bench/results', 'proving.csv'
 FIGURE = re.compile(r'\b(\d[\d,]*(?:\.\d+)?) ?(hours?|minutes?|seconds?|s|milliseconds?|ms|microseconds?|MB|megabytes?|GB|gigabytes?)\b')
 UNITS = {'hour': 60, 'minute': 1, 's': 1, 'seconds': 1, 'second': 1, 'ms': 1e-3, 'millisecond': 1e-3, 'microsecond': 1e-6, 'MB': 1, 'megabyte': 1, 'GB': 1000, 'gigabyte': 1000}
 # What a page says of times and megabytes without a measurement: limits, units, what the toolchain needs, and the first build of the library.
@@ -265,11 +265,11 @@ def wrong_pictures():
                     yield f'{picture}: tools/draw_cactus.py draws another picture'
 
 
-def measured_numbers():
-    """All numbers of the results, as they are and without their units."""
+def measured_numbers(is_proving):
+    """All numbers of the results, as they are and without their units: minutes of proofs, or those of all other files."""
     found = set()
     for name in sorted(os.listdir(RESULTS)):
-        if name.endswith('.csv'):
+        if name.endswith('.csv') and (name == PROVING) == is_proving:
             with open(f'{RESULTS}/{name}', encoding='utf-8', newline='') as file:
                 found |= {float(cell) for row in csv.reader(file) for cell in row if re.fullmatch(r'\d+(\.\d+)?', cell)}
     return found
@@ -279,11 +279,12 @@ def wrong_figures():
     """Times and megabytes outside the made parts that are not a rounded number of a result."""
     if not os.path.isdir(RESULTS):
         return
-    results = measured_numbers()
+    measured = {is_proving: measured_numbers(is_proving) for is_proving in (False, True)}
     for path in present_pages():
         for number, unit in FIGURE.findall(MADE_PART.sub('', read(path))):
             places, told = len(number.partition('.')[2]), float(number.replace(',', ''))
             scale = UNITS.get(unit) or UNITS[unit.rstrip('s')]
+            results = measured[unit.rstrip('s') in ('minute', 'hour')]
             if f'{number} {unit}' not in NOT_MEASURED and not any(round(result / scale, places) == told for result in results):
                 yield f'{path}: {number} {unit} is in no result'
 
