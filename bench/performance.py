@@ -293,14 +293,14 @@ def proving_words(found):
     """How long the proofs take, for a reader who only checks."""
     about, rows = found[results.PROVING][0], proving_rows(found)
     first, gate = rows['first run'], rows['gate']
-    return paragraph(f'On {first["processors"]} processors of {about["machine"]} the first takes {first["clock_minutes"]} minutes, and the second '
-                     f'{gate["clock_minutes"]} from nothing.')
+    return paragraph(f'On {first["processors"]} processors of {about["machine"]} the first takes about {first["clock_minutes"]} minutes, and the '
+                     f'second about {gate["clock_minutes"]} from nothing.')
 
 
 def gate_words(found):
     """Where the time of the gate goes."""
     rows = {what: row['processor_minutes'] for what, row in proving_rows(found).items()}
-    return paragraph(f'Of the {rows["gate"]} processor minutes of the gate from nothing, {rows["proofs"]} go to proofs, {rows["tests"]} to tests and '
+    return paragraph(f'Of about {rows["gate"]} processor minutes of the gate from nothing, {rows["proofs"]} go to proofs, {rows["tests"]} to tests and '
                      f'{rows["edits"]} to planted bugs.')
 
 
